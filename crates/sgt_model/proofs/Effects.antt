@@ -1,0 +1,193 @@
+-- What an entry of a legal history can be. The later proofs split on this, and never on an event with its reply.
+-- the reply ends no transaction
+use Rattle.std.proofs.Common.{◌≡◌, ℕ, ℤ, Bool, true, false, cond, List, [], ◌∷◌, length, Option, Some, None, is_none, nat_eq, nat_lt, refl, sym, ap, subst, inl, inr}
+use Rattle.std.proofs.lemmas.Bool.{and_from}
+use Rattle.std.specs.List.{list_any}
+use Rattle.sgt_model.specs.declared.event.Event.{Event}
+use Rattle.sgt_model.specs.declared.event.Event.TheVariants.{Start, Step, Commit, Quit}
+use Rattle.sgt_model.specs.declared.reply.Reply.{Reply}
+use Rattle.sgt_model.specs.declared.reply.Reply.TheVariants as reply
+use Rattle.sgt_model.specs.declared.reply.Cause.{Cause}
+use Rattle.sgt_model.specs.declared.reply.Cause.TheVariants as cause
+use Rattle.sgt_model.specs.declared.reply.Fate.{Fate}
+use Rattle.sgt_model.specs.declared.reply.Fate.TheVariants as fate
+use Rattle.sgt_model.specs.declared.entry.Entry.{Entry}
+use Rattle.sgt_model.specs.declared.kind.Kind.{Kind}
+use Rattle.sgt_model.specs.declared.kind.Kind.TheVariants.{Look, Store}
+use Rattle.sgt_model.specs.Contents.{Key}
+use Rattle.sgt_model.specs.Traces.{Next, Looks, Puts, Ends, Asks}
+use Rattle.sgt_model.specs.Accesses.{Access, access_in}
+use Rattle.sgt_model.specs.Fates.{is_start, starts, subject, ending_in, fate_of, live, live_ones}
+use Rattle.sgt_model.specs.Values.{visible}
+use Rattle.sgt_model.specs.Falls.{Falls}
+use Rattle.sgt_model.specs.Closes.{Closes}
+use Rattle.sgt_model.specs.Settings.{Setting}
+use Rattle.sgt_model.specs.Progress.{call_in, next_of}
+use Rattle.sgt_model.specs.Legality.{args_fit, called_reply, Aborts, Refuses, StepReply, NoneLive, CommitReply, OfStarted, OfLive, LegalReply}
+use Rattle.sgt_model.specs.Replay.{told_in}
+use Rattle.sgt_model.specs.Aborts.{Wants, HasCause, AbortIsDue}
+use Rattle.sgt_model.specs.Laws.{CommitAgrees}
+use Rattle.sgt_model.proofs.NoOrder.{refused_has_no_order}
+
+abbrev pub EndsNone : Reply → Type 0
+EndsNone (reply.Committed answers) = ⊥
+EndsNone (reply.Aborted why fell) = ⊥
+EndsNone _ = Unit {0}
+
+pub ends_none-no_end : (event : Event) (r : Reply) → EndsNone r → (u : ℕ) → ending_in event r u ≡ None
+ends_none-no_end event (reply.Committed answers) h u = absurd h
+ends_none-no_end event (reply.Aborted why fell) h u = absurd h
+ends_none-no_end event _ h u = refl
+
+pub ends_none-not_told : (past : List Entry) (event : Event) (r : Reply) → EndsNone r → told_in past event r ≡ []
+ends_none-not_told past event (reply.Committed answers) h = absurd h
+ends_none-not_told past event _ h = refl
+
+pub ends_none-agrees : (s : Setting) (past : List Entry) (event : Event) (r : Reply) → EndsNone r → CommitAgrees s past event r
+ends_none-agrees s past event (reply.Committed answers) h = absurd h
+ends_none-agrees s past event _ h = tt
+
+pub ends_none-due : (s : Setting) (past : List Entry) (event : Event) (r : Reply) → EndsNone r → AbortIsDue s past event r
+ends_none-due s past event (reply.Aborted why fell) h = absurd h
+ends_none-due s past event _ h = tt
+
+-- a reply that starts none leaves the calls
+pub no_start-no_call : (event : Event) (r : Reply) → is_start r ≡ false → (t : ℕ) → call_in event r t ≡ None
+no_start-no_call event (reply.Started u) h t = absurd (cc)
+no_start-no_call event _ h t = refl
+
+-- nothing was started, done or ended
+pub record Idle (event : Event) (r : Reply) : Type 0 where
+  pub no_start : is_start r ≡ false
+  pub no_access : access_in event r ≡ None
+  pub ends_none : EndsNone r
+
+-- a transaction was started, within the limits
+pub record Begins (s : Setting) (past : List Entry) (event : Event) (r : Reply) : Type 0 where
+  pub procedure : ℕ
+  pub args : List ℤ
+  pub count : ℕ
+  pub event_is : event ≡ Start procedure args
+  pub reply_is : r ≡ reply.Started (starts past)
+  pub known : s.procedures procedure ≡ Some count
+  pub fit : args_fit count args ≡ true
+  pub not_spent : nat_eq (starts past) s.limits.begins ≡ false
+  pub not_full : nat_eq (length (live_ones past)) s.limits.live ≡ false
+
+-- this access is what comes next
+abbrev pub Fits : Next → Access → Type 0
+Fits (Looks k) a = (a.key ≡ k) × (a.kind ≡ Look)
+Fits (Puts k v) a = (a.key ≡ k) × (a.kind ≡ Store) × (a.value ≡ Some v)
+Fits (Ends answers) a = ⊥
+Fits (Asks code) a = ⊥
+
+-- a live transaction made its next access, which closes no cycle; a look found what was visible
+pub record Accesses (s : Setting) (past : List Entry) (event : Event) (r : Reply) : Type 0 where
+  pub access : Access
+  pub event_is : event ≡ Step access.by
+  pub access_is : access_in event r ≡ Some access
+  pub no_start : is_start r ≡ false
+  pub ends_none : EndsNone r
+  pub is_live : live past access.by ≡ true
+  pub free : (rest : List ℕ) → Closes past access.by access.key access.kind rest → ⊥
+  pub fits : Fits (next_of s past access.by) access
+  pub found : access.kind ≡ Look → access.value ≡ visible s.opening past access.key
+
+-- a live transaction committed
+pub record Commits (s : Setting) (past : List Entry) (event : Event) (r : Reply) : Type 0 where
+  pub t : ℕ
+  pub answers : List ℤ
+  pub event_is : event ≡ Commit t
+  pub reply_is : r ≡ reply.Committed answers
+  pub is_live : live past t ≡ true
+  pub none_live : NoneLive past t
+  pub next : next_of s past t ≡ Ends answers
+
+-- a live transaction ended by an abort, with those that fell
+pub record Undoing (past : List Entry) (event : Event) (r : Reply) : Type 0 where
+  pub t : ℕ
+  pub why : Cause
+  pub fell : List ℕ
+  pub is_live : live past t ≡ true
+  pub falls : Falls past t fell
+  pub ends : (u : ℕ) → ending_in event r u ≡ cond (nat_eq t u) (Some (fate.Aborted why)) (cond (list_any (λ v. nat_eq v u) fell) (Some (fate.Fell t)) None)
+
+-- so it did by an Aborted reply, which names the cause
+pub record Undoes (s : Setting) (past : List Entry) (event : Event) (r : Reply) : Type 0 where
+  pub undoing : Undoing past event r
+  pub subject_is : subject event ≡ undoing.t
+  pub reply_is : r ≡ reply.Aborted undoing.why undoing.fell
+  pub has_cause : HasCause s past event undoing.why
+
+pub data Effect (s : Setting) (past : List Entry) (event : Event) (r : Reply) : Type 0 where
+  idle : Idle event r → Effect s past event r
+  begins : Begins s past event r → Effect s past event r
+  accesses : Accesses s past event r → Effect s past event r
+  commits : Commits s past event r → Effect s past event r
+  undoes : Undoes s past event r → Effect s past event r
+
+idle_at : {s : Setting} {past : List Entry} {event : Event} {r r' : Reply} → r ≡ r' → Idle event r' → Effect s past event r
+idle_at {s} {past} {event} e i = subst (λ x. Effect s past event x) (sym e) (idle i)
+
+-- a start
+
+begin_at : (s : Setting) (past : List Entry) (p : ℕ) (args : List ℤ) (count : ℕ) → s.procedures p ≡ Some count → (fit spent full : Bool) → args_fit count args ≡ fit → nat_eq (starts past) s.limits.begins ≡ spent → nat_eq (length (live_ones past)) s.limits.live ≡ full → Effect s past (Start p args) (cond fit (cond spent reply.Spent (cond full reply.Full (reply.Started (starts past)))) reply.BadArgs)
+begin_at s past p args count known false spent full f n l = idle (record { no_start = refl; no_access = refl; ends_none = tt })
+begin_at s past p args count known true true full f n l = idle (record { no_start = refl; no_access = refl; ends_none = tt })
+begin_at s past p args count known true false true f n l = idle (record { no_start = refl; no_access = refl; ends_none = tt })
+begin_at s past p args count known true false false f n l = begins (record { procedure = p; args = args; count = count; event_is = refl; reply_is = refl; known = known; fit = f; not_spent = n; not_full = l })
+
+start_at : (s : Setting) (past : List Entry) (p : ℕ) (args : List ℤ) (o : Option ℕ) → s.procedures p ≡ o → Effect s past (Start p args) (called_reply s past o args)
+start_at s past p args None known = idle (record { no_start = refl; no_access = refl; ends_none = tt })
+start_at s past p args (Some count) known = begin_at s past p args count known (args_fit count args) (nat_eq (starts past) s.limits.begins) (nat_eq (length (live_ones past)) s.limits.live) refl refl refl
+
+-- what the events of a transaction share
+
+pub none_from : {A : Type 0} (o : Option A) → is_none o ≡ true → o ≡ None
+none_from None e = refl
+none_from (Some x) e = absurd (cc)
+
+of_live-at : (s : Setting) (past : List Entry) (event : Event) (t : ℕ) (r : Reply) (P : Type 0) (b : Bool) (o : Option Fate) → nat_lt t (starts past) ≡ b → fate_of past t ≡ o → (live past t ≡ true → P → Effect s past event r) → OfStarted b o r P → Effect s past event r
+of_live-at s past event t r P true None started ended rest h = rest (and_from _ _ started (ap is_none ended)) h
+of_live-at s past event t r P true (Some f) started ended rest h = idle_at h (record { no_start = refl; no_access = refl; ends_none = tt })
+of_live-at s past event t r P false o started ended rest h = idle_at h (record { no_start = refl; no_access = refl; ends_none = tt })
+
+of_live : (s : Setting) (past : List Entry) (event : Event) (t : ℕ) (r : Reply) (P : Type 0) → (live past t ≡ true → P → Effect s past event r) → OfLive past t r P → Effect s past event r
+of_live s past event t r P rest h = of_live-at s past event t r P (nat_lt t (starts past)) (fate_of past t) refl refl rest h
+
+-- an abort
+
+abort_at : (s : Setting) (past : List Entry) (t : ℕ) (why : Cause) (r : Reply) → live past t ≡ true → HasCause s past (Step t) why → Aborts past t why r → Effect s past (Step t) r
+abort_at s past t why r alive due a = subst (λ x. Effect s past (Step t) x) (sym a.is) (undoes (record { undoing = record { t = t; why = why; fell = a.fell; is_live = alive; falls = a.falls; ends = λ u. refl }; subject_is = refl; reply_is = refl; has_cause = due }))
+
+quit_at : (s : Setting) (past : List Entry) (t : ℕ) (r : Reply) → live past t ≡ true → Aborts past t cause.Quit r → Effect s past (Quit t) r
+quit_at s past t r alive a = subst (λ x. Effect s past (Quit t) x) (sym a.is) (undoes (record { undoing = record { t = t; why = cause.Quit; fell = a.fell; is_live = alive; falls = a.falls; ends = λ u. refl }; subject_is = refl; reply_is = refl; has_cause = tt }))
+
+refuse_at : (s : Setting) (past : List Entry) (t : ℕ) (k : Key) (kind : Kind) (r : Reply) → live past t ≡ true → Wants (next_of s past t) k kind → Refuses past t k kind r → Effect s past (Step t) r
+refuse_at s past t k kind r alive wants h = abort_at s past t (cause.Cycle (t ∷ h.rest)) r alive (record { rest = h.rest; is = refl; key = k; kind = kind; wants = wants; closes = h.closes; no_order = refused_has_no_order past t k kind h.rest h.closes }) h.aborts
+
+-- a step
+
+step_at : (s : Setting) (past : List Entry) (t : ℕ) (r : Reply) (n : Next) → next_of s past t ≡ n → live past t ≡ true → StepReply s past t n r → Effect s past (Step t) r
+step_at s past t r (Looks k) e alive (inl h) = refuse_at s past t k Look r alive (subst (λ n. Wants n k Look) (sym e) (refl, refl)) h
+step_at s past t r (Looks k) e alive (inr h) = let access : Access = record { by = t; key = k; kind = Look; value = visible s.opening past k } in subst (λ x. Effect s past (Step t) x) (sym h.is) (accesses (record { access = access; event_is = refl; access_is = refl; no_start = refl; ends_none = tt; is_live = alive; free = h.free; fits = subst (λ n. Fits n access) (sym e) (refl, refl); found = λ look. refl }))
+step_at s past t r (Puts k v) e alive (inl h) = refuse_at s past t k Store r alive (subst (λ n. Wants n k Store) (sym e) (refl, refl)) h
+step_at s past t r (Puts k v) e alive (inr h) = let access : Access = record { by = t; key = k; kind = Store; value = Some v } in subst (λ x. Effect s past (Step t) x) (sym h.is) (accesses (record { access = access; event_is = refl; access_is = refl; no_start = refl; ends_none = tt; is_live = alive; free = h.free; fits = subst (λ n. Fits n access) (sym e) (refl, refl, refl); found = λ (look : Store ≡ Look). absurd (cc) }))
+step_at s past t r (Ends answers) e alive h = idle_at h (record { no_start = refl; no_access = refl; ends_none = tt })
+step_at s past t r (Asks code) e alive h = abort_at s past t (cause.Asked code) r alive e h
+
+-- a commit
+
+commit_at : (s : Setting) (past : List Entry) (t : ℕ) (r : Reply) (n : Next) → next_of s past t ≡ n → live past t ≡ true → CommitReply past t n r → Effect s past (Commit t) r
+commit_at s past t r (Ends answers) e alive (inl h) = idle_at h.is (record { no_start = refl; no_access = refl; ends_none = tt })
+commit_at s past t r (Ends answers) e alive (inr h) = commits (record { t = t; answers = answers; event_is = refl; reply_is = h.is; is_live = alive; none_live = h.none_live; next = e })
+commit_at s past t r (Looks k) e alive h = idle_at h (record { no_start = refl; no_access = refl; ends_none = tt })
+commit_at s past t r (Puts k v) e alive h = idle_at h (record { no_start = refl; no_access = refl; ends_none = tt })
+commit_at s past t r (Asks code) e alive h = idle_at h (record { no_start = refl; no_access = refl; ends_none = tt })
+
+-- each legal reply has one of the effects
+pub effect : (s : Setting) (past : List Entry) (event : Event) (r : Reply) → LegalReply s past event r → Effect s past event r
+effect s past (Start p args) r h = subst (λ x. Effect s past (Start p args) x) (sym h) (start_at s past p args (s.procedures p) refl)
+effect s past (Step t) r h = of_live s past (Step t) t r (StepReply s past t (next_of s past t) r) (step_at s past t r (next_of s past t) refl) h
+effect s past (Commit t) r h = of_live s past (Commit t) t r (CommitReply past t (next_of s past t) r) (commit_at s past t r (next_of s past t) refl) h
+effect s past (Quit t) r h = of_live s past (Quit t) t r (Aborts past t cause.Quit r) (quit_at s past t r) h

@@ -1,0 +1,97 @@
+-- Worked examples of starts, and of events that are refused.
+use Rattle.std.specs.Prelude.{pos, List, [], ◌∷◌, Some, refl}
+use Rattle.std.proofs.Common.{inr}
+use Rattle.sgt_model.specs.declared.event.Event.TheVariants.{Start, Step, Commit}
+use Rattle.sgt_model.specs.declared.reply.Reply.TheVariants as reply
+use Rattle.sgt_model.specs.declared.reply.Fate.TheVariants as fate
+use Rattle.sgt_model.specs.declared.entry.Entry.{Entry}
+use Rattle.sgt_model.specs.Legality.{Legal}
+use Rattle.sgt_model.proofs.Tests.{made_by, commits_by}
+use Rattle.sgt_model.proofs.BankExample.{bank, entry}
+
+-- limits of one live and two started
+abbrev pub limits_and_fates : List Entry
+limits_and_fates =
+    entry (Step 9) (reply.Unknown)
+    ∷ entry (Start 0 (pos 2 ∷ [])) (reply.Spent)
+    ∷ entry (Start 0 (pos 2 ∷ [])) (reply.Started 1)
+    ∷ entry (Step 0) (reply.Over fate.Committed)
+    ∷ entry (Commit 0) (reply.Committed (pos 1500 ∷ []))
+    ∷ entry (Step 0) (reply.Looked (2, pos 101) (Some (pos 1000)))
+    ∷ entry (Step 0) (reply.Looked (1, pos 101) (Some (pos 500)))
+    ∷ entry (Step 0) (reply.Looked (0, pos 1) (Some (pos 101)))
+    ∷ entry (Commit 0) (reply.NotEnded)
+    ∷ entry (Start 0 (pos 1 ∷ [])) (reply.Full)
+    ∷ entry (Start 0 (pos 1 ∷ [])) (reply.Started 0)
+    ∷ []
+
+limits_and_fates-legal : Legal (bank 1 2) limits_and_fates
+limits_and_fates-legal = (
+  (
+    (
+      (
+        (
+          (
+            (
+              (
+                (
+                  (
+                    (
+                      tt,
+                      refl,
+                    ),
+                    refl,
+                  ),
+                  refl,
+                ),
+                inr (made_by (0 ∷ []) refl),
+              ),
+              inr (made_by (0 ∷ []) refl),
+            ),
+            inr (made_by (0 ∷ []) refl),
+          ),
+          inr (commits_by refl),
+        ),
+        refl,
+      ),
+      refl,
+    ),
+    refl,
+  ),
+  refl,
+)
+
+-- where all numbers are spent and no place is free, the arguments are tested first
+abbrev pub tests_in_order : List Entry
+tests_in_order =
+    entry (Start 0 (pos 1 ∷ [])) (reply.Spent)
+    ∷ entry (Start 0 ([])) (reply.BadArgs)
+    ∷ entry (Start 99 ([])) (reply.NoProcedure)
+    ∷ entry (Start 0 (pos 1 ∷ [])) (reply.Started 0)
+    ∷ []
+
+tests_in_order-legal : Legal (bank 1 1) tests_in_order
+tests_in_order-legal = (
+  (
+    (
+      (
+        tt,
+        refl,
+      ),
+      refl,
+    ),
+    refl,
+  ),
+  refl,
+)
+
+-- a start with too few arguments, with one that is no value, and of no procedure
+abbrev pub start_refused : List Entry
+start_refused =
+    entry (Start 99 []) reply.NoProcedure
+    ∷ entry (Start 0 (pos 1000000000000000 ∷ [])) reply.BadArgs
+    ∷ entry (Start 0 []) reply.BadArgs
+    ∷ []
+
+start_refused-legal : Legal (bank 8 100) start_refused
+start_refused-legal = (((tt, refl), refl), refl)

@@ -1,0 +1,112 @@
+-- The replay in commit order: each commit's looks agree with what is committed, and so the replay gives what was told.
+use Rattle.std.specs.Prelude.{◌≡◌, ◌≢◌, ℕ, ℤ, Bool, true, cond, ◌⊎◌, nat_eq, List, [], ◌∷◌, ◌++◌, Some, None}
+use Rattle.std.specs.Option.{option_or}
+use Rattle.std.proofs.Common.{refl, sym, ap, ◌∙◌, subst, subst₂, inl, inr, ⊎_elim}
+use Rattle.std.proofs.lemmas.Bool.{cases_eq, eq-eqb, ne_eqb, false_from_ne_true}
+use Rattle.sgt_model.specs.declared.event.Event.{Event}
+use Rattle.sgt_model.specs.declared.event.Event.TheVariants.{Commit}
+use Rattle.sgt_model.specs.declared.reply.Reply.{Reply}
+use Rattle.sgt_model.specs.declared.reply.Reply.TheVariants as reply
+use Rattle.sgt_model.specs.declared.reply.Fate.TheVariants as fate
+use Rattle.sgt_model.specs.declared.entry.Entry.{Entry}
+use Rattle.sgt_model.specs.Contents.{Key}
+use Rattle.sgt_model.specs.Runs.{Run, serial, contents_after}
+use Rattle.sgt_model.specs.Accesses.{Access, access_of, acts}
+use Rattle.sgt_model.specs.Fates.{ending_in, fate_of, is_commit, committed, live}
+use Rattle.sgt_model.specs.Values.{stores, newest_store, value_or, settled}
+use Rattle.sgt_model.specs.Pairs.{Precedes}
+use Rattle.sgt_model.specs.Settings.{Setting}
+use Rattle.sgt_model.specs.Progress.{call_of, run_of}
+use Rattle.sgt_model.specs.Legality.{Legal}
+use Rattle.sgt_model.specs.Replay.{told, replayed, AsTold, IsSerial}
+use Rattle.sgt_model.specs.Laws.{LooksAgree, CommitAgrees, CommitsAgree}
+use Rattle.sgt_model.proofs.Effects.{Commits, effect}
+use Rattle.sgt_model.proofs.Facts.{access-live, committed-stays, live-stands, live-not_committed, committed-stands, commit-case, Uncommitted, commits_or_not}
+use Rattle.sgt_model.proofs.PairOrder.{no_pair_from_live}
+use Rattle.sgt_model.proofs.Stores.{found, StoreOf, store_or_not, newest_skip, not_counted, newest_agree, own_or}
+use Rattle.sgt_model.proofs.Acts.{over, DoneWith}
+use Rattle.sgt_model.proofs.Traces.{run_is_trace, law_over_acts}
+use Rattle.sgt_model.proofs.Plays.{plays}
+use Rattle.sgt_model.proofs.Overs.{over-acts, looks_agree, finds_in}
+
+-- the entry of a commit
+abbrev pub commit_entry : ℕ → List ℤ → Entry
+commit_entry t answers = record { event = Commit t; reply = reply.Committed answers }
+
+committed_own : (past : List Entry) (t : ℕ) (answers : List ℤ) → committed (commit_entry t answers ∷ past) t ≡ true
+committed_own past t answers = ap (λ b. is_commit (option_or (cond b (Some fate.Committed) None) (fate_of past t))) (eq-eqb t t refl)
+
+committed_other : (past : List Entry) (t : ℕ) (answers : List ℤ) (u : ℕ) → u ≢ t → committed (commit_entry t answers ∷ past) u ≡ committed past u
+committed_other past t answers u n = ap (λ b. is_commit (option_or (cond b (Some fate.Committed) None) (fate_of past u))) (ne_eqb t u (λ z. n (sym z)))
+
+-- after t's commit the committed value is t's own last one, or else what it was
+pub settled_commit : (s : Setting) (past : List Entry) (t : ℕ) (answers : List ℤ) (k : Key) → Legal s past → live past t ≡ true → settled s.opening (commit_entry t answers ∷ past) k ≡ value_or (newest_store (λ u. nat_eq u t) k past) (settled s.opening past k)
+settled_commit s past t answers k legal is_live = own_or (committed past) (committed (commit_entry t answers ∷ past)) k past t (s.opening k) below (committed_own past t answers) others first
+  where
+    below : (u : ℕ) → committed past u ≡ true → committed (commit_entry t answers ∷ past) u ≡ true
+    below u h = ⊎_elim (λ z. subst (λ v. committed (commit_entry t answers ∷ past) v ≡ true) (sym z) (committed_own past t answers)) (λ n. committed_other past t answers u n ∙ h) (cases_eq u t)
+
+    others : (b : Access) → newest_store (committed (commit_entry t answers ∷ past)) k past ≡ Some b → b.by ≢ t → committed past b.by ≡ true
+    others b h n = sym (committed_other past t answers b.by n) ∙ (found (committed (commit_entry t answers ∷ past)) k past b h).counts
+
+    first : (b : Access) → newest_store (committed (commit_entry t answers ∷ past)) k past ≡ Some b → b.by ≢ t → Precedes past t b.by → ⊥
+    first b h n before =
+        let c = others b h n in
+        no_pair_from_live s past legal t b.by is_live c (record { apart = λ z. n (sym z); first_stands = live-stands past t is_live; second_stands = committed-stands past b.by c; precedes = before })
+
+-- an entry at which nothing commits changes no committed value
+pub settled_quiet : (s : Setting) (past : List Entry) (e : Entry) (k : Key) → Legal s (e ∷ past) → ((u : ℕ) → ending_in e.event e.reply u ≡ Some fate.Committed → ⊥) → settled s.opening (e ∷ past) k ≡ settled s.opening past k
+settled_quiet s past e k h no_commit = ap (λ x. value_or x (s.opening k)) (newest_skip (committed (e ∷ past)) k e past (skipped (store_or_not k (access_of e))) ∙ newest_agree (committed (e ∷ past)) (committed past) k past below (λ a g. committed-stays s e past h a.by (found (committed past) k past a g).counts))
+  where
+    below : (u : ℕ) → committed (e ∷ past) u ≡ true → committed past u ≡ true
+    below u g = elim (commit-case e past u g) [ inl now ↦ absurd (no_commit u now) | inr before ↦ before.1 ]
+
+    skipped : StoreOf k (access_of e) ⊎ ((q : ℕ → Bool) → stores q k (access_of e) ≡ None) → stores (committed (e ∷ past)) k (access_of e) ≡ None
+    skipped (inl v) = not_counted (committed (e ∷ past)) k (access_of e) v (false_from_ne_true (committed (e ∷ past) v.a.by) (λ g. live-not_committed past v.a.by (access-live s past e.event e.reply h.1 v.a v.is) (below v.a.by g)))
+    skipped (inr none) = none (committed (e ∷ past))
+
+-- after t's commit the contents of its run are the committed ones
+same_after : (s : Setting) (past : List Entry) (t : ℕ) (answers : List ℤ) → Legal s past → live past t ≡ true → IsSerial s past → (k : Key) → over (replayed s (told past)) (acts past t) k ≡ settled s.opening (commit_entry t answers ∷ past) k
+same_after s past t answers h is_live ih k =
+    over-acts (replayed s (told past)) past t k
+    ∙ (ap (λ v. value_or (newest_store (λ u. nat_eq u t) k past) v) (ih.same k)
+    ∙ sym (settled_commit s past t answers k h is_live))
+
+commit_agrees : (s : Setting) (past : List Entry) (event : Event) (r : Reply) → Legal s past → (c : Commits s past event r) → LooksAgree (settled s.opening past) c.t past
+commit_agrees s past event r h c = looks_agree s [] past past c.t refl h c.is_live c.none_live
+
+-- at each commit, each look of its transaction found its own newest store or the committed value
+pub commits_agree : (s : Setting) (past : List Entry) → Legal s past → CommitsAgree s past
+commits_agree s [] h = tt
+commits_agree s (e ∷ past) h = (commits_agree s past h.0, now (commits_or_not (effect s past e.event e.reply h.1)))
+  where
+    now : Commits s past e.event e.reply ⊎ Uncommitted s past e.event e.reply → CommitAgrees s past e.event e.reply
+    now (inl c) = subst₂ (λ event r. CommitAgrees s past event r) (sym c.event_is) (sym c.reply_is) (commit_agrees s past e.event e.reply h.0 c)
+    now (inr quiet) = quiet.agrees
+
+-- the run of a transaction that commits, on the contents so far
+run_done : (s : Setting) (past : List Entry) (event : Event) (r : Reply) → Legal s past → (c : Commits s past event r) → IsSerial s past → DoneWith (serial (run_of s (call_of past c.t)) (replayed s (told past))) c.answers (over (replayed s (told past)) (acts past c.t))
+run_done s past event r h c ih =
+    let run : Run = run_of s (call_of past c.t) in
+    (law_over_acts run (run_is_trace run)).done (replayed s (told past)) (acts past c.t) c.answers (plays s past c.t h) (finds_in (replayed s (told past)) (settled s.opening past) past c.t ih.same (commit_agrees s past event r h c)) c.next
+
+at_commit : (s : Setting) (past : List Entry) (t : ℕ) (answers : List ℤ) → Legal s past → live past t ≡ true → DoneWith (serial (run_of s (call_of past t)) (replayed s (told past))) answers (over (replayed s (told past)) (acts past t)) → IsSerial s past → IsSerial s (commit_entry t answers ∷ past)
+at_commit s past t answers h is_live d ih = record {
+  as_told = (ih.as_told, (d.0, d.1));
+  same = λ k. ap (λ o. contents_after o (replayed s (told past)) k) d.1 ∙ (d.2 k ∙ same_after s past t answers h is_live ih k);
+}
+
+at_quiet : (s : Setting) (e : Entry) (past : List Entry) → Legal s (e ∷ past) → Uncommitted s past e.event e.reply → IsSerial s past → IsSerial s (e ∷ past)
+at_quiet s e past h quiet ih = record {
+  as_told = subst (λ l. AsTold s (l ++ told past)) (sym quiet.not_told) ih.as_told;
+  same = λ k. ap (λ l. replayed s (l ++ told past) k) quiet.not_told ∙ (ih.same k ∙ sym (settled_quiet s past e k h quiet.no_commit));
+}
+
+-- commit order is serial
+pub is_serial : (s : Setting) (past : List Entry) → Legal s past → IsSerial s past
+is_serial s [] h = record { as_told = tt; same = λ k. refl }
+is_serial s (e ∷ past) h = now (is_serial s past h.0) (commits_or_not (effect s past e.event e.reply h.1))
+  where
+    now : IsSerial s past → Commits s past e.event e.reply ⊎ Uncommitted s past e.event e.reply → IsSerial s (e ∷ past)
+    now ih (inl c) = subst₂ (λ event r. IsSerial s (record { event = event; reply = r } ∷ past)) (sym c.event_is) (sym c.reply_is) (at_commit s past c.t c.answers h.0 c.is_live (run_done s past e.event e.reply h.0 c ih) ih)
+    now ih (inr quiet) = at_quiet s e past h quiet ih

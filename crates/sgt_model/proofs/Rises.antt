@@ -1,0 +1,77 @@
+-- The live ones, as listed, rise.
+use Rattle.std.proofs.Common.{ℕ, ◌+◌, ◌<◌, ◌≤◌, Bool, true, false, cond, List, [], ◌∷◌, ◌++◌, arith, lt_of_lt_of_le}
+use Rattle.std.specs.List.{filter}
+use Rattle.sgt_model.specs.declared.entry.Entry.{Entry}
+use Rattle.sgt_model.specs.Walks.{Rising}
+use Rattle.sgt_model.specs.Fates.{is_start, starts, live, begun, live_ones}
+
+-- t is below each of the list
+abbrev Above : ℕ → List ℕ → Type 0
+Above t [] = Unit {0}
+Above t (u ∷ l) = (t < u) × Above t l
+
+-- each is below all after it
+abbrev Sorted : List ℕ → Type 0
+Sorted [] = Unit {0}
+Sorted (t ∷ l) = Above t l × Sorted l
+
+-- each of the list is below n
+abbrev Under : ℕ → List ℕ → Type 0
+Under n [] = Unit {0}
+Under n (t ∷ l) = (t < n) × Under n l
+
+above-filter : (f : ℕ → Bool) (t : ℕ) (l : List ℕ) → Above t l → Above t (filter f l)
+above-filter f t [] h = tt
+above-filter f t (u ∷ l) h = go (f u) (above-filter f t l h.1)
+  where
+    go : (b : Bool) → Above t (filter f l) → Above t (cond b (u ∷ filter f l) (filter f l))
+    go true r = (h.0, r)
+    go false r = r
+
+sorted-filter : (f : ℕ → Bool) (l : List ℕ) → Sorted l → Sorted (filter f l)
+sorted-filter f [] h = tt
+sorted-filter f (u ∷ l) h = go (f u) (sorted-filter f l h.1)
+  where
+    go : (b : Bool) → Sorted (filter f l) → Sorted (cond b (u ∷ filter f l) (filter f l))
+    go true r = (above-filter f u l h.0, r)
+    go false r = r
+
+above-add : (t n : ℕ) (l : List ℕ) → Above t l → t < n → Above t (l ++ n ∷ [])
+above-add t n [] h lt = (lt, tt)
+above-add t n (u ∷ l) h lt = (h.0, above-add t n l h.1 lt)
+
+sorted-add : (n : ℕ) (l : List ℕ) → Sorted l → Under n l → Sorted (l ++ n ∷ [])
+sorted-add n [] h u = (tt, tt)
+sorted-add n (t ∷ l) h u = (above-add t n l h.0 u.0, sorted-add n l h.1 u.1)
+
+under-more : (m n : ℕ) (l : List ℕ) → m ≤ n → Under m l → Under n l
+under-more m n [] le h = tt
+under-more m n (t ∷ l) le h = (lt_of_lt_of_le h.0 le, under-more m n l le h.1)
+
+under-add : (n : ℕ) (l : List ℕ) → Under n l → Under (n + 1) (l ++ n ∷ [])
+under-add n [] h = (omega arith, tt)
+under-add n (t ∷ l) h = ((let lt = h.0 in omega arith), under-add n l h.1)
+
+begun-under : (past : List Entry) → Under (starts past) (begun past)
+begun-under [] = tt
+begun-under (e ∷ past) = go (is_start e.reply) (begun-under past)
+  where
+    go : (b : Bool) → Under (starts past) (begun past) → Under (cond b (starts past + 1) (starts past)) (cond b (begun past ++ starts past ∷ []) (begun past))
+    go true h = under-add (starts past) (begun past) h
+    go false h = h
+
+begun-sorted : (past : List Entry) → Sorted (begun past)
+begun-sorted [] = tt
+begun-sorted (e ∷ past) = go (is_start e.reply) (begun-sorted past)
+  where
+    go : (b : Bool) → Sorted (begun past) → Sorted (cond b (begun past ++ starts past ∷ []) (begun past))
+    go true h = sorted-add (starts past) (begun past) h (begun-under past)
+    go false h = h
+
+sorted-rising : (l : List ℕ) → Sorted l → Rising l
+sorted-rising [] h = tt
+sorted-rising (t ∷ []) h = tt
+sorted-rising (t ∷ u ∷ l) h = (h.0.0, sorted-rising (u ∷ l) h.1)
+
+pub live_ones-rise : (past : List Entry) → Rising (live_ones past)
+live_ones-rise past = sorted-rising (live_ones past) (sorted-filter (live past) (begun past) (begun-sorted past))

@@ -1,0 +1,184 @@
+-- Replies of engines that are wrong, at the worked examples: none of them is legal.
+use Rattle.std.specs.Prelude.{◌≡◌, ℕ, ℤ, pos, Bool, true, false, ◌&&◌, ◌⊎◌, List, [], ◌∷◌, Option, Some, None, refl}
+use Rattle.std.proofs.Common.{inl, inr, arith, sym, ap, subst}
+use Rattle.std.specs.Ordering.{int_eq}
+use Rattle.std.proofs.lemmas.Bool.{and_parts, true≢false}
+use Rattle.sgt_model.specs.declared.event.Event.TheVariants.{Start, Step, Commit, Quit}
+use Rattle.sgt_model.specs.declared.reply.Reply.{Reply}
+use Rattle.sgt_model.specs.declared.reply.Reply.TheVariants as reply
+use Rattle.sgt_model.specs.declared.reply.Cause.{Cause}
+use Rattle.sgt_model.specs.declared.reply.Cause.TheVariants as cause
+use Rattle.sgt_model.specs.declared.entry.Entry.{Entry}
+use Rattle.sgt_model.specs.declared.kind.Kind.{Kind}
+use Rattle.sgt_model.specs.declared.kind.Kind.TheVariants.{Look}
+use Rattle.sgt_model.specs.Contents.{Key}
+use Rattle.sgt_model.specs.Walks.{Member}
+use Rattle.sgt_model.specs.Fates.{live}
+use Rattle.sgt_model.specs.Legality.{Refuses, Makes, MustWait, MayCommit, LegalReply}
+use Rattle.sgt_model.proofs.Tests.{pair, pair-so, free_test, free-so, closes-so, each-so, all-so}
+use Rattle.sgt_model.proofs.BankExample.{bank, entry, bank_put, bank_look_twice, bank_tell}
+
+-- where an access closes no walk it is not refused
+not_refused : {past : List Entry} {t : ℕ} {k : Key} {kind : Kind} {why : Cause} {fell : List ℕ} (given : Reply) (set : List ℕ) → free_test past t k kind set ≡ true → (given ≡ reply.Aborted why fell → ⊥) → Refuses past t k kind (reply.Aborted why fell) ⊎ Makes past t k kind given (reply.Aborted why fell) → ⊥
+not_refused {past} {t} {k} {kind} given set free apart (inl h) = free-so past t k kind set free h.rest h.closes
+not_refused {past} {t} {k} {kind} given set free apart (inr h) = apart (sym h.is)
+
+-- where a live transaction has a pair into it, a transaction does not commit
+not_committed : {past : List Entry} {t : ℕ} {answers told : List ℤ} (u : ℕ) → (live past u && pair past u t) ≡ true → MustWait past t (reply.Committed told) ⊎ MayCommit past t answers (reply.Committed told) → ⊥
+not_committed u h (inl w) = cc w.is
+not_committed {past} {t} u h (inr c) = let p = and_parts _ _ h in c.none_live u p.0 (pair-so past u t p.1)
+
+-- `aborts-on-conflict`: the look at what is not committed closes no walk
+abbrev dirty_reader : List Entry
+dirty_reader =
+    entry (Step 1) (reply.Looked (1, pos 101) (Some (pos 500)))
+    ∷ entry (Step 1) (reply.Looked (0, pos 1) (Some (pos 101)))
+    ∷ entry (Start 0 (pos 1 ∷ [])) (reply.Started 1)
+    ∷ entry (Step 0) (reply.Wrote (2, pos 101) (pos 1100))
+    ∷ entry (Step 0) (reply.Looked (2, pos 101) (Some (pos 1000)))
+    ∷ entry (Step 0) (reply.Looked (0, pos 1) (Some (pos 101)))
+    ∷ entry (Start 1 (pos 1 ∷ pos 100 ∷ [])) (reply.Started 0)
+    ∷ []
+
+aborts_on_conflict : LegalReply (bank 8 100) dirty_reader (Step 1) (reply.Aborted (cause.Cycle (1 ∷ 0 ∷ [])) []) → ⊥
+aborts_on_conflict h = not_refused (reply.Looked (2, pos 101) (Some (pos 1100))) (1 ∷ []) refl (λ e. cc e) h
+
+-- `reads-committed`: the look finds the newest value
+abbrev tells : Reply → ℤ → Bool
+tells (reply.Looked k (Some v)) w = int_eq v w
+tells _ w = false
+
+reads_committed : LegalReply (bank 8 100) dirty_reader (Step 1) (reply.Looked (2, pos 101) (Some (pos 1000))) → ⊥
+reads_committed (inl h) = cc h.aborts.is
+reads_committed (inr h) = true≢false (ap (λ r. tells r (pos 1000)) h.is)
+
+-- `commits-at-once`: an earlier reader is still live
+abbrev early_writer : List Entry
+early_writer =
+    entry (Step 1) (reply.Wrote (2, pos 101) (pos 1050))
+    ∷ entry (Step 1) (reply.Looked (2, pos 101) (Some (pos 1000)))
+    ∷ entry (Step 1) (reply.Looked (0, pos 1) (Some (pos 101)))
+    ∷ entry (Start 1 (pos 1 ∷ pos 50 ∷ [])) (reply.Started 1)
+    ∷ entry (Step 0) reply.Ended
+    ∷ entry (Step 0) (reply.Looked (2, pos 101) (Some (pos 1000)))
+    ∷ entry (Step 0) (reply.Looked (1, pos 101) (Some (pos 500)))
+    ∷ entry (Step 0) (reply.Looked (0, pos 1) (Some (pos 101)))
+    ∷ entry (Start 0 (pos 1 ∷ [])) (reply.Started 0)
+    ∷ []
+
+commits_at_once : LegalReply (bank 8 100) early_writer (Commit 1) (reply.Committed (pos 1050 ∷ [])) → ⊥
+commits_at_once h = not_committed 0 refl h
+
+-- `last-writer-only`: the first of three writers is still live, when the second is aborted
+abbrev three_writers : List Entry
+three_writers =
+    entry (Quit 1) (reply.Aborted cause.Quit [])
+    ∷ entry (Step 2) (reply.Wrote (3, pos 7) (pos 3))
+    ∷ entry (Step 1) (reply.Wrote (3, pos 7) (pos 2))
+    ∷ entry (Step 0) (reply.Wrote (3, pos 7) (pos 1))
+    ∷ entry (Start 5 (pos 3 ∷ [])) (reply.Started 2)
+    ∷ entry (Start 5 (pos 2 ∷ [])) (reply.Started 1)
+    ∷ entry (Start 5 (pos 1 ∷ [])) (reply.Started 0)
+    ∷ []
+
+last_writer_only : LegalReply bank_put three_writers (Commit 2) (reply.Committed []) → ⊥
+last_writer_only h = not_committed 0 refl h
+
+-- and it is the first that has to be waited for
+waits_for_another : LegalReply bank_put three_writers (Commit 2) (reply.Waits 1) → ⊥
+waits_for_another (inl h) = let b : h.before ≡ 1 = cc h.is in cc (subst (λ u. live three_writers u ≡ true) b h.least.is_live)
+waits_for_another (inr h) = cc h.is
+
+-- `before-image`: after the first of two writers quits, a look finds what the second stored
+abbrev undone_beneath : List Entry
+undone_beneath =
+    entry (Start 6 []) (reply.Started 2)
+    ∷ entry (Quit 0) (reply.Aborted cause.Quit [])
+    ∷ entry (Step 1) (reply.Wrote (3, pos 7) (pos 2))
+    ∷ entry (Step 0) (reply.Wrote (3, pos 7) (pos 1))
+    ∷ entry (Start 5 (pos 2 ∷ [])) (reply.Started 1)
+    ∷ entry (Start 5 (pos 1 ∷ [])) (reply.Started 0)
+    ∷ []
+
+before_image : LegalReply bank_tell undone_beneath (Step 2) (reply.Looked (3, pos 7) None) → ⊥
+before_image (inl h) = cc h.aborts.is
+before_image (inr h) = cc h.is
+
+-- `overwriters-fall`: who only stored over the value does not fall
+abbrev overwritten : List Entry
+overwritten =
+    entry (Step 1) (reply.Wrote (3, pos 7) (pos 2))
+    ∷ entry (Step 0) (reply.Wrote (3, pos 7) (pos 1))
+    ∷ entry (Start 5 (pos 2 ∷ [])) (reply.Started 1)
+    ∷ entry (Start 5 (pos 1 ∷ [])) (reply.Started 0)
+    ∷ []
+
+overwriters_fall : LegalReply bank_put overwritten (Quit 0) (reply.Aborted cause.Quit (1 ∷ [])) → ⊥
+overwriters_fall h =
+    let named : h.fell ≡ 1 ∷ [] = cc h.is in
+    let fallen = h.falls.each 1 (subst (λ l. Member 1 l) (sym named) (inl refl)) in
+    all-so overwritten 0 [] (0 ∷ []) refl 1 fallen.0 fallen.1 fallen.2
+
+-- `direct-readers-only`: who read from a reader falls too
+abbrev two_levels : List Entry
+two_levels =
+    entry (Step 2) (reply.Looked (2, pos 102) (Some (pos 1710)))
+    ∷ entry (Step 2) (reply.Looked (1, pos 102) (Some (pos 0)))
+    ∷ entry (Step 2) (reply.Looked (0, pos 2) (Some (pos 102)))
+    ∷ entry (Start 0 (pos 2 ∷ [])) (reply.Started 2)
+    ∷ entry (Step 1) (reply.Wrote (2, pos 102) (pos 1710))
+    ∷ entry (Step 1) (reply.Looked (2, pos 102) (Some (pos 200)))
+    ∷ entry (Step 1) (reply.Wrote (2, pos 101) (pos 0))
+    ∷ entry (Step 1) (reply.Wrote (1, pos 101) (pos 0))
+    ∷ entry (Step 1) (reply.Looked (2, pos 101) (Some (pos 1010)))
+    ∷ entry (Step 1) (reply.Looked (1, pos 101) (Some (pos 500)))
+    ∷ entry (Step 1) (reply.Looked (0, pos 2) (Some (pos 102)))
+    ∷ entry (Step 1) (reply.Looked (0, pos 1) (Some (pos 101)))
+    ∷ entry (Start 3 (pos 1 ∷ pos 2 ∷ [])) (reply.Started 1)
+    ∷ entry (Step 0) (reply.Wrote (2, pos 101) (pos 1010))
+    ∷ entry (Step 0) (reply.Looked (2, pos 101) (Some (pos 1000)))
+    ∷ entry (Step 0) (reply.Looked (0, pos 1) (Some (pos 101)))
+    ∷ entry (Start 1 (pos 1 ∷ pos 10 ∷ [])) (reply.Started 0)
+    ∷ []
+
+one_of_two : Member 2 (1 ∷ []) → ⊥
+one_of_two (inl e) = omega arith
+one_of_two (inr m) = m
+
+direct_readers_only : LegalReply (bank 8 100) two_levels (Quit 0) (reply.Aborted cause.Quit (1 ∷ [])) → ⊥
+direct_readers_only h =
+    let named : h.fell ≡ 1 ∷ [] = cc h.is in
+    let fallen = each-so two_levels 0 (1 ∷ 2 ∷ []) ((1 ∷ []) ∷ (1 ∷ 2 ∷ []) ∷ []) refl 2 (inr (inl refl)) in
+    one_of_two (subst (λ l. Member 2 l) named (h.falls.all 2 fallen.0 fallen.1 fallen.2))
+
+-- `cached-read`: the second look would close a cycle, whatever it gave
+abbrev looked_before : List Entry
+looked_before =
+    entry (Step 1) (reply.Wrote (2, pos 101) (pos 1001))
+    ∷ entry (Step 1) (reply.Looked (2, pos 101) (Some (pos 1000)))
+    ∷ entry (Step 1) (reply.Looked (0, pos 1) (Some (pos 101)))
+    ∷ entry (Start 1 (pos 1 ∷ pos 1 ∷ [])) (reply.Started 1)
+    ∷ entry (Step 0) (reply.Looked (2, pos 101) (Some (pos 1000)))
+    ∷ entry (Start 5 []) (reply.Started 0)
+    ∷ []
+
+cached_read : (v : Option ℤ) → LegalReply bank_look_twice looked_before (Step 0) (reply.Looked (2, pos 101) v) → ⊥
+cached_read v (inl h) = cc h.aborts.is
+cached_read v (inr h) = h.free (1 ∷ []) (closes-so looked_before 0 (2, pos 101) Look (1 ∷ []) refl)
+
+-- `keeps-committed-places`: one that has committed takes no place
+abbrev one_committed : List Entry
+one_committed =
+    entry (Commit 0) (reply.Committed (pos 1500 ∷ []))
+    ∷ entry (Step 0) (reply.Looked (2, pos 101) (Some (pos 1000)))
+    ∷ entry (Step 0) (reply.Looked (1, pos 101) (Some (pos 500)))
+    ∷ entry (Step 0) (reply.Looked (0, pos 1) (Some (pos 101)))
+    ∷ entry (Start 0 (pos 1 ∷ [])) (reply.Started 0)
+    ∷ []
+
+keeps_committed_places : LegalReply (bank 1 2) one_committed (Start 0 (pos 2 ∷ [])) reply.Full → ⊥
+keeps_committed_places h = cc h
+
+-- a start past the limit
+starts_too_many : LegalReply (bank 1 1) one_committed (Start 0 (pos 2 ∷ [])) (reply.Started 1) → ⊥
+starts_too_many h = cc h

@@ -1,0 +1,66 @@
+-- Why transactions are aborted.
+use Rattle.std.specs.Prelude.{◌≡◌, ℕ, List, [], ◌∷◌, Option, Some, None}
+use Rattle.sgt_model.specs.declared.event.Event.{Event}
+use Rattle.sgt_model.specs.declared.event.Event.TheVariants.{Step, Quit}
+use Rattle.sgt_model.specs.declared.reply.Reply.{Reply}
+use Rattle.sgt_model.specs.declared.reply.Reply.TheVariants as reply
+use Rattle.sgt_model.specs.declared.reply.Cause.{Cause}
+use Rattle.sgt_model.specs.declared.reply.Cause.TheVariants as cause
+use Rattle.sgt_model.specs.declared.entry.Entry.{Entry}
+use Rattle.sgt_model.specs.declared.kind.Kind.{Kind}
+use Rattle.sgt_model.specs.declared.kind.Kind.TheVariants.{Look, Store}
+use Rattle.sgt_model.specs.Contents.{Key}
+use Rattle.sgt_model.specs.Walks.{Acyclic, Orders}
+use Rattle.sgt_model.specs.Traces.{Next, Looks, Puts, Ends, Asks}
+use Rattle.sgt_model.specs.Accesses.{Access, access_of}
+use Rattle.sgt_model.specs.Fates.{subject}
+use Rattle.sgt_model.specs.Falls.{Falls}
+use Rattle.sgt_model.specs.Pairs.{Pair}
+use Rattle.sgt_model.specs.Closes.{Closes}
+use Rattle.sgt_model.specs.Settings.{Setting}
+use Rattle.sgt_model.specs.Progress.{next_of}
+
+-- what comes next is an access of that kind of the key
+abbrev pub Wants : Next → Key → Kind → Type 0
+Wants (Looks j) k kind = (k ≡ j) × (kind ≡ Look)
+Wants (Puts j v) k kind = (k ≡ j) × (kind ≡ Store)
+Wants (Ends answers) k kind = ⊥
+Wants (Asks code) k kind = ⊥
+
+-- an access is t's, of that kind of the key, whatever the value
+abbrev pub IsAccess : Option Access → ℕ → Key → Kind → Type 0
+IsAccess None t k kind = ⊥
+IsAccess (Some a) t k kind = (a.by ≡ t) × (a.key ≡ k) × (a.kind ≡ kind)
+
+-- t's next access would close this walk; and with that access added as an entry, the members of the walk have no order in
+-- which the first of each pair among them comes first
+pub record ClosesCycle (s : Setting) (past : List Entry) (t : ℕ) (walk : List ℕ) : Type 0 where
+  pub rest : List ℕ
+  pub is : walk ≡ t ∷ rest
+  pub key : Key
+  pub kind : Kind
+  pub wants : Wants (next_of s past t) key kind
+  pub closes : Closes past t key kind rest
+  pub no_order : (e : Entry) → IsAccess (access_of e) t key kind → (order : List ℕ) → Orders (Pair (e ∷ past)) walk order → ⊥
+
+-- the cause that a reply names is so: the step would close that walk, the procedure asks that code, or the caller quits
+abbrev pub HasCause : Setting → List Entry → Event → Cause → Type 0
+HasCause s past (Step t) (cause.Cycle walk) = ClosesCycle s past t walk
+HasCause s past (Step t) (cause.Asked code) = next_of s past t ≡ Asks code
+HasCause s past (Quit t) cause.Quit = Unit {0}
+HasCause s past _ _ = ⊥
+
+-- an abort has its cause, and those that fall are exactly those that read from it
+abbrev pub AbortIsDue : Setting → List Entry → Event → Reply → Type 0
+AbortIsDue s past event (reply.Aborted why fell) = HasCause s past event why × Falls past (subject event) fell
+AbortIsDue s past event _ = Unit {0}
+
+-- so has each abort of a history
+abbrev pub AbortsAreDue : Setting → List Entry → Type 0
+AbortsAreDue s [] = Unit {0}
+AbortsAreDue s (e ∷ past) = AbortsAreDue s past × AbortIsDue s past e.event e.reply
+
+-- the conflict pairs have no cycle, and each abort has its cause
+pub record AbortsHaveCause (s : Setting) (past : List Entry) : Type 0 where
+  pub no_cycle : Acyclic (Pair past)
+  pub due : AbortsAreDue s past

@@ -1,0 +1,81 @@
+-- Who was started, how transactions end, and who is live.
+use Rattle.std.specs.Prelude.{ℕ, ◌+◌, Bool, true, false, ◌&&◌, cond, nat_eq, nat_lt, List, [], ◌∷◌, ◌++◌, Option, Some, None}
+use Rattle.std.specs.List.{list_any, filter}
+use Rattle.std.specs.Option.{option_or, is_none}
+use Rattle.sgt_model.specs.declared.event.Event.{Event}
+use Rattle.sgt_model.specs.declared.event.Event.TheVariants.{Start, Step, Commit, Quit}
+use Rattle.sgt_model.specs.declared.reply.Reply.{Reply}
+use Rattle.sgt_model.specs.declared.reply.Reply.TheVariants as reply
+use Rattle.sgt_model.specs.declared.reply.Fate.{Fate}
+use Rattle.sgt_model.specs.declared.reply.Fate.TheVariants as fate
+use Rattle.sgt_model.specs.declared.entry.Entry.{Entry}
+
+-- the reply starts a transaction
+abbrev pub is_start : Reply → Bool
+is_start (reply.Started t) = true
+is_start _ = false
+
+-- how many transactions were started; the next one to start has this number
+abbrev pub starts : List Entry → ℕ
+starts [] = 0
+starts (e ∷ past) = cond (is_start e.reply) (starts past + 1) (starts past)
+
+-- the transaction that an event names
+abbrev pub concerns : Event → ℕ → Bool
+concerns (Start p args) t = false
+concerns (Step u) t = nat_eq u t
+concerns (Commit u) t = nat_eq u t
+concerns (Quit u) t = nat_eq u t
+
+-- the same as a number, and 0 for a start
+abbrev pub subject : Event → ℕ
+subject (Start p args) = 0
+subject (Step u) = u
+subject (Commit u) = u
+subject (Quit u) = u
+
+-- how an event with this reply ends transaction t, if it does: t commits, or is aborted, or falls with one that is aborted
+abbrev pub ending_in : Event → Reply → ℕ → Option Fate
+ending_in event (reply.Committed answers) t = cond (concerns event t) (Some fate.Committed) None
+ending_in event (reply.Aborted cause fell) t = cond (concerns event t) (Some (fate.Aborted cause)) (cond (list_any (λ u. nat_eq u t) fell) (Some (fate.Fell (subject event))) None)
+ending_in event _ t = None
+
+-- how a transaction ended, if it did
+abbrev pub fate_of : List Entry → ℕ → Option Fate
+fate_of [] t = None
+fate_of (e ∷ past) t = option_or (ending_in e.event e.reply t) (fate_of past t)
+
+-- it ended by its commit
+abbrev pub is_commit : Option Fate → Bool
+is_commit None = false
+is_commit (Some fate.Committed) = true
+is_commit (Some (fate.Aborted cause)) = false
+is_commit (Some (fate.Fell u)) = false
+
+-- it ended by an abort, its own or another's
+abbrev pub is_abort : Option Fate → Bool
+is_abort None = false
+is_abort (Some fate.Committed) = false
+is_abort (Some (fate.Aborted cause)) = true
+is_abort (Some (fate.Fell u)) = true
+
+-- it had an Aborted reply, or stands among those that fell with one
+abbrev pub aborted : List Entry → ℕ → Bool
+aborted past t = is_abort (fate_of past t)
+
+-- it had a Committed reply
+abbrev pub committed : List Entry → ℕ → Bool
+committed past t = is_commit (fate_of past t)
+
+-- it was started, and is neither committed nor aborted
+abbrev pub live : List Entry → ℕ → Bool
+live past t = nat_lt t (starts past) && is_none (fate_of past t)
+
+-- those that were started, rising
+abbrev pub begun : List Entry → List ℕ
+begun [] = []
+begun (e ∷ past) = cond (is_start e.reply) (begun past ++ starts past ∷ []) (begun past)
+
+-- those that are live, rising
+abbrev pub live_ones : List Entry → List ℕ
+live_ones past = filter (λ t. live past t) (begun past)

@@ -1,0 +1,90 @@
+-- The laws of every legal history, each by name.
+use Rattle.std.specs.Prelude.{◌≡◌, ℕ, ◌<◌, ◌≤◌, true, false, nat_eq, List, [], ◌∷◌, length, Option, Some, None}
+use Rattle.sgt_model.specs.declared.event.Event.{Event}
+use Rattle.sgt_model.specs.declared.reply.Reply.{Reply}
+use Rattle.sgt_model.specs.declared.reply.Reply.TheVariants as reply
+use Rattle.sgt_model.specs.declared.entry.Entry.{Entry}
+use Rattle.sgt_model.specs.declared.kind.Kind.TheVariants.{Look}
+use Rattle.sgt_model.specs.Contents.{Key, Contents}
+use Rattle.sgt_model.specs.Runs.{Run}
+use Rattle.sgt_model.specs.Traces.{RunIsTrace}
+use Rattle.sgt_model.specs.Accesses.{Access, access_of}
+use Rattle.sgt_model.specs.Fates.{subject, starts, live, live_ones, aborted, committed}
+use Rattle.sgt_model.specs.Values.{newest_store, value_or, settled}
+use Rattle.sgt_model.specs.ReadFrom.{ReadFrom}
+use Rattle.sgt_model.specs.Pairs.{Pair}
+use Rattle.sgt_model.specs.Settings.{Setting}
+use Rattle.sgt_model.specs.Legality.{Legal}
+use Rattle.sgt_model.specs.Replay.{IsSerial}
+use Rattle.sgt_model.specs.CommitOrder.{CommitsBefore, last_store, CommitsInOrder}
+use Rattle.sgt_model.specs.Aborts.{AbortsHaveCause}
+use Rattle.sgt_model.specs.Headline.{Headline}
+
+-- what holds of every legal history
+abbrev pub InEach : (Setting → List Entry → Type 0) → Type 0
+InEach P = (s : Setting) (past : List Entry) → Legal s past → P s past
+
+-- no pair leads from a live to a committed transaction
+abbrev pub NoPairFromLive : Type 0
+NoPairFromLive = InEach (λ s past. (t u : ℕ) → live past t ≡ true → committed past u ≡ true → Pair past t u → ⊥)
+
+-- of two committed writers of a key, the one whose last store of it came first committed first
+abbrev pub WritersCommitInOrder : Type 0
+WritersCommitInOrder = InEach (λ s past. (k : Key) (t u p q : ℕ) → committed past t ≡ true → committed past u ≡ true → last_store past k t ≡ Some p → last_store past k u ≡ Some q → p < q → CommitsBefore past t u)
+
+-- what a transaction that is not aborted has read from is not aborted
+abbrev pub SourcesStand : Type 0
+SourcesStand = InEach (λ s past. (t u : ℕ) → aborted past t ≡ false → ReadFrom past t u → aborted past u ≡ false)
+
+-- what a committed transaction has read from is committed, and earlier
+abbrev pub SourcesCommitFirst : Type 0
+SourcesCommitFirst = InEach (λ s past. (t u : ℕ) → committed past t ≡ true → ReadFrom past t u → (committed past u ≡ true) × CommitsBefore past u t)
+
+-- a look by t found t's own newest value of the key before it or, where t had none, the value in `now`
+abbrev pub LookAgrees : Contents → ℕ → List Entry → Option Access → Type 0
+LookAgrees now t older None = Unit {0}
+LookAgrees now t older (Some a) = a.by ≡ t → a.kind ≡ Look → a.value ≡ value_or (newest_store (λ u. nat_eq u t) a.key older) (now a.key)
+
+-- so did each look by t
+abbrev pub LooksAgree : Contents → ℕ → List Entry → Type 0
+LooksAgree now t [] = Unit {0}
+LooksAgree now t (e ∷ older) = LooksAgree now t older × LookAgrees now t older (access_of e)
+
+-- at a Committed entry each look of its transaction agrees with what was committed just before
+abbrev pub CommitAgrees : Setting → List Entry → Event → Reply → Type 0
+CommitAgrees s past event (reply.Committed answers) = LooksAgree (settled s.opening past) (subject event) past
+CommitAgrees s past event _ = Unit {0}
+
+-- so it is at each entry
+abbrev pub CommitsAgree : Setting → List Entry → Type 0
+CommitsAgree s [] = Unit {0}
+CommitsAgree s (e ∷ past) = CommitsAgree s past × CommitAgrees s past e.event e.reply
+
+-- at each Committed entry, each value that its transaction looked at is its own last one of that key before the look or,
+-- where it had none, the one that was committed just before the entry
+abbrev pub LooksAgreeAtCommit : Type 0
+LooksAgreeAtCommit = InEach CommitsAgree
+
+-- a run at once is its trace
+abbrev pub RunsAreTraces : Type 0
+RunsAreTraces = (r : Run) → RunIsTrace r
+
+-- the committed transactions run one after another give the answers that were told and the committed values
+abbrev pub ReplayIsSerial : Type 0
+ReplayIsSerial = InEach IsSerial
+
+-- conflict pairs have no cycle, and each abort has its cause
+abbrev pub AbortsAlwaysHaveCause : Type 0
+AbortsAlwaysHaveCause = InEach AbortsHaveCause
+
+-- commit order agrees with the conflict pairs and with who read from whom
+abbrev pub CommitsAlwaysInOrder : Type 0
+CommitsAlwaysInOrder = InEach (λ s past. CommitsInOrder past)
+
+-- never are more transactions started, or live at once, than the limits say
+abbrev pub LimitsAreKept : Type 0
+LimitsAreKept = InEach (λ s past. (starts past ≤ s.limits.begins) × (length (live_ones past) ≤ s.limits.live))
+
+-- the headline holds of every legal history
+abbrev pub HeadlineHolds : Type 0
+HeadlineHolds = InEach Headline

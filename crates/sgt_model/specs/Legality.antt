@@ -1,0 +1,127 @@
+-- Which reply an event may get after a history, and which histories are legal.
+use Rattle.std.specs.Prelude.{◌≡◌, ℕ, ◌≤◌, ℤ, Bool, true, false, ◌&&◌, cond, ◌⊎◌, nat_eq, nat_lt, List, [], ◌∷◌, length, Option, Some, None}
+use Rattle.std.specs.List.{list_all}
+use Rattle.sgt_model.specs.declared.event.Event.{Event}
+use Rattle.sgt_model.specs.declared.event.Event.TheVariants.{Start, Step, Commit, Quit}
+use Rattle.sgt_model.specs.declared.reply.Reply.{Reply}
+use Rattle.sgt_model.specs.declared.reply.Reply.TheVariants as reply
+use Rattle.sgt_model.specs.declared.reply.Cause.{Cause}
+use Rattle.sgt_model.specs.declared.reply.Cause.TheVariants as cause
+use Rattle.sgt_model.specs.declared.reply.Fate.{Fate}
+use Rattle.sgt_model.specs.declared.entry.Entry.{Entry}
+use Rattle.sgt_model.specs.declared.kind.Kind.{Kind}
+use Rattle.sgt_model.specs.declared.kind.Kind.TheVariants.{Look, Store}
+use Rattle.sgt_model.specs.Numbers.{is_value}
+use Rattle.sgt_model.specs.Contents.{Key}
+use Rattle.sgt_model.specs.Traces.{Next, Looks, Puts, Ends, Asks}
+use Rattle.sgt_model.specs.Fates.{starts, fate_of, live, live_ones}
+use Rattle.sgt_model.specs.Values.{visible}
+use Rattle.sgt_model.specs.Falls.{Falls}
+use Rattle.sgt_model.specs.Pairs.{Pair}
+use Rattle.sgt_model.specs.Closes.{Closes}
+use Rattle.sgt_model.specs.Settings.{Setting}
+use Rattle.sgt_model.specs.Progress.{next_of}
+
+-- a start
+
+-- as many arguments as the procedure takes, each a value
+abbrev pub args_fit : ℕ → List ℤ → Bool
+args_fit count args = nat_eq (length args) count && list_all is_value args
+
+-- where the limits allow one more
+abbrev pub started_reply : Setting → List Entry → Reply
+started_reply s past = cond (nat_eq (starts past) s.limits.begins) reply.Spent (cond (nat_eq (length (live_ones past)) s.limits.live) reply.Full (reply.Started (starts past)))
+
+-- where the procedure takes so many arguments
+abbrev pub called_reply : Setting → List Entry → Option ℕ → List ℤ → Reply
+called_reply s past None args = reply.NoProcedure
+called_reply s past (Some count) args = cond (args_fit count args) (started_reply s past) reply.BadArgs
+
+-- the one reply to a start: no such procedure, bad arguments, all numbers spent, full, or started with the next number
+abbrev pub start_reply : Setting → List Entry → ℕ → List ℤ → Reply
+start_reply s past p args = called_reply s past (s.procedures p) args
+
+-- a step
+
+-- t is aborted, with those that fall
+pub record Aborts (past : List Entry) (t : ℕ) (why : Cause) (r : Reply) : Type 0 where
+  pub fell : List ℕ
+  pub falls : Falls past t fell
+  pub is : r ≡ reply.Aborted why fell
+
+-- an access that would close a cycle is refused: t is aborted, and the reply names some walk
+pub record Refuses (past : List Entry) (t : ℕ) (k : Key) (kind : Kind) (r : Reply) : Type 0 where
+  pub rest : List ℕ
+  pub closes : Closes past t k kind rest
+  pub aborts : Aborts past t (cause.Cycle (t ∷ rest)) r
+
+-- an access that closes no cycle is made
+pub record Makes (past : List Entry) (t : ℕ) (k : Key) (kind : Kind) (made_reply r : Reply) : Type 0 where
+  pub free : (rest : List ℕ) → Closes past t k kind rest → ⊥
+  pub is : r ≡ made_reply
+
+-- the reply to a step of a live transaction, by what its procedure does next
+abbrev pub StepReply : Setting → List Entry → ℕ → Next → Reply → Type 0
+StepReply s past t (Looks k) r = Refuses past t k Look r ⊎ Makes past t k Look (reply.Looked k (visible s.opening past k)) r
+StepReply s past t (Puts k v) r = Refuses past t k Store r ⊎ Makes past t k Store (reply.Wrote k v) r
+StepReply s past t (Ends answers) r = r ≡ reply.Ended
+StepReply s past t (Asks code) r = Aborts past t (cause.Asked code) r
+
+-- a commit
+
+-- u is the least live transaction with a pair into t
+pub record IsLeastLive (past : List Entry) (t u : ℕ) : Type 0 where
+  pub is_live : live past u ≡ true
+  pub pair : Pair past u t
+  pub least : (v : ℕ) → live past v ≡ true → Pair past v t → u ≤ v
+
+-- no live transaction has a pair into t
+abbrev pub NoneLive : List Entry → ℕ → Type 0
+NoneLive past t = (v : ℕ) → live past v ≡ true → Pair past v t → ⊥
+
+-- t has to wait for a live predecessor
+pub record MustWait (past : List Entry) (t : ℕ) (r : Reply) : Type 0 where
+  pub before : ℕ
+  pub least : IsLeastLive past t before
+  pub is : r ≡ reply.Waits before
+
+-- t has no live predecessor, and commits with its answers
+pub record MayCommit (past : List Entry) (t : ℕ) (answers : List ℤ) (r : Reply) : Type 0 where
+  pub none_live : NoneLive past t
+  pub is : r ≡ reply.Committed answers
+
+-- the reply to a commit of a live transaction, by what its procedure does next
+abbrev pub CommitReply : List Entry → ℕ → Next → Reply → Type 0
+CommitReply past t (Ends answers) r = MustWait past t r ⊎ MayCommit past t answers r
+CommitReply past t (Looks k) r = r ≡ reply.NotEnded
+CommitReply past t (Puts k v) r = r ≡ reply.NotEnded
+CommitReply past t (Asks code) r = r ≡ reply.NotEnded
+
+-- every event
+
+-- what an event of a started transaction is answered, by how it ended
+abbrev pub OfEnded : Option Fate → Reply → Type 0 → Type 0
+OfEnded None r if_live = if_live
+OfEnded (Some f) r if_live = r ≡ reply.Over f
+
+-- what an event of a transaction is answered, by whether it was started
+abbrev pub OfStarted : Bool → Option Fate → Reply → Type 0 → Type 0
+OfStarted true ended r if_live = OfEnded ended r if_live
+OfStarted false ended r if_live = r ≡ reply.Unknown
+
+-- what the events of a transaction share: Unknown where it was not started, Over with its fate where it ended, or else the
+-- reply to a live one
+abbrev pub OfLive : List Entry → ℕ → Reply → Type 0 → Type 0
+OfLive past t r if_live = OfStarted (nat_lt t (starts past)) (fate_of past t) r if_live
+
+-- the event may get this reply after the history
+abbrev pub LegalReply : Setting → List Entry → Event → Reply → Type 0
+LegalReply s past (Start p args) r = r ≡ start_reply s past p args
+LegalReply s past (Step t) r = OfLive past t r (StepReply s past t (next_of s past t) r)
+LegalReply s past (Commit t) r = OfLive past t r (CommitReply past t (next_of s past t) r)
+LegalReply s past (Quit t) r = OfLive past t r (Aborts past t cause.Quit r)
+
+-- each entry's reply is legal after the entries before it
+abbrev pub Legal : Setting → List Entry → Type 0
+Legal s [] = Unit {0}
+Legal s (e ∷ past) = Legal s past × LegalReply s past e.event e.reply

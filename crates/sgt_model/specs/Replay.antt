@@ -1,0 +1,48 @@
+-- The committed transactions run one after another in commit order, as if each had been alone.
+use Rattle.std.specs.Prelude.{◌≡◌, List, [], ◌∷◌, ◌++◌}
+use Rattle.sgt_model.specs.declared.event.Event.{Event}
+use Rattle.sgt_model.specs.declared.reply.Reply.{Reply}
+use Rattle.sgt_model.specs.declared.reply.Reply.TheVariants as reply
+use Rattle.sgt_model.specs.declared.entry.Entry.{Entry}
+use Rattle.sgt_model.specs.Contents.{Key, Contents}
+use Rattle.sgt_model.specs.Runs.{Outcome, Done, serial, contents_after}
+use Rattle.sgt_model.specs.Fates.{subject}
+use Rattle.sgt_model.specs.Values.{settled}
+use Rattle.sgt_model.specs.Settings.{Setting}
+use Rattle.sgt_model.specs.Progress.{Call, call_of, run_of}
+
+-- a transaction that was told its answers: what it was started with, and the reply to its commit
+pub record Told : Type 0 where
+  pub call : Call
+  pub reply : Reply
+
+-- the transaction that an entry commits, if it does
+abbrev pub told_in : List Entry → Event → Reply → List Told
+told_in past event (reply.Committed answers) = record { call = call_of past (subject event); reply = reply.Committed answers } ∷ []
+told_in past event _ = []
+
+-- the transactions of the Committed entries, newest first
+abbrev pub told : List Entry → List Told
+told [] = []
+told (e ∷ past) = told_in past e.event e.reply ++ told past
+
+-- the contents after they ran one after another on the opening. Only their calls are looked at
+abbrev pub replayed : Setting → List Told → Contents
+replayed s [] = s.opening
+replayed s (c ∷ before) = contents_after (serial (run_of s c.call) (replayed s before)) (replayed s before)
+
+-- what the run gives where this is the reply
+abbrev pub Gives : Outcome → Reply → Type 0
+Gives o (reply.Committed answers) = (last : Contents) × (o ≡ Done answers last)
+Gives o _ = ⊥
+
+-- each run gives what its transaction was told
+abbrev pub AsTold : Setting → List Told → Type 0
+AsTold s [] = Unit {0}
+AsTold s (c ∷ before) = AsTold s before × Gives (serial (run_of s c.call) (replayed s before)) c.reply
+
+-- the committed transactions' procedures, run one after another in commit order on the opening, give each the answers that it
+-- was told, and end in the committed values
+pub record IsSerial (s : Setting) (past : List Entry) : Type 0 where
+  pub as_told : AsTold s (told past)
+  pub same : (k : Key) → replayed s (told past) k ≡ settled s.opening past k

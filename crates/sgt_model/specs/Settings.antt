@@ -1,0 +1,38 @@
+-- What an engine is made of.
+use Rattle.std.specs.Prelude.{ℕ, ℤ, List, Option, Some, None, slice_get}
+use Rattle.std.specs.Option.{option_map}
+use Rattle.sgt_model.specs.declared.limits.Limits.{Limits}
+use Rattle.sgt_model.specs.Contents.{Contents}
+use Rattle.sgt_model.specs.Syntax.{Program}
+use Rattle.sgt_model.specs.Runs.{Run}
+use Rattle.sgt_model.specs.Meaning.{wrong, run_with}
+
+-- the opening contents, the procedures and the limits. Of a procedure it says by its number how many arguments it takes, or
+-- that there is none, and what it does with given arguments
+pub record Setting : Type 0 where
+  pub opening : Contents
+  pub procedures : ℕ → Option ℕ
+  pub runs : ℕ → List ℤ → Run
+  pub limits : Limits
+
+-- how many arguments procedure n takes, if there is one
+abbrev pub args_in : List Program → ℕ → Option ℕ
+args_in programs n = option_map (λ (p : Program). p.args) (slice_get programs n)
+
+-- the run of a procedure, if there is one
+abbrev pub run_if : Option Program → List ℤ → Run
+run_if None args = wrong
+run_if (Some p) args = run_with p args
+
+-- what procedure n does, numbered from 0
+abbrev pub runs_in : List Program → ℕ → List ℤ → Run
+runs_in programs n = run_if (slice_get programs n)
+
+-- the setting of these opening contents, procedures and limits
+abbrev pub setting : Contents → List Program → Limits → Setting
+setting opening programs limits = record {
+  opening = opening;
+  procedures = args_in programs;
+  runs = runs_in programs;
+  limits = limits;
+}

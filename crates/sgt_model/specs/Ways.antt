@@ -1,0 +1,24 @@
+-- The ways through a procedure: what stands behind an If stands at the end of either branch.
+use Rattle.std.specs.Prelude.{ℕ}
+use Rattle.sgt_model.specs.Syntax as text
+use Rattle.sgt_model.specs.Syntax.{Term, Test, Block}
+
+-- the statements to come; an Ask ends the way, and a fork shows the two ways behind an If
+pub data Way : Type 0 where
+  end : Way
+  look : (to table : ℕ) → (id : Term) → (absent : ℕ) → Way → Way
+  put : (table : ℕ) → (id value : Term) → Way → Way
+  save : (to : ℕ) → (value : Term) → Way → Way
+  ask : (code : ℕ) → Way
+  fork : Test → (ys ns : Way) → Way
+  answer : Term → Way → Way
+
+-- the statements of a block, and what comes behind them
+abbrev pub onto : Block → Way → Way
+onto text.empty rest = rest
+onto (text.look to table id absent b) rest = look to table id absent (onto b rest)
+onto (text.put table id value b) rest = put table id value (onto b rest)
+onto (text.save to value b) rest = save to value (onto b rest)
+onto (text.ask code b) rest = ask code
+onto (text.choose test ys ns b) rest = fork test (onto ys (onto b rest)) (onto ns (onto b rest))
+onto (text.answer value b) rest = answer value (onto b rest)

@@ -1,0 +1,87 @@
+ghost use Rattle.std.specs.Prelude.{◌≡◌, ◌<◌, ◌≤◌, ◌↔◌, [], ◌∷◌, ◌++◌, length, IsSome, IfSome, IsTrue};
+
+use arrayvec::ArrayVec;
+use std::marker::Model;
+
+/// A list of at most N items, kept in place.
+#[derive(Debug, Drop, PartialEq, Eq)]
+pub struct Bounded<T: Copy + Default, const N: usize> {
+    list: ArrayVec<T, N>,
+}
+
+impl<T: Copy + Default, const N: usize> Model for Bounded<T, N> {
+    ghost use Rattle.std.specs.Prelude.{List};
+
+    ghost Value = { List T };
+
+    ghost view = { λ b. b.list.items };
+
+    ghost inverse = { λ v. record { list = record { items = v } } };
+}
+
+impl<T: Copy + Default, const N: usize> Bounded<T, N> {
+    /// No items.
+    pub fn new() -> Self
+        ensures { result ≡ [] }
+    {
+        Bounded {
+            list: ArrayVec::new(),
+        }
+    }
+
+    /// How many items there are.
+    pub fn len(&self) -> usize
+        ensures count { result ≡ length self.now }
+        ensures few { length self.now ≤ N }
+    {
+        self.list.len()
+    }
+
+    pub fn is_empty(&self) -> bool
+        ensures { IsTrue result ↔ (self.now ≡ []) }
+    {
+        self.list.is_empty()
+    }
+
+    pub fn is_full(&self) -> bool
+        ensures { IsTrue result ↔ (length self.now ≡ N) }
+    {
+        self.list.is_full()
+    }
+
+    /// Adds an item at the end.
+    pub fn push(&mut self, item: T)
+        requires { length self.old < N }
+        ensures { self.new ≡ self.old ++ item ∷ [] }
+    {
+        self.list.push(item);
+    }
+
+    /// The items, in order.
+    pub fn as_slice(&self) -> &[T]
+        ensures { result.now ≡ self.now }
+    {
+        self.list.as_slice()
+    }
+
+    /// A list of these items, unless they are too many.
+    pub fn from_slice(items: &[T]) -> Option<Self>
+        ensures some { IsSome result ↔ (length items.now ≤ N) }
+        ensures items { IfSome result (λ list. list ≡ items.now) }
+    {
+        match ArrayVec::try_from(items) {
+            Ok(list) => Some(Bounded { list }),
+            Err(_) => None,
+        }
+    }
+
+    /// A copy, which takes no memory.
+    pub fn copied(&self) -> Self
+        ensures { result ≡ self.now }
+    {
+        match ArrayVec::try_from(self.list.as_slice()) {
+            Ok(list) => Bounded { list },
+            Err(_) => unreachable!(),
+        }
+    }
+}

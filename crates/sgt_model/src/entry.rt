@@ -1,0 +1,9 @@
+use crate::event::Event;
+use crate::reply::Reply;
+
+/// One entry of a history: an event and its reply.
+#[derive(Debug, Drop, PartialEq, Eq)]
+pub struct Entry {
+    pub event: Event,
+    pub reply: Reply,
+}

@@ -1,0 +1,42 @@
+use std::alloc::{AllocError, AllocFailed};
+use thiserror::Error;
+
+/// A growth was refused. Nothing that a caller can see has changed.
+#[derive(Clone, Copy, Debug, PartialEq, Eq, Error)]
+#[error("no memory")]
+pub struct NoMemory;
+
+impl From<AllocError> for NoMemory {
+    fn from(_: AllocError) -> Self {
+        NoMemory
+    }
+}
+
+impl<T: Drop> From<AllocFailed<T>> for NoMemory {
+    fn from(_: AllocFailed<T>) -> Self {
+        NoMemory
+    }
+}
+
+/// Why an engine could not be made.
+#[derive(Clone, Copy, Debug, PartialEq, Eq, Error)]
+pub enum MakeError {
+    /// A limit is out of its range.
+    #[error("a limit is out of its range")]
+    BadLimits,
+    /// A growth was refused.
+    #[error("no memory")]
+    NoMemory,
+}
+
+impl From<NoMemory> for MakeError {
+    fn from(_: NoMemory) -> Self {
+        MakeError::NoMemory
+    }
+}
+
+impl From<AllocError> for MakeError {
+    fn from(_: AllocError) -> Self {
+        MakeError::NoMemory
+    }
+}

@@ -1,0 +1,21 @@
+use crate::bounded::Bounded;
+use crate::tid::Tid;
+
+/// The arguments of a procedure, at most 4.
+pub type Args = Bounded<i64, 4>;
+
+/// The answers of a procedure, at most 8.
+pub type Answers = Bounded<i64, 8>;
+
+/// What a caller asks of an engine. Each event is answered by one reply.
+#[derive(Debug, Drop, PartialEq, Eq)]
+pub enum Event {
+    /// Start a transaction that runs the procedure of this number with these arguments.
+    Start { procedure: u16, args: Args },
+    /// Let the transaction's procedure make its next access.
+    Step(Tid),
+    /// Commit the transaction, whose procedure is at its end.
+    Commit(Tid),
+    /// Abort the transaction.
+    Quit(Tid),
+}

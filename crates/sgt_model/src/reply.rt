@@ -1,0 +1,118 @@
+ghost use Rattle.std.specs.Prelude.{◌≡◌};
+
+use crate::event::Answers;
+use crate::key::Key;
+use crate::tid::{Tid, Tids};
+
+/// Why a transaction was aborted.
+#[derive(Debug, Drop, PartialEq, Eq)]
+pub enum Cause {
+    /// Its step would close this cycle of conflicts, which begins with the transaction itself.
+    Cycle(Tids),
+    /// Its procedure asked this code.
+    Asked(u16),
+    /// Its caller quit it.
+    Quit,
+}
+
+/// How a transaction ended.
+#[derive(Debug, Drop, PartialEq, Eq)]
+pub enum Fate {
+    Committed,
+    Aborted(Cause),
+    /// It had read from an aborted one, directly or through others. The number is that of the transaction whose abort
+    /// started the cascade.
+    Fell(Tid),
+}
+
+/// What an event is answered.
+#[derive(Debug, Drop, PartialEq, Eq)]
+pub enum Reply {
+    /// The transaction was started, with this number.
+    Started(Tid),
+    /// No procedure has that number.
+    NoProcedure,
+    /// The arguments are not as many as the procedure takes, or one of them is no value.
+    BadArgs,
+    /// As many transactions were started as the limits allow.
+    Spent,
+    /// As many transactions are live as the limits allow.
+    Full,
+    /// No transaction of that number was started.
+    Unknown,
+    /// The transaction has ended, in this way.
+    Over(Fate),
+    /// The step looked at the record, and found this value or none.
+    Looked { key: Key, value: Option<i64> },
+    /// The step stored this value in the record.
+    Wrote { key: Key, value: i64 },
+    /// The procedure is at its end, and nothing was done.
+    Ended,
+    /// The procedure is not at its end, so the transaction can't be committed yet.
+    NotEnded,
+    /// The commit has to wait for this live predecessor, the least one.
+    Waits(Tid),
+    /// The transaction is committed, with these answers.
+    Committed(Answers),
+    /// The transaction is aborted, and with it those that had read from it, rising.
+    Aborted { cause: Cause, fell: Tids },
+}
+
+impl Cause {
+    /// A copy, which takes no memory.
+    pub fn copied(&self) -> Self
+        ensures { result ≡ self.now }
+    {
+        match self {
+            Cause::Cycle(walk) => Cause::Cycle(walk.copied()),
+            Cause::Asked(code) => Cause::Asked(*code),
+            Cause::Quit => Cause::Quit,
+        }
+    }
+}
+
+impl Fate {
+    /// A copy, which takes no memory.
+    pub fn copied(&self) -> Self
+        ensures { result ≡ self.now }
+    {
+        match self {
+            Fate::Committed => Fate::Committed,
+            Fate::Aborted(cause) => Fate::Aborted(cause.copied()),
+            Fate::Fell(first) => Fate::Fell(*first),
+        }
+    }
+}
+
+impl Reply {
+    /// A copy, which takes no memory.
+    pub fn copied(&self) -> Self
+        ensures { result ≡ self.now }
+    {
+        match self {
+            Reply::Started(t) => Reply::Started(*t),
+            Reply::NoProcedure => Reply::NoProcedure,
+            Reply::BadArgs => Reply::BadArgs,
+            Reply::Spent => Reply::Spent,
+            Reply::Full => Reply::Full,
+            Reply::Unknown => Reply::Unknown,
+            Reply::Over(fate) => Reply::Over(fate.copied()),
+            Reply::Looked { key, value } => Reply::Looked {
+                key: *key,
+                value: *value,
+            },
+            Reply::Wrote { key, value } => Reply::Wrote {
+                key: *key,
+                value: *value,
+            },
+            Reply::Ended => Reply::Ended,
+            Reply::NotEnded => Reply::NotEnded,
+            Reply::Waits(first) => Reply::Waits(*first),
+            Reply::Committed(answers) => Reply::Committed(answers.copied()),
+            Reply::Aborted { cause, fell } => Reply::Aborted {
+                cause: cause.copied(),
+                fell: fell.copied(),
+            },
+        }
+    }
+}
