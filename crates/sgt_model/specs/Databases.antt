@@ -1,5 +1,7 @@
 -- A database as its rows, in the order of their keys.
-use Rattle.std.specs.Prelude.{◌≡◌, ℤ, Bool, true, ◌&&◌, ◌||◌, cond, nat_eq, nat_lt, int_lt, List, [], ◌∷◌, Some, None}
+use Rattle.std.specs.Prelude.{◌≡◌, ℕ, zero, suc, ℤ, Bool, true, false, cond, List, [], ◌∷◌, Some, None, Result, Ok, Err, slice_get}
+use Rattle.std.specs.declared.cmp.Ordering.{Ordering}
+use Rattle.std.specs.Ordering.{nat_cmp, int_cmp, on, then_cmp, is_lt}
 use Rattle.sgt_model.specs.Numbers.{IsValue}
 use Rattle.sgt_model.specs.Contents.{Key, key_eq, Contents}
 
@@ -12,9 +14,25 @@ abbrev pub contents_of : List Row → Contents
 contents_of [] k = None
 contents_of (r ∷ rows) k = cond (key_eq r.0 k) (Some r.1) (contents_of rows k)
 
--- by table, then by number
+-- the order of keys: by table, then by number
+abbrev pub key_cmp : Key → Key → Ordering
+key_cmp = then_cmp (on (λ k. k.0) nat_cmp) (on (λ k. k.1) int_cmp)
+
+-- the first key comes before the second
 abbrev pub key_lt : Key → Key → Bool
-key_lt a b = nat_lt a.0 b.0 || (nat_eq a.0 b.0 && int_lt a.1 b.1)
+key_lt a b = is_lt (key_cmp a b)
+
+-- so many rows come before the key, where they are by key
+abbrev pub IsPlace : Key → List Row → ℕ → Type 0
+IsPlace k [] zero = Unit {0}
+IsPlace k (r ∷ rows) zero = key_lt r.0 k ≡ false
+IsPlace k [] (suc n) = ⊥
+IsPlace k (r ∷ rows) (suc n) = (key_lt r.0 k ≡ true) × IsPlace k rows n
+
+-- the place of the key's row, or else the one where it would stand
+abbrev pub IsFound : Key → List Row → Result ℕ ℕ → Type 0
+IsFound k rows (Ok n) = IsPlace k rows n × (v : ℤ) × (slice_get rows n ≡ Some (k, v))
+IsFound k rows (Err n) = IsPlace k rows n × ((r : Row) → slice_get rows n ≡ Some r → key_eq r.0 k ≡ false)
 
 -- the key comes before that of each row
 abbrev pub IsBelow : Key → List Row → Type 0

@@ -1,7 +1,7 @@
 ghost use Rattle.std.specs.Prelude.{◌≡◌, [], OnOk, OnErr};
 ghost use Rattle.sgt_model.specs.Numbers.{IsValue};
 ghost use Rattle.sgt_model.specs.Contents.{Key as K, put_in};
-ghost use Rattle.sgt_model.specs.Databases.{contents_of, IsByKey, HasValues};
+ghost use Rattle.sgt_model.specs.Databases.{contents_of, IsByKey, IsFound, IsPlace, HasValues};
 
 use crate::errors::NoMemory;
 use crate::key::Key;
@@ -33,6 +33,59 @@ impl Database {
         Database {
             rows: Vec::new(alloc),
         }
+    }
+
+    /// The value of the key, or none.
+    pub fn get(&self, key: Key) -> Option<i64>
+        ensures { result ≡ contents_of self.now key }
+    {
+        match self.find(key) {
+            Ok(at) => Some(self.rows[at].1),
+            Err(_) => None,
+        }
+    }
+
+    /// Puts the value, from `LEAST` to `MOST`, in place of the key's.
+    pub fn put(&mut self, key: Key, value: i64) -> Result<(), NoMemory>
+        requires { IsValue value }
+        ensures put { OnOk result ((k : K) → contents_of self.new k ≡ put_in (contents_of self.old) key value k) }
+        ensures err { OnErr result (self.new ≡ self.old) }
+    {
+        match self.find(key) {
+            Ok(at) => self.rows[at] = (key, value),
+            Err(at) => self.rows.insert(at, (key, value))?,
+        }
+        Ok(())
+    }
+
+    // The place of the key's row, or else the one where it would stand.
+    fn find(&self, key: Key) -> Result<usize, usize>
+        ensures { IsFound key self.now result }
+    {
+        let at = self.place(key);
+        if at < self.rows.len() {
+            if self.rows[at].0 == key {
+                return Ok(at);
+            }
+        }
+        Err(at)
+    }
+
+    // How many rows come before the key, by halving.
+    fn place(&self, key: Key) -> usize
+        ensures { IsPlace key self.now result }
+    {
+        let mut low = 0;
+        let mut high = self.rows.len();
+        while low < high {
+            let middle = low + (high - low) / 2;
+            if self.rows[middle].0 < key {
+                low = middle + 1;
+            } else {
+                high = middle;
+            }
+        }
+        low
     }
 
     /// The rows, by table and then by number.

@@ -1,0 +1,28 @@
+use Rattle.std.proofs.Common.{arith, sym, subst, w64, ◌≤◌, length}
+use Rattle.std.proofs.lemmas.Int.{to_z-of_z}
+use Rattle.sgt_model.specs.Databases.{IsPlace}
+use Rattle.sgt_model.proofs.Rows.{set_rows, insert_rows, set_told, insert_told, place_within}
+use Rattle.sgt_model.proofs.database.Database.put.Goals as goal
+
+pub invariant_of-self : goal.invariant_of-self
+invariant_of-self c =
+    let found = c.in-Ok.ensures in
+    set_rows c.args.key c.args.value _ c.self.inside.rows.items c.args.self.now c.in-Ok.at found.1 (to_z-of_z w64 c.args.value c.ranges.value) c.self.view_is found.2 c.requires c.self.invariant
+
+pub insert-requires : goal.insert-requires
+insert-requires c =
+    let within : c.in-Err.at ≤ length c.self.inside.rows.items = place_within c.args.key c.self.inside.rows.items c.in-Err.at (subst (λ rows. IsPlace c.args.key rows c.in-Err.at) (sym c.self.view_is) c.in-Err.ensures.0) in
+    omega arith
+
+pub invariant_of-self-in-Continue-1 : goal.invariant_of-self-in-Continue-1
+invariant_of-self-in-Continue-1 c =
+    insert_rows c.args.key c.args.value _ c.self.inside.rows.items c.args.self.now c.insert.new.self.items c.in-Err.at (to_z-of_z w64 c.args.value c.ranges.value) c.self.view_is c.in_ok-insert-in-Err.ensures.items c.in-Err.ensures c.requires c.self.invariant
+
+pub returns-in-Ok-clause-put : goal.returns-in-Ok-clause-put
+returns-in-Ok-clause-put c =
+    let found = c.in-Ok.ensures in
+    set_told c.args.key c.args.value _ c.self.inside.rows.items c.args.self.now c.in-Ok.at found.1 (to_z-of_z w64 c.args.value c.ranges.value) c.self.view_is found.0 found.2
+
+pub returns-in_ok-insert-in-Err-clause-put : goal.returns-in_ok-insert-in-Err-clause-put
+returns-in_ok-insert-in-Err-clause-put c =
+    insert_told c.args.key c.args.value _ c.self.inside.rows.items c.args.self.now c.insert.new.self.items c.in-Err.at (to_z-of_z w64 c.args.value c.ranges.value) c.self.view_is c.in_ok-insert-in-Err.ensures.items c.in-Err.ensures.0
