@@ -1,3 +1,5 @@
+ghost use Rattle.std.specs.Prelude.{◌≡◌};
+
 use std::alloc::{AllocError, AllocFailed};
 use thiserror::Error;
 
@@ -30,12 +32,20 @@ pub enum MakeError {
 }
 
 impl From<NoMemory> for MakeError {
+    ghost use Rattle.sgt_model.specs.declared.errors.MakeError.TheVariants.{NoMemory};
+
+    ghost from_gives = { λ _ error. error ≡ NoMemory };
+
     fn from(_: NoMemory) -> Self {
         MakeError::NoMemory
     }
 }
 
 impl From<AllocError> for MakeError {
+    ghost use Rattle.sgt_model.specs.declared.errors.MakeError.TheVariants.{NoMemory};
+
+    ghost from_gives = { λ _ error. error ≡ NoMemory };
+
     fn from(_: AllocError) -> Self {
         MakeError::NoMemory
     }

@@ -1,5 +1,5 @@
 ghost use Rattle.std.specs.Prelude.{◌≡◌, ◌≤◌, ◌↔◌, IsSome, IfSome, IsTrue};
-ghost use Rattle.sgt_model.specs.Numbers.{IsValue};
+ghost use Rattle.sgt_model.specs.Numbers.{IsValue, is_value};
 
 use std::marker::Model;
 
@@ -14,7 +14,8 @@ pub const MOST: i64 = 999_999_999_999_999;
 
 /// Whether a number is a value, from `LEAST` to `MOST`. Record numbers, balances, arguments and literals are values.
 pub fn is_value(number: i64) -> bool
-    ensures { IsTrue result ↔ IsValue number }
+    ensures fact { IsTrue result ↔ IsValue number }
+    ensures test { result ≡ is_value number }
 {
     LEAST <= number && number <= MOST
 }
