@@ -1,3 +1,5 @@
+ghost use Rattle.std.specs.Prelude.{◌≡◌};
+
 use crate::bounded::Bounded;
 use crate::tid::Tid;
 
@@ -18,4 +20,21 @@ pub enum Event {
     Commit(Tid),
     /// Abort the transaction.
     Quit(Tid),
+}
+
+impl Event {
+    /// A copy, which takes no memory.
+    pub fn copied(&self) -> Self
+        ensures { result ≡ self.now }
+    {
+        match self {
+            Event::Start { procedure, args } => Event::Start {
+                procedure: *procedure,
+                args: args.copied(),
+            },
+            Event::Step(t) => Event::Step(*t),
+            Event::Commit(t) => Event::Commit(*t),
+            Event::Quit(t) => Event::Quit(*t),
+        }
+    }
 }

@@ -1,0 +1,2 @@
+pub mod RisingLists
+pub mod Rivals

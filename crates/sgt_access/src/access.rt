@@ -1,0 +1,33 @@
+ghost use Rattle.std.specs.Prelude.{◌≡◌, ◌≢◌, true, ◌↔◌, IsTrue};
+ghost use Rattle.sgt_model.specs.Touches.{meets};
+
+use sgt_model::{Key, Kind, Tid};
+use std::marker::Model;
+
+/// One access of a live transaction.
+#[derive(Clone, Copy)]
+pub struct Access {
+    pub by: Tid,
+    pub key: Key,
+    pub kind: Kind,
+}
+
+impl Model for Access {
+    ghost use Rattle.sgt_model.specs.Touches.{Touch};
+
+    ghost Value = { Touch };
+
+    ghost view = { λ a. record { by = a.by; key = a.key; kind = a.kind } };
+
+    ghost inverse = { λ v. record { by = v.by; key = v.key; kind = v.kind } };
+}
+
+impl Access {
+    /// Whether it is by another than t and conflicts with an access of this kind of the key.
+    pub fn is_rival_of(&self, t: Tid, key: Key, kind: Kind) -> bool
+        ensures { IsTrue result
+            ↔ ((self.now.by ≢ t) × (meets self.now.by key kind self.now ≡ true)) }
+    {
+        self.by != t && self.key == key && (self.kind == Kind::Store || kind == Kind::Store)
+    }
+}

@@ -1,0 +1,45 @@
+ghost use Rattle.std.specs.Prelude.{◌≡◌, ◌≢◌, ℕ, true, List, [], ◌∷◌, ◌++◌, ◌↔◌, OnOk};
+ghost use Rattle.sgt_model.specs.Contents.{Key as K};
+ghost use Rattle.sgt_model.specs.Touches.{Touch, touches_in, is_listed, forgotten};
+ghost use Rattle.sgt_model.specs.Walks.{Member, Rising, AtMost};
+
+use sgt_model::{Key, Kind, NoMemory, Tid, Tids};
+use std::alloc::Global;
+
+/// A list of the accesses of the live transactions.
+pub trait Accesses: Drop + Send {
+    /// The accesses, oldest first.
+    ghost list: { Self → List Touch };
+
+    /// An access of the key can be noted without memory.
+    ghost is_ready: { Self → K → Type 0 };
+
+    /// No accesses. This takes no memory.
+    fn empty(alloc: Global) -> Self
+        ensures { list result ≡ [] };
+
+    /// Takes the room that the next access of the key needs. `NoMemory` where a growth was refused.
+    fn reserve(&mut self, key: Key) -> Result<(), NoMemory>
+        ensures same { list self.new ≡ list self.old }
+        ensures ready { OnOk result (is_ready self.new key) };
+
+    /// Adds an access at the end. This takes no memory.
+    fn note(&mut self, t: Tid, key: Key, kind: Kind)
+        requires ready { is_ready self.old key }
+        ensures noted { list self.new
+            ≡ list self.old ++ record { by = t; key = key; kind = kind } ∷ [] };
+
+    /// The transactions other than t with an access that conflicts with this one: of the same key, and one of the two
+    /// stores. They rise. This takes no memory.
+    ///
+    /// Bernstein, Hadzilacos and Goodman (1987), chapter 4: the edges into t that serialization graph testing adds.
+    fn rivals(&self, t: Tid, key: Key, kind: Kind) -> Tids
+        requires few { AtMost 32 (is_listed (list self.now)) }
+        ensures exact { (u : ℕ) → Member u result
+            ↔ ((u ≢ t) × (touches_in (list self.now) u key kind ≡ true)) }
+        ensures rising { Rising result };
+
+    /// Drops the accesses of a transaction. The rest keep their order. This takes no memory.
+    fn forget(&mut self, t: Tid)
+        ensures forgotten { list self.new ≡ forgotten t (list self.old) };
+}

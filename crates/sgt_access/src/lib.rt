@@ -1,0 +1,22 @@
+//! The access list: what the live transactions have read and written so far, and which of them an access conflicts with.
+//!
+//! It keeps no value and no history, and it decides nothing: it names the rivals of an access, and the scheduler makes
+//! edges of them. `Accesses` is the contract; `OneList` is one list for all keys.
+//!
+//! ```
+//! let mut accesses = OneList::empty(alloc);
+//! accesses.reserve(key)?;
+//! accesses.note(Tid(0), key, Kind::Look);
+//! let rivals = accesses.rivals(Tid(1), key, Kind::Store);   // 0
+//! ```
+#![tactic(auto)]
+
+mod access;
+mod accesses;
+mod one_list;
+mod rising;
+#[cfg(test)]
+mod tests;
+
+pub use accesses::Accesses;
+pub use one_list::OneList;

@@ -1,0 +1,53 @@
+use crate::access::Access;
+use crate::accesses::Accesses;
+use crate::rising::add_rising;
+use arrayvec::ArrayVec;
+use sgt_model::{Key, Kind, NoMemory, Tid, Tids};
+use std::alloc::Global;
+
+/// All accesses in one list. `rivals` and `forget` go once through it.
+#[derive(Drop)]
+pub struct OneList {
+    accesses: Vec<Access>,
+}
+
+impl Accesses for OneList {
+    ghost use Rattle.std.specs.Prelude.{◌<◌};
+    ghost use Rattle.std.specs.Vec.{vec_len, vec_capacity};
+
+    ghost list = { λ l. l.accesses.items };
+
+    ghost is_ready = { λ l k. vec_len l.accesses < vec_capacity l.accesses };
+
+    fn empty(alloc: Global) -> Self {
+        OneList {
+            accesses: Vec::new(alloc),
+        }
+    }
+
+    fn reserve(&mut self, _key: Key) -> Result<(), NoMemory> {
+        self.accesses.reserve(1)?;
+        Ok(())
+    }
+
+    fn note(&mut self, t: Tid, key: Key, kind: Kind) {
+        self.accesses.push_reserved(Access { by: t, key, kind });
+    }
+
+    fn rivals(&self, t: Tid, key: Key, kind: Kind) -> Tids {
+        let mut rivals = ArrayVec::<Tid, 32>::new();
+        for access in self.accesses.iter() {
+            if access.is_rival_of(t, key, kind) {
+                add_rising(&mut rivals, access.by);
+            }
+        }
+        match Tids::from_slice(rivals.as_slice()) {
+            Some(rivals) => rivals,
+            None => unreachable!(),
+        }
+    }
+
+    fn forget(&mut self, t: Tid) {
+        self.accesses.retain(|access| access.by != t);
+    }
+}

@@ -1,0 +1,5 @@
+pub mod Members
+pub mod Links
+pub mod Searched
+pub mod Walked
+pub mod Counts

@@ -1,0 +1,42 @@
+-- Links, one after another.
+use Rattle.std.specs.Prelude.{◌≡◌, ℕ, ◌<◌, ◌+◌, true, false, ◌&&◌, ◌||◌, ◌⊎◌, nat_eq, List, [], ◌∷◌, length, slice_index_or}
+use Rattle.std.proofs.Common.{take, zero, suc, refl, sym, ◌∙◌, subst, inl, inr, arith}
+use Rattle.std.proofs.lemmas.List.Folds.{list_any-append}
+use Rattle.sgt_cycle.proofs.Members.{take_next}
+use Rattle.std.proofs.lemmas.Bool.{eq-eqb, eqb-true, and_from, and_parts, or_left, or_right, or_cases, both_ways}
+use Rattle.sgt_cycle.specs.Links.{is_link, is_end}
+
+-- what stands in the list is a link
+pub link_at : (links : List (ℕ × ℕ)) (i : ℕ) (d : ℕ × ℕ) → i < length links → is_link links (slice_index_or links i d).0 (slice_index_or links i d).1 ≡ true
+link_at [] i d below = absurd (omega arith)
+link_at (l ∷ links) zero d below = or_left (nat_eq l.0 l.0 && nat_eq l.1 l.1) _ (and_from _ _ (eq-eqb l.0 l.0 refl) (eq-eqb l.1 l.1 refl))
+link_at (l ∷ links) (suc i) d below = or_right _ _ (link_at links i d (omega arith))
+
+-- a link of a list is its first, or one of the others
+pub link_cases : (l : ℕ × ℕ) (links : List (ℕ × ℕ)) (a b : ℕ) → is_link (l ∷ links) a b ≡ true → ((l.0 ≡ a) × (l.1 ≡ b)) ⊎ (is_link links a b ≡ true)
+link_cases l links a b h = elim (or_cases (nat_eq l.0 a && nat_eq l.1 b) _ h) [
+  | inl here ↦ let (first, second) = and_parts (nat_eq l.0 a) (nat_eq l.1 b) here in inl (eqb-true l.0 a first, eqb-true l.1 b second)
+  | inr there ↦ inr there
+]
+
+-- a link of one more than the first i is one of the first i, or the next
+pub link_take : (links : List (ℕ × ℕ)) (i : ℕ) (d : ℕ × ℕ) → i < length links → (a b : ℕ) → is_link (take (i + 1) links) a b ≡ true
+    → (is_link (take i links) a b ≡ true) ⊎ (((slice_index_or links i d).0 ≡ a) × ((slice_index_or links i d).1 ≡ b))
+link_take links i d below a b h =
+    let parts : (is_link (take i links) a b || is_link (slice_index_or links i d ∷ []) a b) ≡ true =
+    sym (list_any-append (λ l. nat_eq l.0 a && nat_eq l.1 b) (take i links) (slice_index_or links i d ∷ [])) ∙ subst (λ ls. is_link ls a b ≡ true) (take_next links i d below) h in
+    elim (or_cases (is_link (take i links) a b) _ parts) [
+      | inl early ↦ inl early
+      | inr next ↦ elim (link_cases (slice_index_or links i d) [] a b next) [ inl here ↦ inr here | inr none ↦ absurd (both_ways false refl none) ]
+    ]
+
+-- both numbers of a link are ends
+pub link_ends : (links : List (ℕ × ℕ)) (a b : ℕ) → is_link links a b ≡ true → (is_end links a ≡ true) × (is_end links b ≡ true)
+link_ends [] a b h = cc
+link_ends (l ∷ links) a b h = elim (link_cases l links a b h) [
+  | inl here ↦ (
+    or_left (nat_eq l.0 a || nat_eq l.1 a) _ (or_left _ _ (eq-eqb l.0 a here.0)),
+    or_left (nat_eq l.0 b || nat_eq l.1 b) _ (or_right _ _ (eq-eqb l.1 b here.1)),
+  )
+  | inr there ↦ let (first, second) = link_ends links a b there in (or_right _ _ first, or_right _ _ second)
+]

@@ -1,0 +1,21 @@
+//! The search for a walk along links between transactions: a list of links, each from one number to another; a source; and
+//! some targets.
+//!
+//! [`walk`] is exact: it answers a walk from the source to a target that passes no number twice, and `None` only where there
+//! is none. [`is_walk`] tests a path. Neither takes memory, keeps a link, or knows what the links mean.
+//!
+//! ```
+//! let links = [(Tid(0), Tid(1)), (Tid(1), Tid(2))];
+//! let mut targets = Tids::new();
+//! targets.push(Tid(2));
+//! let path = walk(&links, Tid(0), &targets); // 0, 1, 2
+//! ```
+#![tactic(auto)]
+
+mod list;
+mod search;
+#[cfg(test)]
+mod tests;
+mod walks;
+
+pub use walks::{is_walk, walk};

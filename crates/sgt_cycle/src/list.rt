@@ -1,0 +1,25 @@
+//! Where a number stands in a list.
+ghost use Rattle.std.specs.Prelude.{◌≡◌, ◌<◌, ◌↔◌, IsTrue, IsNone, IfSome, length, slice_index};
+ghost use Rattle.sgt_model.specs.Walks.{Member};
+
+use sgt_model::Tid;
+
+/// The first place of a number in a list.
+pub fn place(list: &[Tid], t: Tid) -> Option<usize>
+    ensures some { IfSome result (λ i. (i < length list.now) × (slice_index list.now i ≡ t)) }
+    ensures none { IsNone result → Member t list.now → ⊥ }
+{
+    for i in 0..list.len() {
+        if list[i] == t {
+            return Some(i);
+        }
+    }
+    None
+}
+
+/// Whether a number is in a list.
+pub fn has(list: &[Tid], t: Tid) -> bool
+    ensures { IsTrue result ↔ Member t list.now }
+{
+    place(list, t).is_some()
+}

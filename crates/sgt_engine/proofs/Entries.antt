@@ -1,0 +1,57 @@
+-- One more entry.
+use Rattle.std.proofs.Common.{◌≡◌, ℕ, ◌<◌, ◌+◌, length, map, take, get_or, List, [], ◌∷◌, ◌++◌, reverse, refl, sym, ap, ap₂, ◌∙◌, subst, subst₂, Result, Ok, Err}
+use Rattle.std.specs.Prelude.{IfOk}
+use Rattle.std.proofs.lemmas.List.{reverse-append, map-append, take_more}
+use Rattle.std.proofs.lemmas.Grind.{reverse_onto}
+use Rattle.sgt_model.specs.declared.entry.Entry.{Entry}
+use Rattle.sgt_model.specs.declared.event.Event.{Event}
+use Rattle.sgt_model.specs.declared.limits.Limits.{Limits}
+use Rattle.sgt_model.specs.declared.reply.Reply.{Reply}
+use Rattle.sgt_model.specs.Contents.{Contents}
+use Rattle.sgt_model.specs.Syntax.{Program}
+use Rattle.sgt_model.specs.Settings.{Setting, setting}
+use Rattle.sgt_model.specs.Legality.{Legal, LegalReply}
+use Rattle.sgt_model.specs.Held.{Held}
+use Rattle.sgt_model.specs.States.{IsState}
+use Rattle.sgt_model.specs.CallEffects.{CallEffect}
+use Rattle.sgt_engine.specs.Parts.{events_of}
+use Rattle.sgt_model.proofs.Joining.{calls_simulate}
+
+-- what an engine keeps: a legal history, and a scheduler that holds what is held after it
+abbrev pub Kept : Setting → List Entry → Held → Type 0
+Kept s past c = Legal s past × IsState s past c
+
+-- the entry in front of the past, where it was added at the end of the history
+pub longer : (items new : List Entry) (e : Entry) → new ≡ items ++ e ∷ [] → reverse new ≡ e ∷ reverse items
+longer items new e is = ap reverse is ∙ reverse-append items (e ∷ [])
+
+pub same_setting : (opening : Contents) (procedures procedures' : List Program) (limits limits' : Limits) → procedures' ≡ procedures → limits' ≡ limits → setting opening procedures limits ≡ setting opening procedures' limits'
+same_setting opening procedures procedures' limits limits' p l = ap₂ (setting opening) (sym p) (sym l)
+
+-- a call that was answered keeps all that an engine keeps
+pub kept_entry : (s s' : Setting) (items new : List Entry) (before after : Held) (event : Event) (r : Reply) → s ≡ s' → new ≡ items ++ record { event = event; reply = r } ∷ [] → Kept s (reverse items) before → CallEffect s event before r after → Kept s' (reverse new) after
+kept_entry s s' items new before after event r same is kept done =
+    let continues = calls_simulate s (reverse items) kept.0 before kept.1 event r after done in
+    subst₂ (λ (x : Setting) (l : List Entry). Kept x l after) same (sym (longer items new (record { event = event; reply = r }) is)) ((kept.0, continues.0), continues.1)
+
+-- its reply is legal
+pub legal_reply : (s s' : Setting) (past past' : List Entry) (before after : Held) (event : Event) (r : Reply) → s ≡ s' → past ≡ past' → Kept s past before → CallEffect s event before r after → LegalReply s' past' event r
+legal_reply s s' past past' before after event r same seen kept done =
+    subst₂ (λ (x : Setting) (l : List Entry). LegalReply x l event r) same seen (calls_simulate s past kept.0 before kept.1 event r after done).0
+
+-- a history that stays is legal still
+pub legal_same : (s s' : Setting) (items new : List Entry) → s ≡ s' → new ≡ items → Legal s (reverse items) → Legal s' (reverse new)
+legal_same s s' items new same is legal = subst₂ (λ (x : Setting) (l : List Entry). Legal x (reverse l)) same (sym is) legal
+
+-- what holds of each result that is Ok holds in another form
+pub if_ok-map : {X E : Type 0} (r : Result X E) (P Q : X → Type 0) → ((x : X) → P x → Q x) → IfOk r P → IfOk r Q
+if_ok-map (Ok x) P Q f p = f x p
+if_ok-map (Err e) P Q f p = p
+
+-- the events of a history with one entry more
+pub events_of-entry : (e : Entry) (past : List Entry) → events_of (e ∷ past) ≡ events_of past ++ e.event ∷ []
+events_of-entry e past = ap (map (λ (x : Entry). x.event)) (reverse_onto past e []) ∙ map-append (λ (x : Entry). x.event) (reverse past) (e ∷ [])
+
+pub events_taken : (e : Entry) (past : List Entry) (events : List Event) (done at : ℕ) (event : Event) → done ≡ at → at < length events → events_of past ≡ take done events → event ≡ get_or events at event → e.event ≡ event → events_of (e ∷ past) ≡ take (done + 1) events
+events_taken e past events done at event same within taken item is =
+    events_of-entry e past ∙ (ap₂ (λ l x. l ++ x ∷ []) taken (is ∙ (item ∙ ap (λ i. get_or events i event) (sym same))) ∙ sym (take_more events done event (subst (λ i. i < length events) (sym same) within)))

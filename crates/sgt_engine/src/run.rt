@@ -1,0 +1,51 @@
+ghost use Rattle.std.specs.Prelude.{◌≡◌, ◌≤◌, Result, Ok, Err, IfOk, ◌↔◌, length, take};
+ghost use Rattle.sgt_model.specs.Bounds.{AreInRange};
+ghost use Rattle.sgt_model.specs.Headline.{Headline};
+ghost use Rattle.sgt_model.specs.Legality.{Legal};
+ghost use Rattle.sgt_model.specs.Databases.{contents_of};
+ghost use Rattle.sgt_model.specs.Settings.{setting};
+ghost use Rattle.sgt_engine.specs.Parts.{setting_of, events_of};
+
+use crate::engine::Engine;
+use sgt_access::Accesses;
+use sgt_graph::Graph;
+use sgt_model::{Database, Event, Limits, MakeError};
+use sgt_proc::Checked;
+use sgt_records::Records;
+use std::alloc::Global;
+
+/// What became of a list of events.
+#[derive(Drop)]
+pub struct Ran<R: Records, A: Accesses, G: Graph> {
+    /// The engine, with the events that were applied as its history.
+    pub engine: Engine<R, A, G>,
+    /// How many were applied: all, or as many as came before a growth was refused.
+    pub done: usize,
+}
+
+/// Makes an engine, and applies the events in their order until a growth is refused.
+pub fn run_list<R: Records, A: Accesses, G: Graph>(
+    alloc: Global,
+    opening: Database,
+    procedures: Vec<Checked>,
+    limits: Limits,
+    events: &[Event],
+) -> Result<Ran<R, A, G>, MakeError>
+    ensures setting { IfOk result (λ ran. setting_of ran.engine ≡ setting (contents_of opening) procedures.items limits) }
+    ensures events { IfOk result (λ ran. events_of ran.engine.past ≡ take ran.done events.now) }
+    ensures done { IfOk result (λ ran. ran.done ≤ length events.now) }
+    ensures legal { IfOk result (λ ran. Legal (setting_of ran.engine) ran.engine.past) }
+    ensures headline { IfOk result (λ ran. Headline (setting_of ran.engine) ran.engine.past) }
+    ensures refused { (result ≡ Err MakeError.BadLimits) ↔ (¬ AreInRange limits) }
+{
+    let mut engine = Engine::new(alloc, opening, procedures, limits)?;
+    let mut done = 0;
+    for event in events {
+        match engine.apply(event.copied()) {
+            Ok(_) => done += 1,
+            Err(_) => break,
+        }
+    }
+    let _ = engine.history();
+    Ok(Ran { engine, done })
+}

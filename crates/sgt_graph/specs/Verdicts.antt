@@ -1,0 +1,16 @@
+-- What a verdict says, and what insertion does with it.
+use Rattle.std.specs.Prelude.{◌≡◌, ℕ, Bool, true, ◌⊎◌, ◌↔◌, List}
+use Rattle.sgt_model.specs.Walks.{Member}
+pub use Rattle.sgt_cycle.specs.Walk.{Holds, Walk, IsWalk, NoWalk}
+use Rattle.sgt_graph.specs.declared.verdict.Verdict.{Verdict}
+use Rattle.sgt_graph.specs.declared.verdict.Verdict.TheVariants.{Accepted, Closes}
+
+-- Accepted where no walk leads from t to one of the targets, else one that does
+abbrev pub Tells : (ℕ → ℕ → Bool) → ℕ → List ℕ → Verdict → Type 0
+Tells pairs t targets Accepted = NoWalk pairs t targets
+Tells pairs t targets (Closes walk) = IsWalk pairs t targets walk
+
+-- with Accepted a pair from each pred to t is added, and no other; else nothing changes
+abbrev pub Inserts : (ℕ → ℕ → Bool) → (ℕ → ℕ → Bool) → ℕ → List ℕ → Verdict → Type 0
+Inserts old new t preds Accepted = (u v : ℕ) → (new u v ≡ true) ↔ ((old u v ≡ true) ⊎ ((v ≡ t) × Member u preds))
+Inserts old new t preds (Closes walk) = (u v : ℕ) → new u v ≡ old u v

@@ -1,0 +1,66 @@
+ghost use Rattle.std.specs.Prelude.{◌≡◌, ◌≢◌, ℕ, Bool, true, false, not, ◌||◌, ◌&&◌, nat_eq, IfSome, IsNone};
+ghost use Rattle.sgt_model.specs.Walks.{AtMost, Member};
+ghost use Rattle.sgt_graph.specs.Pairs.{NoCycle, OfNodes, IsLeastPred};
+ghost use Rattle.sgt_graph.specs.Verdicts.{Tells, Inserts};
+
+use crate::verdict::Verdict;
+use sgt_model::{Tid, Tids};
+
+/// A graph of transactions without a cycle. A pair leads from a transaction to one that has to come after it. At most 32
+/// transactions are nodes, and no call takes memory.
+///
+/// Bernstein, Hadzilacos and Goodman (1987), chapter 4.
+pub trait Graph: Drop + Send {
+    /// The transactions in the graph.
+    ghost nodes: { Self → ℕ → Bool };
+
+    /// A pair leads from the first to the second.
+    ghost pairs: { Self → ℕ → ℕ → Bool };
+
+    /// A graph of no nodes.
+    fn empty() -> Self
+        ensures nodes { (u : ℕ) → nodes result u ≡ false }
+        ensures pairs { (u v : ℕ) → pairs result u v ≡ false };
+
+    /// Adds a transaction, with no pairs.
+    fn add(&mut self, t: Tid)
+        requires new { nodes self.old t ≡ false }
+        requires room { AtMost 31 (nodes self.old) }
+        ensures nodes { (u : ℕ) → nodes self.new u ≡ (nodes self.old u || nat_eq u t) }
+        ensures pairs { (u v : ℕ) → pairs self.new u v ≡ pairs self.old u v }
+        ensures of_nodes { OfNodes (nodes self.new) (pairs self.new) }
+        ensures acyclic { NoCycle (pairs self.new) };
+
+    /// Whether pairs from all the preds to t would leave the graph without a cycle.
+    fn test(&self, t: Tid, preds: &Tids) -> Verdict
+        requires node { nodes self.now t ≡ true }
+        requires preds { (u : ℕ) → Member u preds.now → (nodes self.now u ≡ true) × (u ≢ t) }
+        ensures verdict { Tells (pairs self.now) t preds.now result }
+        ensures of_nodes { OfNodes (nodes self.now) (pairs self.now) }
+        ensures acyclic { NoCycle (pairs self.now) };
+
+    /// Adds pairs from all the preds to t, unless a cycle would come: then nothing changes.
+    fn insert(&mut self, t: Tid, preds: &Tids) -> Verdict
+        requires node { nodes self.old t ≡ true }
+        requires preds { (u : ℕ) → Member u preds.now → (nodes self.old u ≡ true) × (u ≢ t) }
+        ensures nodes { (u : ℕ) → nodes self.new u ≡ nodes self.old u }
+        ensures verdict { Tells (pairs self.old) t preds.now result }
+        ensures pairs { Inserts (pairs self.old) (pairs self.new) t preds.now result }
+        ensures of_nodes { OfNodes (nodes self.new) (pairs self.new) }
+        ensures acyclic { NoCycle (pairs self.new) };
+
+    /// The least transaction with a pair to t.
+    fn least_pred(&self, t: Tid) -> Option<Tid>
+        ensures some { IfSome result (IsLeastPred (pairs self.now) t) }
+        ensures none { IsNone result → (u : ℕ) → pairs self.now u t ≡ false }
+        ensures of_nodes { OfNodes (nodes self.now) (pairs self.now) }
+        ensures acyclic { NoCycle (pairs self.now) };
+
+    /// Takes out a transaction, with its pairs.
+    fn remove(&mut self, t: Tid)
+        ensures nodes { (u : ℕ) → nodes self.new u ≡ (nodes self.old u && not (nat_eq t u)) }
+        ensures pairs { (u v : ℕ) → pairs self.new u v
+            ≡ (pairs self.old u v && (not (nat_eq t u) && not (nat_eq t v))) }
+        ensures of_nodes { OfNodes (nodes self.new) (pairs self.new) }
+        ensures acyclic { NoCycle (pairs self.new) };
+}

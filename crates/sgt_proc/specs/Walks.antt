@@ -1,0 +1,82 @@
+-- What a machine comes to along statements.
+use Rattle.std.specs.Prelude.{◌≡◌, ℕ, zero, suc, ℤ, Bool, cond, List, [], ◌∷◌, ◌++◌, drop, slice_set, Option, Some, Result, Ok, Err}
+use Rattle.sgt_model.specs.Contents.{Key}
+use Rattle.sgt_model.specs.Syntax.{Block, empty}
+use Rattle.sgt_model.specs.declared.procedure.Statement.{Statement}
+use Rattle.sgt_model.specs.Programs.{before, block_of}
+use Rattle.sgt_model.specs.Ways.{Way, onto}
+use Rattle.sgt_model.specs.Runs.{Run, looks, puts, ends, asks}
+use Rattle.sgt_model.specs.Meaning.{Got, is, over, missing, Holds, holds, too_far, unknown, is_key, with_stored, with_room, run}
+use Rattle.sgt_model.specs.Traces.{Looks, Puts, Ends}
+use Rattle.sgt_model.specs.Traces as trace
+use Rattle.sgt_proc.specs.declared.machine.Machine.{Machine}
+use Rattle.sgt_proc.specs.declared.next.Next.{Next}
+use Rattle.sgt_proc.specs.declared.next.Next.TheVariants.{Asks}
+use Rattle.sgt_proc.specs.Nexts.{or_next}
+
+-- a number, or the code that is asked in its place
+abbrev pub as_value : Got → Result ℤ Next
+as_value (is v) = Ok v
+as_value over = Err (Asks 1000)
+as_value missing = Err (Asks 0)
+
+-- whether a condition holds, or the code that is asked in its place
+abbrev pub as_test : Holds → Result Bool Next
+as_test (holds b) = Ok b
+as_test too_far = Err (Asks 1000)
+as_test unknown = Err (Asks 0)
+
+-- a key, or the code that is asked where it is none
+abbrev pub as_key : ℕ → ℤ → Result Key Next
+as_key table id = cond (is_key table id) (Ok (table, id)) (Err (Asks 0))
+
+-- what is left of a run after so many accesses, of which the looks found these values
+abbrev pub left_of : Run → List (Option ℤ) → ℕ → Run
+left_of r vs zero = r
+left_of (looks k go) [] (suc made) = looks k go
+left_of (looks k go) (v ∷ vs) (suc made) = left_of (go v) vs made
+left_of (puts k v rest) vs (suc made) = left_of rest vs made
+left_of (ends answers) vs (suc made) = ends answers
+left_of (asks code) vs (suc made) = asks code
+
+-- what a run does first
+abbrev pub first_of : Run → trace.Next
+first_of (looks k go) = Looks k
+first_of (puts k v rest) = Puts k v
+first_of (ends answers) = Ends answers
+first_of (asks code) = trace.Asks code
+
+-- what comes next in a run, behind the accesses that the machine has still to pass over
+abbrev pub next_in : List (Option ℤ) → Run → Machine → trace.Next
+next_in read r m = first_of (left_of r (drop m.used read) m.left)
+
+-- a look is passed over with what it found, or comes next
+abbrev pub Looked : List (Option ℤ) → Key → Machine → Result (Option ℤ) Next → Machine → Type 0
+Looked read k old result new = (go : Option ℤ → Run) → next_in read (looks k go) old ≡ or_next result (λ found. next_in read (go found) new)
+
+-- a store is passed over, or comes next
+abbrev pub Stored : Key → ℤ → Machine → Result Unit Next → Machine → Type 0
+Stored k v old result new = (read : List (Option ℤ)) (rest : Run) → next_in read (with_stored v (puts k v rest)) old ≡ or_next result (λ _. next_in read rest new)
+
+-- an answer is added, if there is room
+abbrev pub Answered : ℤ → Machine → Result Unit Next → Machine → Type 0
+Answered v old result new = (read : List (Option ℤ)) (go : List ℤ → Run) → next_in read (with_room old.answers (go (old.answers ++ v ∷ []))) old ≡ or_next result (λ _. next_in read (go new.answers) new)
+
+-- the machine with a register set
+abbrev pub with_register : Machine → ℕ → ℤ → Machine
+with_register m r v = record m { registers = slice_set m.registers r (Some v) }
+
+-- what a machine comes to along these statements
+abbrev pub next_along : List ℤ → List (Option ℤ) → Way → Machine → trace.Next
+next_along args read way m = next_in read (run args way m.registers m.answers) m
+
+-- a machine did the statements: whatever stands behind them, it comes to what it would have come to
+abbrev pub Walked : List ℤ → List (Option ℤ) → Block → Machine → Result Unit Next → Machine → Type 0
+Walked args read b old result new = (rest : Way) → next_along args read (onto b rest) old ≡ or_next result (λ _. next_along args read rest new)
+
+-- the same of one statement, and of statements in a row
+abbrev pub WalkedOne : List ℤ → List (Option ℤ) → Statement → Machine → Result Unit Next → Machine → Type 0
+WalkedOne args read s = Walked args read (before s empty)
+
+abbrev pub WalkedAll : List ℤ → List (Option ℤ) → List Statement → Machine → Result Unit Next → Machine → Type 0
+WalkedAll args read list = Walked args read (block_of list)

@@ -1,0 +1,32 @@
+ghost use Rattle.sgt_model.specs.Syntax.{empty};
+ghost use Rattle.sgt_model.specs.Programs.{before, block_of};
+ghost use Rattle.sgt_proc.specs.Behind.{AnswersFrom};
+
+use sgt_model::Statement;
+
+/// The most answers that a procedure gives.
+pub const MOST_ANSWERS: u8 = 8;
+
+/// How many answers the way with the most has, if the ways behind the statements have so many. Here 9 stands for more.
+#[cycle(answers)]
+pub fn most_answers(statements: &[Statement], behind: u8) -> u8
+    ensures { AnswersFrom (block_of statements.now) behind result }
+{
+    let mut most = behind;
+    for statement in statements.iter().rev() {
+        most = most_answers_from(statement, most);
+    }
+    most
+}
+
+#[cycle(answers)]
+fn most_answers_from(statement: &Statement, behind: u8) -> u8
+    ensures { AnswersFrom (before statement.now empty) behind result }
+{
+    match statement {
+        Statement::Answer { .. } => behind.min(MOST_ANSWERS) + 1,
+        Statement::Ask { .. } => 0,
+        Statement::If { yes, no, .. } => most_answers(yes, behind).max(most_answers(no, behind)),
+        Statement::Look { .. } | Statement::Put { .. } | Statement::Let { .. } => behind,
+    }
+}

@@ -1,0 +1,80 @@
+ghost use Rattle.std.specs.Prelude.{◌≡◌, ◌≤◌, ◌<◌, IfOk, OnOk, IfErr};
+ghost use Rattle.sgt_model.specs.Programs.{program_of};
+ghost use Rattle.sgt_model.specs.Meaning.{run_with};
+ghost use Rattle.sgt_model.specs.Traces.{next_at, trace, Used};
+ghost use Rattle.sgt_proc.specs.Nexts.{seen, IsAccess, StoresValue};
+ghost use Rattle.sgt_proc.specs.Flaws.{IsFlawless, IsLeastFlaw};
+
+use crate::flaw::{Flaw, Flawed};
+use crate::machine::Machine;
+use crate::next::Next;
+use crate::walk::walk;
+use sgt_model::{Answers, Args, Procedure};
+use std::marker::Model;
+
+/// A procedure without a flaw.
+#[derive(Drop)]
+pub struct Checked {
+    procedure: Procedure,
+}
+
+impl Model for Checked {
+    ghost use Rattle.sgt_model.specs.Codes.{coded_program};
+    ghost use Rattle.sgt_model.specs.Programs.{program_of};
+    ghost use Rattle.sgt_model.specs.Syntax.{Program};
+    ghost use Rattle.sgt_proc.specs.Flaws.{IsFlawless};
+
+    ghost Value = { Program };
+
+    ghost coded = { coded_program };
+
+    ghost view = { λ c. program_of c.procedure };
+
+    ghost invariant = { λ c. IsFlawless (program_of c.procedure) };
+}
+
+/// The procedure as one that may run, where it has no flaw. Else it comes back, with the flaw that has the least number. This
+/// takes no memory.
+pub fn check(procedure: Procedure) -> Result<Checked, Flawed>
+    ensures same { IfOk result (λ checked. checked ≡ program_of procedure) }
+    ensures flawless { OnOk result (IsFlawless (program_of procedure)) }
+    ensures least { IfErr result (λ flawed. IsLeastFlaw flawed.flaw (program_of procedure)) }
+    ensures back { IfErr result (λ flawed. flawed.procedure ≡ procedure) }
+{
+    for flaw in Flaw::ALL {
+        if flaw.is_in(&procedure) {
+            return Err(Flawed { flaw, procedure });
+        }
+    }
+    Ok(Checked { procedure })
+}
+
+impl Checked {
+    /// How many arguments it takes, at most 4.
+    pub fn args(&self) -> u8
+        ensures value { result ≡ self.now.args }
+        ensures few { result ≤ 4 }
+        ensures flawless { IsFlawless self.now }
+    {
+        self.procedure.args
+    }
+
+    /// Access number `made`, from 0, of its trace with these arguments, whose looks find the values of `read` in order, or
+    /// how that trace ends. Where a look finds no value left, that look.
+    pub fn next(&self, args: &Args, read: &[Option<i64>], made: usize) -> Next
+        ensures next { seen result ≡ next_at (trace (run_with self.now args.now) read.now) made }
+        ensures in_range { StoresValue result }
+        ensures few { IsAccess result → Used (run_with self.now args.now) read.now made → made < 64 }
+    {
+        let mut machine = Machine {
+            registers: [None; 16],
+            answers: Answers::new(),
+            used: 0,
+            left: made,
+        };
+        match walk(&self.procedure.body, args.as_slice(), read, &mut machine) {
+            Ok(()) => Next::Ends(machine.answers),
+            Err(next) => next,
+        }
+    }
+}

@@ -1,0 +1,110 @@
+ghost use Rattle.std.specs.Prelude.{◌≡◌};
+ghost use Rattle.sgt_model.specs.Syntax.{empty};
+ghost use Rattle.sgt_model.specs.Programs.{term_of, test_of, before, block_of};
+ghost use Rattle.sgt_proc.specs.Flaws.{in_term, in_test, in_block};
+ghost use Rattle.sgt_proc.specs.NumberFlaws.{is_bad};
+
+use crate::flaw::Flaw;
+use sgt_model::{Cond, Expr, LAST_TABLE, Statement, is_value};
+
+/// A number that stands in the text of a procedure.
+#[derive(Clone, Copy)]
+pub enum Number {
+    Register(u8),
+    Argument(u8),
+    Table(u8),
+    Code(u16),
+    Literal(i64),
+}
+
+/// What no number in a text may be: one with this flaw, in a procedure that takes so many arguments.
+#[derive(Clone, Copy)]
+pub struct Rule {
+    pub flaw: Flaw,
+    pub args: u8,
+}
+
+impl Rule {
+    fn is_broken(self, number: Number) -> bool
+        ensures { result ≡ is_bad self.flaw self.args number }
+    {
+        match (self.flaw, number) {
+            (Flaw::HighRegister, Number::Register(n)) => n > 15,
+            (Flaw::NoArgument, Number::Argument(n)) => n >= self.args,
+            (Flaw::HighTable, Number::Table(n)) => n > LAST_TABLE,
+            (Flaw::BadCode, Number::Code(n)) => n == 0 || n > 999,
+            (Flaw::BadLiteral, Number::Literal(n)) => !is_value(n),
+            _ => false,
+        }
+    }
+
+    fn is_broken_in(self, expr: &Expr) -> bool
+        ensures { result ≡ in_term (is_bad self.flaw self.args) (term_of expr.now) }
+    {
+        match expr {
+            Expr::Num(n) => self.is_broken(Number::Literal(*n)),
+            Expr::Arg(n) => self.is_broken(Number::Argument(*n)),
+            Expr::Reg(n) => self.is_broken(Number::Register(*n)),
+            Expr::Sum(left, right) | Expr::Diff(left, right) => {
+                self.is_broken_in(left) || self.is_broken_in(right)
+            }
+        }
+    }
+
+    fn is_broken_in_test(self, cond: &Cond) -> bool
+        ensures { result ≡ in_test (is_bad self.flaw self.args) (test_of cond.now) }
+    {
+        match cond {
+            Cond::Less(left, right) | Cond::AtMost(left, right) | Cond::Equal(left, right) => {
+                self.is_broken_in(left) || self.is_broken_in(right)
+            }
+        }
+    }
+
+    #[cycle(text)]
+    fn is_broken_by(self, statement: &Statement) -> bool
+        ensures { result ≡ in_block (is_bad self.flaw self.args) (before statement.now empty) }
+    {
+        match statement {
+            Statement::Look {
+                reg,
+                table,
+                id,
+                absent,
+            } => {
+                self.is_broken(Number::Register(*reg))
+                    || self.is_broken(Number::Table(*table))
+                    || self.is_broken_in(id)
+                    || self.is_broken(Number::Code(*absent))
+            }
+            Statement::Put { table, id, value } => {
+                self.is_broken(Number::Table(*table))
+                    || self.is_broken_in(id)
+                    || self.is_broken_in(value)
+            }
+            Statement::Let { reg, value } => {
+                self.is_broken(Number::Register(*reg)) || self.is_broken_in(value)
+            }
+            Statement::Ask { code } => self.is_broken(Number::Code(*code)),
+            Statement::If { cond, yes, no } => {
+                self.is_broken_in_test(cond)
+                    || self.is_broken_in_text(yes)
+                    || self.is_broken_in_text(no)
+            }
+            Statement::Answer { value } => self.is_broken_in(value),
+        }
+    }
+
+    /// Whether a number of the text has the flaw, also where no way leads.
+    #[cycle(text)]
+    pub fn is_broken_in_text(self, statements: &[Statement]) -> bool
+        ensures { result ≡ in_block (is_bad self.flaw self.args) (block_of statements.now) }
+    {
+        for statement in statements {
+            if self.is_broken_by(statement) {
+                return true;
+            }
+        }
+        false
+    }
+}

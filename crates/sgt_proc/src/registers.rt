@@ -1,0 +1,73 @@
+ghost use Rattle.std.specs.Prelude.{◌≡◌, ◌↔◌, IsTrue};
+ghost use Rattle.sgt_model.specs.Syntax.{empty};
+ghost use Rattle.sgt_model.specs.Programs.{term_of, test_of, before, block_of};
+ghost use Rattle.sgt_model.specs.Ways.{onto, end};
+ghost use Rattle.sgt_proc.specs.Flaws.{uses, test_uses, UsesUnset};
+ghost use Rattle.sgt_proc.specs.Behind.{LiveBefore};
+
+use sgt_model::{Cond, Expr, Statement};
+
+/// Whether on some way an expression uses a register that nothing before it on that way set.
+pub fn uses_unset(body: &[Statement]) -> bool
+    ensures { IsTrue result ↔ UsesUnset (onto (block_of body.now) end) }
+{
+    for register in 0..16 {
+        if is_live(body, register, false) {
+            return true;
+        }
+    }
+    false
+}
+
+/// Whether the register is live before the statements: on some way it is used before it is set. It is live behind them or
+/// not, as told.
+#[cycle(live)]
+fn is_live(statements: &[Statement], register: u8, behind: bool) -> bool
+    ensures { LiveBefore register (block_of statements.now) behind result }
+{
+    let mut live = behind;
+    for statement in statements.iter().rev() {
+        live = is_live_before(statement, register, live);
+    }
+    live
+}
+
+#[cycle(live)]
+fn is_live_before(statement: &Statement, register: u8, behind: bool) -> bool
+    ensures { LiveBefore register (before statement.now empty) behind result }
+{
+    match statement {
+        Statement::Look { reg, id, .. } => uses(id, register) || *reg != register && behind,
+        Statement::Put { id, value, .. } => uses(id, register) || uses(value, register) || behind,
+        Statement::Let { reg, value } => uses(value, register) || *reg != register && behind,
+        Statement::Ask { .. } => false,
+        Statement::If { cond, yes, no } => {
+            test_uses(cond, register)
+                || is_live(yes, register, behind)
+                || is_live(no, register, behind)
+        }
+        Statement::Answer { value } => uses(value, register) || behind,
+    }
+}
+
+fn uses(expr: &Expr, register: u8) -> bool
+    ensures { result ≡ uses register (term_of expr.now) }
+{
+    match expr {
+        Expr::Num(_) | Expr::Arg(_) => false,
+        Expr::Reg(n) => *n == register,
+        Expr::Sum(left, right) | Expr::Diff(left, right) => {
+            uses(left, register) || uses(right, register)
+        }
+    }
+}
+
+fn test_uses(cond: &Cond, register: u8) -> bool
+    ensures { result ≡ test_uses register (test_of cond.now) }
+{
+    match cond {
+        Cond::Less(left, right) | Cond::AtMost(left, right) | Cond::Equal(left, right) => {
+            uses(left, register) || uses(right, register)
+        }
+    }
+}

@@ -1,0 +1,85 @@
+ghost use Rattle.std.specs.Prelude.{◌≡◌, ◌+ℤ◌, ◌-ℤ◌};
+ghost use Rattle.sgt_model.specs.Programs.{term_of, test_of};
+ghost use Rattle.sgt_model.specs.Meaning.{bounded, value_of, result_of};
+ghost use Rattle.sgt_proc.specs.Walks.{as_value, as_test, as_key};
+
+use crate::next::Next;
+use sgt_model::{Cond, Expr, Key, is_value};
+
+/// The code that is asked where a sum or difference is no value.
+const OVER: u16 = 1000;
+
+/// The code that stands for what no checked procedure does.
+pub const WRONG: u16 = 0;
+
+/// What an expression gives, or the code that is asked in its place.
+pub fn value(expr: &Expr, args: &[i64], registers: &[Option<i64>; 16]) -> Result<i64, Next>
+    ensures { result ≡ as_value (value_of (term_of expr.now) args.now registers.now) }
+{
+    match expr {
+        Expr::Num(number) => Ok(*number),
+        Expr::Arg(n) => match args.get(usize::from(*n)) {
+            Some(number) => Ok(*number),
+            None => Err(Next::Asks(WRONG)),
+        },
+        Expr::Reg(n) => match registers.get(usize::from(*n)) {
+            Some(Some(number)) => Ok(*number),
+            _ => Err(Next::Asks(WRONG)),
+        },
+        Expr::Sum(left, right) => sum(
+            value(left, args, registers)?,
+            value(right, args, registers)?,
+        ),
+        Expr::Diff(left, right) => {
+            difference(
+                value(left, args, registers)?,
+                value(right, args, registers)?,
+            )
+        }
+    }
+}
+
+/// Whether a condition holds, or the code that is asked in its place.
+pub fn test(cond: &Cond, args: &[i64], registers: &[Option<i64>; 16]) -> Result<bool, Next>
+    ensures { result ≡ as_test (result_of (test_of cond.now) args.now registers.now) }
+{
+    match cond {
+        Cond::Less(left, right) => {
+            Ok(value(left, args, registers)? < value(right, args, registers)?)
+        }
+        Cond::AtMost(left, right) => {
+            Ok(value(left, args, registers)? <= value(right, args, registers)?)
+        }
+        Cond::Equal(left, right) => {
+            Ok(value(left, args, registers)? == value(right, args, registers)?)
+        }
+    }
+}
+
+/// The key, or the code that is asked where it is none.
+pub fn key(table: u8, id: i64) -> Result<Key, Next>
+    ensures { result ≡ as_key table id }
+{
+    match Key::new(table, id) {
+        Some(key) => Ok(key),
+        None => Err(Next::Asks(WRONG)),
+    }
+}
+
+fn sum(left: i64, right: i64) -> Result<i64, Next>
+    ensures { result ≡ as_value (bounded (left +ℤ right)) }
+{
+    match left.checked_add(right) {
+        Some(total) if is_value(total) => Ok(total),
+        _ => Err(Next::Asks(OVER)),
+    }
+}
+
+fn difference(left: i64, right: i64) -> Result<i64, Next>
+    ensures { result ≡ as_value (bounded (left -ℤ right)) }
+{
+    match left.checked_sub(right) {
+        Some(rest) if is_value(rest) => Ok(rest),
+        _ => Err(Next::Asks(OVER)),
+    }
+}

@@ -1,0 +1,5 @@
+pub mod SettledValues
+pub mod RowsRead
+pub mod RecordsRead
+pub mod PendingWrites
+pub mod LastWrites

@@ -1,0 +1,87 @@
+-- What a value put in a key's record, or an empty record, changes.
+use Rattle.std.proofs.Common.{◌≡◌, ℤ, Bool, true, false, cond, Equal, Option, Some, None, Result, Ok, Err, OnOk, OnErr, IfSome, refl, sym, ap, ◌∙◌, subst}
+use Rattle.std.proofs.lemmas.Bool.{true≢false}
+use Rattle.std.proofs.lemmas.Option.{same_Some}
+use Rattle.std.proofs.lemmas.Cmp.{tied_itself}
+use Rattle.std.specs.Option.{is_some}
+use Rattle.std.specs.Ordering.{is_eq}
+use Rattle.std.specs.Cmp.{Equal-is}
+use Rattle.std.specs.BTreeMap.{BTreeMap, get, is_at, Updates, IsUnchanged}
+use Rattle.std.specs.Map.{lookup}
+use Rattle.sgt_model.specs.Numbers.{IsValue}
+use Rattle.sgt_model.specs.Contents.{Key, key_eq, put_in}
+use Rattle.sgt_model.specs.Databases.{key_cmp}
+use Rattle.sgt_model.proofs.Rows.{key_order, key_cmp-equal}
+use Rattle.sgt_model.proofs.Stores.{key_eq-true, key_eq-refl}
+use Rattle.sgt_records.specs.Settleds.{value_in, settled_in, has_record, AreValues}
+
+-- the order of keys finds a key where it is the same
+pub same_key : (a b : Key) → is_eq (key_cmp a b) ≡ key_eq a b
+same_key a b = go (is_eq (key_cmp a b)) refl (key_eq a b) refl
+  where
+    go : (s : Bool) → is_eq (key_cmp a b) ≡ s → (t : Bool) → key_eq a b ≡ t → s ≡ t
+    go true h true i = refl
+    go false h false i = refl
+    go true h false i = absurd (true≢false (sym (subst (λ c. key_eq a c ≡ true) (key_cmp-equal a b ((Equal-is (key_cmp a b)).0 h)) (key_eq-refl a)) ∙ i))
+    go false h true i = absurd (true≢false (sym ((Equal-is (key_cmp a b)).1 (subst (λ c. key_cmp a c ≡ Equal) (key_eq-true a b i) (tied_itself key_order a))) ∙ h))
+
+-- the same, told of the other key
+pub key_back : (a b : Key) → is_eq (key_cmp a b) ≡ key_eq b a
+key_back a b = same_key a b ∙ go (key_eq a b) refl (key_eq b a) refl
+  where
+    go : (s : Bool) → key_eq a b ≡ s → (t : Bool) → key_eq b a ≡ t → s ≡ t
+    go true h true i = refl
+    go false h false i = refl
+    go true h false i = absurd (true≢false (sym (subst (λ c. key_eq c a ≡ true) (key_eq-true a b h) (key_eq-refl a)) ∙ i))
+    go false h true i = absurd (true≢false (sym (subst (λ c. key_eq c b ≡ true) (key_eq-true b a i) (key_eq-refl b)) ∙ h))
+
+module _ (m n : BTreeMap Key (Option ℤ)) (key : Key) (content : Option ℤ) (told : Updates key_cmp m n key (Some content)) where
+  -- what the key's record holds is the key's value, and every other value is as before
+  value_told : (k : Key) → settled_in n k ≡ cond (key_eq key k) content (settled_in m k)
+  value_told k = ap value_in (told.0 k) ∙ (ap (λ b. value_in (cond b (Some content) (get key_cmp m k))) (same_key key k) ∙ go (key_eq key k))
+    where
+      go : (b : Bool) → value_in (cond b (Some content) (get key_cmp m k)) ≡ cond b content (settled_in m k)
+      go true = refl
+      go false = refl
+
+  -- no record is lost
+  pub records_kept : (k : Key) → has_record m k ≡ true → has_record n k ≡ true
+  records_kept k h = ap is_some (told.0 k) ∙ go (is_eq (key_cmp key k))
+    where
+      go : (b : Bool) → is_some (cond b (Some content) (get key_cmp m k)) ≡ true
+      go true = refl
+      go false = h
+
+  -- the key has a record
+  pub record_there : has_record n key ≡ true
+  record_there = ap is_some told.1
+
+-- a value that is put
+pub value_put : (m n : BTreeMap Key (Option ℤ)) (key : Key) (v : ℤ) → Updates key_cmp m n key (Some (Some v)) → (k : Key) → settled_in n k ≡ put_in (settled_in m) key v k
+value_put m n key v told = value_told m n key (Some v) told
+
+-- of values in range, if it is
+pub values_put : (m n : BTreeMap Key (Option ℤ)) (key : Key) (v : ℤ) → Updates key_cmp m n key (Some (Some v)) → IsValue v → AreValues m → AreValues n
+values_put m n key v told in_range values k u h = go (key_eq key k) (sym (value_put m n key v told k) ∙ h)
+  where
+    go : (b : Bool) → cond b (Some v) (settled_in m k) ≡ Some u → IsValue u
+    go true e = subst IsValue (same_Some v u e) in_range
+    go false e = values k u e
+
+-- an empty record for a key that has none
+pub value_same : (m n : BTreeMap Key (Option ℤ)) (key : Key) → get key_cmp m key ≡ None → Updates key_cmp m n key (Some None) → (k : Key) → settled_in n k ≡ settled_in m k
+value_same m n key absent told k = value_told m n key None told k ∙ go (key_eq key k) refl
+  where
+    go : (b : Bool) → key_eq key k ≡ b → cond b None (settled_in m k) ≡ settled_in m k
+    go true e = subst (λ j. None ≡ settled_in m j) (key_eq-true key k e) (sym (ap value_in absent))
+    go false e = refl
+
+-- whatever came of the empty record, the values are as before
+pub values_same : {T F : Type 0} (m n : BTreeMap Key (Option ℤ)) (key : Key) (r : Result T F) → get key_cmp m key ≡ None → OnOk r (Updates key_cmp m n key (Some None)) → OnErr r (IsUnchanged m n) → AreValues m → AreValues n
+values_same m n key (Ok x) absent told same values k v h = values k v (sym (value_same m n key absent told k) ∙ h)
+values_same m n key (Err e) absent told same values k v h = values k v (sym (ap (λ es. value_in (lookup (is_at (key_cmp k)) es)) same) ∙ h)
+
+-- the value of a record is in range
+pub value_in_range : (m : BTreeMap Key (Option ℤ)) (key : Key) (content : Option ℤ) → Some content ≡ get key_cmp m key → AreValues m → IfSome content IsValue
+value_in_range m key None is values = tt
+value_in_range m key (Some v) is values = values key v (ap value_in (sym is))

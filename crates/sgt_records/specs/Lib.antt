@@ -1,0 +1,3 @@
+pub mod Tops
+pub mod Settleds
+pub mod Pendings

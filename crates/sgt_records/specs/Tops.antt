@@ -1,0 +1,27 @@
+-- What a look at a key finds: the last value of its chain, else the committed one.
+use Rattle.std.specs.Prelude.{◌≡◌, ℕ, ℤ, List, Option, Some, None}
+use Rattle.std.specs.List.{last_or}
+use Rattle.sgt_records.specs.declared.top.Top.{Top}
+use Rattle.sgt_records.specs.declared.top.Top.TheVariants.{Pending, Settled, Nothing}
+
+-- by the last of the chain and the committed value
+abbrev pub top_from : Option (ℕ × ℤ) → Option ℤ → Top
+top_from (Some w) below = Pending w.0 w.1
+top_from None (Some v) = Settled v
+top_from None None = Nothing
+
+-- by the chain and the committed value
+abbrev pub top_of : List (ℕ × ℤ) → Option ℤ → Top
+top_of chain settled = top_from (last_or None chain) settled
+
+-- what each answer says of the last of the chain and of the committed value
+abbrev pub IsTop : Top → Option (ℕ × ℤ) → Option ℤ → Type 0
+IsTop (Pending t v) last settled = last ≡ Some (t, v)
+IsTop (Settled v) last settled = (last ≡ None) × (settled ≡ Some v)
+IsTop Nothing last settled = (last ≡ None) × (settled ≡ None)
+
+-- the value found, if there is one
+abbrev pub value_of : Top → Option ℤ
+value_of (Pending t v) = Some v
+value_of (Settled v) = Some v
+value_of Nothing = None

@@ -1,0 +1,95 @@
+ghost use Rattle.std.specs.Prelude.{◌≡◌, true, IfSome, IfOk, OnOk};
+ghost use Rattle.sgt_model.specs.Numbers.{IsValue};
+ghost use Rattle.sgt_model.specs.Contents.{Key as K, put_in};
+ghost use Rattle.sgt_model.specs.Databases.{contents_of};
+ghost use Rattle.sgt_records.specs.Settleds.{settled_in, has_record, KeepsRecords, AreValues};
+ghost use Rattle.sgt_records.specs.Pendings.{settled_with, ArePending};
+
+use crate::write::Write;
+use sgt_model::{Database, Key, NoMemory, Tid};
+use std::alloc::Global;
+use std::collections::BTreeMap;
+
+/// The committed values by key. A record that is empty counts as none: it is there so that a value can be put without
+/// memory.
+#[derive(Drop)]
+pub struct Committed {
+    pub records: BTreeMap<Key, Option<i64>>,
+    ghost in_range: { AreValues records },
+}
+
+impl Committed {
+    /// The values of a database.
+    pub fn of(alloc: Global, opening: &Database) -> Result<Committed, NoMemory>
+        ensures { IfOk result (λ c. (k : K) → settled_in c.records k ≡ contents_of opening.now k) }
+    {
+        let mut records = BTreeMap::new(alloc);
+        for (key, value) in opening.rows() {
+            records.insert(*key, Some(*value))?;
+        }
+        Ok(Committed { records })
+    }
+
+    /// The value of the key, or none.
+    pub fn get(&self, key: Key) -> Option<i64>
+        ensures value { result ≡ settled_in self.now.records key }
+        ensures in_range { IfSome result IsValue }
+    {
+        match self.records.get(&key) {
+            Some(value) => *value,
+            None => None,
+        }
+    }
+
+    /// Makes sure that the key has a record.
+    pub fn reserve(&mut self, key: Key) -> Result<(), NoMemory>
+        ensures same { (k : K) → settled_in self.new.records k ≡ settled_in self.old.records k }
+        ensures kept { KeepsRecords self.old.records self.new.records }
+        ensures ready { OnOk result (has_record self.new.records key ≡ true) }
+    {
+        if !self.records.contains_key(&key) {
+            self.records.insert(key, None)?;
+        }
+        Ok(())
+    }
+
+    /// Puts the value in the key's record. This takes no memory.
+    pub fn put(&mut self, key: Key, value: i64)
+        requires ready { has_record self.old.records key ≡ true }
+        requires in_range { IsValue value }
+        ensures put { (k : K) → settled_in self.new.records k
+            ≡ put_in (settled_in self.old.records) key value k }
+        ensures kept { KeepsRecords self.old.records self.new.records }
+    {
+        if let Some(record) = self.records.get_mut(&key) {
+            *record = Some(value);
+        }
+    }
+
+    /// Puts t's values among the pending writes in their records. This takes no memory.
+    pub fn settle(&mut self, writes: &[Write], t: Tid)
+        requires pending { ArePending self.old.records writes.now }
+        ensures settled { (k : K) → settled_in self.new.records k
+            ≡ settled_with t writes.now (settled_in self.old.records) k }
+        ensures kept { KeepsRecords self.old.records self.new.records }
+    {
+        for write in writes {
+            if write.by == t {
+                self.put(write.key, write.value);
+            }
+        }
+    }
+
+    /// All values, by key.
+    pub fn all(&self, alloc: Global) -> Result<Database, NoMemory>
+        ensures { IfOk result (λ d. (k : K) → contents_of d k ≡ settled_in self.now.records k) }
+    {
+        let mut values = Database::empty(alloc);
+        for (key, record) in &self.records {
+            if let Some(value) = record {
+                values.put(*key, *value)?;
+            }
+        }
+        Ok(values)
+    }
+}

@@ -1,0 +1,28 @@
+//! The records: of each key the committed value, and above it the values that live transactions have written, in the
+//! order of these writes.
+//!
+//! A look finds the last write that is not undone, committed or not. An abort takes out the transaction's own writes
+//! alone: no value from before them is written back, so the writes above stay. Nothing here decides who may read, write
+//! or commit. `Records` is the contract; `ListRecords` keeps the committed values in an ordered map and all pending
+//! writes in one list.
+//!
+//! ```
+//! let mut records = ListRecords::build(alloc, &opening)?;
+//! records.reserve(key)?;
+//! records.write(Tid(0), key, 5);
+//! let top = records.top(key);        // Top::Pending(Tid(0), 5)
+//! records.undo(Tid(0));              // now the committed value, or nothing
+//! ```
+#![tactic(auto)]
+
+mod committed;
+mod list_records;
+mod records;
+#[cfg(test)]
+mod tests;
+mod top;
+mod write;
+
+pub use list_records::ListRecords;
+pub use records::Records;
+pub use top::Top;

@@ -1,0 +1,27 @@
+ghost use Rattle.std.specs.Prelude.{◌≡◌};
+ghost use Rattle.sgt_records.specs.Tops.{value_of};
+
+use sgt_model::Tid;
+
+/// What a look at a key finds.
+#[derive(Clone, Copy, Debug, PartialEq, Eq)]
+pub enum Top {
+    /// The last value that a live transaction has written.
+    Pending(Tid, i64),
+    /// The committed value, where no live transaction has written one.
+    Settled(i64),
+    /// Neither.
+    Nothing,
+}
+
+impl Top {
+    /// The value that the look finds, if there is one.
+    pub fn value(self) -> Option<i64>
+        ensures { result ≡ value_of self }
+    {
+        match self {
+            Top::Pending(_, value) | Top::Settled(value) => Some(value),
+            Top::Nothing => None,
+        }
+    }
+}

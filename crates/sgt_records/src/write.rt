@@ -1,0 +1,9 @@
+use sgt_model::{Key, Tid};
+
+/// A live transaction's write.
+#[derive(Clone, Copy)]
+pub struct Write {
+    pub by: Tid,
+    pub key: Key,
+    pub value: i64,
+}

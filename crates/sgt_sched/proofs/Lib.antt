@@ -1,0 +1,9 @@
+pub mod Lives
+pub mod Lists
+pub mod Started
+pub mod Found
+pub mod Ended
+pub mod Aborted
+pub mod Accessed
+pub mod Looks
+pub mod Stepped

@@ -1,0 +1,4 @@
+pub mod Courses
+pub mod Parts
+pub mod Admission
+pub mod Steps

@@ -1,0 +1,55 @@
+-- What a scheduler is made of, and what it holds.
+use Rattle.std.specs.Prelude.{◌≡◌, ◌<◌, ◌≤◌, ◌↔◌, ℕ, ℤ, Bool, true, List, length, Option, None, slice_index_or}
+use Rattle.sgt_model.specs.declared.limits.Limits.{Limits}
+use Rattle.sgt_model.specs.declared.reply.Fate.{Fate}
+use Rattle.sgt_model.specs.Bounds.{AreInRange}
+use Rattle.sgt_model.specs.Contents.{Key}
+use Rattle.sgt_model.specs.Syntax.{Program}
+use Rattle.sgt_model.specs.Traces.{Used}
+use Rattle.sgt_model.specs.Settings.{runs_in}
+use Rattle.sgt_model.specs.Touches.{Touch}
+use Rattle.sgt_model.specs.Courses.{Course}
+use Rattle.sgt_model.specs.Held.{Held}
+use Rattle.sgt_model.specs.Soundness.{Sound}
+use Rattle.sgt_sched.specs.Courses.{numbers, course_at}
+
+-- the procedures and limits, the three layers, the live transactions with their courses, who read from whom (source and
+-- reader), and of each started transaction how it ended, if it did
+pub record Parts (R A G : Type 0) : Type 0 where
+  pub procedures : List Program
+  pub limits : Limits
+  pub records : R
+  pub accesses : A
+  pub graph : G
+  pub live : List (ℕ × Course)
+  pub read_from : List (ℕ × ℕ)
+  pub fates : List (Option Fate)
+
+-- how t ended, if it did
+abbrev pub fate_at : List (Option Fate) → ℕ → Option Fate
+fate_at fates t = slice_index_or fates t None
+
+module _ {R A G : Type 0} (chain : R → Key → List (ℕ × ℤ)) (settled : R → Key → Option ℤ) (list : A → List Touch) (nodes : G → ℕ → Bool) (pairs : G → ℕ → ℕ → Bool) where
+  -- what is held, by what the layers tell
+  abbrev pub held_of : Parts R A G → Held
+  held_of p = record {
+    live = numbers p.live;
+    nodes = nodes p.graph;
+    pairs = pairs p.graph;
+    accesses = list p.accesses;
+    chain = chain p.records;
+    settled = settled p.records;
+    read_from = p.read_from;
+    fates = fate_at p.fates;
+    starts = length p.fates;
+    courses = course_at p.live;
+  }
+
+  -- what holds at every moment: the limits are in their ranges and kept; what is held is sound; the graph's nodes are those
+  -- that were started and have not ended; and the values looked at are those that the procedures have used
+  pub record IsKept (p : Parts R A G) : Type 0 where
+    pub in_range : AreInRange p.limits
+    pub begun : length p.fates ≤ p.limits.begins
+    pub sound : Sound p.limits.live (held_of p)
+    pub unended : (t : ℕ) → (nodes p.graph t ≡ true) ↔ ((t < length p.fates) × (fate_at p.fates t ≡ None))
+    pub used : (t : ℕ) → nodes p.graph t ≡ true → Used (runs_in p.procedures (course_at p.live t).call.procedure (course_at p.live t).call.args) (course_at p.live t).read (course_at p.live t).made

@@ -1,0 +1,64 @@
+ghost use Rattle.std.specs.Prelude.{◌≡◌, ◌<◌, OnOk, OnErr};
+ghost use Rattle.sgt_model.specs.Settings.{runs_in};
+ghost use Rattle.sgt_model.specs.Traces.{Used};
+ghost use Rattle.sgt_proc.specs.Nexts.{seen, IsAccess, StoresValue};
+ghost use Rattle.sgt_sched.specs.Courses.{looked, stored};
+ghost use Rattle.sgt_sched.specs.Steps.{next_along};
+
+use sgt_model::{Args, NoMemory, Tid};
+use sgt_proc::{Checked, Next};
+use std::marker::Model;
+
+/// A live transaction: what it was started with, and how far its procedure has come.
+#[derive(Drop)]
+pub struct Running {
+    pub tid: Tid,
+    pub procedure: u16,
+    pub args: Args,
+    /// What its looks found, oldest first.
+    pub read: Vec<Option<i64>>,
+    /// How many accesses it has made.
+    pub made: usize,
+}
+
+impl Model for Running {
+    ghost use Rattle.std.specs.Prelude.{ℕ};
+    ghost use Rattle.sgt_model.specs.Courses.{Course};
+
+    ghost Value = { ℕ × Course };
+
+    ghost view = { λ r. (r.tid, record { call = record { procedure = r.procedure; args = r.args }; read = r.read.items; made = r.made }) };
+}
+
+impl Running {
+    /// Notes that a look found this.
+    pub fn look(&mut self, value: Option<i64>) -> Result<(), NoMemory>
+        requires few { self.old.1.made < 64 }
+        ensures ok { OnOk result (self.new ≡ (self.old.0, looked value self.old.1)) }
+        ensures err { OnErr result (self.new ≡ self.old) }
+    {
+        self.read.push(value)?;
+        self.made += 1;
+        Ok(())
+    }
+
+    /// Notes that a value was stored.
+    pub fn store(&mut self)
+        requires few { self.old.1.made < 64 }
+        ensures { self.new ≡ (self.old.0, stored self.old.1) }
+    {
+        self.made += 1;
+    }
+}
+
+/// What the procedure of a live transaction does next. A number that names no procedure asks 0, and is never started.
+pub fn next_of(procedures: &[Checked], running: &Running) -> Next
+    ensures next { seen result ≡ next_along procedures.now running.now.1 }
+    ensures in_range { StoresValue result }
+    ensures few { IsAccess result → Used (runs_in procedures.now running.now.1.call.procedure running.now.1.call.args) running.now.1.read running.now.1.made → running.now.1.made < 64 }
+{
+    match procedures.get(usize::from(running.procedure)) {
+        Some(procedure) => procedure.next(&running.args, running.read.as_slice(), running.made),
+        None => Next::Asks(0),
+    }
+}

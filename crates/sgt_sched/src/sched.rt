@@ -1,0 +1,324 @@
+ghost use Rattle.std.specs.Prelude.{◌≡◌, ◌≤◌, ◌<◌, ℕ, true, false, [], length, nat_lt, Result, Ok, Err, IfOk, OnOk, OnErr, ◌⊎◌, ◌↔◌};
+ghost use Rattle.std.specs.Result.{IfErr};
+ghost use Rattle.sgt_model.specs.declared.kind.Kind.TheVariants.{Look, Store};
+ghost use Rattle.sgt_model.specs.Bounds.{AreInRange};
+ghost use Rattle.sgt_model.specs.CallEffects.{AbortsIn, CallEffect, CommitEffect, CommitsIn, MakesLook, MakesStore, QuitEffect, RefusesIn, StartEffect, StepEffect};
+ghost use Rattle.sgt_model.specs.Contents.{Contents};
+ghost use Rattle.sgt_model.specs.Databases.{contents_of};
+ghost use Rattle.sgt_model.specs.NewHeld.{IsNew};
+ghost use Rattle.sgt_model.specs.Numbers.{IsValue};
+ghost use Rattle.sgt_model.specs.Sameness.{Same};
+ghost use Rattle.sgt_model.specs.Settings.{setting};
+ghost use Rattle.sgt_model.specs.Traces.{Looks, Puts};
+ghost use Rattle.sgt_proc.specs.Nexts.{seen, IsAccess, StoresValue};
+ghost use Rattle.sgt_sched.specs.Admission.{Admits};
+ghost use Rattle.sgt_sched.specs.Courses.{course_at};
+ghost use Rattle.sgt_sched.specs.Parts.{fate_at, held_of};
+ghost use Rattle.sgt_sched.specs.Steps.{IsClosed, IsUnended, next_along};
+
+use crate::arguments::args_fit;
+use crate::leave::leave;
+use crate::live::Live;
+use crate::reads::note_read;
+use crate::running::{Running, next_of};
+use sgt_access::Accesses;
+use sgt_graph::{Graph, Verdict};
+use sgt_model::{
+    Answers, Args, Cause, Database, Event, Fate, Key, Kind, Limits, MakeError, NoMemory, Reply,
+    Tid, Tids,
+};
+use sgt_proc::{Checked, Next};
+use sgt_records::Records;
+use std::alloc::Global;
+use std::marker::Model;
+
+/// The scheduler.
+#[derive(Drop)]
+pub struct Sched<R: Records, A: Accesses, G: Graph> {
+    procedures: Vec<Checked>,
+    limits: Limits,
+    records: R,
+    accesses: A,
+    graph: G,
+    live: Live,
+    read_from: Vec<(Tid, Tid)>,
+    fates: Vec<Option<Fate>>,
+}
+
+impl<R: Records, A: Accesses, G: Graph> Model for Sched<R, A, G> {
+    ghost use Rattle.std.specs.Coded.{codes};
+    ghost use Rattle.sgt_model.specs.Codes.{coded_program};
+    ghost use Rattle.sgt_sched.specs.Parts.{Parts, IsKept};
+
+    ghost Value = { Parts R A G };
+
+    ghost coded = { Prim.hlevel (codes, coded_program) };
+
+    ghost view = { λ s. record { procedures = s.procedures.items; limits = s.limits; records = s.records; accesses = s.accesses; graph = s.graph; live = s.live; read_from = s.read_from.items; fates = s.fates.items } };
+
+    ghost invariant = { λ s. IsKept R.chain R.settled A.list G.nodes G.pairs (record { procedures = s.procedures.items; limits = s.limits; records = s.records; accesses = s.accesses; graph = s.graph; live = s.live; read_from = s.read_from.items; fates = s.fates.items }) };
+}
+
+impl<R: Records, A: Accesses, G: Graph> Sched<R, A, G> {
+    /// A scheduler with nothing started.
+    pub fn new(
+        alloc: Global,
+        opening: &Database,
+        procedures: Vec<Checked>,
+        limits: Limits,
+    ) -> Result<Self, MakeError>
+        ensures new { IfOk result (λ s. IsNew (setting (contents_of opening.now) procedures.items limits) (held_of R.chain R.settled A.list G.nodes G.pairs s)) }
+        ensures procedures { IfOk result (λ s. s.procedures ≡ procedures.items) }
+        ensures limits { IfOk result (λ s. s.limits ≡ limits) }
+        ensures refused { (result ≡ Err MakeError.BadLimits) ↔ (¬ AreInRange limits) }
+    {
+        if !limits.are_in_range() {
+            return Err(MakeError::BadLimits);
+        }
+        Ok(Sched {
+            procedures,
+            limits,
+            records: R::build(alloc, opening)?,
+            accesses: A::empty(alloc),
+            graph: G::empty(),
+            live: Live::new(alloc),
+            read_from: Vec::new(alloc),
+            fates: Vec::new(alloc),
+        })
+    }
+
+    /// Takes an event, and answers it.
+    pub fn call(&mut self, event: &Event) -> Result<Reply, NoMemory>
+        ensures done { IfOk result (λ r. (opening : Contents) → CallEffect (setting opening self.old.procedures self.old.limits) event.now (held_of R.chain R.settled A.list G.nodes G.pairs self.old) r (held_of R.chain R.settled A.list G.nodes G.pairs self.new)) }
+        ensures procedures { self.new.procedures ≡ self.old.procedures }
+        ensures limits { self.new.limits ≡ self.old.limits }
+        ensures refused { OnErr result (Same (held_of R.chain R.settled A.list G.nodes G.pairs self.old) (held_of R.chain R.settled A.list G.nodes G.pairs self.new)) }
+    {
+        match event {
+            Event::Start { procedure, args } => self.start(*procedure, args),
+            Event::Step(t) => self.step(*t),
+            Event::Commit(t) => Ok(self.commit(*t)),
+            Event::Quit(t) => Ok(self.quit(*t)),
+        }
+    }
+
+    /// Starts a transaction that runs the procedure of this number with these arguments.
+    pub fn start(&mut self, procedure: u16, args: &Args) -> Result<Reply, NoMemory>
+        ensures done { IfOk result (λ r. (opening : Contents) → StartEffect (setting opening self.old.procedures self.old.limits) procedure args.now (held_of R.chain R.settled A.list G.nodes G.pairs self.old) r (held_of R.chain R.settled A.list G.nodes G.pairs self.new)) }
+        ensures procedures { self.new.procedures ≡ self.old.procedures }
+        ensures limits { self.new.limits ≡ self.old.limits }
+        ensures refused { OnErr result (Same (held_of R.chain R.settled A.list G.nodes G.pairs self.old) (held_of R.chain R.settled A.list G.nodes G.pairs self.new)) }
+    {
+        let t = match self.admit(procedure, args) {
+            Ok(t) => t,
+            Err(reply) => return Ok(reply),
+        };
+        self.fates.reserve(1)?;
+        self.live.start(t, procedure, args.copied())?;
+        self.graph.add(t);
+        self.fates.push_reserved(None);
+        Ok(Reply::Started(t))
+    }
+
+    // The number of a transaction that may start, or why it may not.
+    fn admit(&self, procedure: u16, args: &Args) -> Result<Tid, Reply>
+        ensures { (opening : Contents) → Admits (setting opening self.now.procedures self.now.limits) (held_of R.chain R.settled A.list G.nodes G.pairs self.now) procedure args.now result }
+    {
+        let count = match self.procedures.get(usize::from(procedure)) {
+            Some(checked) => checked.args(),
+            None => return Err(Reply::NoProcedure),
+        };
+        if !args_fit(count, args) {
+            return Err(Reply::BadArgs);
+        }
+        if self.fates.len() == self.limits.begins as usize {
+            return Err(Reply::Spent);
+        }
+        if self.live.len() == self.limits.live as usize {
+            return Err(Reply::Full);
+        }
+        Ok(Tid(self.fates.len() as u32))
+    }
+
+    /// Lets the procedure of a transaction make its next access.
+    pub fn step(&mut self, t: Tid) -> Result<Reply, NoMemory>
+        ensures done { IfOk result (λ r. (opening : Contents) → StepEffect (setting opening self.old.procedures self.old.limits) t (held_of R.chain R.settled A.list G.nodes G.pairs self.old) r (held_of R.chain R.settled A.list G.nodes G.pairs self.new)) }
+        ensures procedures { self.new.procedures ≡ self.old.procedures }
+        ensures limits { self.new.limits ≡ self.old.limits }
+        ensures refused { OnErr result (Same (held_of R.chain R.settled A.list G.nodes G.pairs self.old) (held_of R.chain R.settled A.list G.nodes G.pairs self.new)) }
+    {
+        let next = match self.next(t) {
+            Ok(next) => next,
+            Err(reply) => return Ok(reply),
+        };
+        match next {
+            Next::Look(key) => self.look(t, key),
+            Next::Put(key, value) => self.store(t, key, value),
+            Next::Ends(_) => Ok(Reply::Ended),
+            Next::Asks(code) => Ok(self.abort(t, Cause::Asked(code))),
+        }
+    }
+
+    /// Commits a transaction. This takes no memory.
+    pub fn commit(&mut self, t: Tid) -> Reply
+        ensures done { (opening : Contents) → CommitEffect (setting opening self.old.procedures self.old.limits) t (held_of R.chain R.settled A.list G.nodes G.pairs self.old) result (held_of R.chain R.settled A.list G.nodes G.pairs self.new) }
+        ensures procedures { self.new.procedures ≡ self.old.procedures }
+        ensures limits { self.new.limits ≡ self.old.limits }
+    {
+        match self.next(t) {
+            Ok(Next::Ends(answers)) => match self.graph.least_pred(t) {
+                Some(first) => Reply::Waits(first),
+                None => self.settle(t, answers),
+            },
+            Ok(_) => Reply::NotEnded,
+            Err(reply) => reply,
+        }
+    }
+
+    /// Aborts a transaction, as its caller asks. This takes no memory.
+    pub fn quit(&mut self, t: Tid) -> Reply
+        ensures done { QuitEffect t (held_of R.chain R.settled A.list G.nodes G.pairs self.old) result (held_of R.chain R.settled A.list G.nodes G.pairs self.new) }
+        ensures procedures { self.new.procedures ≡ self.old.procedures }
+        ensures limits { self.new.limits ≡ self.old.limits }
+    {
+        match self.running(t) {
+            Ok(_) => self.abort(t, Cause::Quit),
+            Err(reply) => reply,
+        }
+    }
+
+    // A live transaction, or what an event of another is answered.
+    fn running(&self, t: Tid) -> Result<&Running, Reply>
+        ensures live { OnOk result (G.nodes self.now.graph t ≡ true) }
+        ensures unended { OnOk result (IsUnended self.now.fates t) }
+        ensures course { IfOk result (λ running. running.now ≡ (t, course_at self.now.live t)) }
+        ensures closed { IfErr result (IsClosed (nat_lt t (length self.now.fates)) (fate_at self.now.fates t)) }
+    {
+        if let Some(running) = self.live.get(t) {
+            return Ok(running);
+        }
+        match self.fates.get(t.0 as usize) {
+            Some(Some(fate)) => Err(Reply::Over(fate.copied())),
+            Some(None) => unreachable!(),
+            None => Err(Reply::Unknown),
+        }
+    }
+
+    // What the procedure of a live transaction does next, or what an event of another is answered.
+    fn next(&self, t: Tid) -> Result<Next, Reply>
+        ensures live { OnOk result (G.nodes self.now.graph t ≡ true) }
+        ensures unended { OnOk result (IsUnended self.now.fates t) }
+        ensures next { IfOk result (λ next. seen next ≡ next_along self.now.procedures (course_at self.now.live t)) }
+        ensures in_range { IfOk result StoresValue }
+        ensures few { IfOk result (λ next. IsAccess next → (course_at self.now.live t).made < 64) }
+        ensures closed { IfErr result (IsClosed (nat_lt t (length self.now.fates)) (fate_at self.now.fates t)) }
+    {
+        match self.running(t) {
+            Ok(running) => Ok(next_of(self.procedures.as_slice(), running)),
+            Err(reply) => Err(reply),
+        }
+    }
+
+    // Aborts a live transaction. With one live at a time, nobody else has read from it.
+    fn abort(&mut self, t: Tid, cause: Cause) -> Reply
+        requires live { G.nodes self.old.graph t ≡ true }
+        ensures aborts { AbortsIn t cause (held_of R.chain R.settled A.list G.nodes G.pairs self.old) result (held_of R.chain R.settled A.list G.nodes G.pairs self.new) }
+        ensures procedures { self.new.procedures ≡ self.old.procedures }
+        ensures limits { self.new.limits ≡ self.old.limits }
+    {
+        let fate = Fate::Aborted(cause.copied());
+        self.records.undo(t);
+        leave(
+            &mut self.accesses,
+            &mut self.graph,
+            &mut self.live,
+            &mut self.read_from,
+            t,
+        );
+        self.fates[t.0 as usize] = Some(fate);
+        Reply::Aborted {
+            cause,
+            fell: Tids::new(),
+        }
+    }
+
+    // Makes a look of a live transaction, or aborts it where the look would close a cycle.
+    fn look(&mut self, t: Tid, key: Key) -> Result<Reply, NoMemory>
+        requires live { G.nodes self.old.graph t ≡ true }
+        requires next { next_along self.old.procedures (course_at self.old.live t) ≡ Looks key }
+        requires few { (course_at self.old.live t).made < 64 }
+        ensures done { IfOk result (λ r. RefusesIn t key Look (held_of R.chain R.settled A.list G.nodes G.pairs self.old) r (held_of R.chain R.settled A.list G.nodes G.pairs self.new) ⊎ MakesLook t key (held_of R.chain R.settled A.list G.nodes G.pairs self.old) r (held_of R.chain R.settled A.list G.nodes G.pairs self.new)) }
+        ensures procedures { self.new.procedures ≡ self.old.procedures }
+        ensures limits { self.new.limits ≡ self.old.limits }
+        ensures refused { OnErr result (Same (held_of R.chain R.settled A.list G.nodes G.pairs self.old) (held_of R.chain R.settled A.list G.nodes G.pairs self.new)) }
+    {
+        let rivals = self.accesses.rivals(t, key, Kind::Look);
+        match self.graph.test(t, &rivals) {
+            Verdict::Closes(walk) => Ok(self.abort(t, Cause::Cycle(walk))),
+            Verdict::Accepted => {
+                let top = self.records.top(key);
+                let value = top.value();
+                self.accesses.reserve(key)?;
+                self.read_from.reserve(1)?;
+                self.live.look(t, value)?;
+                self.graph.insert(t, &rivals);
+                self.accesses.note(t, key, Kind::Look);
+                note_read(&mut self.read_from, &top, t);
+                Ok(Reply::Looked { key, value })
+            }
+        }
+    }
+
+    // Makes a store of a live transaction, or aborts it where the store would close a cycle.
+    fn store(&mut self, t: Tid, key: Key, value: i64) -> Result<Reply, NoMemory>
+        requires live { G.nodes self.old.graph t ≡ true }
+        requires next { next_along self.old.procedures (course_at self.old.live t) ≡ Puts key value }
+        requires few { (course_at self.old.live t).made < 64 }
+        requires in_range { IsValue value }
+        ensures done { IfOk result (λ r. RefusesIn t key Store (held_of R.chain R.settled A.list G.nodes G.pairs self.old) r (held_of R.chain R.settled A.list G.nodes G.pairs self.new) ⊎ MakesStore t key value (held_of R.chain R.settled A.list G.nodes G.pairs self.old) r (held_of R.chain R.settled A.list G.nodes G.pairs self.new)) }
+        ensures procedures { self.new.procedures ≡ self.old.procedures }
+        ensures limits { self.new.limits ≡ self.old.limits }
+        ensures refused { OnErr result (Same (held_of R.chain R.settled A.list G.nodes G.pairs self.old) (held_of R.chain R.settled A.list G.nodes G.pairs self.new)) }
+    {
+        let rivals = self.accesses.rivals(t, key, Kind::Store);
+        match self.graph.test(t, &rivals) {
+            Verdict::Closes(walk) => Ok(self.abort(t, Cause::Cycle(walk))),
+            Verdict::Accepted => {
+                self.records.reserve(key)?;
+                self.accesses.reserve(key)?;
+                self.graph.insert(t, &rivals);
+                self.records.write(t, key, value);
+                self.accesses.note(t, key, Kind::Store);
+                self.live.store(t);
+                Ok(Reply::Wrote { key, value })
+            }
+        }
+    }
+
+    // Commits a live transaction that has no predecessor.
+    fn settle(&mut self, t: Tid, answers: Answers) -> Reply
+        requires live { G.nodes self.old.graph t ≡ true }
+        requires first { (u : ℕ) → G.pairs self.old.graph u t ≡ false }
+        ensures commits { CommitsIn t answers (held_of R.chain R.settled A.list G.nodes G.pairs self.old) result (held_of R.chain R.settled A.list G.nodes G.pairs self.new) }
+        ensures procedures { self.new.procedures ≡ self.old.procedures }
+        ensures limits { self.new.limits ≡ self.old.limits }
+    {
+        self.records.settle(t);
+        leave(
+            &mut self.accesses,
+            &mut self.graph,
+            &mut self.live,
+            &mut self.read_from,
+            t,
+        );
+        self.fates[t.0 as usize] = Some(Fate::Committed);
+        Reply::Committed(answers)
+    }
+
+    /// The records, as the live transactions have left them.
+    pub fn records(&self) -> &R
+        ensures { result.now ≡ self.now.records }
+    {
+        &self.records
+    }
+}
