@@ -1,0 +1,11 @@
+-- A text that still begins with what it held.
+use Rattle.std.proofs.Common.{◌≡◌, ◌≤◌, List, ◌++◌, length, take, ap, sym, ◌∙◌, arith, length-append}
+use Rattle.std.proofs.lemmas.Grind.{common_steps}
+use Rattle.std.proofs.Math.Seq.{take-append_seam}
+
+-- what begins with more begins with less
+pub still_begins : {A : Type 0} (old more new : List A) → take (length (old ++ more)) new ≡ old ++ more → take (length old) new ≡ old
+still_begins old more new kept =
+    let longer : length old ≤ length (old ++ more) = omega (arith, length-append old more) in
+    let same : take (length old) (take (length (old ++ more)) new) ≡ take (length old) new = grind (arith, common_steps) in
+    sym same ∙ ap (λ l. take (length old) l) kept ∙ take-append_seam old more

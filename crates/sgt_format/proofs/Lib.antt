@@ -1,0 +1,5 @@
+pub mod Begins
+pub mod Views
+pub mod Shapes
+pub mod Values
+pub mod Faults

@@ -1,0 +1,89 @@
+-- Lists and objects of another size than an opening's.
+use Rattle.std.proofs.Common.{◌≡◌, ◌≢◌, ℕ, suc, ℤ, List, [], ◌∷◌, Some, None, Option, refl, ap, sym, ◌∙◌, length, map, arith}
+use Rattle.std.proofs.lemmas.List.{length-map}
+use Rattle.std.specs.Prelude.{cond, nat_eq, codes, option_map, option_and_then, String}
+use Rattle.std.specs.declared.alloc.Global.{Global}
+use Rattle.serde_json.specs.Data.{Data, Members}
+use Rattle.serde_json.specs.Find.{get, as_object}
+use Rattle.serde_json.specs.View.{view, members_view}
+use Rattle.serde_json.specs.declared.value.Value.{Value}
+use Rattle.sgt_format.specs.Trees.{tree_of, whole, list, each}
+use Rattle.sgt_model.specs.declared.limits.Limits.{Limits}
+use Rattle.sgt_format.specs.Accounts.{fault_of, IsFault}
+use Rattle.sgt_format.specs.Openings.{Sheet, count, pair_from, pair, account_from, account, list_at, all_three, parts_from, parts_of, parts_in, sheet_of, AreLimits, Refuses}
+use Rattle.sgt_format.specs.declared.account.Account.{Account}
+use Rattle.sgt_format.specs.declared.errors.OpeningError.{OpeningError}
+use Rattle.sgt_format.specs.declared.errors.OpeningError.TheVariants.{NotJson, BadLine, BadLimits, BadOpening, NoMemory}
+
+longer : {A : Type 0} (first : Option A) (rest : Option (List A)) (found : List A) (n : ℕ) → ((others : List A) → rest ≡ Some others → length others ≡ n) → option_and_then (λ a. option_map (λ others. a ∷ others) rest) first ≡ Some found → length found ≡ suc n
+longer None rest found n same e = absurd (cc)
+longer (Some a) None found n same e = absurd (cc)
+longer (Some a) (Some others) found n same e = grind (arith, same others refl)
+
+-- what stands for the trees is as many
+pub length-each : {A : Type 0} (meaning : Data → Option A) (trees : List Data) (found : List A) → each meaning trees ≡ Some found → length found ≡ length trees
+length-each meaning [] found e = grind arith
+length-each meaning (tree ∷ trees) found e = longer (meaning tree) (each meaning trees) found (length trees) (length-each meaning trees) e
+
+-- a list of more or fewer than two is no pair
+pub pair_from-length : (numbers : List ℤ) → length numbers ≢ 2 → pair_from numbers ≡ None
+pair_from-length [] other = refl
+pair_from-length (a ∷ []) other = refl
+pair_from-length (a ∷ b ∷ []) other = absurd (other refl)
+pair_from-length (a ∷ b ∷ c ∷ rest) other = refl
+
+not_two : (trees : List Data) → length trees ≢ 2 → option_and_then pair_from (each whole trees) ≡ None
+not_two trees other = by_numbers (each whole trees) refl
+  where
+    by_numbers : (numbers : Option (List ℤ)) → each whole trees ≡ numbers → option_and_then pair_from numbers ≡ None
+    by_numbers None same = refl
+    by_numbers (Some numbers) same = pair_from-length numbers (λ two. other (grind (arith, length-each whole trees numbers same)))
+
+pub no_pair : (tree : Data) (values : List Value) → Some (map view values) ≡ list tree → length values ≢ 2 → None ≡ pair tree
+no_pair tree values is other = sym (ap (λ o. option_and_then pair_from (option_and_then (each whole) o)) (sym is) ∙ not_two (map view values) (λ two. other (sym (length-map values view) ∙ two)))
+
+-- a list of more or fewer than four is no account
+pub account_from-length : (numbers : List ℤ) → length numbers ≢ 4 → account_from numbers ≡ None
+account_from-length [] other = refl
+account_from-length (a ∷ []) other = refl
+account_from-length (a ∷ b ∷ []) other = refl
+account_from-length (a ∷ b ∷ c ∷ []) other = refl
+account_from-length (a ∷ b ∷ c ∷ d ∷ []) other = absurd (other refl)
+account_from-length (a ∷ b ∷ c ∷ d ∷ e ∷ rest) other = refl
+
+not_four : (trees : List Data) → length trees ≢ 4 → option_and_then account_from (each whole trees) ≡ None
+not_four trees other = by_numbers (each whole trees) refl
+  where
+    by_numbers : (numbers : Option (List ℤ)) → each whole trees ≡ numbers → option_and_then account_from numbers ≡ None
+    by_numbers None same = refl
+    by_numbers (Some numbers) same = account_from-length numbers (λ four. other (grind (arith, length-each whole trees numbers same)))
+
+pub no_account : (tree : Data) (values : List Value) → Some (map view values) ≡ list tree → length values ≢ 4 → None ≡ account tree
+no_account tree values is other = sym (ap (λ o. option_and_then account_from (option_and_then (each whole) o)) (sym is) ∙ not_four (map view values) (λ four. other (sym (length-map values view) ∙ four)))
+
+-- an object has as many members as its map has entries
+pub count_members : (members : List (String Global × Value)) → count (members_view members) ≡ length members
+count_members [] = refl
+count_members (m ∷ members) = grind (arith, count_members members)
+
+-- the parts of an object that has them
+pub parts_found : (tree : Data) (members : Members) (limits : ℤ × ℤ) (accounts procedures : List Data) → Some members ≡ as_object tree → count members ≡ 3 → Some limits ≡ option_and_then pair (get (codes "limits") tree) → Some accounts ≡ list_at (codes "accounts") tree → Some procedures ≡ list_at (codes "procedures") tree → length procedures ≡ 0 → Some (limits, accounts) ≡ parts_in tree
+parts_found tree ms limits accounts procedures object three at_limits at_accounts at_procedures none =
+    sym (ap (option_and_then (λ members. cond (nat_eq (count members) 3) (parts_of tree) None)) (sym object)
+    ∙ ap (λ n. cond (nat_eq n 3) (parts_of tree) None) three
+    ∙ ap (λ o. option_and_then parts_from (all_three o (list_at (codes "accounts") tree) (list_at (codes "procedures") tree))) (sym at_limits)
+    ∙ ap (λ o. option_and_then parts_from (all_three (Some limits) o (list_at (codes "procedures") tree))) (sym at_accounts)
+    ∙ ap (λ o. option_and_then parts_from (all_three (Some limits) (Some accounts) o)) (sym at_procedures)
+    ∙ ap (λ n. cond (nat_eq n 0) (Some (limits, accounts)) None) none)
+
+-- ---- the sheet of a line
+
+pub sheet_found : (line : List ℕ) (tree : Data) (limits : ℤ × ℤ) (trees : List Data) (accounts : List Account) → Some tree ≡ tree_of line → Some (limits, trees) ≡ parts_in tree → Some accounts ≡ each account trees → sheet_of line ≡ Some (record { limits = limits; accounts = accounts })
+sheet_found line tree limits trees accounts at_line at_tree at_trees = rw (← at_line) (rw (← at_tree) (rw (← at_trees) refl))
+
+pub refused_account : (line : List ℕ) (sheet : Sheet) (limits : Limits) (error : OpeningError) → sheet_of line ≡ Some sheet → AreLimits sheet.limits limits → IsFault (fault_of sheet.accounts) error → Refuses line error
+refused_account line sheet limits (BadOpening fault) shape are is = (sheet, shape, (limits, are), is)
+refused_account line sheet limits NoMemory shape are is = tt
+refused_account line sheet limits NotJson shape are is = absurd is
+refused_account line sheet limits BadLine shape are is = absurd is
+refused_account line sheet limits BadLimits shape are is = absurd is

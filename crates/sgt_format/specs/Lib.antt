@@ -1,0 +1,7 @@
+pub mod Decimals
+pub mod ReplyText
+pub mod DatabaseText
+pub mod Trees
+pub mod EventLines
+pub mod Accounts
+pub mod Openings

@@ -1,0 +1,36 @@
+-- What trees of JSON stand for: a line's tree, whole numbers, lists.
+use Rattle.std.specs.Prelude.{ℕ, ◌^◌, ℤ, pos, negsuc, nat_lt, cond, List, [], ◌∷◌, Option, Some, None, option_map, option_and_then}
+use Rattle.std.specs.Str.{is_utf8}
+use Rattle.serde_json.specs.Data.{Data, Items, no_items, item}
+use Rattle.serde_json.specs.Find.{as_i64, as_number, as_array}
+use Rattle.serde_json.specs.Read.{read}
+
+-- the tree of a line, where the line is JSON
+abbrev pub tree_of : List ℕ → Option Data
+tree_of line = cond (is_utf8 line) (read line) None
+
+-- a whole number
+abbrev pub whole : Data → Option ℤ
+whole tree = option_and_then as_i64 (as_number tree)
+
+-- a whole number of this many bits, without a sign
+abbrev pub natural : ℕ → ℤ → Option ℕ
+natural bits (pos n) = cond (nat_lt n (2 ^ bits)) (Some n) None
+natural bits (negsuc n) = None
+
+-- the trees in a list
+abbrev pub listed : Items → List Data
+listed no_items = []
+listed (item tree items) = tree ∷ listed items
+
+abbrev pub list : Data → Option (List Data)
+list tree = option_map listed (as_array tree)
+
+-- what each tree stands for, unless one stands for nothing
+abbrev pub each : {A : Type 0} → (Data → Option A) → List Data → Option (List A)
+each meaning [] = Some []
+each meaning (tree ∷ trees) = option_and_then (λ a. option_map (λ rest. a ∷ rest) (each meaning trees)) (meaning tree)
+
+-- a list of whole numbers
+abbrev pub wholes : Data → Option (List ℤ)
+wholes tree = option_and_then (each whole) (list tree)

@@ -1,0 +1,41 @@
+ghost use Rattle.std.specs.Prelude.{◌≡◌, ◌++◌, take, OnOk, OnErr, vec_len};
+ghost use Rattle.sgt_format.specs.DatabaseText.{row_text, database_text};
+
+use crate::decimal_text::append_record;
+use sgt_model::{Database, Key, NoMemory};
+use std::alloc::AllocError;
+
+/// Adds the lines of a database to a text: one line a row, by table and then by number. It takes no memory but the text's
+/// growth.
+pub fn append_database(text: &mut Vec<u8>, database: &Database) -> Result<(), NoMemory>
+    ensures ok { OnOk result (text.new.items ≡ text.old.items ++ database_text database.now) }
+    ensures err { OnErr result (text.new.items ≡ text.old.items) }
+{
+    let before = text.len();
+    if append_rows(text, database.rows()).is_err() {
+        text.truncate(before);
+        return Err(NoMemory);
+    }
+    Ok(())
+}
+
+/// On an error the text still begins with what it held.
+#[tactic(auto, using(crate::proofs::Begins::still_begins))]
+fn append_rows(text: &mut Vec<u8>, rows: &[(Key, i64)]) -> Result<(), AllocError>
+    ensures ok { OnOk result (text.new.items ≡ text.old.items ++ database_text rows.now) }
+    ensures err { OnErr result (take (vec_len text.old) text.new.items ≡ text.old.items) }
+{
+    for (key, value) in rows {
+        append_row(text, key, *value)?;
+    }
+    Ok(())
+}
+
+/// On an error the text still begins with what it held.
+fn append_row(text: &mut Vec<u8>, key: &Key, value: i64) -> Result<(), AllocError>
+    ensures ok { OnOk result (text.new.items ≡ text.old.items ++ row_text (key.now, value)) }
+    ensures err { OnErr result (take (vec_len text.old) text.new.items ≡ text.old.items) }
+{
+    append_record(text, key, value)?;
+    text.extend_from_slice(b"\n")
+}

@@ -1,0 +1,75 @@
+ghost use Rattle.std.specs.Prelude.{◌≡◌, ◌≢◌, Ok, Err, IfOk, IfErr};
+ghost use Rattle.std.specs.Option.{option_map};
+ghost use Rattle.serde_json.specs.View.{view};
+ghost use Rattle.sgt_format.specs.Trees.{whole, natural};
+ghost use Rattle.sgt_format.specs.EventLines.{tid, procedure, arguments, event_in, event_of};
+ghost use Rattle.sgt_format.specs.declared.errors.LineError.TheVariants.{NoMemory};
+
+use crate::errors::LineError;
+use crate::tree::{items, read_tree};
+use serde_json::Value;
+use sgt_model::{Args, Event, Tid};
+use std::alloc::Global;
+
+/// The event that a line spells, without its end: `["start", procedure, [arg, ..]]`, `["step", t]`, `["commit", t]` or
+/// `["quit", t]`.
+///
+/// A line that is no JSON is `NotJson`, a line of any other form `BadLine`. An argument may be any whole number of 64 bits.
+pub fn read_event(alloc: Global, line: &[u8]) -> Result<Event, LineError>
+    ensures event { IfOk result (λ event. event_of line.now ≡ Ok event) }
+    ensures error { IfErr result (λ error. error ≢ NoMemory → event_of line.now ≡ Err error) }
+{
+    let tree = read_tree(alloc, line)?.ok_or(LineError::NotJson)?;
+    event_in(&tree).ok_or(LineError::BadLine)
+}
+
+fn event_in(tree: &Value) -> Option<Event>
+    ensures { result ≡ event_in (view tree.now) }
+{
+    match items(tree)? {
+        [word, number] => {
+            let t = tid(number)?;
+            match word.as_str()? {
+                "step" => Some(Event::Step(t)),
+                "commit" => Some(Event::Commit(t)),
+                "quit" => Some(Event::Quit(t)),
+                _ => None,
+            }
+        }
+        [word, number, list] => {
+            let procedure = procedure(number)?;
+            let args = arguments(list)?;
+            match word.as_str()? {
+                "start" => Some(Event::Start { procedure, args }),
+                _ => None,
+            }
+        }
+        _ => None,
+    }
+}
+
+fn tid(tree: &Value) -> Option<Tid>
+    ensures { result ≡ tid (view tree.now) }
+{
+    Some(Tid(u32::try_from(tree.as_i64()?).ok()?))
+}
+
+fn procedure(tree: &Value) -> Option<u16>
+    ensures { result ≡ procedure (view tree.now) }
+{
+    u16::try_from(tree.as_i64()?).ok()
+}
+
+fn arguments(tree: &Value) -> Option<Args>
+    ensures { result ≡ arguments (view tree.now) }
+{
+    let items = items(tree)?;
+    if items.len() > 4 {
+        return None;
+    }
+    let mut args = Args::new();
+    for item in items {
+        args.push(item.as_i64()?);
+    }
+    Some(args)
+}

@@ -1,0 +1,30 @@
+ghost use Rattle.std.specs.Prelude.{◌≡◌, IfOk, map, option_map};
+ghost use Rattle.serde_json.specs.View.{view};
+ghost use Rattle.sgt_format.specs.Trees.{tree_of, list};
+
+use serde_json::Value;
+use sgt_model::NoMemory;
+use std::alloc::Global;
+
+/// The tree of a line, or none where the line is no JSON.
+#[tactic(auto, using(crate::proofs::Views::tree_of_read, crate::proofs::Views::tree_of_refused))]
+pub(crate) fn read_tree(alloc: Global, line: &[u8]) -> Result<Option<Value>, NoMemory>
+    ensures { IfOk result (λ tree. option_map view tree ≡ tree_of line.now) }
+{
+    match Value::from_slice(alloc, line) {
+        Ok(tree) => Ok(Some(tree)),
+        Err(error) => if error.is_memory() {
+            Err(NoMemory)
+        } else {
+            Ok(None)
+        },
+    }
+}
+
+/// The items of a list.
+#[tactic(auto, using(crate::proofs::Views::listed_items))]
+pub(crate) fn items(tree: &Value) -> Option<&[Value]>
+    ensures { option_map (λ items. map view items.now) result ≡ list (view tree.now) }
+{
+    Some(tree.as_array()?.as_slice())
+}

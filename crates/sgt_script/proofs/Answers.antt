@@ -1,0 +1,94 @@
+-- Laws of lines that are answered one after another.
+use Rattle.sgt_model.proofs.Headline as laws
+use Rattle.std.proofs.Common.{◌≡◌, ℕ, ◌+◌, List, [], ◌∷◌, ◌++◌, refl, ap, sym, ◌∙◌, append_assoc, append-nil, subst}
+use Rattle.std.specs.Prelude.{Option, None, Some, IfSome, IfErr, OnOk, Ok, Err}
+use Rattle.sgt_model.specs.Contents.{Key}
+use Rattle.sgt_model.specs.Databases.{Row, IsByKey, contents_of}
+use Rattle.sgt_model.specs.Values.{settled}
+use Rattle.sgt_format.specs.DatabaseText.{database_text}
+use Rattle.sgt_script.specs.declared.fault.Fault.{Fault}
+use Rattle.sgt_model.specs.Legality.{Legal}
+use Rattle.sgt_model.specs.Settings.{Setting}
+use Rattle.sgt_script.specs.declared.fault.Fault.TheVariants as fault
+use Rattle.sgt_model.specs.declared.entry.Entry.{Entry}
+use Rattle.std.specs.Io.KnownBytes.{Appends}
+use Rattle.sgt_format.specs.ReplyText.{text}
+use Rattle.sgt_script.specs.Lines.{Cut}
+use Rattle.sgt_script.specs.Scripts.{events, events_of, replies, End, end_of, Answered, NoEvent, AllAnswered, Closing, Tells, IsExact, IsOfScript}
+
+-- no line answered yet
+pub answered-none : (n : ℕ) (c : Option Cut) → Answered n c [] n c
+answered-none n None = tt
+answered-none n (Some c) = (refl, refl)
+
+-- one more line answered
+pub answered-next : (n m k : ℕ) (a b c : Option Cut) (past : List Entry) (e : Entry) → Answered n a past m b → Answered m b (e ∷ []) k c → Answered n a (e ∷ past) k c
+answered-next n m k None b c past e first next = tt
+answered-next n m k (Some a) None c past e first next = absurd first
+answered-next n m k (Some a) (Some b) None past e first next = next
+answered-next n m k (Some a) (Some b) (Some c) past e first next =
+    (first.0 ∙ ap (λ l. events_of past ++ l) next.0 ∙ sym (append_assoc (events_of past) (e.event ∷ []) (events c.given)), first.1 ∙ next.1)
+
+-- the last line answered
+pub answered-all : (n m : ℕ) (a b : Option Cut) (past : List Entry) (end : End) → Answered n a past m b → NoEvent m b end → AllAnswered n a past end
+answered-all n m None b past end first last = tt
+answered-all n m (Some a) None past end first last = absurd first
+answered-all n m (Some a) (Some b) past end first last =
+    (first.0 ∙ ap (λ l. events_of past ++ l) last.0 ∙ append-nil (events_of past), first.1 ∙ last.1)
+
+-- what is written in two parts
+pub appends-trans : (a b c : Option (List ℕ)) (xs ys : List ℕ) → Appends a b xs → Appends b c ys → Appends a c (xs ++ ys)
+appends-trans None b c xs ys first second = tt
+appends-trans (Some ws) None c xs ys first second = absurd first
+appends-trans (Some ws) (Some bs) None xs ys first second = second
+appends-trans (Some ws) (Some bs) (Some cs) xs ys first second = second ∙ ap (λ l. l ++ ys) first ∙ append_assoc ws xs ys
+
+-- what was written and what is gathered, where some of it is written out and a reply is gathered
+pub written-next : (a b c : Option (List ℕ)) (past past' : List Entry) (e : Entry) (held held' held'' : List ℕ) → ((bytes : List ℕ) × Appends a b bytes × (replies past ≡ bytes ++ held)) → ((bytes : List ℕ) × Appends b c bytes × (held ≡ bytes ++ held')) → past' ≡ e ∷ past → held'' ≡ held' ++ text e.reply → (bytes : List ℕ) × Appends a c bytes × (replies past' ≡ bytes ++ held'')
+written-next a b c past past' e held held' held'' (xs, first, all) (ys, second, rest) one more = (
+  xs ++ ys,
+  appends-trans a b c xs ys first second,
+  ap replies one ∙ ap (λ l. l ++ text e.reply) (all ∙ ap (λ l. xs ++ l) rest ∙ sym (append_assoc xs ys held')) ∙ append_assoc (xs ++ ys) held' (text e.reply) ∙ ap (λ l. (xs ++ ys) ++ l) (sym more),
+)
+
+-- a run whose lines are all answered, with what it wrote
+pub tells-all : (s : Setting) (n : ℕ) (known : Option Cut) (past : List Entry) (end : End) (last : List ℕ) (held held' : Option (List ℕ)) → n ≡ 2 → Legal s past → AllAnswered n known past end → Closing s past end last → Appends held held' (replies past ++ last) → IfSome known (λ c. (out : List ℕ) × Appends held held' out × Tells s c.given c.ending out end)
+tells-all s n None past end last held held' second legal all closing written = tt
+tells-all s n (Some c) past end last held held' second legal all closing written = (
+  replies past ++ last,
+  written,
+  record {
+    past = past;
+    last = last;
+    legal = legal;
+    headline = laws.headline _ _ legal;
+    events_are = sym all.0;
+    end_is = sym all.1 ∙ ap (λ k. end_of k c.given c.ending) second;
+    closing = closing;
+    text = refl;
+  },
+)
+
+-- an exact end that could only be a failed write is a good one
+pub exact-flush : (r : End) → IfErr r (λ f. f ≡ fault.Writing) → IsExact r → r ≡ Ok tt
+exact-flush (Ok tt') err exact = refl
+exact-flush (Err f) err exact = absurd (subst IsOfScript err exact)
+
+-- what a run tells that ended at a fault of the script
+pub tells-fault : (s s' : Setting) (n : ℕ) (known : Option Cut) (past : List Entry) (r r' : End) (f : Fault) (held held' : Option (List ℕ)) → s' ≡ s → n + 1 ≡ 2 → r ≡ r' → r' ≡ Err f → Legal s' past → (IsExact r' → AllAnswered (n + 1) known past r') → (IsExact r' → Appends held held' (replies past)) → IsExact r → IfSome known (λ c. (out : List ℕ) × Appends held held' out × Tells s c.given c.ending out r)
+tells-fault s s' n known past r r' f held held' kept second same failed legal answered written exact =
+    let exact' : IsExact r' = subst IsExact same exact in
+    let all : AllAnswered (n + 1) known past (Err f) = subst (AllAnswered (n + 1) known past) failed (answered exact') in
+    subst (λ (e : End). IfSome known (λ c. (out : List ℕ) × Appends held held' out × Tells s c.given c.ending out e)) (sym (same ∙ failed))
+    (tells-all s (n + 1) known past (Err f) [] held held' second (subst (λ (t : Setting). Legal t past) kept legal) all refl (subst (Appends held held') (sym (append-nil (replies past))) (written exact')))
+
+-- what a run tells that ended well
+pub tells-well : (s s' : Setting) (n : ℕ) (known : Option Cut) (past : List Entry) (r r' : End) (rows : List Row) (gathered : List ℕ) (held held' held'' : Option (List ℕ)) → s' ≡ s → n + 1 ≡ 2 → r' ≡ Ok tt → r ≡ Ok tt → Legal s' past → (IsExact r' → AllAnswered (n + 1) known past r') → (IsExact r' → Appends held held' (replies past)) → IsByKey rows → ((k : Key) → contents_of rows k ≡ settled s'.opening past k) → gathered ≡ database_text rows → OnOk r (Appends held' held'' gathered) → IfSome known (λ c. (out : List ℕ) × Appends held held'' out × Tells s c.given c.ending out r)
+tells-well s s' n known past r r' rows gathered held held' held'' kept second well wrote legal answered written by_key contents text last =
+    let exact' : IsExact r' = subst IsExact (sym well) tt in
+    let all : AllAnswered (n + 1) known past (Ok tt) = subst (AllAnswered (n + 1) known past) well (answered exact') in
+    let more : Appends held' held'' gathered = subst (λ (e : End). OnOk e (Appends held' held'' gathered)) wrote last in
+    subst (λ (e : End). IfSome known (λ c. (out : List ℕ) × Appends held held'' out × Tells s c.given c.ending out e)) (sym wrote)
+    (tells-all s (n + 1) known past (Ok tt) (database_text rows) held held'' second (subst (λ (t : Setting). Legal t past) kept legal) all
+    (rows, by_key, λ k. contents k ∙ ap (λ (t : Setting). settled t.opening past k) kept, refl)
+    (subst (λ l. Appends held held'' (replies past ++ l)) text (appends-trans held held' held'' (replies past) gathered (written exact') more)))

@@ -1,0 +1,7 @@
+pub mod Bytes
+pub mod Breaks
+pub mod Known
+pub mod Cuts
+pub mod Given
+pub mod Answers
+pub mod Runs

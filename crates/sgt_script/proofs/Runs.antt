@@ -1,0 +1,76 @@
+-- Laws of a script's run from its first line.
+use Rattle.std.proofs.Common.{◌≡◌, ◌≢◌, ℕ, List, [], refl, ap, sym, ◌∙◌, append-nil, subst, inl, inr}
+use Rattle.std.specs.Prelude.{Option, None, Some, IfSome}
+use Rattle.std.specs.Io.KnownBytes.{Appends}
+use Rattle.sgt_model.specs.Syntax.{Program}
+use Rattle.sgt_model.specs.Settings.{Setting}
+use Rattle.sgt_format.specs.Openings.{Opens, Refuses}
+use Rattle.sgt_format.specs.declared.opening.Opening.{Opening}
+use Rattle.sgt_format.specs.declared.errors.OpeningError.{OpeningError}
+use Rattle.sgt_format.specs.declared.errors.OpeningError.TheVariants as opening_error
+use Rattle.sgt_script.specs.Lines.{Cut, Ending, cut}
+use Rattle.sgt_script.specs.Intake.{Intake, before_input, cut_left, Gives, EndsAs, Explains}
+use Rattle.sgt_script.specs.Scripts.{End, Script, ScriptOf, Tells, no_opening, fault_of_opening, setting_of, IsExact}
+use Rattle.sgt_script.specs.declared.fault.Fault.{Fault}
+use Rattle.sgt_script.specs.declared.fault.Fault.TheVariants as fault
+use Rattle.sgt_script.specs.Lines.{AtLongLine, AtLimit}
+use Rattle.std.specs.Prelude.{Err, ◌+◌}
+
+-- what a run wrote over bytes that are known
+abbrev pub Wrote : List Program → Option (List ℕ) → Option (List ℕ) → Option (List ℕ) → End → Type 0
+Wrote programs rest held held' r = IfSome rest (λ bytes. (out : List ℕ) × Appends held held' out × Script programs bytes out r)
+
+-- nothing written
+pub appends-none : (held : Option (List ℕ)) → Appends held held []
+appends-none None = tt
+appends-none (Some xs) = sym (append-nil xs)
+
+-- there is no line 1
+pub wrote-nothing : (programs : List Program) (i : Intake) (rest held : Option (List ℕ)) (ending : Ending) (r : End) → i ≡ before_input → EndsAs ending (cut_left i rest) → r ≡ no_opening ending → Wrote programs rest held held r
+wrote-nothing programs i None held ending r start ends is = tt
+wrote-nothing programs i (Some bytes) held ending r start ends is =
+    ([], appends-none held, subst (λ (c : Cut). ScriptOf programs c.given c.ending [] r) (sym (subst (λ (j : Intake). EndsAs ending (cut_left j (Some bytes))) start ends)) (refl, is))
+
+-- line 1 is refused
+pub wrote-refused : (programs : List Program) (i : Intake) (rest held : Option (List ℕ)) (line : List ℕ) (new : Option Cut) (e : OpeningError) (r : End) → i ≡ before_input → Gives (cut_left i rest) line new → Refuses line e → e ≢ opening_error.NoMemory → r ≡ Err (fault_of_opening e) → Wrote programs rest held held r
+wrote-refused programs i None held line new e r start gives refuses known is = tt
+wrote-refused programs i (Some bytes) held line None e r start gives refuses known is = absurd (subst (λ (j : Intake). Gives (cut_left j (Some bytes)) line None) start gives)
+wrote-refused programs i (Some bytes) held line (Some c) e r start gives refuses known is =
+    let gives' : Gives (cut_left before_input (Some bytes)) line (Some c) = subst (λ (j : Intake). Gives (cut_left j (Some bytes)) line (Some c)) start gives in (
+      [],
+      appends-none held,
+      subst (λ (ls : List (List ℕ)). ScriptOf programs ls (cut bytes).ending [] r) (sym gives'.0)
+          (inr (record { error = e; refuses = refuses; known = known; nothing = refl; end_is = is })),
+    )
+
+-- line 1 opens
+pub wrote-opened : (programs : List Program) (i : Intake) (s : Setting) (rest held held' : Option (List ℕ)) (line : List ℕ) (new : Option Cut) (o : Opening) (r : End) → i ≡ before_input → Gives (cut_left i rest) line new → Opens line o → s ≡ setting_of programs o → IfSome new (λ c. (out : List ℕ) × Appends held held' out × Tells s c.given c.ending out r) → Wrote programs rest held held' r
+wrote-opened programs i s None held held' line new o r start gives opens is told = tt
+wrote-opened programs i s (Some bytes) held held' line None o r start gives opens is told = absurd (subst (λ (j : Intake). Gives (cut_left j (Some bytes)) line None) start gives)
+wrote-opened programs i s (Some bytes) held held' line (Some c) o r start gives opens is (out, wrote, tells) =
+    let gives' : Gives (cut_left before_input (Some bytes)) line (Some c) = subst (λ (j : Intake). Gives (cut_left j (Some bytes)) line (Some c)) start gives in (
+      out,
+      wrote,
+      subst (λ (ls : List (List ℕ)). ScriptOf programs ls (cut bytes).ending out r) (sym gives'.0)
+          (inl (record { opening = o; opens = opens; tells = subst (λ (e : Ending). Tells (setting_of programs o) c.given e out r) (sym gives'.1) (subst (λ (t : Setting). Tells t c.given c.ending out r) is tells) })),
+    )
+
+-- line 1 is too long, or the input is
+wrote-fault : (programs : List Program) (i : Intake) (rest held : Option (List ℕ)) (f : Fault) → i ≡ before_input → Explains f i.number (cut_left i rest) → IsExact (Err f) → Wrote programs rest held held (Err f)
+wrote-fault programs i rest held (fault.LongLine n) start told exact =
+    let one : n ≡ 1 = told.0 ∙ ap (λ (j : Intake). j.number + 1) start in
+    wrote-nothing programs i rest held AtLongLine (Err (fault.LongLine n)) start told.1 (ap (λ k. Err (fault.LongLine k)) one)
+wrote-fault programs i rest held fault.TooLong start told exact = wrote-nothing programs i rest held AtLimit (Err fault.TooLong) start told refl
+wrote-fault programs i rest held fault.Reading start told exact = absurd exact
+wrote-fault programs i rest held fault.Writing start told exact = absurd exact
+wrote-fault programs i rest held fault.NoMemory start told exact = absurd exact
+wrote-fault programs i rest held fault.NoOpening start told exact = absurd told
+wrote-fault programs i rest held (fault.NotJson n) start told exact = absurd told
+wrote-fault programs i rest held (fault.BadLine n) start told exact = absurd told
+wrote-fault programs i rest held fault.BadLimits start told exact = absurd told
+wrote-fault programs i rest held (fault.BadOpening k) start told exact = absurd told
+
+-- where the first line was not given
+pub wrote-no-line : (programs : List Program) (i : Intake) (rest held : Option (List ℕ)) (f : Fault) (r : End) → i ≡ before_input → r ≡ Err f → Explains f i.number (cut_left i rest) → IsExact r → Wrote programs rest held held r
+wrote-no-line programs i rest held f r start is told exact =
+    subst (Wrote programs rest held held) (sym is) (wrote-fault programs i rest held f start told (subst IsExact is exact))

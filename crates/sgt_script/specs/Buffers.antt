@@ -1,0 +1,7 @@
+-- What a buffer holds.
+use Rattle.std.specs.Prelude.{ℕ, List}
+
+-- the line taken last, and the bytes behind it
+pub record Held : Type 0 where
+  pub line : List ℕ
+  pub held : List ℕ

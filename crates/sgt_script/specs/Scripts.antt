@@ -1,0 +1,155 @@
+-- What the run of a script writes, and how it ends.
+use Rattle.std.specs.Prelude.{◌≡◌, ◌≢◌, ℕ, ◌+◌, ◌⊎◌, ⊤, List, [], ◌∷◌, ◌++◌, Option, None, Some, Result, Ok, Err}
+use Rattle.sgt_model.specs.declared.event.Event.{Event}
+use Rattle.sgt_model.specs.declared.entry.Entry.{Entry}
+use Rattle.sgt_model.specs.Contents.{Key}
+use Rattle.sgt_model.specs.Databases.{Row, IsByKey, contents_of}
+use Rattle.sgt_model.specs.Syntax.{Program}
+use Rattle.sgt_model.specs.Settings.{Setting, setting}
+use Rattle.sgt_model.specs.Headline.{Headline}
+use Rattle.sgt_model.specs.Legality.{Legal}
+use Rattle.sgt_model.specs.Values.{settled}
+use Rattle.sgt_format.specs.EventLines.{event_of}
+use Rattle.sgt_format.specs.Openings.{Opens, Refuses}
+use Rattle.sgt_format.specs.Accounts.{number_of}
+use Rattle.sgt_format.specs.ReplyText.{text}
+use Rattle.sgt_format.specs.DatabaseText.{database_text}
+use Rattle.sgt_format.specs.declared.opening.Opening.{Opening}
+use Rattle.sgt_format.specs.declared.errors.LineError.{LineError}
+use Rattle.sgt_format.specs.declared.errors.LineError.TheVariants as line_error
+use Rattle.sgt_format.specs.declared.errors.OpeningError.{OpeningError}
+use Rattle.sgt_format.specs.declared.errors.OpeningError.TheVariants as opening_error
+use Rattle.sgt_script.specs.declared.fault.Fault.{Fault}
+use Rattle.sgt_script.specs.declared.fault.Fault.TheVariants as fault
+use Rattle.sgt_script.specs.Lines.{Ending, AtEnd, AtLongLine, AtLimit, Cut, cut}
+
+-- an event in front of the later ones; where a line spells none, no later line counts
+abbrev pub and_later : Result Event LineError → List Event → List Event
+and_later (Ok event) later = event ∷ later
+and_later (Err error) later = []
+
+-- the events of lines, up to the first line that spells none
+abbrev pub events : List (List ℕ) → List Event
+events [] = []
+events (l ∷ ls) = and_later (event_of l) (events ls)
+
+-- how a run ends
+abbrev pub End : Type 0
+End = Result (Unit {0}) Fault
+
+-- how it ends where the cutting into lines ends so before line n
+abbrev pub end_at : ℕ → Ending → End
+end_at n AtEnd = Ok tt
+end_at n AtLongLine = Err (fault.LongLine n)
+end_at n AtLimit = Err fault.TooLong
+
+-- the fault of line n where it spells no event
+abbrev pub fault_in : ℕ → LineError → Fault
+fault_in n line_error.NotJson = fault.NotJson n
+fault_in n line_error.BadLine = fault.BadLine n
+fault_in n line_error.NoMemory = fault.NoMemory
+
+-- the end at line n where it spells none, or else a later one
+abbrev pub or_later : ℕ → Result Event LineError → End → End
+or_later n (Ok event) later = later
+or_later n (Err error) later = Err (fault_in n error)
+
+-- how a run ends whose lines from number n on are these: at the first that spells no event, or where the cutting ends
+abbrev pub end_of : ℕ → List (List ℕ) → Ending → End
+end_of n [] ending = end_at n ending
+end_of n (l ∷ ls) ending = or_later n (event_of l) (end_of (n + 1) ls ending)
+
+-- the events of a history, the oldest first
+abbrev pub events_of : List Entry → List Event
+events_of [] = []
+events_of (e ∷ past) = events_of past ++ e.event ∷ []
+
+-- the text of its replies, the oldest first
+abbrev pub replies : List Entry → List ℕ
+replies [] = []
+replies (e ∷ past) = replies past ++ text e.reply
+
+-- what stands behind the replies: the committed database where the run ends well, and nothing at a fault
+abbrev pub Closing : Setting → List Entry → End → List ℕ → Type 0
+Closing s past (Ok _) last = (rows : List Row) × IsByKey rows × ((k : Key) → contents_of rows k ≡ settled s.opening past k) × (last ≡ database_text rows)
+Closing s past (Err fault) last = last ≡ []
+
+-- what a run over these lines after the opening writes: the replies of a legal history of their events, of which the headline
+-- holds, and the closing text
+pub record Tells (s : Setting) (later : List (List ℕ)) (ending : Ending) (out : List ℕ) (end : End) : Type 0 where
+  pub past : List Entry
+  pub last : List ℕ
+  pub legal : Legal s past
+  pub headline : Headline s past
+  pub events_are : events_of past ≡ events later
+  pub end_is : end ≡ end_of 2 later ending
+  pub closing : Closing s past end last
+  pub text : out ≡ replies past ++ last
+
+-- the fault of line 1 where it is refused as an opening
+abbrev pub fault_of_opening : OpeningError → Fault
+fault_of_opening opening_error.NotJson = fault.NotJson 1
+fault_of_opening opening_error.BadLine = fault.BadLine 1
+fault_of_opening opening_error.BadLimits = fault.BadLimits
+fault_of_opening (opening_error.BadOpening kind) = fault.BadOpening (number_of kind)
+fault_of_opening opening_error.NoMemory = fault.NoMemory
+
+-- the setting of an opening, with these procedures
+abbrev pub setting_of : List Program → Opening → Setting
+setting_of programs opening = setting (contents_of opening.database) programs opening.limits
+
+-- line 1 is an opening, and the later lines are answered
+pub record Opened (programs : List Program) (line : List ℕ) (later : List (List ℕ)) (ending : Ending) (out : List ℕ) (end : End) : Type 0 where
+  pub opening : Opening
+  pub opens : Opens line opening
+  pub tells : Tells (setting_of programs opening) later ending out end
+
+-- line 1 is refused as an opening
+pub record Refused (line out : List ℕ) (end : End) : Type 0 where
+  pub error : OpeningError
+  pub refuses : Refuses line error
+  pub known : error ≢ opening_error.NoMemory
+  pub nothing : out ≡ []
+  pub end_is : end ≡ Err (fault_of_opening error)
+
+-- there is no line 1: it is too long, or the input is empty
+abbrev pub no_opening : Ending → End
+no_opening AtEnd = Err fault.NoOpening
+no_opening ending = end_at 1 ending
+
+-- what a run over these lines writes
+abbrev pub ScriptOf : List Program → List (List ℕ) → Ending → List ℕ → End → Type 0
+ScriptOf programs [] ending out end = (out ≡ []) × (end ≡ no_opening ending)
+ScriptOf programs (line ∷ later) ending out end = Opened programs line later ending out end ⊎ Refused line out end
+
+-- what a script's run over these bytes writes, and how it ends
+abbrev pub Script : List Program → List ℕ → List ℕ → End → Type 0
+Script programs bytes out end = ScriptOf programs (cut bytes).given (cut bytes).ending out end
+
+-- known lines from number n on begin with those of a history's events; behind them, from number m on, are these
+abbrev pub Answered : ℕ → Option Cut → List Entry → ℕ → Option Cut → Type 0
+Answered n None past m new = ⊤
+Answered n (Some old) past m None = ⊥
+Answered n (Some old) past m (Some new) = (events old.given ≡ events_of past ++ events new.given) × (end_of n old.given old.ending ≡ end_of m new.given new.ending)
+
+-- known lines from number n on give no event, and end so
+abbrev pub NoEvent : ℕ → Option Cut → End → Type 0
+NoEvent n None end = ⊤
+NoEvent n (Some c) end = (events c.given ≡ []) × (end_of n c.given c.ending ≡ end)
+
+-- known lines from number n on have just a history's events, and end so
+abbrev pub AllAnswered : ℕ → Option Cut → List Entry → End → Type 0
+AllAnswered n None past end = ⊤
+AllAnswered n (Some c) past end = (events c.given ≡ events_of past) × (end_of n c.given c.ending ≡ end)
+
+-- a fault of the script itself, and not of its reader, its writer or the memory
+abbrev pub IsOfScript : Fault → Type 0
+IsOfScript fault.Reading = ⊥
+IsOfScript fault.Writing = ⊥
+IsOfScript fault.NoMemory = ⊥
+IsOfScript _ = ⊤
+
+-- the run ended well or with a fault of the script
+abbrev pub IsExact : End → Type 0
+IsExact (Ok _) = ⊤
+IsExact (Err f) = IsOfScript f

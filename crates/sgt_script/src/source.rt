@@ -1,0 +1,63 @@
+ghost use Rattle.std.specs.Prelude.{◌≡◌, ℕ, List, Option, IfOk, OnOk, OnErr, ◌+◌, ◌^◌, ◌<◌, ◌≤◌, length};
+ghost use Rattle.std.specs.Io.KnownBytes.{ReadConsumes};
+
+use std::io::Read;
+
+/// A call of a source or a sink failed.
+#[derive(Clone, Copy, Debug, PartialEq, Eq)]
+pub struct Failed;
+
+/// What gives bytes, and counts its failed calls.
+pub trait Source: Drop {
+    /// The bytes that are left, where they are known. Of other sources nothing is claimed.
+    ghost rest: { Self → Option (List ℕ) };
+
+    /// How many calls have failed.
+    ghost failures: { Self → ℕ };
+
+    /// Gives the next bytes into the front of `room`, and how many they are: none only at the end, or where there is no room.
+    ///
+    /// # Errors
+    ///
+    /// `Failed` where the call failed. It gave no bytes.
+    fn read(&mut self, room: &mut [u8]) -> Result<usize, Failed>
+        requires countable { failures self.old + 1 < 2 ^ 64 }
+        ensures within { IfOk result (λ n. n ≤ length room.new) }
+        ensures bytes { ReadConsumes (rest self.old) (rest self.new) result room.new }
+        ensures well { OnOk result (failures self.new ≡ failures self.old) }
+        ensures failed { OnErr result (failures self.new ≡ failures self.old + 1) };
+}
+
+/// A source over any `Read`.
+#[derive(Drop)]
+pub struct Reader<R: Read + Drop> {
+    pub inner: R,
+    /// How many reads have failed.
+    pub failures: u64,
+}
+
+impl<R: Read + Drop> Reader<R> {
+    /// A source with no failures yet.
+    pub fn new(inner: R) -> Self
+        ensures inner { result.inner ≡ inner }
+        ensures failures { result.failures ≡ 0 }
+    {
+        Reader { inner, failures: 0 }
+    }
+}
+
+impl<R: Read + Drop> Source for Reader<R> {
+    ghost rest = { λ s. R.remaining s.inner };
+
+    ghost failures = { λ s. s.failures };
+
+    fn read(&mut self, room: &mut [u8]) -> Result<usize, Failed> {
+        match self.inner.read(room) {
+            Ok(n) => Ok(n),
+            Err(_) => {
+                self.failures += 1;
+                Err(Failed)
+            }
+        }
+    }
+}
