@@ -4,17 +4,19 @@
 //! It has the command line and nothing else: what a script's run writes is said and proved in `sgt_script`.
 #![tactic(auto)]
 
-use clap::{ArgMatches, Command};
+use clap::Command;
+use clap::error::ErrorKind;
 use sgt_script::{Fault, Reader, Writer, run_script};
-use std::alloc::{Alloc, AllocError, Global};
+use std::alloc::{AllocError, Global};
 use std::env;
 use std::io::{self, Eprint, Input, Print};
 use std::process::ExitCode;
 
 /// The command line. Without a word, and with an unknown one, it tells how to call it.
 fn command<'a>(alloc: Global) -> Result<Command<'a>, AllocError> {
-    let script = Command::new(alloc, "script")
-        .about("runs a script: an opening and then events, a JSON line each, from standard input");
+    let script = Command::new(alloc, "script").about(
+        "runs a script: an opening and then events, a JSON line each, from standard input",
+    );
     Command::new(alloc, "sgt")
         .about("an in-memory transaction engine that schedules by serialization graph testing")
         .subcommand_required(true)
@@ -22,11 +24,11 @@ fn command<'a>(alloc: Global) -> Result<Command<'a>, AllocError> {
         .subcommand(script)
 }
 
-/// Runs what the words ask for.
-fn run<R: Print + Eprint + Input + Alloc>(rt: &R, _matches: &ArgMatches<'_>) -> Result<(), Fault> {
+/// Runs a script from standard input to standard output.
+fn run<R: Print + Input>(rt: &R, alloc: Global) -> Result<(), Fault> {
     let mut reader = Reader::new(rt.reader());
     let mut writer = Writer::new(io::writer(rt));
-    run_script(rt.alloc(), &mut reader, &mut writer)
+    run_script(alloc, &mut reader, &mut writer)
 }
 
 /// Tells a fault on standard error. Where that fails too, the status is all that is left.
@@ -45,14 +47,18 @@ fn main(rt: HostRuntime) -> anyhow::Result<ExitCode> {
         Ok(command) => command,
         Err(_) => return Ok(tell(&rt, Fault::NoMemory)),
     };
-    let matches = match command.try_get_matches_from(words.as_slice()) {
-        Ok(matches) => matches,
+    match command.try_get_matches_from(words.as_slice()) {
+        // `script` is the one subcommand, and one is required.
+        Ok(_) => (),
         Err(error) => {
+            if error.kind() == ErrorKind::OutOfMemory {
+                return Ok(tell(&rt, Fault::NoMemory));
+            }
             let _ = error.print(&rt);
             return Ok(ExitCode::from(error.exit_code() as u8));
         }
-    };
-    match run(&rt, &matches) {
+    }
+    match run(&rt, alloc) {
         Ok(()) => Ok(ExitCode::SUCCESS),
         Err(fault) => Ok(tell(&rt, fault)),
     }

@@ -6,10 +6,13 @@ use sgt_model::{Expr, NoMemory, Procedure, Statement};
 use std::alloc::Global;
 
 const ACCOUNT: u8 = 0;
+
 const SAVING: u8 = 1;
+
 const CHECKING: u8 = 2;
 
 const UNKNOWN_NAME: u16 = 1;
+
 const NO_BALANCE: u16 = 5;
 
 /// Balance(name): the sum of the saving and the checking of the name's customer.

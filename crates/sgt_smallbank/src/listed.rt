@@ -17,3 +17,17 @@ pub fn procedures(alloc: Global) -> Result<Vec<Checked>, NoMemory>
     }
     Ok(list)
 }
+
+#[cfg(test)]
+mod tests {
+    use crate::procedures;
+    use std::test::Fail;
+
+    #[test]
+    fn balance_takes_a_name(rt: HostRuntime) -> Result<(), Fail> {
+        let procedures = procedures(rt.alloc())?;
+        assert_eq!(rt; procedures.len(), 1);
+        assert_eq!(rt; procedures[0].args(), 1);
+        Ok(())
+    }
+}
