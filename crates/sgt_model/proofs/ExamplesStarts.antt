@@ -6,7 +6,7 @@ use Rattle.sgt_model.specs.declared.reply.Reply.TheVariants as reply
 use Rattle.sgt_model.specs.declared.reply.Fate.TheVariants as fate
 use Rattle.sgt_model.specs.declared.entry.Entry.{Entry}
 use Rattle.sgt_model.specs.Legality.{Legal}
-use Rattle.sgt_model.proofs.Tests.{made_by, commits_by}
+use Rattle.sgt_model.proofs.Computed.{made_by, commits_by}
 use Rattle.sgt_model.proofs.BankExample.{bank, entry}
 
 -- limits of one live and two started

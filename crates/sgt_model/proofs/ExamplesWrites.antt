@@ -7,7 +7,7 @@ use Rattle.sgt_model.specs.declared.reply.Cause.TheVariants as cause
 use Rattle.sgt_model.specs.declared.entry.Entry.{Entry}
 use Rattle.sgt_model.specs.Values.{settled}
 use Rattle.sgt_model.specs.Legality.{Legal}
-use Rattle.sgt_model.proofs.Tests.{made_by, aborts_by, refused_by, commits_by, waits_by}
+use Rattle.sgt_model.proofs.Computed.{made_by, aborts_by, refused_by, commits_by, waits_by}
 use Rattle.sgt_model.proofs.BankExample.{bank, entry, bank_put}
 
 -- who looked first commits first

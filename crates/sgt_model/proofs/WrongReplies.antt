@@ -15,7 +15,7 @@ use Rattle.sgt_model.specs.Contents.{Key}
 use Rattle.sgt_model.specs.Walks.{Member}
 use Rattle.sgt_model.specs.Fates.{live}
 use Rattle.sgt_model.specs.Legality.{Refuses, Makes, MustWait, MayCommit, LegalReply}
-use Rattle.sgt_model.proofs.Tests.{pair, pair-so, free_test, free-so, closes-so, each-so, all-so}
+use Rattle.sgt_model.proofs.Computed.{pair, pair-so, free_test, free-so, closes-so, each-so, all-so}
 use Rattle.sgt_model.proofs.BankExample.{bank, entry, bank_put, bank_look_twice, bank_tell}
 
 -- where an access closes no walk it is not refused

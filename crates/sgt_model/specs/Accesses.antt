@@ -1,5 +1,6 @@
--- The accesses in a history. A history is read backwards, the newest entry first, so that each definition is a recursion
--- on the list, and what stood before an entry is the rest of the list behind it.
+-- The accesses in a history (Bernstein, Hadzilacos and Goodman (1987), chapter 2). Here a history is a list of entries,
+-- one for each event and its reply, so its operations are totally ordered. It is read backwards, the newest entry first:
+-- each definition is a recursion on the list, and what stood before an entry is the rest of the list behind it.
 use Rattle.std.specs.Prelude.{ℕ, ℤ, Bool, true, false, cond, nat_eq, List, [], ◌∷◌, Option, Some, None}
 use Rattle.sgt_model.specs.declared.event.Event.{Event}
 use Rattle.sgt_model.specs.declared.event.Event.TheVariants.{Step}

@@ -117,7 +117,7 @@ abbrev pub taken_reply : Limits → ℕ → ℕ → Option ℕ → List ℤ → 
 taken_reply limits begun living None args = reply.NoProcedure
 taken_reply limits begun living (Some count) args = cond (args_fit count args) (room_reply limits begun living) reply.BadArgs
 
--- the one reply to a start, from what is held
+-- the one reply to a start, from what is held: the tests of `start_reply`, in the same order
 abbrev pub start_answer : Setting → Held → ℕ → List ℤ → Reply
 start_answer s c p args = taken_reply s.limits c.starts (length c.live) (s.procedures p) args
 

@@ -1,4 +1,5 @@
--- When an access would close a conflict cycle.
+-- When an access would close a conflict cycle: the test of basic serialization graph testing
+-- (Bernstein, Hadzilacos and Goodman (1987), chapter 4).
 use Rattle.std.specs.Prelude.{◌≡◌, ℕ, ◌<◌, true, List, ◌∷◌, length}
 use Rattle.sgt_model.specs.declared.entry.Entry.{Entry}
 use Rattle.sgt_model.specs.declared.kind.Kind.{Kind}

@@ -1,4 +1,5 @@
--- How the logic stores a program: a tree of numbers, from which the program is read back.
+-- How the logic stores a program: as a tree of numbers, from which the same program is read back. A model's value has to
+-- have such a form; nothing else uses it.
 use Rattle.std.specs.Prelude.{◌≡◌, ℕ, zero, suc, ℤ, pos, negsuc}
 use Rattle.std.proofs.Common.{refl}
 use Rattle.std.specs.Coded.{Coded, code_by, coded×, coded_ℕ}
@@ -6,23 +7,28 @@ use base.Stored.{Gv, gnil, gnum, gcons}
 use denote.Struct.Codes.{itself}
 use Rattle.sgt_model.specs.Syntax.{Program, Block, empty, look, put, save, ask, choose, answer, Term, num, arg, reg, sum, diff, Test, less, at_most, equal}
 
+-- a number with sign: 0 or 1 for the sign, and its size
 abbrev pub int_tree : ℤ → Gv
 int_tree (pos n) = gcons (gnum 0) (gnum n)
 int_tree (negsuc n) = gcons (gnum 1) (gnum n)
 
+-- the number that a tree is
 abbrev pub int_in : Gv → ℤ
 int_in (gcons (gnum (suc zero)) (gnum n)) = negsuc n
 int_in (gcons _ (gnum n)) = pos n
 int_in _ = pos 0
 
+-- it is read back
 pub int_back : (n : ℤ) → int_in (int_tree n) ≡ n
 int_back (pos n) = refl
 int_back (negsuc n) = refl
 
+-- the number at a tree's leaf
 abbrev pub num_in : Gv → ℕ
 num_in (gnum n) = n
 num_in _ = 0
 
+-- an expression: the number of its form, and its parts
 abbrev pub term_tree : Term → Gv
 term_tree (num n) = gcons (gnum 0) (int_tree n)
 term_tree (arg n) = gcons (gnum 1) (gnum n)
@@ -30,6 +36,7 @@ term_tree (reg n) = gcons (gnum 2) (gnum n)
 term_tree (sum a b) = gcons (gnum 3) (gcons (term_tree a) (term_tree b))
 term_tree (diff a b) = gcons (gnum 4) (gcons (term_tree a) (term_tree b))
 
+-- the expression that a tree is
 abbrev pub term_in : Gv → Term
 term_in (gcons (gnum zero) n) = num (int_in n)
 term_in (gcons (gnum (suc zero)) n) = arg (num_in n)
@@ -38,6 +45,7 @@ term_in (gcons (gnum (suc (suc (suc zero)))) (gcons a b)) = sum (term_in a) (ter
 term_in (gcons (gnum (suc (suc (suc (suc zero))))) (gcons a b)) = diff (term_in a) (term_in b)
 term_in _ = reg 0
 
+-- it is read back
 pub term_back : (t : Term) → term_in (term_tree t) ≡ t
 term_back (num n) = λ i. num (int_back n i)
 term_back (arg n) = refl
@@ -45,22 +53,26 @@ term_back (reg n) = refl
 term_back (sum a b) = λ i. sum (term_back a i) (term_back b i)
 term_back (diff a b) = λ i. diff (term_back a i) (term_back b i)
 
+-- a condition: the number of its form, and both sides
 abbrev pub test_tree : Test → Gv
 test_tree (less a b) = gcons (gnum 0) (gcons (term_tree a) (term_tree b))
 test_tree (at_most a b) = gcons (gnum 1) (gcons (term_tree a) (term_tree b))
 test_tree (equal a b) = gcons (gnum 2) (gcons (term_tree a) (term_tree b))
 
+-- the condition that a tree is
 abbrev pub test_in : Gv → Test
 test_in (gcons (gnum zero) (gcons a b)) = less (term_in a) (term_in b)
 test_in (gcons (gnum (suc zero)) (gcons a b)) = at_most (term_in a) (term_in b)
 test_in (gcons (gnum (suc (suc zero))) (gcons a b)) = equal (term_in a) (term_in b)
 test_in _ = less (reg 0) (reg 0)
 
+-- it is read back
 pub test_back : (t : Test) → test_in (test_tree t) ≡ t
 test_back (less a b) = λ i. less (term_back a i) (term_back b i)
 test_back (at_most a b) = λ i. at_most (term_back a i) (term_back b i)
 test_back (equal a b) = λ i. equal (term_back a i) (term_back b i)
 
+-- statements in a row: the number of the first one's form with its parts, and those behind it
 abbrev pub block_tree : Block → Gv
 block_tree empty = gnil
 block_tree (look to table id absent b) = gcons (gnum 0) (gcons (gcons (gcons (gnum to) (gnum table)) (gcons (term_tree id) (gnum absent))) (block_tree b))
@@ -70,6 +82,7 @@ block_tree (ask code b) = gcons (gnum 3) (gcons (gnum code) (block_tree b))
 block_tree (choose test ys ns b) = gcons (gnum 4) (gcons (gcons (test_tree test) (gcons (block_tree ys) (block_tree ns))) (block_tree b))
 block_tree (answer value b) = gcons (gnum 5) (gcons (term_tree value) (block_tree b))
 
+-- the statements that a tree is
 abbrev pub block_in : Gv → Block
 block_in (gcons (gnum zero) (gcons (gcons (gcons (gnum to) (gnum table)) (gcons id (gnum absent))) b)) = look to table (term_in id) absent (block_in b)
 block_in (gcons (gnum (suc zero)) (gcons (gcons (gnum table) (gcons id value)) b)) = put table (term_in id) (term_in value) (block_in b)
@@ -79,6 +92,7 @@ block_in (gcons (gnum (suc (suc (suc (suc zero))))) (gcons (gcons test (gcons ys
 block_in (gcons (gnum (suc (suc (suc (suc (suc zero)))))) (gcons value b)) = answer (term_in value) (block_in b)
 block_in _ = empty
 
+-- they are read back
 pub block_back : (b : Block) → block_in (block_tree b) ≡ b
 block_back empty = refl
 block_back (look to table id absent b) = λ i. look to table (term_back id i) absent (block_back b i)
@@ -88,8 +102,10 @@ block_back (ask code b) = λ i. ask code (block_back b i)
 block_back (choose test ys ns b) = λ i. choose (test_back test i) (block_back ys i) (block_back ns i) (block_back b i)
 block_back (answer value b) = λ i. answer (term_back value i) (block_back b i)
 
+-- statements, stored and read back
 abbrev pub coded_block : Coded Block
 coded_block = code_by Gv itself block_tree block_in block_back
 
+-- a program, stored and read back
 abbrev pub coded_program : Coded Program
 coded_program = code_by (ℕ × Block) (coded× coded_ℕ coded_block) (λ p. (p.args, p.body)) (λ q. record { args = q.0; body = q.1 }) (λ _. refl)

@@ -1,4 +1,5 @@
--- The order in which transactions commit.
+-- The order in which transactions commit. It agrees with conflicts (commit-order preserving: Durner and Neumann,
+-- ICDE 2019) and with who read from whom (recoverable: Bernstein, Hadzilacos and Goodman (1987), chapter 2).
 use Rattle.std.specs.Prelude.{◌≡◌, ℕ, true, ◌⊎◌, List, [], ◌∷◌, length, Option, Some, None, nat_eq}
 use Rattle.std.specs.Option.{option_or, option_map}
 use Rattle.sgt_model.specs.declared.reply.Fate.TheVariants as fate

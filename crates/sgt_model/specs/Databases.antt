@@ -22,7 +22,7 @@ key_cmp = then_cmp (on (λ k. k.0) nat_cmp) (on (λ k. k.1) int_cmp)
 abbrev pub key_lt : Key → Key → Bool
 key_lt a b = is_lt (key_cmp a b)
 
--- so many rows come before the key, where they are by key
+-- the first so many rows come before the key, and the next, if there is one, does not: its place, where rows are by key
 abbrev pub IsPlace : Key → List Row → ℕ → Type 0
 IsPlace k [] zero = Unit {0}
 IsPlace k (r ∷ rows) zero = key_lt r.0 k ≡ false

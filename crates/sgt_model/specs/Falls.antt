@@ -1,4 +1,4 @@
--- Who falls with an abort.
+-- Who falls with an abort: the cascading abort (Bernstein, Hadzilacos and Goodman (1987), chapter 1).
 use Rattle.std.specs.Prelude.{◌≡◌, ◌≢◌, ℕ, true, List}
 use Rattle.sgt_model.specs.declared.entry.Entry.{Entry}
 use Rattle.sgt_model.specs.Walks.{Member, Rising, Reaches}

@@ -1,4 +1,5 @@
--- Who was started, how transactions end, and who is live.
+-- Who was started, how transactions end, and who is live (Bernstein, Hadzilacos and Goodman (1987), chapter 1: commit,
+-- abort and active).
 use Rattle.std.specs.Prelude.{ℕ, ◌+◌, Bool, true, false, ◌&&◌, cond, nat_eq, nat_lt, List, [], ◌∷◌, ◌++◌, Option, Some, None}
 use Rattle.std.specs.List.{list_any, filter}
 use Rattle.std.specs.Option.{option_or, is_none}
@@ -20,14 +21,14 @@ abbrev pub starts : List Entry → ℕ
 starts [] = 0
 starts (e ∷ past) = cond (is_start e.reply) (starts past + 1) (starts past)
 
--- the transaction that an event names
+-- the event names transaction t; a start names none
 abbrev pub concerns : Event → ℕ → Bool
 concerns (Start p args) t = false
 concerns (Step u) t = nat_eq u t
 concerns (Commit u) t = nat_eq u t
 concerns (Quit u) t = nat_eq u t
 
--- the same as a number, and 0 for a start
+-- the transaction that an event names, and 0 for a start
 abbrev pub subject : Event → ℕ
 subject (Start p args) = 0
 subject (Step u) = u

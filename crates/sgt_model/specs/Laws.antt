@@ -1,4 +1,5 @@
--- The laws of every legal history, each by name.
+-- The laws of every legal history, each by name. The serializability theorem (Bernstein, Hadzilacos and Goodman
+-- (1987), chapter 2) holds here of one serial order that is known beforehand: that of commits.
 use Rattle.std.specs.Prelude.{◌≡◌, ℕ, ◌<◌, ◌≤◌, true, false, nat_eq, List, [], ◌∷◌, length, Option, Some, None}
 use Rattle.sgt_model.specs.declared.event.Event.{Event}
 use Rattle.sgt_model.specs.declared.reply.Reply.{Reply}

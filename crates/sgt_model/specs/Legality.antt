@@ -1,4 +1,6 @@
--- Which reply an event may get after a history, and which histories are legal.
+-- Which reply an event may get after a history, and which histories are legal. A step is served by basic serialization
+-- graph testing (Bernstein, Hadzilacos and Goodman (1987), chapter 4); a commit waits for live predecessors (Durner and
+-- Neumann, ICDE 2019).
 use Rattle.std.specs.Prelude.{◌≡◌, ℕ, ◌≤◌, ℤ, Bool, true, false, ◌&&◌, cond, ◌⊎◌, nat_eq, nat_lt, List, [], ◌∷◌, length, Option, Some, None}
 use Rattle.std.specs.List.{list_all}
 use Rattle.sgt_model.specs.declared.event.Event.{Event}

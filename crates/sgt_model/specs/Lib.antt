@@ -1,8 +1,8 @@
+-- numbers, keys and databases
 pub mod Numbers
-pub mod Bounds
 pub mod Contents
 pub mod Databases
-pub mod Walks
+-- procedures: what a run does, what the text says, and what it means
 pub mod Runs
 pub mod Traces
 pub mod Syntax
@@ -10,6 +10,8 @@ pub mod Programs
 pub mod Ways
 pub mod Meaning
 pub mod Codes
+-- histories: accesses, fates, values, who read from whom, conflicts
+pub mod Walks
 pub mod Accesses
 pub mod Fates
 pub mod Values
@@ -17,25 +19,31 @@ pub mod ReadFrom
 pub mod Falls
 pub mod Pairs
 pub mod Closes
+-- which replies are legal
+pub mod Bounds
 pub mod Settings
 pub mod Progress
 pub mod Legality
+-- what is true of legal histories
 pub mod Replay
 pub mod CommitOrder
 pub mod Aborts
 pub mod Headline
 pub mod Laws
+-- what a scheduler holds after a history
 pub mod Touches
 pub mod Chains
 pub mod ChainOrder
 pub mod Courses
 pub mod Held
 pub mod States
+-- what a scheduler decides and does, from what it holds
 pub mod Verdicts
 pub mod Tops
 pub mod Fallers
 pub mod Changes
 pub mod CallEffects
+-- why that is legal
 pub mod Soundness
 pub mod NewHeld
 pub mod Sameness

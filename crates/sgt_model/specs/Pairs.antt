@@ -1,4 +1,6 @@
--- Conflicting accesses and conflict pairs.
+-- Conflicting accesses, and conflict pairs: the edges of the serialization graph (Bernstein, Hadzilacos and Goodman
+-- (1987), chapter 2). As a scheduler needs it the graph has live transactions too (chapter 4), so an edge is lost where
+-- one of the two aborts.
 use Rattle.std.specs.Prelude.{◌≡◌, ◌≢◌, ℕ, Bool, true, false, ◌&&◌, ◌||◌, ◌⊎◌, nat_eq, List, [], ◌∷◌, Option, Some, None}
 use Rattle.sgt_model.specs.declared.entry.Entry.{Entry}
 use Rattle.sgt_model.specs.declared.kind.Kind.{Kind}
@@ -7,7 +9,7 @@ use Rattle.sgt_model.specs.Contents.{Key, key_eq}
 use Rattle.sgt_model.specs.Accesses.{Access, access_of}
 use Rattle.sgt_model.specs.Fates.{aborted}
 
--- one of two accesses stores
+-- of two accesses of these kinds, one stores
 abbrev pub one_stores : Kind → Kind → Bool
 one_stores Store _ = true
 one_stores Look Store = true
@@ -33,8 +35,8 @@ abbrev pub Precedes : List Entry → ℕ → ℕ → Type 0
 Precedes [] t u = ⊥
 Precedes (e ∷ past) t u = FollowsIn past (access_of e) t u ⊎ Precedes past t u
 
--- a conflict pair: two transactions, neither aborted; the first has an access before one of the second's that conflicts with
--- it. Committed transactions count
+-- a conflict pair: two transactions, neither aborted; the first has an access before one of the second's that conflicts
+-- with it. Committed transactions count
 pub record Pair (past : List Entry) (t u : ℕ) : Type 0 where
   pub apart : t ≢ u
   pub first_stands : aborted past t ≡ false

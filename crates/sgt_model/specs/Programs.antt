@@ -23,8 +23,8 @@ test_of (Less a b) = less (term_of a) (term_of b)
 test_of (AtMost a b) = at_most (term_of a) (term_of b)
 test_of (Equal a b) = equal (term_of a) (term_of b)
 
--- the text of a statement before others, and of statements in a row as an If stores them
 abbrev mutual
+  -- the text of a statement before others
   pub before : Statement → Block → Block
   before (Look to table id absent) rest = look to table (term_of id) absent rest
   before (Put table id value) rest = put table (term_of id) (term_of value) rest
@@ -33,6 +33,7 @@ abbrev mutual
   before (If' cond s ys t ns) rest = choose (test_of cond) (row_block ys) (row_block ns) rest
   before (Answer value) rest = answer (term_of value) rest
 
+  -- the text of statements in a row, as an If stores them
   pub row_block : {n : _} → Row_of-Statement n → Block
   row_block end_of-Statement = empty
   row_block (more_of-Statement s rest) = before s (row_block rest)

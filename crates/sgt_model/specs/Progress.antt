@@ -28,7 +28,7 @@ abbrev pub call_in : Event → Reply → ℕ → Option Call
 call_in event (reply.Started u) t = cond (nat_eq u t) (call_at event) None
 call_in event _ t = None
 
--- the procedure and arguments of the start that was answered Started(t)
+-- the procedure and arguments of the start that was answered Started(t); where there is none it is never asked for
 abbrev pub call_of : List Entry → ℕ → Call
 call_of [] t = record { procedure = 0; args = [] }
 call_of (e ∷ past) t = unwrap_or (call_in e.event e.reply t) (call_of past t)

@@ -1,4 +1,5 @@
--- Which transaction read from which.
+-- Which transaction read from which: its look found the store of the other, past those of aborted transactions
+-- (Bernstein, Hadzilacos and Goodman (1987), chapter 2).
 use Rattle.std.specs.Prelude.{◌≡◌, ◌≢◌, ℕ, not, ◌⊎◌, List, [], ◌∷◌, Option, Some, None}
 use Rattle.sgt_model.specs.declared.entry.Entry.{Entry}
 use Rattle.sgt_model.specs.declared.kind.Kind.TheVariants.{Look}

@@ -1,4 +1,6 @@
--- The committed transactions run one after another in commit order, as if each had been alone.
+-- The committed transactions run one after another in commit order, as if each had been alone: the serial history that a
+-- serializable one is equivalent to (Bernstein, Hadzilacos and Goodman (1987), chapter 2), here by the answers told and
+-- the values left.
 use Rattle.std.specs.Prelude.{◌≡◌, List, [], ◌∷◌, ◌++◌}
 use Rattle.sgt_model.specs.declared.event.Event.{Event}
 use Rattle.sgt_model.specs.declared.reply.Reply.{Reply}
@@ -41,8 +43,8 @@ abbrev pub AsTold : Setting → List Told → Type 0
 AsTold s [] = Unit {0}
 AsTold s (c ∷ before) = AsTold s before × Gives (serial (run_of s c.call) (replayed s before)) c.reply
 
--- the committed transactions' procedures, run one after another in commit order on the opening, give each the answers that it
--- was told, and end in the committed values
+-- the committed transactions' procedures, run one after another in commit order on the opening, give each the answers
+-- that it was told, and end in the committed values
 pub record IsSerial (s : Setting) (past : List Entry) : Type 0 where
   pub as_told : AsTold s (told past)
   pub same : (k : Key) → replayed s (told past) k ≡ settled s.opening past k

@@ -1,4 +1,4 @@
--- What is held after a history.
+-- What is held after a history: the relation between the two that every call keeps.
 use Rattle.std.specs.Prelude.{◌≡◌, ℕ, true, ◌↔◌, List}
 use Rattle.sgt_model.specs.declared.entry.Entry.{Entry}
 use Rattle.sgt_model.specs.Contents.{Key}

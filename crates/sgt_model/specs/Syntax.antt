@@ -15,7 +15,7 @@ pub data Test : Type 0 where
   at_most : Term → Term → Test
   equal : Term → Term → Test
 
--- statements in a row: each constructor but the first is one statement, and last in it come those behind it
+-- statements in a row: `empty` is none, and each other constructor is one statement, whose last part is those behind it
 pub data Block : Type 0 where
   empty : Block
   look : (to table : ℕ) → (id : Term) → (absent : ℕ) → Block → Block

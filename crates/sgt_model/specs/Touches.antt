@@ -1,4 +1,4 @@
--- The access list: the accesses of those that are live, with no values.
+-- The access list that the test of an access needs: the accesses of those that are live, with no values.
 use Rattle.std.specs.Prelude.{ℕ, Bool, ◌&&◌, cond, nat_eq, not, filter, List, [], ◌∷◌, ◌++◌, Option, Some, None}
 use Rattle.std.specs.List.{list_any}
 use Rattle.sgt_model.specs.declared.entry.Entry.{Entry}

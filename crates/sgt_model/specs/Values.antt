@@ -1,4 +1,5 @@
--- The values that a history leaves: the one that a look finds, and the committed one.
+-- The values that a history leaves: the one that a look finds, and the committed one. A look may find what is not
+-- committed. An abort takes out the values of those that it ends, and no others: no before image is put back.
 use Rattle.std.specs.Prelude.{ℕ, ℤ, Bool, not, ◌&&◌, cond, List, [], ◌∷◌, Option, Some, None}
 use Rattle.std.specs.Option.{option_or}
 use Rattle.sgt_model.specs.declared.entry.Entry.{Entry}

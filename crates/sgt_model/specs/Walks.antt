@@ -1,7 +1,9 @@
--- Paths along a relation between numbers, and orders that agree with one.
+-- Paths along a relation between numbers, and orders that agree with one. Where the relation is that of conflict pairs
+-- these are the paths and the serial orders of a serialization graph
+-- (Bernstein, Hadzilacos and Goodman (1987), chapter 2).
 use Rattle.std.specs.Prelude.{◌≡◌, ℕ, ◌<◌, ◌≤◌, Bool, true, ◌⊎◌, List, [], ◌∷◌, length}
 
--- the numbers of the list, one after another, are a path from t along the relation; of no step where there are none
+-- from t the numbers of the list, one after another, are a path along the relation; no numbers are a path of no step
 abbrev pub PathOf : (ℕ → ℕ → Type 0) → ℕ → List ℕ → Type 0
 PathOf step t [] = Unit {0}
 PathOf step t (u ∷ rest) = step t u × PathOf step u rest
@@ -16,7 +18,7 @@ abbrev pub Member : ℕ → List ℕ → Type 0
 Member t [] = ⊥
 Member t (u ∷ rest) = (t ≡ u) ⊎ Member t rest
 
--- at most so many numbers pass the test: they are all in a list that is no longer
+-- at most so many numbers pass the test: some list of no more than these has them all
 pub record AtMost (most : ℕ) (counts : ℕ → Bool) : Type 0 where
   pub among : List ℕ
   pub few : length among ≤ most

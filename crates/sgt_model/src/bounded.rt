@@ -3,7 +3,7 @@ ghost use Rattle.std.specs.Prelude.{◌≡◌, ◌<◌, ◌≤◌, ◌↔◌, []
 use arrayvec::ArrayVec;
 use std::marker::Model;
 
-/// A list of at most N items, kept in place.
+/// A list of at most N items, kept in place: it never takes memory. It is copied by `copied`, item by item.
 #[derive(Debug, Drop, PartialEq, Eq)]
 pub struct Bounded<T: Copy + Default, const N: usize> {
     list: ArrayVec<T, N>,
@@ -37,14 +37,17 @@ impl<T: Copy + Default, const N: usize> Bounded<T, N> {
         self.list.len()
     }
 
+    /// Whether there are no items.
     pub fn is_empty(&self) -> bool
         ensures { IsTrue result ↔ (self.now ≡ []) }
     {
         self.list.is_empty()
     }
 
+    /// Whether no further item fits.
     pub fn is_full(&self) -> bool
-        ensures { IsTrue result ↔ (length self.now ≡ N) }
+        ensures full { IsTrue result ↔ (length self.now ≡ N) }
+        ensures few { length self.now ≤ N }
     {
         self.list.is_full()
     }

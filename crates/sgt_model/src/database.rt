@@ -8,7 +8,8 @@ use crate::key::Key;
 use std::alloc::Global;
 use std::marker::Model;
 
-/// A finite map from keys to values, kept as rows in the order of their keys.
+/// A finite map from keys to values, kept as rows in the order of their keys. It finds a row by halving and adds one by
+/// moving those behind it: it serves openings and snapshots, and is no engine's store.
 #[derive(Debug, Drop)]
 pub struct Database {
     rows: Vec<(Key, i64)>,
@@ -45,7 +46,8 @@ impl Database {
         }
     }
 
-    /// Puts the value, from `LEAST` to `MOST`, in place of the key's.
+    /// Puts the value, from `LEAST` to `MOST`, in place of the key's, or adds a row. Where the memory for that row is
+    /// refused nothing changes.
     pub fn put(&mut self, key: Key, value: i64) -> Result<(), NoMemory>
         requires { IsValue value }
         ensures put { OnOk result ((k : K) → contents_of self.new k ≡ put_in (contents_of self.old) key value k) }
@@ -88,7 +90,7 @@ impl Database {
         low
     }
 
-    /// The rows, by table and then by number.
+    /// The rows, by table and then by number, each key once.
     pub fn rows(&self) -> &[(Key, i64)]
         ensures rows { result.now ≡ self.now }
         ensures by_key { IsByKey result.now }

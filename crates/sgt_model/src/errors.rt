@@ -3,7 +3,7 @@ ghost use Rattle.std.specs.Prelude.{◌≡◌};
 use std::alloc::{AllocError, AllocFailed};
 use thiserror::Error;
 
-/// A growth was refused. Nothing that a caller can see has changed.
+/// The memory for a growth was refused. Nothing that a caller can see has changed, and no history has an entry of it.
 #[derive(Clone, Copy, Debug, PartialEq, Eq, Error)]
 #[error("no memory")]
 pub struct NoMemory;
@@ -23,10 +23,10 @@ impl<T: Drop> From<AllocFailed<T>> for NoMemory {
 /// Why an engine could not be made.
 #[derive(Clone, Copy, Debug, PartialEq, Eq, Error)]
 pub enum MakeError {
-    /// A limit is out of its range.
+    /// A limit is out of its range, as `Limits::are_in_range` tells.
     #[error("a limit is out of its range")]
     BadLimits,
-    /// A growth was refused.
+    /// The memory for it was refused.
     #[error("no memory")]
     NoMemory,
 }

@@ -3,13 +3,13 @@ ghost use Rattle.sgt_model.specs.Numbers.{IsValue, is_value};
 
 use std::marker::Model;
 
-/// The largest number of a table.
+/// The greatest number of a table. The least is 0.
 pub const LAST_TABLE: u8 = 7;
 
-/// The least value: fifteen digits, negative.
+/// The least value: minus fifteen nines.
 pub const LEAST: i64 = -999_999_999_999_999;
 
-/// The greatest value: fifteen digits.
+/// The greatest value: fifteen nines, so that a sum of two values fits an `i64` with room to spare.
 pub const MOST: i64 = 999_999_999_999_999;
 
 /// Whether a number is a value, from `LEAST` to `MOST`. Record numbers, balances, arguments and literals are values.
@@ -20,7 +20,7 @@ pub fn is_value(number: i64) -> bool
     LEAST <= number && number <= MOST
 }
 
-/// What names a record: its table, from 0 to 7, and its number there, a value.
+/// What names a record: its table, from 0 to 7, and its number there, a value. Keys are ordered by table, then by number.
 #[derive(Clone, Copy, Debug, PartialEq, Eq, PartialOrd, Ord)]
 pub struct Key {
     table: u8,

@@ -1,17 +1,39 @@
-//! The ground that every crate of `sgt` stands on: the plain types of transactions, events, replies, procedures and
-//! databases; the definitions of histories that all contracts cite; and the laws of every legal history, the headline
-//! among them.
+//! The ground that every crate of `sgt` stands on: what procedures, transactions, events, replies and databases are, which
+//! histories are legal, and what is true of every legal history. `sgt` is an in-memory transaction engine that schedules by
+//! serialization graph testing.
 //!
-//! It is no engine: nothing here schedules, decides or keeps a transaction. `specs/` has the definitions, to be read in the
-//! order of `specs/Lib.antt`: values and keys, procedures and their runs, histories, pairs and walks, legal replies, the
-//! replay in commit order, the headline, and last what a scheduler holds. A history is read newest entry first there.
+//! A transaction runs one procedure, one access at a time. An [`Event`] starts it, lets it make its next access, commits
+//! it or quits it, and is answered by a [`Reply`]. The two are an [`Entry`], and the entries in their order are the
+//! history. A history is legal where each reply is one that its event may get after the entries before it, by the rules
+//! of `specs/Legality.antt`. From these alone follows [`headline_holds`]: a legal history is serializable in commit
+//! order, and each of its aborts has its cause.
+//!
+//! It is no engine: nothing here schedules, keeps transactions, or checks and runs procedures. What runs here makes,
+//! compares and copies plain values. The functions of `laws` and `refinement` do nothing at all: each is a law, which its
+//! contract says and any caller may use.
+//!
+//! The definitions that contracts cite stand in `specs/`, to be read in the order of `specs/Lib.antt`. A history is read
+//! there with its newest entry first. They follow Bernstein, Hadzilacos and Goodman, *Concurrency Control and Recovery in
+//! Database Systems* (1987), chapters 1, 2 and 4, and for the order of commits Durner and Neumann, *No False Negatives:
+//! Accepting All Useful Schedules in a Fast Serializable Many-Core System* (ICDE 2019). Worked histories, proved legal,
+//! and wrong replies, proved not legal, stand in `proofs/` under `Examples..` and `WrongReplies`.
 //!
 //! ```
-//! let mut opening = Database::empty(alloc);
-//! if let Some(key) = Key::new(2, 101) {
-//!     opening.put(key, 1000)?;
-//! }
-//! let event = Event::Step(Tid(0));
+//! // Record 101 of table 2 holds 1,000.
+//! let mut opening = Database::empty(rt.alloc());
+//! let key = Key::new(2, 101).unwrap();
+//! opening.put(key, 1_000)?;
+//!
+//! // Transaction 0 runs procedure 1 on it, and its first step looks at the record.
+//! let args = Args::from_slice([101, 50].as_slice()).unwrap();
+//! let started = Entry {
+//!     event: Event::Start { procedure: 1, args },
+//!     reply: Reply::Started(Tid(0)),
+//! };
+//! let looked = Entry {
+//!     event: Event::Step(Tid(0)),
+//!     reply: Reply::Looked { key, value: opening.get(key) },
+//! };
 //! ```
 #![tactic(auto)]
 
@@ -48,3 +70,6 @@ pub use refinement::{
 };
 pub use reply::{Cause, Fate, Reply};
 pub use tid::{Tid, Tids};
+
+#[cfg(test)]
+mod tests;

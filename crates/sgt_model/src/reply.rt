@@ -7,9 +7,10 @@ use crate::tid::{Tid, Tids};
 /// Why a transaction was aborted.
 #[derive(Debug, Drop, PartialEq, Eq)]
 pub enum Cause {
-    /// Its step would close this cycle of conflicts, which begins with the transaction itself.
+    /// Its step would close a cycle of conflicts. The walk begins with the transaction itself, follows conflict pairs, and
+    /// ends with one that has an earlier access that conflicts with the step's. It names none twice.
     Cycle(Tids),
-    /// Its procedure asked this code.
+    /// Its procedure asked this code: 1 to 999 by its text, 1000 by a sum or difference that is no value.
     Asked(u16),
     /// Its caller quit it.
     Quit,
@@ -18,14 +19,17 @@ pub enum Cause {
 /// How a transaction ended.
 #[derive(Debug, Drop, PartialEq, Eq)]
 pub enum Fate {
+    /// By its commit.
     Committed,
+    /// By an abort of its own, for this cause.
     Aborted(Cause),
-    /// It had read from an aborted one, directly or through others. The number is that of the transaction whose abort
-    /// started the cascade.
+    /// By a cascading abort: it had read from an aborted one, directly or through others. The number is that of the
+    /// transaction whose abort started the cascade.
     Fell(Tid),
 }
 
-/// What an event is answered.
+/// What an event is answered. NoProcedure, BadArgs, Spent, Full, Unknown, Over, NotEnded and Waits are refusals, which
+/// change nothing but the history.
 #[derive(Debug, Drop, PartialEq, Eq)]
 pub enum Reply {
     /// The transaction was started, with this number.
@@ -42,7 +46,7 @@ pub enum Reply {
     Unknown,
     /// The transaction has ended, in this way.
     Over(Fate),
-    /// The step looked at the record, and found this value or none.
+    /// The step looked at the record, and found this value, which may not be committed yet, or none.
     Looked { key: Key, value: Option<i64> },
     /// The step stored this value in the record.
     Wrote { key: Key, value: i64 },
@@ -50,11 +54,12 @@ pub enum Reply {
     Ended,
     /// The procedure is not at its end, so the transaction can't be committed yet.
     NotEnded,
-    /// The commit has to wait for this live predecessor, the least one.
+    /// The commit has to wait: this is the least live transaction with a conflict pair into the one that would commit.
     Waits(Tid),
     /// The transaction is committed, with these answers.
     Committed(Answers),
-    /// The transaction is aborted, and with it those that had read from it, rising.
+    /// The transaction is aborted for this cause, and with it the live ones that had read from it, directly or through
+    /// others: `fell`, rising.
     Aborted { cause: Cause, fell: Tids },
 }
 

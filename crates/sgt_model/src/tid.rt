@@ -15,5 +15,5 @@ impl Model for Tid {
     ghost inverse = { λ n. record { 0 = n } };
 }
 
-/// At most 32 transactions, as many as can be live.
+/// At most 32 transactions.
 pub type Tids = Bounded<Tid, 32>;

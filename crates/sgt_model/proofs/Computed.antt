@@ -1,4 +1,5 @@
--- Tests that settle the definitions at a written-out history.
+-- The definitions as tests that compute, so that a written-out history is proved legal by computing. Each test says that its
+-- definition holds; where the definition speaks of all walks or all transactions, the test is given a set that has them.
 use Rattle.std.specs.Prelude.{◌≡◌, ◌≢◌, ℕ, ◌≤◌, ℤ, Bool, true, false, not, ◌&&◌, ◌||◌, nat_eq, nat_lt, List, [], ◌∷◌, length, Option, Some, None}
 use Rattle.std.specs.List.{list_any, list_all}
 use Rattle.std.proofs.Common.{refl, sym, ap, subst, inl, inr, arith}
@@ -26,6 +27,7 @@ use Rattle.sgt_model.proofs.Sources.{read-precedes}
 
 -- on lists of numbers
 
+-- the number is in the list
 abbrev pub has : List ℕ → ℕ → Bool
 has l t = list_any (λ u. nat_eq u t) l
 
@@ -72,6 +74,7 @@ touches-actor (e ∷ past) t k kind h = elim (or_cases _ _ h) [ inl now ↦ let 
 
 -- pairs
 
+-- the pairs, as tests: FollowsIn, Precedes and Pair
 abbrev pub follows : List Entry → Option Access → ℕ → ℕ → Bool
 follows past None t u = false
 follows past (Some a) t u = nat_eq a.by u && touches past t a.key a.kind
@@ -144,6 +147,7 @@ made_by {past} {t} {k} {kind} {r} set h = record { free = free-so past t k kind 
 
 -- an access would close a walk
 
+-- PathOf
 abbrev pub is_path : (ℕ → ℕ → Bool) → ℕ → List ℕ → Bool
 is_path step t [] = true
 is_path step t (u ∷ rest) = step t u && is_path step u rest
@@ -152,6 +156,7 @@ path-so : (test : ℕ → ℕ → Bool) (step : ℕ → ℕ → Type 0) → ((a 
 path-so test step so t [] h = tt
 path-so test step so t (u ∷ path) h = let p = and_parts _ _ h in (so t u p.0, path-so test step so u path p.1)
 
+-- Distinct
 abbrev pub distinct : List ℕ → Bool
 distinct [] = true
 distinct (t ∷ rest) = not (has rest t) && distinct rest
@@ -160,6 +165,7 @@ distinct-so : (l : List ℕ) → distinct l ≡ true → Distinct l
 distinct-so [] h = tt
 distinct-so (t ∷ l) h = let p = and_parts _ _ h in ((λ m. both_ways _ (not-true _ p.0) (member-has l t m)), distinct-so l p.1)
 
+-- Closes
 abbrev pub closes_test : List Entry → ℕ → Key → Kind → List ℕ → Bool
 closes_test past t k kind rest = distinct (t ∷ rest) && (nat_lt 0 (length rest) && (is_path (pair past) t rest && touches past (last_of t rest) k kind))
 
@@ -172,6 +178,7 @@ closes-so past t k kind rest h =
 
 -- who falls
 
+-- who read from whom, as tests: IsBy, LooksFrom and ReadFrom
 abbrev pub is_by_test : Option Access → ℕ → Bool
 is_by_test None u = false
 is_by_test (Some a) u = nat_eq a.by u
@@ -220,6 +227,7 @@ so-read_from (e ∷ past) t u (inr before) = or_right _ _ (so-read_from past t u
 read_from-actor : (past : List Entry) (t u : ℕ) → ReadFrom past t u → Member t (actors past)
 read_from-actor past t u h = (precedes-actors past u t (read-precedes past t u h)).1
 
+-- Rising
 abbrev pub rising : List ℕ → Bool
 rising [] = true
 rising (t ∷ []) = true
@@ -265,32 +273,39 @@ all-so past t fell set h u alive apart (path, goes, at) =
     let member : Member u set = subst (λ x. Member x set) at (stays_in (Feeds past) set closed t path (has-member set t p.0) goes) in
     elim (or_cases _ _ (all-at _ set u q.1 member)) [ inl same ↦ absurd (apart (eqb-true u t same)) | inr falls ↦ has-member fell u (implies-at _ _ falls alive) ]
 
+-- exactly these fall
 pub falls-so : (past : List Entry) (t : ℕ) (fell : List ℕ) (paths : List (List ℕ)) (set : List ℕ) → rising fell ≡ true → each_test past t fell paths ≡ true → all_test past t fell set ≡ true → Falls past t fell
 falls-so past t fell paths set r e a = record { rising = rising-so fell r; each = each-so past t fell paths e; all = all-so past t fell set a }
 
+-- t is aborted with those that fall
 pub aborts_by : {past : List Entry} {t : ℕ} {why : Cause} (fell : List ℕ) (paths : List (List ℕ)) (set : List ℕ) → rising fell ≡ true → each_test past t fell paths ≡ true → all_test past t fell set ≡ true → Aborts past t why (reply.Aborted why fell)
 aborts_by {past} {t} {why} fell paths set r e a = record { fell = fell; falls = falls-so past t fell paths set r e a; is = refl }
 
+-- an access is refused, with a walk that it would close
 pub refused_by : {past : List Entry} {t : ℕ} {k : Key} {kind : Kind} (rest fell : List ℕ) (paths : List (List ℕ)) (set : List ℕ) → closes_test past t k kind rest ≡ true → rising fell ≡ true → each_test past t fell paths ≡ true → all_test past t fell set ≡ true → Refuses past t k kind (reply.Aborted (cause.Cycle (t ∷ rest)) fell)
 refused_by {past} {t} {k} {kind} rest fell paths set c r e a = record { rest = rest; closes = closes-so past t k kind rest c; aborts = aborts_by fell paths set r e a }
 
 -- who has to wait
 
+-- NoneLive
 abbrev pub none_live_test : List Entry → ℕ → Bool
 none_live_test past t = list_all (λ v. not (live past v && pair past v t)) (actors past)
 
 pub none_live-so : (past : List Entry) (t : ℕ) → none_live_test past t ≡ true → NoneLive past t
 none_live-so past t h v alive p = both_ways _ (not-true _ (all-at _ (actors past) v h (precedes-actors past v t p.precedes).0)) (and_from _ _ alive (so-pair past v t p))
 
+-- t commits
 pub commits_by : {past : List Entry} {t : ℕ} {answers : List ℤ} → none_live_test past t ≡ true → MayCommit past t answers (reply.Committed answers)
 commits_by {past} {t} {answers} h = record { none_live = none_live-so past t h; is = refl }
 
+-- IsLeastLive
 abbrev pub least_test : List Entry → ℕ → ℕ → Bool
 least_test past t u = (live past u && pair past u t) && list_all (λ v. implies (live past v && pair past v t) (not (nat_lt v u))) (actors past)
 
 not_below : (u v : ℕ) → not (nat_lt v u) ≡ true → u ≤ v
 not_below u v h = elim (cases_lt u v) [ inl less ↦ omega arith | inr le ↦ elim (cases_lt v u) [ inl less ↦ absurd (both_ways _ (not-true _ h) (lt-ltb v u less)) | inr ge ↦ ge ] ]
 
+-- t has to wait for the least
 pub waits_by : {past : List Entry} {t u : ℕ} → least_test past t u ≡ true → MustWait past t (reply.Waits u)
 waits_by {past} {t} {u} h =
     let p = and_parts _ _ h in
