@@ -1,8 +1,8 @@
 -- How far a run has come: one more access keeps what was used, and a run of few accesses has made few.
-use Rattle.std.proofs.Common.{◌≡◌, ℕ, zero, suc, ◌+◌, arith, subst, ℤ, List, [], ◌∷◌, ◌++◌, Option, refl}
+use Rattle.std.proofs.Common.{◌≡◌, ℕ, zero, suc, ◌+◌, arith, subst, ℤ, List, [], ◌∷◌, ◌++◌, Option}
 use Rattle.sgt_model.specs.Contents.{Key}
 use Rattle.sgt_model.specs.Runs.{Run, looks, puts, ends, asks}
-use Rattle.sgt_model.specs.Traces.{Next, Looks, Puts, trace, next_at, Used}
+use Rattle.sgt_model.specs.Traces.{Looks, Puts, trace, next_at, Used}
 
 -- where a look is next, its value is used next
 used_look-suc : (r : Run) (vs : List (Option ℤ)) (made : ℕ) (k : Key) (v : Option ℤ) → Used r vs made → next_at (trace r vs) made ≡ Looks k → Used r (vs ++ v ∷ []) (suc made)
