@@ -1,4 +1,4 @@
-ghost use Rattle.std.specs.Prelude.{◌≡◌, [], OnOk, OnErr};
+ghost use Rattle.std.specs.Prelude.{◌≡◌, [], None, OnOk, OnErr};
 ghost use Rattle.sgt_model.specs.Numbers.{IsValue};
 ghost use Rattle.sgt_model.specs.Contents.{Key as K, put_in};
 ghost use Rattle.sgt_model.specs.Databases.{contents_of, IsByKey, IsFound, IsPlace, HasValues};
@@ -46,12 +46,13 @@ impl Database {
         }
     }
 
-    /// Puts the value, from `LEAST` to `MOST`, in place of the key's, or adds a row. Where the memory for that row is
-    /// refused nothing changes.
+    /// Puts the value, from `LEAST` to `MOST`, in place of the key's, or adds a row. Only that row takes
+    /// memory: where it is refused, nothing changes.
     pub fn put(&mut self, key: Key, value: i64) -> Result<(), NoMemory>
         requires { IsValue value }
         ensures put { OnOk result ((k : K) → contents_of self.new k ≡ put_in (contents_of self.old) key value k) }
         ensures err { OnErr result (self.new ≡ self.old) }
+        ensures absent { OnErr result (contents_of self.old key ≡ None) }
     {
         match self.find(key) {
             Ok(at) => self.rows[at] = (key, value),

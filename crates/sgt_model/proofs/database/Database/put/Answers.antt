@@ -1,7 +1,7 @@
-use Rattle.std.proofs.Common.{arith, sym, subst, w64, ◌≤◌, length}
+use Rattle.std.proofs.Common.{◌≡◌, None, rules, arith, sym, subst, w64, ◌≤◌, length}
 use Rattle.std.proofs.lemmas.Int.{to_z-of_z}
-use Rattle.sgt_model.specs.Databases.{IsPlace}
-use Rattle.sgt_model.proofs.Rows.{set_rows, insert_rows, set_told, insert_told, place_within}
+use Rattle.sgt_model.specs.Databases.{contents_of, IsByKey, IsPlace}
+use Rattle.sgt_model.proofs.Rows.{set_rows, insert_rows, set_told, insert_told, place_within, value_missing}
 use Rattle.sgt_model.proofs.database.Database.put.Goals as goal
 
 pub invariant_of-self : goal.invariant_of-self
@@ -26,3 +26,8 @@ returns-in-Ok-clause-put c =
 pub returns-in_ok-insert-in-Err-clause-put : goal.returns-in_ok-insert-in-Err-clause-put
 returns-in_ok-insert-in-Err-clause-put c =
     insert_told c.args.key c.args.value _ c.self.inside.rows.items c.args.self.now c.insert.new.self.items c.in-Err.at (to_z-of_z w64 c.args.value c.ranges.value) c.self.view_is c.in_ok-insert-in-Err.ensures.items c.in-Err.ensures.0
+
+pub returns-in_err-insert-in-Err-clause-absent : goal.returns-in_err-insert-in-Err-clause-absent
+returns-in_err-insert-in-Err-clause-absent c =
+    let absent : contents_of c.args.self.now c.args.key ≡ None = sym (value_missing c.args.key c.args.self.now c.in-Err.at (subst IsByKey c.self.view_is c.self.invariant.0) c.in-Err.ensures.0 c.in-Err.ensures.1) in
+    search rules
