@@ -66,7 +66,7 @@ value_of-from None None = refl
 value_of-from None (Some v) = refl
 value_of-from (Some w) s = refl
 
-module _ {R A G : Type 0} (chain : R → Key → List (ℕ × ℤ)) (settled : R → Key → Option ℤ) (list : A → List Touch) (nodes : G → ℕ → Bool) (pairs : G → ℕ → ℕ → Bool) (before : Parts R A G) (kept : IsKept chain settled list nodes pairs before) where
+module _ {R A G : Type 0} {chain : R → Key → List (ℕ × ℤ)} {settled : R → Key → Option ℤ} {list : A → List Touch} {nodes : G → ℕ → Bool} {pairs : G → ℕ → ℕ → Bool} {before : Parts R A G} (kept : IsKept chain settled list nodes pairs before) where
   -- few have accesses
   pub rivals_few : AtMost 32 (is_listed (list before.accesses))
   rivals_few = record {

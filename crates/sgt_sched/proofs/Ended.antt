@@ -47,7 +47,7 @@ unread-kept t (p ∷ rest) u v h f g = both (not (nat_eq p.0 t) && not (nat_eq p
   both false e (inl here) rec = absurd (true≢false (sym (and_from (not (nat_eq p.0 t)) (not (nat_eq p.1 t)) (apart p.0 u here.0 f) (apart p.1 v here.1 g)) ∙ e))
   both false e (inr there) rec = rec there f g
 
-module _ {R A G : Type 0} (chain : R → Key → List (ℕ × ℤ)) (settled : R → Key → Option ℤ) (list : A → List Touch) (nodes : G → ℕ → Bool) (pairs : G → ℕ → ℕ → Bool) (before : Parts R A G) (kept : IsKept chain settled list nodes pairs before) (t : ℕ) (live_t : nodes before.graph t ≡ true) (f : Fate) (records : R) (accesses : A) (graph : G) (chain_is : (k : Key) → chain records k ≡ chains.without t (chain before.records k)) (list_is : list accesses ≡ forgotten t (list before.accesses)) (nodes_are : (u : ℕ) → nodes graph u ≡ (nodes before.graph u && not (nat_eq t u))) (pairs_are : (u v : ℕ) → pairs graph u v ≡ (pairs before.graph u v && (not (nat_eq t u) && not (nat_eq t v)))) where
+module _ {R A G : Type 0} {chain : R → Key → List (ℕ × ℤ)} {settled : R → Key → Option ℤ} {list : A → List Touch} {nodes : G → ℕ → Bool} {pairs : G → ℕ → ℕ → Bool} {before : Parts R A G} (kept : IsKept chain settled list nodes pairs before) (t : ℕ) (live_t : nodes before.graph t ≡ true) (f : Fate) (records : R) (accesses : A) (graph : G) (chain_is : (k : Key) → chain records k ≡ chains.without t (chain before.records k)) (list_is : list accesses ≡ forgotten t (list before.accesses)) (nodes_are : (u : ℕ) → nodes graph u ≡ (nodes before.graph u && not (nat_eq t u))) (pairs_are : (u v : ℕ) → pairs graph u v ≡ (pairs before.graph u v && (not (nat_eq t u) && not (nat_eq t v)))) where
   -- the parts afterwards
   abbrev pub after_end : Parts R A G
   after_end = record {
