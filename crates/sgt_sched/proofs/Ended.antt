@@ -1,8 +1,7 @@
 -- What an end does to what is held: a transaction leaves each layer, with a fate.
-use Rattle.std.proofs.Common.{◌≡◌, ◌≢◌, ℕ, ℤ, ◌<◌, ◌≤◌, ◌+◌, arith, Bool, true, false, not, ◌&&◌, cond, nat_eq, ◌⊎◌, inl, inr, List, [], ◌∷◌, length, filter, Option, Some, None, refl, sym, ap, ◌∙◌, subst, slice_set}
-use Rattle.std.specs.Prelude.{◌↔◌}
+use Rattle.std.proofs.Common.{◌≡◌, ℕ, ℤ, ◌<◌, ◌≤◌, Bool, true, false, not, ◌&&◌, cond, nat_eq, inl, inr, List, [], ◌∷◌, length, Option, Some, None, refl, sym, ap, ◌∙◌, subst, slice_set}
 use Rattle.std.proofs.lemmas.List.{length-set}
-use Rattle.std.proofs.lemmas.Bool.{and_parts, and_from, eqb-true, eqb-false, eq-eqb, true≢false, false_from_ne_true}
+use Rattle.std.proofs.lemmas.Bool.{and_parts, and_from, true≢false}
 use Rattle.sgt_model.specs.declared.reply.Fate.{Fate}
 use Rattle.sgt_model.specs.Contents.{Key}
 use Rattle.sgt_model.specs.Chains as chains
@@ -10,11 +9,11 @@ use Rattle.sgt_model.specs.Touches.{Touch, forgotten}
 use Rattle.sgt_model.specs.Courses.{Course}
 use Rattle.sgt_model.specs.Traces.{Used}
 use Rattle.sgt_model.specs.Settings.{runs_in}
-use Rattle.sgt_model.specs.Held.{Held, Has}
+use Rattle.sgt_model.specs.Held.{Has}
 use Rattle.sgt_model.specs.Changes.{Removes}
 use Rattle.sgt_model.proofs.Counted.{filter-same}
 use Rattle.sgt_model.proofs.SoundCalls.{sound_removes}
-use Rattle.sgt_sched.specs.Courses.{numbers, course_at, without}
+use Rattle.sgt_sched.specs.Courses.{without}
 use Rattle.sgt_sched.specs.Parts.{Parts, fate_at, held_of, IsKept}
 use Rattle.sgt_sched.specs.Steps.{unread}
 use Rattle.sgt_sched.proofs.Lists.{nat_eq-swap, numbers-without, course_at-without, fate_at-set}

@@ -1,14 +1,13 @@
 -- Whether a transaction is live, by the list of the live ones.
-use Rattle.std.proofs.Common.{◌≡◌, ℕ, ℤ, ◌<◌, Bool, true, false, nat_eq, nat_lt, cond, ◌⊎◌, inl, inr, List, [], ◌∷◌, length, Option, Some, None, refl, sym, ap, ◌∙◌, subst, find}
+use Rattle.std.proofs.Common.{◌≡◌, ℕ, ℤ, ◌<◌, Bool, true, false, nat_eq, cond, ◌⊎◌, inl, inr, List, [], ◌∷◌, length, Option, Some, None, refl, sym, ap, ◌∙◌, find}
 use Rattle.std.proofs.lemmas.Bool.{eqb-true, eqb-false, lt-ltb}
 use Rattle.std.proofs.lemmas.Option.{same_Some}
-use Rattle.sgt_model.specs.declared.reply.Fate.{Fate}
 use Rattle.sgt_model.specs.Contents.{Key}
 use Rattle.sgt_model.specs.Walks.{Member}
 use Rattle.sgt_model.specs.Touches.{Touch}
 use Rattle.sgt_model.specs.Courses.{Course}
 use Rattle.sgt_sched.specs.Courses.{numbers, has_number, course_at}
-use Rattle.sgt_sched.specs.Parts.{Parts, fate_at, held_of, IsKept}
+use Rattle.sgt_sched.specs.Parts.{Parts, fate_at, IsKept}
 use Rattle.sgt_sched.specs.Steps.{IsUnended}
 
 -- one that is found has that number, and its course

@@ -1,5 +1,5 @@
 -- What a look and a store do, where nothing blocks them.
-use Rattle.std.proofs.Common.{◌≡◌, ◌≢◌, ℕ, ℤ, ◌<◌, ◌≤◌, arith, Bool, true, false, cond, ◌⊎◌, inl, inr, List, [], ◌∷◌, ◌++◌, length, Option, Some, None, refl, sym, ap, ◌∙◌, subst}
+use Rattle.std.proofs.Common.{◌≡◌, ◌≢◌, ℕ, ℤ, ◌<◌, arith, Bool, true, false, cond, ◌⊎◌, List, [], ◌∷◌, ◌++◌, length, Option, None, refl, sym, ap, ◌∙◌, subst}
 use Rattle.std.specs.Prelude.{◌↔◌}
 use Rattle.std.specs.List.{last_or}
 use Rattle.sgt_model.specs.declared.kind.Kind.TheVariants.{Look, Store}
@@ -10,10 +10,9 @@ use Rattle.sgt_model.specs.Chains.{write_last, writes_in}
 use Rattle.sgt_model.specs.ChainOrder.{IsLastIn}
 use Rattle.sgt_model.specs.Touches.{Touch, touches_in}
 use Rattle.sgt_model.specs.Courses.{Course}
-use Rattle.sgt_model.specs.Traces.{Used, Looks, Puts}
+use Rattle.sgt_model.specs.Traces.{Looks, Puts}
 use Rattle.sgt_model.specs.Settings.{runs_in}
-use Rattle.sgt_model.specs.Held.{Held, Has}
-use Rattle.sgt_model.specs.Tops.{found, top_value}
+use Rattle.sgt_model.specs.Tops.{found}
 use Rattle.sgt_model.specs.Changes.{LooksAt, StoresInto}
 use Rattle.sgt_model.specs.CallEffects.{MakesLook, MakesStore}
 use Rattle.sgt_model.proofs.Conditions.{may_write, chain_room}
@@ -27,7 +26,7 @@ use Rattle.sgt_records.specs.Tops.{top_from, value_of}
 use Rattle.sgt_sched.specs.Courses.{course_at, changed, looked, stored}
 use Rattle.sgt_sched.specs.Parts.{Parts, held_of, IsKept}
 use Rattle.sgt_sched.specs.Steps.{next_along, with_source}
-use Rattle.sgt_sched.proofs.Accessed.{not_blocked, notes, own_course, kept_access, after_access, read_added, value_of-from}
+use Rattle.sgt_sched.proofs.Accessed.{not_blocked, notes, own_course, kept_access, read_added, value_of-from}
 
 -- what a test allowed is inserted
 pub inserted : (old new : ℕ → ℕ → Bool) (t : ℕ) (preds : List ℕ) (v : Verdict) → Tells old t preds v → NoWalk old t preds → Inserts old new t preds v → Inserts old new t preds Accepted

@@ -1,13 +1,11 @@
 -- What a start does to what is held.
-use Rattle.std.proofs.Common.{◌≡◌, ◌≢◌, ℕ, ℤ, ◌<◌, ◌≤◌, ◌+◌, arith, Bool, true, false, ◌||◌, ◌⊎◌, inl, inr, nat_eq, List, [], ◌∷◌, ◌++◌, length, Option, Some, None, refl, sym, ap, ◌∙◌, subst}
-use Rattle.std.specs.Prelude.{◌↔◌}
+use Rattle.std.proofs.Common.{◌≡◌, ℕ, ℤ, ◌<◌, arith, Bool, true, false, ◌||◌, inl, inr, nat_eq, List, [], ◌∷◌, ◌++◌, length, Option, None, refl, sym, ap, ◌∙◌, subst}
 use Rattle.std.proofs.lemmas.List.{length-append, length-map}
-use Rattle.std.proofs.lemmas.Bool.{false_from_ne_true, or_cases, or_left, or_right, eqb-true, eqb-false, eq-eqb}
+use Rattle.std.proofs.lemmas.Bool.{false_from_ne_true, or_cases, or_left, or_right, eqb-true, eqb-false}
 use Rattle.sgt_model.specs.declared.reply.Fate.{Fate}
 use Rattle.sgt_model.specs.Contents.{Key}
 use Rattle.sgt_model.specs.Walks.{Member, AtMost}
 use Rattle.sgt_model.specs.Touches.{Touch}
-use Rattle.sgt_model.specs.Progress.{Call}
 use Rattle.sgt_model.specs.Courses.{Course}
 use Rattle.sgt_model.specs.Traces.{Used}
 use Rattle.sgt_model.specs.Settings.{Setting, runs_in}
@@ -15,7 +13,6 @@ use Rattle.sgt_model.specs.declared.reply.Reply.{Reply}
 use Rattle.sgt_model.specs.CallEffects.{start_answer, StartOn, StartEffect}
 use Rattle.sgt_model.specs.Held.{Held}
 use Rattle.sgt_model.specs.Changes.{Starts}
-use Rattle.sgt_model.specs.Soundness.{Sound}
 use Rattle.sgt_model.proofs.Conditions.{next_no_node}
 use Rattle.sgt_model.proofs.SoundCalls.{sound_starts}
 use Rattle.sgt_sched.specs.Courses.{numbers, course_at, started}

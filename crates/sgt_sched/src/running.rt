@@ -27,11 +27,14 @@ impl Model for Running {
 
     ghost Value = { ℕ × Course };
 
-    ghost view = { λ r. (r.tid, record {
+    ghost view = { λ r. (
+      r.tid,
+      record {
         call = record { procedure = r.procedure; args = r.args };
         read = r.read.items;
         made = r.made;
-    }) };
+      },
+    ) };
 }
 
 impl Running {
@@ -62,7 +65,7 @@ pub fn next_of(procedures: &[Checked], running: &Running) -> Next
     ensures in_range { StoresValue result }
     ensures few { IsAccess result
         → Used (runs_in procedures.now running.now.1.call.procedure running.now.1.call.args)
-            running.now.1.read running.now.1.made
+        running.now.1.read running.now.1.made
         → running.now.1.made < 64 }
 {
     match procedures.get(usize::from(running.procedure)) {

@@ -66,25 +66,25 @@ impl<R: Records, A: Accesses, G: Graph> Model for Sched<R, A, G> {
     ghost coded = { Prim.hlevel (codes, coded_program) };
 
     ghost view = { λ s. record {
-        procedures = s.procedures.items;
-        limits = s.limits;
-        records = s.records;
-        accesses = s.accesses;
-        graph = s.graph;
-        live = s.live;
-        read_from = s.read_from.items;
-        fates = s.fates.items;
+      procedures = s.procedures.items;
+      limits = s.limits;
+      records = s.records;
+      accesses = s.accesses;
+      graph = s.graph;
+      live = s.live;
+      read_from = s.read_from.items;
+      fates = s.fates.items;
     } };
 
     ghost invariant = { λ s. IsKept R.chain R.settled A.list G.nodes G.pairs (record {
-        procedures = s.procedures.items;
-        limits = s.limits;
-        records = s.records;
-        accesses = s.accesses;
-        graph = s.graph;
-        live = s.live;
-        read_from = s.read_from.items;
-        fates = s.fates.items;
+      procedures = s.procedures.items;
+      limits = s.limits;
+      records = s.records;
+      accesses = s.accesses;
+      graph = s.graph;
+      live = s.live;
+      read_from = s.read_from.items;
+      fates = s.fates.items;
     }) };
 }
 
@@ -101,7 +101,7 @@ impl<R: Records, A: Accesses, G: Graph> Sched<R, A, G> {
     ) -> Result<Self, MakeError>
         ensures new { IfOk result (λ s.
             IsNew (setting (contents_of opening.now) procedures.items limits)
-                (held_of R.chain R.settled A.list G.nodes G.pairs s)) }
+            (held_of R.chain R.settled A.list G.nodes G.pairs s)) }
         ensures procedures { IfOk result (λ s. s.procedures ≡ procedures.items) }
         ensures limits { IfOk result (λ s. s.limits ≡ limits) }
         ensures refused { (result ≡ Err MakeError.BadLimits) ↔ (¬ AreInRange limits) }
@@ -127,8 +127,8 @@ impl<R: Records, A: Accesses, G: Graph> Sched<R, A, G> {
     pub fn call(&mut self, event: &Event) -> Result<Reply, NoMemory>
         ensures done { IfOk result (λ r. (opening : Contents) →
             CallEffect (setting opening self.old.procedures self.old.limits) event.now
-                (held_of R.chain R.settled A.list G.nodes G.pairs self.old) r
-                (held_of R.chain R.settled A.list G.nodes G.pairs self.new)) }
+            (held_of R.chain R.settled A.list G.nodes G.pairs self.old) r
+            (held_of R.chain R.settled A.list G.nodes G.pairs self.new)) }
         ensures procedures { self.new.procedures ≡ self.old.procedures }
         ensures limits { self.new.limits ≡ self.old.limits }
         ensures refused { OnErr result (Same
@@ -152,8 +152,8 @@ impl<R: Records, A: Accesses, G: Graph> Sched<R, A, G> {
     pub fn start(&mut self, procedure: u16, args: &Args) -> Result<Reply, NoMemory>
         ensures done { IfOk result (λ r. (opening : Contents) →
             StartEffect (setting opening self.old.procedures self.old.limits) procedure args.now
-                (held_of R.chain R.settled A.list G.nodes G.pairs self.old) r
-                (held_of R.chain R.settled A.list G.nodes G.pairs self.new)) }
+            (held_of R.chain R.settled A.list G.nodes G.pairs self.old) r
+            (held_of R.chain R.settled A.list G.nodes G.pairs self.new)) }
         ensures procedures { self.new.procedures ≡ self.old.procedures }
         ensures limits { self.new.limits ≡ self.old.limits }
         ensures refused { OnErr result (Same
@@ -175,8 +175,8 @@ impl<R: Records, A: Accesses, G: Graph> Sched<R, A, G> {
     fn admit(&self, procedure: u16, args: &Args) -> Result<Tid, Reply>
         ensures { (opening : Contents) →
             Admits (setting opening self.now.procedures self.now.limits)
-                (held_of R.chain R.settled A.list G.nodes G.pairs self.now)
-                procedure args.now result }
+            (held_of R.chain R.settled A.list G.nodes G.pairs self.now)
+            procedure args.now result }
     {
         let count = match self.procedures.get(usize::from(procedure)) {
             Some(checked) => checked.args(),
@@ -205,8 +205,8 @@ impl<R: Records, A: Accesses, G: Graph> Sched<R, A, G> {
     pub fn step(&mut self, t: Tid) -> Result<Reply, NoMemory>
         ensures done { IfOk result (λ r. (opening : Contents) →
             StepEffect (setting opening self.old.procedures self.old.limits) t
-                (held_of R.chain R.settled A.list G.nodes G.pairs self.old) r
-                (held_of R.chain R.settled A.list G.nodes G.pairs self.new)) }
+            (held_of R.chain R.settled A.list G.nodes G.pairs self.old) r
+            (held_of R.chain R.settled A.list G.nodes G.pairs self.new)) }
         ensures procedures { self.new.procedures ≡ self.old.procedures }
         ensures limits { self.new.limits ≡ self.old.limits }
         ensures refused { OnErr result (Same
@@ -232,8 +232,8 @@ impl<R: Records, A: Accesses, G: Graph> Sched<R, A, G> {
     pub fn commit(&mut self, t: Tid) -> Reply
         ensures done { (opening : Contents) →
             CommitEffect (setting opening self.old.procedures self.old.limits) t
-                (held_of R.chain R.settled A.list G.nodes G.pairs self.old) result
-                (held_of R.chain R.settled A.list G.nodes G.pairs self.new) }
+            (held_of R.chain R.settled A.list G.nodes G.pairs self.old) result
+            (held_of R.chain R.settled A.list G.nodes G.pairs self.new) }
         ensures procedures { self.new.procedures ≡ self.old.procedures }
         ensures limits { self.new.limits ≡ self.old.limits }
     {
@@ -332,11 +332,11 @@ impl<R: Records, A: Accesses, G: Graph> Sched<R, A, G> {
         requires few { (course_at self.old.live t).made < 64 }
         ensures done { IfOk result (λ r.
             RefusesIn t key Look
-                (held_of R.chain R.settled A.list G.nodes G.pairs self.old) r
-                (held_of R.chain R.settled A.list G.nodes G.pairs self.new)
+            (held_of R.chain R.settled A.list G.nodes G.pairs self.old) r
+            (held_of R.chain R.settled A.list G.nodes G.pairs self.new)
             ⊎ MakesLook t key
-                (held_of R.chain R.settled A.list G.nodes G.pairs self.old) r
-                (held_of R.chain R.settled A.list G.nodes G.pairs self.new)) }
+            (held_of R.chain R.settled A.list G.nodes G.pairs self.old) r
+            (held_of R.chain R.settled A.list G.nodes G.pairs self.new)) }
         ensures procedures { self.new.procedures ≡ self.old.procedures }
         ensures limits { self.new.limits ≡ self.old.limits }
         ensures refused { OnErr result (Same
@@ -368,11 +368,11 @@ impl<R: Records, A: Accesses, G: Graph> Sched<R, A, G> {
         requires in_range { IsValue value }
         ensures done { IfOk result (λ r.
             RefusesIn t key Store
-                (held_of R.chain R.settled A.list G.nodes G.pairs self.old) r
-                (held_of R.chain R.settled A.list G.nodes G.pairs self.new)
+            (held_of R.chain R.settled A.list G.nodes G.pairs self.old) r
+            (held_of R.chain R.settled A.list G.nodes G.pairs self.new)
             ⊎ MakesStore t key value
-                (held_of R.chain R.settled A.list G.nodes G.pairs self.old) r
-                (held_of R.chain R.settled A.list G.nodes G.pairs self.new)) }
+            (held_of R.chain R.settled A.list G.nodes G.pairs self.old) r
+            (held_of R.chain R.settled A.list G.nodes G.pairs self.new)) }
         ensures procedures { self.new.procedures ≡ self.old.procedures }
         ensures limits { self.new.limits ≡ self.old.limits }
         ensures refused { OnErr result (Same

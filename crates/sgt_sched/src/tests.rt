@@ -73,8 +73,12 @@ fn one_commits_and_one_quits(rt: HostRuntime) -> Result<(), Fail> {
     };
     let limits = Limits { live: 1, begins: 2 };
     let procedures = vec![in a; checked]?;
-    let sched: Sched<ListRecords, OneList, PairGraph> =
-        Sched::new(a, &Database::empty(a), procedures, limits)?;
+    let sched: Sched<ListRecords, OneList, PairGraph> = Sched::new(
+        a,
+        &Database::empty(a),
+        procedures,
+        limits,
+    )?;
     commits_and_quits(&rt, sched, key)?;
     Ok(())
 }

@@ -1,4 +1,4 @@
-use Rattle.std.proofs.Common.{Some, ap, ◌∙◌, sym, subst, slice_set}
+use Rattle.std.proofs.Common.{Some, ap, ◌∙◌, subst, slice_set}
 use Rattle.sgt_model.specs.declared.reply.Fate.TheVariants as fate
 use Rattle.sgt_sched.specs.Parts.{held_of, IsKept}
 use Rattle.sgt_sched.proofs.Ended.{kept_after, removes_seen, fates_seen}

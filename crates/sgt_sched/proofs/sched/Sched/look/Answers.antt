@@ -1,7 +1,7 @@
-use Rattle.std.proofs.Common.{inl, inr, Some, None, ap, ◌∙◌, sym, subst, ◌++◌, ◌∷◌, []}
+use Rattle.std.proofs.Common.{inl, inr, ap, ◌∙◌, ◌++◌, ◌∷◌, []}
 use Rattle.sgt_model.specs.declared.kind.Kind.TheVariants.{Look}
 use Rattle.sgt_records.specs.Tops.{value_of}
-use Rattle.sgt_sched.specs.Courses.{changed, looked, course_at}
+use Rattle.sgt_sched.specs.Courses.{course_at}
 use Rattle.sgt_sched.specs.Parts.{held_of}
 use Rattle.sgt_sched.specs.Steps.{next_along, with_source}
 use Rattle.sgt_sched.proofs.Accessed.{rivals_few, rivals_are_nodes, blocks_from_walk}

@@ -1,4 +1,4 @@
-use Rattle.std.proofs.Common.{rules, ◌≡◌, sym, ap, ◌∙◌, subst}
+use Rattle.std.proofs.Common.{rules, sym, ap, ◌∙◌, subst}
 use Rattle.sgt_sched.specs.Courses.{course_at}
 use Rattle.sgt_sched.specs.Parts.{Parts}
 use Rattle.sgt_sched.specs.Steps.{IsUnended}

@@ -1,10 +1,9 @@
-use Rattle.std.proofs.Common.{rules, refl, ℕ, ◌≡◌, true, Some, ap, ◌∙◌, sym, subst, slice_set}
+use Rattle.std.proofs.Common.{refl, Some, ap, ◌∙◌, sym, slice_set}
 use Rattle.std.proofs.lemmas.Bool.{true≢false}
 use Rattle.std.specs.Option.{option_or}
 use Rattle.sgt_model.specs.Chains.{value_in}
 use Rattle.sgt_model.specs.declared.reply.Fate.TheVariants as fate
 use Rattle.sgt_model.proofs.Conditions.{may_settle}
-use Rattle.sgt_sched.specs.Parts.{held_of, IsKept}
 use Rattle.sgt_sched.proofs.Ended.{kept_after, removes_seen, fates_seen}
 use Rattle.sgt_sched.proofs.sched.Sched.settle.Goals as goal
 

@@ -1,9 +1,9 @@
-use Rattle.std.proofs.Common.{ℕ, ℤ, None, List, Option, ap, sym, ◌∙◌, subst, ◌≡◌, ◌<◌, ◌++◌, ◌∷◌, [], length}
+use Rattle.std.proofs.Common.{None, ap, sym, ◌∙◌, subst, ◌++◌, ◌∷◌, []}
 use Rattle.sgt_model.specs.Contents.{Contents}
 use Rattle.sgt_model.specs.Settings.{setting}
 use Rattle.sgt_sched.specs.Admission.{HasRoom}
 use Rattle.sgt_sched.specs.Courses.{started}
-use Rattle.sgt_sched.specs.Parts.{Parts, held_of, IsKept}
+use Rattle.sgt_sched.specs.Parts.{Parts, held_of}
 use Rattle.sgt_sched.proofs.Started.{start_new, start_room, start_done, start_effect}
 use Rattle.sgt_sched.proofs.sched.Sched.start.Goals as goal
 
