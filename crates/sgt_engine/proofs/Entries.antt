@@ -1,6 +1,5 @@
 -- One more entry.
-use Rattle.std.proofs.Common.{◌≡◌, ℕ, ◌<◌, ◌+◌, length, map, take, get_or, List, [], ◌∷◌, ◌++◌, reverse, refl, sym, ap, ap₂, ◌∙◌, subst, subst₂, Result, Ok, Err}
-use Rattle.std.specs.Prelude.{IfOk}
+use Rattle.std.proofs.Common.{◌≡◌, ℕ, ◌<◌, ◌+◌, length, map, take, get_or, List, [], ◌∷◌, ◌++◌, reverse, refl, sym, ap, ap₂, ◌∙◌, subst, subst₂}
 use Rattle.std.proofs.lemmas.List.{reverse-append, map-append, take_more}
 use Rattle.std.proofs.lemmas.Grind.{reverse_onto}
 use Rattle.sgt_model.specs.declared.entry.Entry.{Entry}
@@ -8,13 +7,14 @@ use Rattle.sgt_model.specs.declared.event.Event.{Event}
 use Rattle.sgt_model.specs.declared.limits.Limits.{Limits}
 use Rattle.sgt_model.specs.declared.reply.Reply.{Reply}
 use Rattle.sgt_model.specs.Contents.{Contents}
+use Rattle.sgt_model.specs.Databases.{Row}
 use Rattle.sgt_model.specs.Syntax.{Program}
 use Rattle.sgt_model.specs.Settings.{Setting, setting}
 use Rattle.sgt_model.specs.Legality.{Legal, LegalReply}
 use Rattle.sgt_model.specs.Held.{Held}
 use Rattle.sgt_model.specs.States.{IsState}
 use Rattle.sgt_model.specs.CallEffects.{CallEffect}
-use Rattle.sgt_engine.specs.Parts.{events_of}
+use Rattle.sgt_engine.specs.Parts.{Parts, setting_of, made_of, events_of}
 use Rattle.sgt_model.proofs.Joining.{calls_simulate}
 
 -- what an engine keeps: a legal history, and a scheduler that holds what is held after it
@@ -28,6 +28,10 @@ longer items new e is = ap reverse is ∙ reverse-append items (e ∷ [])
 pub same_setting : (opening : Contents) (procedures procedures' : List Program) (limits limits' : Limits) → procedures' ≡ procedures → limits' ≡ limits → setting opening procedures limits ≡ setting opening procedures' limits'
 same_setting opening procedures procedures' limits limits' p l = ap₂ (setting opening) (sym p) (sym l)
 
+-- an entry that was added after making room, with a copy of the reply
+pub added : (items reserved new : List Entry) (event : Event) (copied r : Reply) → new ≡ reserved ++ record { event = event; reply = copied } ∷ [] → reserved ≡ items → copied ≡ r → new ≡ items ++ record { event = event; reply = r } ∷ []
+added items reserved new event copied r pushed room is = pushed ∙ ap₂ (λ (l : List Entry) (x : Reply). l ++ record { event = event; reply = x } ∷ []) room is
+
 -- a call that was answered keeps all that an engine keeps
 pub kept_entry : (s s' : Setting) (items new : List Entry) (before after : Held) (event : Event) (r : Reply) → s ≡ s' → new ≡ items ++ record { event = event; reply = r } ∷ [] → Kept s (reverse items) before → CallEffect s event before r after → Kept s' (reverse new) after
 kept_entry s s' items new before after event r same is kept done =
@@ -39,14 +43,13 @@ pub legal_reply : (s s' : Setting) (past past' : List Entry) (before after : Hel
 legal_reply s s' past past' before after event r same seen kept done =
     subst₂ (λ (x : Setting) (l : List Entry). LegalReply x l event r) same seen (calls_simulate s past kept.0 before kept.1 event r after done).0
 
+-- the history of a new engine is legal
+pub legal_new : (e : Parts) (opening : List Row) (procedures : List Program) (limits : Limits) → e ≡ made_of opening procedures limits → Legal (setting_of e) e.past
+legal_new e opening procedures limits is = subst (λ (x : Parts). Legal (setting_of x) x.past) (sym is) tt
+
 -- a history that stays is legal still
 pub legal_same : (s s' : Setting) (items new : List Entry) → s ≡ s' → new ≡ items → Legal s (reverse items) → Legal s' (reverse new)
 legal_same s s' items new same is legal = subst₂ (λ (x : Setting) (l : List Entry). Legal x (reverse l)) same (sym is) legal
-
--- what holds of each result that is Ok holds in another form
-pub if_ok-map : {X E : Type 0} (r : Result X E) (P Q : X → Type 0) → ((x : X) → P x → Q x) → IfOk r P → IfOk r Q
-if_ok-map (Ok x) P Q f p = f x p
-if_ok-map (Err e) P Q f p = p
 
 -- the events of a history with one entry more
 pub events_of-entry : (e : Entry) (past : List Entry) → events_of (e ∷ past) ≡ events_of past ++ e.event ∷ []

@@ -25,7 +25,12 @@ made_of opening procedures limits = record { opening = opening; procedures = pro
 
 -- the engine with one entry more
 abbrev pub with_entry : Event → Reply → Parts → Parts
-with_entry event reply e = record { opening = e.opening; procedures = e.procedures; limits = e.limits; past = record { event = event; reply = reply } ∷ e.past }
+with_entry event reply e = record {
+  opening = e.opening;
+  procedures = e.procedures;
+  limits = e.limits;
+  past = record { event = event; reply = reply } ∷ e.past;
+}
 
 -- the events of a history, oldest first
 abbrev pub events_of : List Entry → List Event

@@ -17,7 +17,17 @@ use sgt_sched::Sched;
 use std::alloc::Global;
 use std::marker::Model;
 
-/// An in-memory transaction engine that schedules by serialization graph testing, with its history.
+/// An in-memory transaction engine that schedules by serialization graph testing, with the history of all it was asked and
+/// answered.
+///
+/// For every list of events, running the committed transactions' procedures one after another in commit order on the opening
+/// database, as a plain map, gives each the answers it was told and ends in the engine's committed database; and a
+/// transaction is aborted only where its step would close a conflict cycle, it read from an aborted one, or its procedure or
+/// caller asked.
+///
+/// At every moment the history is legal: each reply is the one that the definitions of histories allow after the entries
+/// before it. Each event that is answered, refusals among them, is one entry. An event that was refused memory is none, and
+/// changes nothing. The layers below may be any bodies of their contracts.
 #[derive(Drop)]
 pub struct Engine<R: Records, A: Accesses, G: Graph> {
     opening: Database,
@@ -40,13 +50,25 @@ impl<R: Records, A: Accesses, G: Graph> Model for Engine<R, A, G> {
 
     ghost coded = { Prim.hlevel (codes, coded_program) };
 
-    ghost view = { λ e. record { opening = e.opening; procedures = e.sched.procedures; limits = e.sched.limits; past = reverse e.history.items } };
+    ghost view = { λ e. record {
+        opening = e.opening;
+        procedures = e.sched.procedures;
+        limits = e.sched.limits;
+        past = reverse e.history.items;
+    } };
 
-    ghost invariant = { λ e. Legal (setting (contents_of e.opening) e.sched.procedures e.sched.limits) (reverse e.history.items) × IsState (setting (contents_of e.opening) e.sched.procedures e.sched.limits) (reverse e.history.items) (held_of R.chain R.settled A.list G.nodes G.pairs e.sched) };
+    ghost invariant = { λ e.
+        Legal (setting (contents_of e.opening) e.sched.procedures e.sched.limits)
+            (reverse e.history.items)
+        × IsState (setting (contents_of e.opening) e.sched.procedures e.sched.limits)
+            (reverse e.history.items)
+            (held_of R.chain R.settled A.list G.nodes G.pairs e.sched) };
 }
 
 impl<R: Records, A: Accesses, G: Graph> Engine<R, A, G> {
-    /// A new engine.
+    /// A new engine over an opening database, with an empty history. The procedures are numbered from 0 in their order.
+    ///
+    /// `BadLimits` where a limit is out of its range, tested first; `NoMemory` where a growth was refused.
     pub fn new(
         alloc: Global,
         opening: Database,
@@ -64,7 +86,16 @@ impl<R: Records, A: Accesses, G: Graph> Engine<R, A, G> {
         })
     }
 
-    /// Takes an event.
+    /// Takes an event, answers it, and adds both to the history as one entry. A transaction is named by the number that its
+    /// start was answered; any event may come at any time. What each event does is said at [`Event`], and the answers at
+    /// [`Reply`].
+    ///
+    /// Serialization graph testing is that of Bernstein, Hadzilacos and Goodman (1987), chapter 4, and the falling of readers
+    /// that of chapter 2. That a commit waits for its live predecessors, so that commit order is a serial order, is from
+    /// Durner and Neumann (ICDE 2019).
+    ///
+    /// `NoMemory` where a growth was refused; then nothing has changed. What it costs does not grow with the history, but for
+    /// growing a list now and then.
     pub fn apply(&mut self, event: Event) -> Result<Reply, NoMemory>
         ensures adds { IfOk result (λ r. self.new ≡ with_entry event r self.old) }
         ensures reply { IfOk result (LegalReply (setting_of self.old) self.old.past event) }
@@ -81,7 +112,7 @@ impl<R: Records, A: Accesses, G: Graph> Engine<R, A, G> {
         Ok(reply)
     }
 
-    /// The history, oldest entry first.
+    /// The history, oldest entry first. Nothing is ever taken out of it.
     pub fn history(&self) -> &[Entry]
         ensures entries { reverse result.now ≡ self.now.past }
         ensures legal { Legal (setting_of self.now) self.now.past }
@@ -90,7 +121,8 @@ impl<R: Records, A: Accesses, G: Graph> Engine<R, A, G> {
         self.history.as_slice()
     }
 
-    /// The committed value of the key, or none.
+    /// The committed value of the key, or none: what its last committed transaction stored, else the opening's. It is also what
+    /// the committed transactions leave, run one after another in commit order.
     pub fn committed(&self, key: Key) -> Option<i64>
         ensures value { result ≡ settled (contents_of self.now.opening) self.now.past key }
         ensures replayed { result ≡ replayed (setting_of self.now) (told self.now.past) key }
@@ -98,10 +130,14 @@ impl<R: Records, A: Accesses, G: Graph> Engine<R, A, G> {
         self.sched.records().committed(key)
     }
 
-    /// The committed database.
+    /// The committed database: of all keys what `committed` tells. It goes once through all records.
+    ///
+    /// `NoMemory` where a growth was refused.
     pub fn database(&self, alloc: Global) -> Result<Database, NoMemory>
-        ensures values { IfOk result (λ d. (k : K) → contents_of d k ≡ settled (contents_of self.now.opening) self.now.past k) }
-        ensures replayed { IfOk result (λ d. (k : K) → contents_of d k ≡ replayed (setting_of self.now) (told self.now.past) k) }
+        ensures values { IfOk result (λ d. (k : K) →
+            contents_of d k ≡ settled (contents_of self.now.opening) self.now.past k) }
+        ensures replayed { IfOk result (λ d. (k : K) →
+            contents_of d k ≡ replayed (setting_of self.now) (told self.now.past) k) }
     {
         self.sched.records().all(alloc)
     }

@@ -1,8 +1,23 @@
-//! The engine.
+//! The engine: a scheduler with the history of what it was asked and answered.
+//!
+//! Its contracts are what the other crates are for. `Engine::apply` keeps a legal history, and whatever the events, running
+//! the committed transactions one after another in commit order gives the answers that were told and the committed database.
+//! It is no database system: it keeps all in memory, writes no log, and has no lock, thread or waiting. A commit that has to
+//! wait is answered so, and its caller asks again.
+//!
+//! ```
+//! let mut engine: Engine<ListRecords, OneList, PairGraph> = Engine::new(alloc, opening, procedures, limits)?;
+//! engine.apply(Event::Start { procedure: 0, args })?; // Started(0)
+//! engine.apply(Event::Step(Tid(0)))?;                 // Looked, Wrote or Aborted; Ended at the procedure's end
+//! engine.apply(Event::Commit(Tid(0)))?;               // Committed with its answers
+//! let database = engine.database(alloc)?;
+//! ```
 #![tactic(auto)]
 
 mod engine;
 mod run;
+#[cfg(test)]
+mod tests;
 
 pub use engine::Engine;
 pub use run::{Ran, run_list};

@@ -14,7 +14,7 @@ use sgt_proc::Checked;
 use sgt_records::Records;
 use std::alloc::Global;
 
-/// What became of a list of events.
+/// What became of a list of events. The replies stand in the engine's history.
 #[derive(Drop)]
 pub struct Ran<R: Records, A: Accesses, G: Graph> {
     /// The engine, with the events that were applied as its history.
@@ -23,7 +23,9 @@ pub struct Ran<R: Records, A: Accesses, G: Graph> {
     pub done: usize,
 }
 
-/// Makes an engine, and applies the events in their order until a growth is refused.
+/// Makes an engine, and applies the events in their order, all of them unless a growth is refused.
+///
+/// `BadLimits` where a limit is out of its range, tested first; `NoMemory` where a growth was refused before the first event.
 pub fn run_list<R: Records, A: Accesses, G: Graph>(
     alloc: Global,
     opening: Database,
@@ -31,7 +33,8 @@ pub fn run_list<R: Records, A: Accesses, G: Graph>(
     limits: Limits,
     events: &[Event],
 ) -> Result<Ran<R, A, G>, MakeError>
-    ensures setting { IfOk result (λ ran. setting_of ran.engine ≡ setting (contents_of opening) procedures.items limits) }
+    ensures setting { IfOk result (λ ran.
+        setting_of ran.engine ≡ setting (contents_of opening) procedures.items limits) }
     ensures events { IfOk result (λ ran. events_of ran.engine.past ≡ take ran.done events.now) }
     ensures done { IfOk result (λ ran. ran.done ≤ length events.now) }
     ensures legal { IfOk result (λ ran. Legal (setting_of ran.engine) ran.engine.past) }
@@ -46,6 +49,5 @@ pub fn run_list<R: Records, A: Accesses, G: Graph>(
             Err(_) => break,
         }
     }
-    let _ = engine.history();
     Ok(Ran { engine, done })
 }

@@ -1,16 +1,13 @@
 -- With one transaction live at a time, an abort takes no other along.
-use Rattle.std.proofs.Common.{◌≡◌, ℕ, ℤ, ◌≤◌, arith, Bool, true, false, ◌||◌, cond, nat_eq, List, [], ◌∷◌, length, Option, Some, None, refl, sym, ap, ◌∙◌, subst}
-use Rattle.std.specs.List.{list_any}
+use Rattle.std.proofs.Common.{◌≡◌, ℕ, ◌≤◌, arith, Bool, true, false, ◌||◌, cond, nat_eq, List, [], ◌∷◌, Some, refl, ap, subst}
 use Rattle.std.proofs.Math.Path.{fun_ext}
 use Rattle.sgt_model.specs.declared.reply.Cause.{Cause}
-use Rattle.sgt_model.specs.declared.reply.Fate.{Fate}
 use Rattle.sgt_model.specs.declared.reply.Fate.TheVariants as fate
 use Rattle.sgt_model.specs.declared.reply.Reply.{Reply}
 use Rattle.sgt_model.specs.declared.reply.Reply.TheVariants as reply
 use Rattle.sgt_model.specs.Contents.{Key}
 use Rattle.sgt_model.specs.Held.{Held}
-use Rattle.sgt_model.specs.Fallers.{FallsIn}
-use Rattle.sgt_model.specs.Changes.{Removes, Drops}
+use Rattle.sgt_model.specs.Changes.{Removes}
 use Rattle.sgt_model.specs.declared.kind.Kind.{Kind}
 use Rattle.sgt_model.specs.declared.reply.Cause.TheVariants as cause
 use Rattle.sgt_model.specs.Verdicts.{Blocks}

@@ -1,31 +1,27 @@
 -- What an access does to what is held, where nothing blocks it.
-use Rattle.std.proofs.Common.{◌≡◌, ◌≢◌, ℕ, ℤ, ◌<◌, ◌≤◌, ◌+◌, arith, Bool, true, false, not, ◌&&◌, ◌||◌, cond, nat_eq, ◌⊎◌, inl, inr, List, [], ◌∷◌, ◌++◌, length, Option, Some, None, refl, sym, ap, ◌∙◌, subst}
+use Rattle.std.proofs.Common.{◌≡◌, ◌≢◌, ℕ, ℤ, arith, Bool, true, false, ◌&&◌, cond, nat_eq, ◌⊎◌, inl, inr, List, [], ◌∷◌, ◌++◌, Option, Some, None, refl, sym, ap, ◌∙◌, subst}
 use Rattle.std.specs.Prelude.{◌↔◌}
-use Rattle.std.specs.List.{list_any, last_or}
-use Rattle.std.proofs.lemmas.Bool.{and_from, or_cases, or_left, or_right, eqb-true, eqb-false, eq-eqb, false_from_ne_true}
+use Rattle.std.proofs.lemmas.Bool.{and_from, or_cases, or_left, or_right, eqb-true, eqb-false}
 use Rattle.sgt_model.specs.declared.kind.Kind.{Kind}
 use Rattle.sgt_model.specs.declared.kind.Kind.TheVariants.{Look, Store}
 use Rattle.sgt_model.specs.Contents.{Key, key_eq}
 use Rattle.sgt_model.specs.Walks.{Member, AtMost, last_of}
-use Rattle.sgt_model.specs.Chains.{write_last}
 use Rattle.sgt_model.specs.Pairs.{one_stores}
 use Rattle.sgt_model.specs.Touches.{Touch, meets, touches_in, is_listed}
 use Rattle.sgt_model.specs.Courses.{Course}
-use Rattle.sgt_model.specs.Traces.{Used, Looks, Puts}
+use Rattle.sgt_model.specs.Traces.{Used}
 use Rattle.sgt_model.specs.Settings.{runs_in}
-use Rattle.sgt_model.specs.Held.{Held, Has}
-use Rattle.sgt_model.specs.Tops.{top, found, top_value, SourceIs}
+use Rattle.sgt_model.specs.Held.{Has}
+use Rattle.sgt_model.specs.Tops.{top_value, SourceIs}
 use Rattle.sgt_model.specs.Verdicts.{Blocks}
 use Rattle.sgt_model.specs.Soundness.{Sound}
-use Rattle.sgt_model.specs.Changes.{Notes, LooksAt, StoresInto}
+use Rattle.sgt_model.specs.Changes.{Notes}
 use Rattle.sgt_model.proofs.Stores.{key_eq-refl}
-use Rattle.sgt_model.proofs.SoundCalls.{sound_look, sound_store}
-use Rattle.sgt_model.proofs.Uses.{used_look, used_store}
 use Rattle.sgt_cycle.specs.Walk.{Walk, NoWalk}
 use Rattle.sgt_records.specs.Tops.{top_from, value_of}
-use Rattle.sgt_sched.specs.Courses.{numbers, course_at, changed, looked, stored}
-use Rattle.sgt_sched.specs.Parts.{Parts, fate_at, held_of, IsKept}
-use Rattle.sgt_sched.specs.Steps.{next_along, with_source}
+use Rattle.sgt_sched.specs.Courses.{numbers, course_at, changed}
+use Rattle.sgt_sched.specs.Parts.{Parts, held_of, IsKept}
+use Rattle.sgt_sched.specs.Steps.{with_source}
 use Rattle.sgt_sched.proofs.Lists.{numbers-changed, course_at-changed, course_at-own}
 
 -- who is listed touches some key
@@ -66,7 +62,7 @@ value_of-from None None = refl
 value_of-from None (Some v) = refl
 value_of-from (Some w) s = refl
 
-module _ {R A G : Type 0} (chain : R → Key → List (ℕ × ℤ)) (settled : R → Key → Option ℤ) (list : A → List Touch) (nodes : G → ℕ → Bool) (pairs : G → ℕ → ℕ → Bool) (before : Parts R A G) (kept : IsKept chain settled list nodes pairs before) where
+module _ {R A G : Type 0} {chain : R → Key → List (ℕ × ℤ)} {settled : R → Key → Option ℤ} {list : A → List Touch} {nodes : G → ℕ → Bool} {pairs : G → ℕ → ℕ → Bool} {before : Parts R A G} (kept : IsKept chain settled list nodes pairs before) where
   -- few have accesses
   pub rivals_few : AtMost 32 (is_listed (list before.accesses))
   rivals_few = record {

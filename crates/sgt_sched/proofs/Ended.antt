@@ -1,8 +1,7 @@
 -- What an end does to what is held: a transaction leaves each layer, with a fate.
-use Rattle.std.proofs.Common.{◌≡◌, ◌≢◌, ℕ, ℤ, ◌<◌, ◌≤◌, ◌+◌, arith, Bool, true, false, not, ◌&&◌, cond, nat_eq, ◌⊎◌, inl, inr, List, [], ◌∷◌, length, filter, Option, Some, None, refl, sym, ap, ◌∙◌, subst, slice_set}
-use Rattle.std.specs.Prelude.{◌↔◌}
+use Rattle.std.proofs.Common.{◌≡◌, ℕ, ℤ, ◌<◌, ◌≤◌, Bool, true, false, not, ◌&&◌, cond, nat_eq, inl, inr, List, [], ◌∷◌, length, Option, Some, None, refl, sym, ap, ◌∙◌, subst, slice_set}
 use Rattle.std.proofs.lemmas.List.{length-set}
-use Rattle.std.proofs.lemmas.Bool.{and_parts, and_from, eqb-true, eqb-false, eq-eqb, true≢false, false_from_ne_true}
+use Rattle.std.proofs.lemmas.Bool.{and_parts, and_from, true≢false}
 use Rattle.sgt_model.specs.declared.reply.Fate.{Fate}
 use Rattle.sgt_model.specs.Contents.{Key}
 use Rattle.sgt_model.specs.Chains as chains
@@ -10,11 +9,11 @@ use Rattle.sgt_model.specs.Touches.{Touch, forgotten}
 use Rattle.sgt_model.specs.Courses.{Course}
 use Rattle.sgt_model.specs.Traces.{Used}
 use Rattle.sgt_model.specs.Settings.{runs_in}
-use Rattle.sgt_model.specs.Held.{Held, Has}
+use Rattle.sgt_model.specs.Held.{Has}
 use Rattle.sgt_model.specs.Changes.{Removes}
 use Rattle.sgt_model.proofs.Counted.{filter-same}
 use Rattle.sgt_model.proofs.SoundCalls.{sound_removes}
-use Rattle.sgt_sched.specs.Courses.{numbers, course_at, without}
+use Rattle.sgt_sched.specs.Courses.{without}
 use Rattle.sgt_sched.specs.Parts.{Parts, fate_at, held_of, IsKept}
 use Rattle.sgt_sched.specs.Steps.{unread}
 use Rattle.sgt_sched.proofs.Lists.{nat_eq-swap, numbers-without, course_at-without, fate_at-set}
@@ -47,7 +46,7 @@ unread-kept t (p ∷ rest) u v h f g = both (not (nat_eq p.0 t) && not (nat_eq p
   both false e (inl here) rec = absurd (true≢false (sym (and_from (not (nat_eq p.0 t)) (not (nat_eq p.1 t)) (apart p.0 u here.0 f) (apart p.1 v here.1 g)) ∙ e))
   both false e (inr there) rec = rec there f g
 
-module _ {R A G : Type 0} (chain : R → Key → List (ℕ × ℤ)) (settled : R → Key → Option ℤ) (list : A → List Touch) (nodes : G → ℕ → Bool) (pairs : G → ℕ → ℕ → Bool) (before : Parts R A G) (kept : IsKept chain settled list nodes pairs before) (t : ℕ) (live_t : nodes before.graph t ≡ true) (f : Fate) (records : R) (accesses : A) (graph : G) (chain_is : (k : Key) → chain records k ≡ chains.without t (chain before.records k)) (list_is : list accesses ≡ forgotten t (list before.accesses)) (nodes_are : (u : ℕ) → nodes graph u ≡ (nodes before.graph u && not (nat_eq t u))) (pairs_are : (u v : ℕ) → pairs graph u v ≡ (pairs before.graph u v && (not (nat_eq t u) && not (nat_eq t v)))) where
+module _ {R A G : Type 0} {chain : R → Key → List (ℕ × ℤ)} {settled : R → Key → Option ℤ} {list : A → List Touch} {nodes : G → ℕ → Bool} {pairs : G → ℕ → ℕ → Bool} {before : Parts R A G} (kept : IsKept chain settled list nodes pairs before) (t : ℕ) (live_t : nodes before.graph t ≡ true) (f : Fate) (records : R) (accesses : A) (graph : G) (chain_is : (k : Key) → chain records k ≡ chains.without t (chain before.records k)) (list_is : list accesses ≡ forgotten t (list before.accesses)) (nodes_are : (u : ℕ) → nodes graph u ≡ (nodes before.graph u && not (nat_eq t u))) (pairs_are : (u v : ℕ) → pairs graph u v ≡ (pairs before.graph u v && (not (nat_eq t u) && not (nat_eq t v)))) where
   -- the parts afterwards
   abbrev pub after_end : Parts R A G
   after_end = record {

@@ -1,14 +1,13 @@
 -- Whether a transaction is live, by the list of the live ones.
-use Rattle.std.proofs.Common.{◌≡◌, ℕ, ℤ, ◌<◌, Bool, true, false, nat_eq, nat_lt, cond, ◌⊎◌, inl, inr, List, [], ◌∷◌, length, Option, Some, None, refl, sym, ap, ◌∙◌, subst, find}
+use Rattle.std.proofs.Common.{◌≡◌, ℕ, ℤ, ◌<◌, Bool, true, false, nat_eq, cond, ◌⊎◌, inl, inr, List, [], ◌∷◌, length, Option, Some, None, refl, sym, ap, ◌∙◌, find}
 use Rattle.std.proofs.lemmas.Bool.{eqb-true, eqb-false, lt-ltb}
 use Rattle.std.proofs.lemmas.Option.{same_Some}
-use Rattle.sgt_model.specs.declared.reply.Fate.{Fate}
 use Rattle.sgt_model.specs.Contents.{Key}
 use Rattle.sgt_model.specs.Walks.{Member}
 use Rattle.sgt_model.specs.Touches.{Touch}
 use Rattle.sgt_model.specs.Courses.{Course}
 use Rattle.sgt_sched.specs.Courses.{numbers, has_number, course_at}
-use Rattle.sgt_sched.specs.Parts.{Parts, fate_at, held_of, IsKept}
+use Rattle.sgt_sched.specs.Parts.{Parts, fate_at, IsKept}
 use Rattle.sgt_sched.specs.Steps.{IsUnended}
 
 -- one that is found has that number, and its course
@@ -33,7 +32,7 @@ none_member (q ∷ rest) t e m = both (nat_eq q.0 t) refl (none_member rest t) m
   both false h rec (inl i) = eqb-false q.0 t h (sym i)
   both false h rec (inr i) = rec (sym (ap (λ b. cond b (Some q) (find (has_number t) rest)) h) ∙ e) i
 
-module _ {R A G : Type 0} (chain : R → Key → List (ℕ × ℤ)) (settled : R → Key → Option ℤ) (list : A → List Touch) (nodes : G → ℕ → Bool) (pairs : G → ℕ → ℕ → Bool) (p : Parts R A G) (kept : IsKept chain settled list nodes pairs p) (t : ℕ) where
+module _ {R A G : Type 0} {chain : R → Key → List (ℕ × ℤ)} {settled : R → Key → Option ℤ} {list : A → List Touch} {nodes : G → ℕ → Bool} {pairs : G → ℕ → ℕ → Bool} {p : Parts R A G} (kept : IsKept chain settled list nodes pairs p) (t : ℕ) where
   pub found_node : (r : ℕ × Course) → find (has_number t) p.live ≡ Some r → nodes p.graph t ≡ true
   found_node r e = (kept.sound.listed t).1 (found_member p.live t r e).0
 

@@ -1,10 +1,10 @@
 -- Courses, fates and reads, as one of them is added, changed or dropped.
-use Rattle.std.proofs.Common.{◌≡◌, ◌≢◌, ℕ, zero, suc, ◌<◌, ◌≤◌, ◌+◌, arith, Bool, true, false, not, ◌&&◌, cond, ◌⊎◌, inl, inr, nat_eq, List, [], ◌∷◌, ◌++◌, length, map, filter, Option, Some, None, refl, sym, ap, ◌∙◌, subst, slice_set, slice_index_or}
-use Rattle.std.proofs.lemmas.Bool.{false_from_ne_true, eqb-true, eqb-false, eq-eqb, true≢false}
+use Rattle.std.proofs.Common.{◌≡◌, ◌≢◌, ℕ, zero, suc, ◌<◌, ◌≤◌, arith, Bool, true, false, not, cond, ◌⊎◌, inl, inr, nat_eq, List, [], ◌∷◌, ◌++◌, length, filter, Option, Some, None, refl, sym, ap, ◌∙◌, slice_set}
+use Rattle.std.proofs.lemmas.Bool.{false_from_ne_true, eqb-true, eqb-false, eq-eqb}
 use Rattle.sgt_model.specs.declared.reply.Fate.{Fate}
 use Rattle.sgt_model.specs.Walks.{Member}
 use Rattle.sgt_model.specs.Courses.{Course}
-use Rattle.sgt_sched.specs.Courses.{numbers, has_number, course_at, changed, without}
+use Rattle.sgt_sched.specs.Courses.{numbers, course_at, changed, without}
 use Rattle.sgt_sched.specs.Parts.{fate_at}
 
 -- numbers

@@ -1,5 +1,5 @@
 -- What a look and a store do, where nothing blocks them.
-use Rattle.std.proofs.Common.{◌≡◌, ◌≢◌, ℕ, ℤ, ◌<◌, ◌≤◌, arith, Bool, true, false, cond, ◌⊎◌, inl, inr, List, [], ◌∷◌, ◌++◌, length, Option, Some, None, refl, sym, ap, ◌∙◌, subst}
+use Rattle.std.proofs.Common.{◌≡◌, ◌≢◌, ℕ, ℤ, ◌<◌, arith, Bool, true, false, cond, ◌⊎◌, List, [], ◌∷◌, ◌++◌, length, Option, None, refl, sym, ap, ◌∙◌, subst}
 use Rattle.std.specs.Prelude.{◌↔◌}
 use Rattle.std.specs.List.{last_or}
 use Rattle.sgt_model.specs.declared.kind.Kind.TheVariants.{Look, Store}
@@ -10,10 +10,9 @@ use Rattle.sgt_model.specs.Chains.{write_last, writes_in}
 use Rattle.sgt_model.specs.ChainOrder.{IsLastIn}
 use Rattle.sgt_model.specs.Touches.{Touch, touches_in}
 use Rattle.sgt_model.specs.Courses.{Course}
-use Rattle.sgt_model.specs.Traces.{Used, Looks, Puts}
+use Rattle.sgt_model.specs.Traces.{Looks, Puts}
 use Rattle.sgt_model.specs.Settings.{runs_in}
-use Rattle.sgt_model.specs.Held.{Held, Has}
-use Rattle.sgt_model.specs.Tops.{found, top_value}
+use Rattle.sgt_model.specs.Tops.{found}
 use Rattle.sgt_model.specs.Changes.{LooksAt, StoresInto}
 use Rattle.sgt_model.specs.CallEffects.{MakesLook, MakesStore}
 use Rattle.sgt_model.proofs.Conditions.{may_write, chain_room}
@@ -27,14 +26,14 @@ use Rattle.sgt_records.specs.Tops.{top_from, value_of}
 use Rattle.sgt_sched.specs.Courses.{course_at, changed, looked, stored}
 use Rattle.sgt_sched.specs.Parts.{Parts, held_of, IsKept}
 use Rattle.sgt_sched.specs.Steps.{next_along, with_source}
-use Rattle.sgt_sched.proofs.Accessed.{not_blocked, notes, own_course, kept_access, after_access, read_added, value_of-from}
+use Rattle.sgt_sched.proofs.Accessed.{not_blocked, notes, own_course, kept_access, read_added, value_of-from}
 
 -- what a test allowed is inserted
 pub inserted : (old new : ℕ → ℕ → Bool) (t : ℕ) (preds : List ℕ) (v : Verdict) → Tells old t preds v → NoWalk old t preds → Inserts old new t preds v → Inserts old new t preds Accepted
 inserted old new t preds Accepted told free pairs = pairs
 inserted old new t preds (Closes walk) told free pairs = absurd (free told.0 told.2)
 
-module _ {R A G : Type 0} (chain : R → Key → List (ℕ × ℤ)) (settled : R → Key → Option ℤ) (list : A → List Touch) (nodes : G → ℕ → Bool) (pairs : G → ℕ → ℕ → Bool) (before now : Parts R A G) (seen : before ≡ now) (kept : IsKept chain settled list nodes pairs before) (t : ℕ) (live_t : nodes before.graph t ≡ true) (k : Key) (rivals : List ℕ) (free : NoWalk (pairs before.graph) t rivals) where
+module _ {R A G : Type 0} {chain : R → Key → List (ℕ × ℤ)} {settled : R → Key → Option ℤ} {list : A → List Touch} {nodes : G → ℕ → Bool} {pairs : G → ℕ → ℕ → Bool} {before now : Parts R A G} (seen : before ≡ now) (kept : IsKept chain settled list nodes pairs before) (t : ℕ) (live_t : nodes before.graph t ≡ true) (k : Key) (rivals : List ℕ) (free : NoWalk (pairs before.graph) t rivals) where
   module _ (exact : (u : ℕ) → Member u rivals ↔ ((u ≢ t) × (touches_in (list before.accesses) u k Look ≡ true))) (next : next_along before.procedures (course_at before.live t) ≡ Looks k) (accesses : A) (graph : G) (live : List (ℕ × Course)) (read_from : List (ℕ × ℕ)) (value : Option ℤ) (list_is : list accesses ≡ list before.accesses ++ record { by = t; key = k; kind = Look } ∷ []) (nodes_are : (u : ℕ) → nodes graph u ≡ nodes before.graph u) (pairs_are : (u v : ℕ) → (pairs graph u v ≡ true) ↔ ((pairs before.graph u v ≡ true) ⊎ ((v ≡ t) × Member u rivals))) (value_is : value ≡ value_of (top_from (last_or None (chain before.records k)) (settled before.records k))) (live_is : live ≡ changed t (looked value) before.live) (reads_are : read_from ≡ with_source (top_from (last_or None (chain before.records k)) (settled before.records k)) t before.read_from) where
     abbrev pub after_look : Parts R A G
     after_look = record { procedures = before.procedures; limits = before.limits; records = before.records; accesses = accesses; graph = graph; live = live; read_from = read_from; fates = before.fates }
@@ -47,21 +46,21 @@ module _ {R A G : Type 0} (chain : R → Key → List (ℕ × ℤ)) (settled : R
 
     looks : LooksAt t k (held_of chain settled list nodes pairs before) (held_of chain settled list nodes pairs (record { procedures = before.procedures; limits = before.limits; records = before.records; accesses = accesses; graph = graph; live = changed t (looked value) before.live; read_from = with_source (top_from (last_or None (chain before.records k)) (settled before.records k)) t before.read_from; fates = before.fates }))
     looks = record {
-      notes = notes chain settled list nodes pairs before kept t live_t k Look rivals exact before.records accesses graph (looked value) (with_source (top_from (last_or None (chain before.records k)) (settled before.records k)) t before.read_from) (λ j. refl) list_is nodes_are pairs_are;
+      notes = notes kept t live_t k Look rivals exact before.records accesses graph (looked value) (with_source (top_from (last_or None (chain before.records k)) (settled before.records k)) t before.read_from) (λ j. refl) list_is nodes_are pairs_are;
       chain = λ j. refl;
       read_from = λ u v. read_added (last_or None (chain before.records k)) (settled before.records k) t before.read_from u v;
-      course = own_course chain settled list nodes pairs before kept t live_t k Look rivals exact before.records accesses graph (looked value) (with_source (top_from (last_or None (chain before.records k)) (settled before.records k)) t before.read_from) (λ j. refl) list_is nodes_are pairs_are ∙ ap (λ v. looked v (course_at before.live t)) found_is;
+      course = own_course kept t live_t k Look rivals exact before.records accesses graph (looked value) (with_source (top_from (last_or None (chain before.records k)) (settled before.records k)) t before.read_from) (λ j. refl) list_is nodes_are pairs_are ∙ ap (λ v. looked v (course_at before.live t)) found_is;
     }
 
     pub kept_look : IsKept chain settled list nodes pairs after_look
     kept_look = subst (IsKept chain settled list nodes pairs) is_after
-        (kept_access chain settled list nodes pairs before kept t live_t k Look rivals exact before.records accesses graph (looked value) (with_source (top_from (last_or None (chain before.records k)) (settled before.records k)) t before.read_from) (λ j. refl) list_is nodes_are pairs_are
+        (kept_access kept t live_t k Look rivals exact before.records accesses graph (looked value) (with_source (top_from (last_or None (chain before.records k)) (settled before.records k)) t before.read_from) (λ j. refl) list_is nodes_are pairs_are
         (used_look (runs_in before.procedures (course_at before.live t).call.procedure (course_at before.live t).call.args) (course_at before.live t).read (course_at before.live t).made k value (kept.used t live_t) next)
         (sound_look before.limits.live _ _ kept.sound t k live_t looks))
 
     pub makes_look : MakesLook t k (held_of chain settled list nodes pairs now) (reply.Looked k value) (held_of chain settled list nodes pairs after_look)
     makes_look = subst (λ (p : Parts R A G). MakesLook t k (held_of chain settled list nodes pairs p) (reply.Looked k value) (held_of chain settled list nodes pairs after_look)) seen (record {
-      free = not_blocked chain settled list nodes pairs before kept t live_t k Look rivals exact free;
+      free = not_blocked kept t live_t k Look rivals exact free;
       reply = ap (reply.Looked k) found_is;
       looks = subst (λ (p : Parts R A G). LooksAt t k (held_of chain settled list nodes pairs before) (held_of chain settled list nodes pairs p)) is_after looks;
     })
@@ -69,7 +68,7 @@ module _ {R A G : Type 0} (chain : R → Key → List (ℕ × ℤ)) (settled : R
   module _ (exact : (u : ℕ) → Member u rivals ↔ ((u ≢ t) × (touches_in (list before.accesses) u k Store ≡ true))) where
     -- the value goes to the end of the chain, which has room for it
     pub store_last : IsLastIn t (chain before.records k)
-    store_last = may_write before.limits.live _ kept.sound t k live_t (not_blocked chain settled list nodes pairs before kept t live_t k Store rivals exact free)
+    store_last = may_write before.limits.live _ kept.sound t k live_t (not_blocked kept t live_t k Store rivals exact free)
 
     pub store_room : writes_in t (chain before.records k) ≡ false → length (chain before.records k) < 32
     store_room h = let few = chain_room before.limits.live _ kept.sound t k live_t h in omega (arith, kept.in_range.few_live)
@@ -83,21 +82,21 @@ module _ {R A G : Type 0} (chain : R → Key → List (ℕ × ℤ)) (settled : R
 
       stores : StoresInto t k v (held_of chain settled list nodes pairs before) (held_of chain settled list nodes pairs (record { procedures = before.procedures; limits = before.limits; records = records; accesses = accesses; graph = graph; live = changed t stored before.live; read_from = before.read_from; fates = before.fates }))
       stores = record {
-        notes = notes chain settled list nodes pairs before kept t live_t k Store rivals exact records accesses graph stored before.read_from settled_is list_is nodes_are pairs_are;
+        notes = notes kept t live_t k Store rivals exact records accesses graph stored before.read_from settled_is list_is nodes_are pairs_are;
         chain = chain_is;
         read_from = λ u w. ((λ h. h), (λ h. h));
-        course = own_course chain settled list nodes pairs before kept t live_t k Store rivals exact records accesses graph stored before.read_from settled_is list_is nodes_are pairs_are;
+        course = own_course kept t live_t k Store rivals exact records accesses graph stored before.read_from settled_is list_is nodes_are pairs_are;
       }
 
       pub kept_store : IsKept chain settled list nodes pairs after_store
       kept_store = subst (IsKept chain settled list nodes pairs) store_is
-          (kept_access chain settled list nodes pairs before kept t live_t k Store rivals exact records accesses graph stored before.read_from settled_is list_is nodes_are pairs_are
+          (kept_access kept t live_t k Store rivals exact records accesses graph stored before.read_from settled_is list_is nodes_are pairs_are
           (used_store (runs_in before.procedures (course_at before.live t).call.procedure (course_at before.live t).call.args) (course_at before.live t).read (course_at before.live t).made k v (kept.used t live_t) next)
           (sound_store before.limits.live _ _ kept.sound t k v live_t stores.notes stores.chain stores.read_from))
 
       pub makes_store : (w : ℤ) → w ≡ v → MakesStore t k v (held_of chain settled list nodes pairs now) (reply.Wrote k w) (held_of chain settled list nodes pairs after_store)
       makes_store w told = subst (λ (p : Parts R A G). MakesStore t k v (held_of chain settled list nodes pairs p) (reply.Wrote k w) (held_of chain settled list nodes pairs after_store)) seen (record {
-        free = not_blocked chain settled list nodes pairs before kept t live_t k Store rivals exact free;
+        free = not_blocked kept t live_t k Store rivals exact free;
         reply = ap (reply.Wrote k) told;
         stores = subst (λ (p : Parts R A G). StoresInto t k v (held_of chain settled list nodes pairs before) (held_of chain settled list nodes pairs p)) store_is stores;
       })

@@ -1,13 +1,11 @@
 -- What a start does to what is held.
-use Rattle.std.proofs.Common.{◌≡◌, ◌≢◌, ℕ, ℤ, ◌<◌, ◌≤◌, ◌+◌, arith, Bool, true, false, ◌||◌, ◌⊎◌, inl, inr, nat_eq, List, [], ◌∷◌, ◌++◌, length, Option, Some, None, refl, sym, ap, ◌∙◌, subst}
-use Rattle.std.specs.Prelude.{◌↔◌}
+use Rattle.std.proofs.Common.{◌≡◌, ℕ, ℤ, ◌<◌, arith, Bool, true, false, ◌||◌, inl, inr, nat_eq, List, [], ◌∷◌, ◌++◌, length, Option, None, refl, sym, ap, ◌∙◌, subst}
 use Rattle.std.proofs.lemmas.List.{length-append, length-map}
-use Rattle.std.proofs.lemmas.Bool.{false_from_ne_true, or_cases, or_left, or_right, eqb-true, eqb-false, eq-eqb}
+use Rattle.std.proofs.lemmas.Bool.{false_from_ne_true, or_cases, or_left, or_right, eqb-true, eqb-false}
 use Rattle.sgt_model.specs.declared.reply.Fate.{Fate}
 use Rattle.sgt_model.specs.Contents.{Key}
 use Rattle.sgt_model.specs.Walks.{Member, AtMost}
 use Rattle.sgt_model.specs.Touches.{Touch}
-use Rattle.sgt_model.specs.Progress.{Call}
 use Rattle.sgt_model.specs.Courses.{Course}
 use Rattle.sgt_model.specs.Traces.{Used}
 use Rattle.sgt_model.specs.Settings.{Setting, runs_in}
@@ -15,14 +13,13 @@ use Rattle.sgt_model.specs.declared.reply.Reply.{Reply}
 use Rattle.sgt_model.specs.CallEffects.{start_answer, StartOn, StartEffect}
 use Rattle.sgt_model.specs.Held.{Held}
 use Rattle.sgt_model.specs.Changes.{Starts}
-use Rattle.sgt_model.specs.Soundness.{Sound}
 use Rattle.sgt_model.proofs.Conditions.{next_no_node}
 use Rattle.sgt_model.proofs.SoundCalls.{sound_starts}
 use Rattle.sgt_sched.specs.Courses.{numbers, course_at, started}
 use Rattle.sgt_sched.specs.Parts.{Parts, fate_at, held_of, IsKept}
 use Rattle.sgt_sched.proofs.Lists.{numbers-added, course_at-added, course_at-new, fate_at-added, fate_at-past}
 
-module _ {R A G : Type 0} (chain : R → Key → List (ℕ × ℤ)) (settled : R → Key → Option ℤ) (list : A → List Touch) (nodes : G → ℕ → Bool) (pairs : G → ℕ → ℕ → Bool) (before : Parts R A G) (kept : IsKept chain settled list nodes pairs before) (procedure : ℕ) (args : List ℤ) (graph : G) (nodes_are : (u : ℕ) → nodes graph u ≡ (nodes before.graph u || nat_eq u (length before.fates))) (pairs_are : (u v : ℕ) → pairs graph u v ≡ pairs before.graph u v) where
+module _ {R A G : Type 0} {chain : R → Key → List (ℕ × ℤ)} {settled : R → Key → Option ℤ} {list : A → List Touch} {nodes : G → ℕ → Bool} {pairs : G → ℕ → ℕ → Bool} {before : Parts R A G} (kept : IsKept chain settled list nodes pairs before) (procedure : ℕ) (args : List ℤ) (graph : G) (nodes_are : (u : ℕ) → nodes graph u ≡ (nodes before.graph u || nat_eq u (length before.fates))) (pairs_are : (u v : ℕ) → pairs graph u v ≡ pairs before.graph u v) where
   -- the parts afterwards
   abbrev pub after_start : Parts R A G
   after_start = record {
@@ -91,7 +88,7 @@ module _ {R A G : Type 0} (chain : R → Key → List (ℕ × ℤ)) (settled : R
     used_now : (u : ℕ) → u ≡ length before.fates → UsedBy u (course_at (before.live ++ (length before.fates, started procedure args) ∷ []) u)
     used_now u e = subst (UsedBy u) (sym (ap (course_at after_start.live) e ∙ starts.course)) tt
 
-module _ {R A G : Type 0} (chain : R → Key → List (ℕ × ℤ)) (settled : R → Key → Option ℤ) (list : A → List Touch) (nodes : G → ℕ → Bool) (pairs : G → ℕ → ℕ → Bool) (before : Parts R A G) (kept : IsKept chain settled list nodes pairs before) (procedure : ℕ) (args : List ℤ) (t : ℕ) (next : t ≡ length before.fates) where
+module _ {R A G : Type 0} {chain : R → Key → List (ℕ × ℤ)} {settled : R → Key → Option ℤ} {list : A → List Touch} {nodes : G → ℕ → Bool} {pairs : G → ℕ → ℕ → Bool} {before : Parts R A G} (kept : IsKept chain settled list nodes pairs before) (procedure : ℕ) (args : List ℤ) (t : ℕ) (next : t ≡ length before.fates) where
   -- the next number is no node
   pub start_new : nodes before.graph t ≡ false
   start_new = false_from_ne_true (nodes before.graph t) (λ h. next_no_node before.limits.live (held_of chain settled list nodes pairs before) kept.sound (subst (λ n. nodes before.graph n ≡ true) next h))
@@ -108,7 +105,7 @@ module _ {R A G : Type 0} (chain : R → Key → List (ℕ × ℤ)) (settled : R
   pub start_done : (graph : G) (live : List (ℕ × Course)) (fates : List (Option Fate)) → ((u : ℕ) → nodes graph u ≡ (nodes before.graph u || nat_eq u t)) → ((u v : ℕ) → pairs graph u v ≡ pairs before.graph u v) → live ≡ before.live ++ (t, started procedure args) ∷ [] → fates ≡ before.fates ++ None ∷ [] → length (numbers before.live) < before.limits.live → length before.fates < before.limits.begins → IsKept chain settled list nodes pairs (record { procedures = before.procedures; limits = before.limits; records = before.records; accesses = before.accesses; graph = graph; live = live; read_from = before.read_from; fates = fates }) × Starts (record { procedure = procedure; args = args }) (held_of chain settled list nodes pairs before) (held_of chain settled list nodes pairs (record { procedures = before.procedures; limits = before.limits; records = before.records; accesses = before.accesses; graph = graph; live = live; read_from = before.read_from; fates = fates }))
   start_done graph live fates nodes_are pairs_are live_is fates_is room more =
       subst (λ (p : Parts R A G). IsKept chain settled list nodes pairs p × Starts (record { procedure = procedure; args = args }) (held_of chain settled list nodes pairs before) (held_of chain settled list nodes pairs p)) same
-      (kept_start chain settled list nodes pairs before kept procedure args graph nodes_now pairs_are (subst (λ n. n < before.limits.live) (length-map before.live _) room) more, starts chain settled list nodes pairs before kept procedure args graph nodes_now pairs_are) where
+      (kept_start kept procedure args graph nodes_now pairs_are (subst (λ n. n < before.limits.live) (length-map before.live _) room) more, starts kept procedure args graph nodes_now pairs_are) where
         nodes_now : (u : ℕ) → nodes graph u ≡ (nodes before.graph u || nat_eq u (length before.fates))
         nodes_now u = nodes_are u ∙ ap (λ n. nodes before.graph u || nat_eq u n) next
 
@@ -118,7 +115,7 @@ module _ {R A G : Type 0} (chain : R → Key → List (ℕ × ℤ)) (settled : R
         fates_now : before.fates ++ None ∷ [] ≡ fates
         fates_now = sym fates_is
 
-        same : after_start chain settled list nodes pairs before kept procedure args graph nodes_now pairs_are ≡ record { procedures = before.procedures; limits = before.limits; records = before.records; accesses = before.accesses; graph = graph; live = live; read_from = before.read_from; fates = fates }
+        same : after_start kept procedure args graph nodes_now pairs_are ≡ record { procedures = before.procedures; limits = before.limits; records = before.records; accesses = before.accesses; graph = graph; live = live; read_from = before.read_from; fates = fates }
         same = λ i. record { procedures = before.procedures; limits = before.limits; records = before.records; accesses = before.accesses; graph = graph; live = live_now i; read_from = before.read_from; fates = fates_now i }
 
 -- the effect of a start, where the parts before it were seen as others

@@ -1,6 +1,5 @@
 -- The effect of a call on a live transaction.
-use Rattle.std.proofs.Common.{◌≡◌, ℕ, Bool, true, nat_lt, Option, None, Result, Ok, Err, sym, subst, ◌⊎◌}
-use Rattle.std.specs.Prelude.{IfOk}
+use Rattle.std.proofs.Common.{◌≡◌, ℕ, Bool, true, nat_lt, Option, None, sym, subst}
 use Rattle.sgt_model.specs.declared.event.Event.{Event}
 use Rattle.sgt_model.specs.declared.reply.Fate.{Fate}
 use Rattle.sgt_model.specs.declared.reply.Reply.{Reply}
@@ -18,11 +17,6 @@ if_unended b ended before r after X begun none x =
 -- a step, by what comes next
 pub steps_on : (s : Setting) (t : ℕ) (before : Held) (r : Reply) (after : Held) (n : Next) → nat_lt t before.starts ≡ true → before.fates t ≡ None → n ≡ next_in s (before.courses t) → StepOn t n before r after → StepEffect s t before r after
 steps_on s t before r after n begun none next done = if_unended _ _ before r after _ begun none (subst (λ m. StepOn t m before r after) next done)
-
--- what holds of each result that is Ok holds in another form
-pub if_ok-map : {X E : Type 0} (r : Result X E) (P Q : X → Type 0) → ((x : X) → P x → Q x) → IfOk r P → IfOk r Q
-if_ok-map (Ok x) P Q f p = f x p
-if_ok-map (Err e) P Q f p = p
 
 -- a call on an event, which is this one
 pub called : (s : Setting) (before : Held) (r : Reply) (after : Held) (event is : Event) → event ≡ is → CallEffect s is before r after → CallEffect s event before r after

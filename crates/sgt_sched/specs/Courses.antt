@@ -1,6 +1,5 @@
 -- The live transactions with how far each has come, as a list.
 use Rattle.std.specs.Prelude.{ℕ, ℤ, Bool, ◌+◌, not, cond, nat_eq, List, [], ◌∷◌, ◌++◌, map, filter, Option}
-use Rattle.sgt_model.specs.Progress.{Call}
 use Rattle.sgt_model.specs.Courses.{Course}
 
 -- their numbers

@@ -29,8 +29,10 @@ pub record Parts (R A G : Type 0) : Type 0 where
 abbrev pub fate_at : List (Option Fate) → ℕ → Option Fate
 fate_at fates t = slice_index_or fates t None
 
+-- by what the layers tell: of records the chain and the committed value of each key, of accesses their list, of a graph its
+-- nodes and pairs
 module _ {R A G : Type 0} (chain : R → Key → List (ℕ × ℤ)) (settled : R → Key → Option ℤ) (list : A → List Touch) (nodes : G → ℕ → Bool) (pairs : G → ℕ → ℕ → Bool) where
-  -- what is held, by what the layers tell
+  -- what is held
   abbrev pub held_of : Parts R A G → Held
   held_of p = record {
     live = numbers p.live;

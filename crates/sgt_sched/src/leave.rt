@@ -8,7 +8,8 @@ use sgt_access::Accesses;
 use sgt_graph::Graph;
 use sgt_model::Tid;
 
-/// Takes a transaction that has ended out of the access list, the graph, the live ones and the reads.
+/// Takes a transaction that has ended out of the access list, the graph, the live ones and the reads, source or reader.
+/// This takes no memory.
 pub fn leave<A: Accesses, G: Graph>(
     accesses: &mut A,
     graph: &mut G,
@@ -18,7 +19,8 @@ pub fn leave<A: Accesses, G: Graph>(
 )
     ensures accesses { A.list accesses.new ≡ forgotten t (A.list accesses.old) }
     ensures nodes { (u : ℕ) → G.nodes graph.new u ≡ (G.nodes graph.old u && not (nat_eq t u)) }
-    ensures pairs { (u v : ℕ) → G.pairs graph.new u v ≡ (G.pairs graph.old u v && (not (nat_eq t u) && not (nat_eq t v))) }
+    ensures pairs { (u v : ℕ) → G.pairs graph.new u v
+        ≡ (G.pairs graph.old u v && (not (nat_eq t u) && not (nat_eq t v))) }
     ensures live { live.new ≡ without t live.old }
     ensures read_from { read_from.new.items ≡ unread t read_from.old.items }
 {

@@ -7,7 +7,7 @@ use sgt_model::{Args, NoMemory, Tid};
 use std::alloc::Global;
 use std::marker::Model;
 
-/// The live transactions, rising by number.
+/// The live transactions with how far each has come, in the order of their starts. A call searches the list once.
 #[derive(Drop)]
 pub struct Live {
     running: Vec<Running>,
@@ -48,7 +48,7 @@ impl Live {
         self.running.iter().find(|running| running.tid == t)
     }
 
-    /// Adds one that was just started, as the last.
+    /// Adds one that was just started, as the last. `NoMemory` where a growth was refused; then nothing has changed.
     pub fn start(&mut self, t: Tid, procedure: u16, args: Args) -> Result<(), NoMemory>
         ensures ok { OnOk result (self.new ≡ self.old ++ (t, started procedure args) ∷ []) }
         ensures err { OnErr result (self.new ≡ self.old) }
@@ -64,7 +64,7 @@ impl Live {
         Ok(())
     }
 
-    /// Notes that a look of t found this.
+    /// Notes that a look of t found this. `NoMemory` where a growth was refused; then nothing has changed.
     pub fn look(&mut self, t: Tid, value: Option<i64>) -> Result<(), NoMemory>
         requires few { (course_at self.old t).made < 64 }
         ensures ok { OnOk result (self.new ≡ changed t (looked value) self.old) }
@@ -76,7 +76,7 @@ impl Live {
         Ok(())
     }
 
-    /// Notes that t stored a value.
+    /// Notes that t stored a value. This takes no memory.
     pub fn store(&mut self, t: Tid)
         requires few { (course_at self.old t).made < 64 }
         ensures { self.new ≡ changed t stored self.old }
@@ -86,7 +86,7 @@ impl Live {
         }
     }
 
-    /// Drops the transaction, which has ended.
+    /// Drops the transaction, which has ended. This takes no memory.
     pub fn remove(&mut self, t: Tid)
         ensures { self.new ≡ without t self.old }
     {

@@ -5,7 +5,9 @@ ghost use Rattle.sgt_sched.specs.Steps.{with_source};
 use sgt_model::Tid;
 use sgt_records::Top;
 
-/// Notes from whom a look of t has read, where it found another's value. The list has room for it.
+/// Notes from whom a look of t has read, where it found another's pending value. The list has room for it.
+///
+/// Bernstein, Hadzilacos and Goodman (1987), chapter 2.
 pub fn note_read(read_from: &mut Vec<(Tid, Tid)>, top: &Top, t: Tid)
     requires { vec_len read_from.old < vec_capacity read_from.old }
     ensures { read_from.new.items ≡ with_source top.now t read_from.old.items }

@@ -27,11 +27,18 @@ impl Model for Running {
 
     ghost Value = { ℕ × Course };
 
-    ghost view = { λ r. (r.tid, record { call = record { procedure = r.procedure; args = r.args }; read = r.read.items; made = r.made }) };
+    ghost view = { λ r. (
+      r.tid,
+      record {
+        call = record { procedure = r.procedure; args = r.args };
+        read = r.read.items;
+        made = r.made;
+      },
+    ) };
 }
 
 impl Running {
-    /// Notes that a look found this.
+    /// Notes that a look found this. `NoMemory` where a growth was refused; then nothing has changed.
     pub fn look(&mut self, value: Option<i64>) -> Result<(), NoMemory>
         requires few { self.old.1.made < 64 }
         ensures ok { OnOk result (self.new ≡ (self.old.0, looked value self.old.1)) }
@@ -51,11 +58,15 @@ impl Running {
     }
 }
 
-/// What the procedure of a live transaction does next. A number that names no procedure asks 0, and is never started.
+/// What the procedure of a live transaction does next. Where its number names no procedure, which no start lets in, it asks
+/// the code 0.
 pub fn next_of(procedures: &[Checked], running: &Running) -> Next
     ensures next { seen result ≡ next_along procedures.now running.now.1 }
     ensures in_range { StoresValue result }
-    ensures few { IsAccess result → Used (runs_in procedures.now running.now.1.call.procedure running.now.1.call.args) running.now.1.read running.now.1.made → running.now.1.made < 64 }
+    ensures few { IsAccess result
+        → Used (runs_in procedures.now running.now.1.call.procedure running.now.1.call.args)
+        running.now.1.read running.now.1.made
+        → running.now.1.made < 64 }
 {
     match procedures.get(usize::from(running.procedure)) {
         Some(procedure) => procedure.next(&running.args, running.read.as_slice(), running.made),

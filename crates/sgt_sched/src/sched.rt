@@ -32,7 +32,18 @@ use sgt_records::Records;
 use std::alloc::Global;
 use std::marker::Model;
 
-/// The scheduler.
+/// A scheduler of transactions by serialization graph testing, over records, a list of accesses and a graph that it knows
+/// by their contracts alone.
+///
+/// A step looks at one key or stores one. Each other live transaction that has touched the key, where one of the two
+/// touches stores, has to commit first: a pair leads from it to the one that steps. Where these pairs would close a cycle,
+/// the step is refused and its transaction aborts (Bernstein, Hadzilacos and Goodman 1987, chapter 4). A look finds the
+/// last value that is not undone, committed or not; an abort takes out the transaction's own values, and takes along those
+/// that have read from it (chapter 2). A commit waits for the transaction's live predecessors, so commit order agrees with
+/// the order of conflicts (Durner and Neumann, ICDE 2019).
+///
+/// Of a transaction that has ended it keeps how it ended, and nothing else. So what a call costs grows with the live
+/// transactions and what they have done, and not with how many came before them, but for growing a list now and then.
 #[derive(Drop)]
 pub struct Sched<R: Records, A: Accesses, G: Graph> {
     procedures: Vec<Checked>,
@@ -54,20 +65,43 @@ impl<R: Records, A: Accesses, G: Graph> Model for Sched<R, A, G> {
 
     ghost coded = { Prim.hlevel (codes, coded_program) };
 
-    ghost view = { λ s. record { procedures = s.procedures.items; limits = s.limits; records = s.records; accesses = s.accesses; graph = s.graph; live = s.live; read_from = s.read_from.items; fates = s.fates.items } };
+    ghost view = { λ s. record {
+      procedures = s.procedures.items;
+      limits = s.limits;
+      records = s.records;
+      accesses = s.accesses;
+      graph = s.graph;
+      live = s.live;
+      read_from = s.read_from.items;
+      fates = s.fates.items;
+    } };
 
-    ghost invariant = { λ s. IsKept R.chain R.settled A.list G.nodes G.pairs (record { procedures = s.procedures.items; limits = s.limits; records = s.records; accesses = s.accesses; graph = s.graph; live = s.live; read_from = s.read_from.items; fates = s.fates.items }) };
+    ghost invariant = { λ s. IsKept R.chain R.settled A.list G.nodes G.pairs (record {
+      procedures = s.procedures.items;
+      limits = s.limits;
+      records = s.records;
+      accesses = s.accesses;
+      graph = s.graph;
+      live = s.live;
+      read_from = s.read_from.items;
+      fates = s.fates.items;
+    }) };
 }
 
 impl<R: Records, A: Accesses, G: Graph> Sched<R, A, G> {
-    /// A scheduler with nothing started.
+    /// A scheduler over an opening database, with nothing started. It copies the opening. The procedures are numbered from
+    /// 0 in their order.
+    ///
+    /// `BadLimits` where a limit is out of its range, tested first; `NoMemory` where a growth was refused.
     pub fn new(
         alloc: Global,
         opening: &Database,
         procedures: Vec<Checked>,
         limits: Limits,
     ) -> Result<Self, MakeError>
-        ensures new { IfOk result (λ s. IsNew (setting (contents_of opening.now) procedures.items limits) (held_of R.chain R.settled A.list G.nodes G.pairs s)) }
+        ensures new { IfOk result (λ s.
+            IsNew (setting (contents_of opening.now) procedures.items limits)
+            (held_of R.chain R.settled A.list G.nodes G.pairs s)) }
         ensures procedures { IfOk result (λ s. s.procedures ≡ procedures.items) }
         ensures limits { IfOk result (λ s. s.limits ≡ limits) }
         ensures refused { (result ≡ Err MakeError.BadLimits) ↔ (¬ AreInRange limits) }
@@ -87,12 +121,19 @@ impl<R: Records, A: Accesses, G: Graph> Sched<R, A, G> {
         })
     }
 
-    /// Takes an event, and answers it.
+    /// Makes the call that an event stands for: `start`, `step`, `commit` or `quit`.
+    ///
+    /// `NoMemory` where a growth was refused; then nothing has changed.
     pub fn call(&mut self, event: &Event) -> Result<Reply, NoMemory>
-        ensures done { IfOk result (λ r. (opening : Contents) → CallEffect (setting opening self.old.procedures self.old.limits) event.now (held_of R.chain R.settled A.list G.nodes G.pairs self.old) r (held_of R.chain R.settled A.list G.nodes G.pairs self.new)) }
+        ensures done { IfOk result (λ r. (opening : Contents) →
+            CallEffect (setting opening self.old.procedures self.old.limits) event.now
+            (held_of R.chain R.settled A.list G.nodes G.pairs self.old) r
+            (held_of R.chain R.settled A.list G.nodes G.pairs self.new)) }
         ensures procedures { self.new.procedures ≡ self.old.procedures }
         ensures limits { self.new.limits ≡ self.old.limits }
-        ensures refused { OnErr result (Same (held_of R.chain R.settled A.list G.nodes G.pairs self.old) (held_of R.chain R.settled A.list G.nodes G.pairs self.new)) }
+        ensures refused { OnErr result (Same
+            (held_of R.chain R.settled A.list G.nodes G.pairs self.old)
+            (held_of R.chain R.settled A.list G.nodes G.pairs self.new)) }
     {
         match event {
             Event::Start { procedure, args } => self.start(*procedure, args),
@@ -103,11 +144,21 @@ impl<R: Records, A: Accesses, G: Graph> Sched<R, A, G> {
     }
 
     /// Starts a transaction that runs the procedure of this number with these arguments.
+    ///
+    /// Answers, tested in this order: `NoProcedure` where the number names none; `BadArgs` where the arguments are not as
+    /// many as the procedure takes, or one is no value; `Spent` where as many were started as the limits allow; `Full`
+    /// where as many are live; else `Started` with the next number. `NoMemory` where a growth was refused; then nothing has
+    /// changed.
     pub fn start(&mut self, procedure: u16, args: &Args) -> Result<Reply, NoMemory>
-        ensures done { IfOk result (λ r. (opening : Contents) → StartEffect (setting opening self.old.procedures self.old.limits) procedure args.now (held_of R.chain R.settled A.list G.nodes G.pairs self.old) r (held_of R.chain R.settled A.list G.nodes G.pairs self.new)) }
+        ensures done { IfOk result (λ r. (opening : Contents) →
+            StartEffect (setting opening self.old.procedures self.old.limits) procedure args.now
+            (held_of R.chain R.settled A.list G.nodes G.pairs self.old) r
+            (held_of R.chain R.settled A.list G.nodes G.pairs self.new)) }
         ensures procedures { self.new.procedures ≡ self.old.procedures }
         ensures limits { self.new.limits ≡ self.old.limits }
-        ensures refused { OnErr result (Same (held_of R.chain R.settled A.list G.nodes G.pairs self.old) (held_of R.chain R.settled A.list G.nodes G.pairs self.new)) }
+        ensures refused { OnErr result (Same
+            (held_of R.chain R.settled A.list G.nodes G.pairs self.old)
+            (held_of R.chain R.settled A.list G.nodes G.pairs self.new)) }
     {
         let t = match self.admit(procedure, args) {
             Ok(t) => t,
@@ -122,7 +173,10 @@ impl<R: Records, A: Accesses, G: Graph> Sched<R, A, G> {
 
     // The number of a transaction that may start, or why it may not.
     fn admit(&self, procedure: u16, args: &Args) -> Result<Tid, Reply>
-        ensures { (opening : Contents) → Admits (setting opening self.now.procedures self.now.limits) (held_of R.chain R.settled A.list G.nodes G.pairs self.now) procedure args.now result }
+        ensures { (opening : Contents) →
+            Admits (setting opening self.now.procedures self.now.limits)
+            (held_of R.chain R.settled A.list G.nodes G.pairs self.now)
+            procedure args.now result }
     {
         let count = match self.procedures.get(usize::from(procedure)) {
             Some(checked) => checked.args(),
@@ -140,12 +194,24 @@ impl<R: Records, A: Accesses, G: Graph> Sched<R, A, G> {
         Ok(Tid(self.fates.len() as u32))
     }
 
-    /// Lets the procedure of a transaction make its next access.
+    /// Lets the procedure of a transaction make its next access (Bernstein, Hadzilacos and Goodman 1987, chapter 4).
+    ///
+    /// Answers: `Unknown` where it was never started; `Over` where it has ended; `Ended` where its procedure is at its end,
+    /// with nothing done; `Aborted` where its procedure asks a code, and exactly where the access would close a cycle; else
+    /// `Looked` with the last value that is not undone, or `Wrote`. `NoMemory` where a growth was refused; then nothing has
+    /// changed.
+    ///
+    /// The procedure is run again over what its looks found, at most 64 accesses.
     pub fn step(&mut self, t: Tid) -> Result<Reply, NoMemory>
-        ensures done { IfOk result (λ r. (opening : Contents) → StepEffect (setting opening self.old.procedures self.old.limits) t (held_of R.chain R.settled A.list G.nodes G.pairs self.old) r (held_of R.chain R.settled A.list G.nodes G.pairs self.new)) }
+        ensures done { IfOk result (λ r. (opening : Contents) →
+            StepEffect (setting opening self.old.procedures self.old.limits) t
+            (held_of R.chain R.settled A.list G.nodes G.pairs self.old) r
+            (held_of R.chain R.settled A.list G.nodes G.pairs self.new)) }
         ensures procedures { self.new.procedures ≡ self.old.procedures }
         ensures limits { self.new.limits ≡ self.old.limits }
-        ensures refused { OnErr result (Same (held_of R.chain R.settled A.list G.nodes G.pairs self.old) (held_of R.chain R.settled A.list G.nodes G.pairs self.new)) }
+        ensures refused { OnErr result (Same
+            (held_of R.chain R.settled A.list G.nodes G.pairs self.old)
+            (held_of R.chain R.settled A.list G.nodes G.pairs self.new)) }
     {
         let next = match self.next(t) {
             Ok(next) => next,
@@ -159,9 +225,15 @@ impl<R: Records, A: Accesses, G: Graph> Sched<R, A, G> {
         }
     }
 
-    /// Commits a transaction. This takes no memory.
+    /// Commits a transaction that has no live predecessor (Durner and Neumann, ICDE 2019). This takes no memory.
+    ///
+    /// Answers: `Unknown` where it was never started; `Over` where it has ended; `NotEnded` where its procedure is not at its
+    /// end; `Waits` with the least live predecessor, where there is one; else `Committed` with the procedure's answers.
     pub fn commit(&mut self, t: Tid) -> Reply
-        ensures done { (opening : Contents) → CommitEffect (setting opening self.old.procedures self.old.limits) t (held_of R.chain R.settled A.list G.nodes G.pairs self.old) result (held_of R.chain R.settled A.list G.nodes G.pairs self.new) }
+        ensures done { (opening : Contents) →
+            CommitEffect (setting opening self.old.procedures self.old.limits) t
+            (held_of R.chain R.settled A.list G.nodes G.pairs self.old) result
+            (held_of R.chain R.settled A.list G.nodes G.pairs self.new) }
         ensures procedures { self.new.procedures ≡ self.old.procedures }
         ensures limits { self.new.limits ≡ self.old.limits }
     {
@@ -176,8 +248,12 @@ impl<R: Records, A: Accesses, G: Graph> Sched<R, A, G> {
     }
 
     /// Aborts a transaction, as its caller asks. This takes no memory.
+    ///
+    /// Answers: `Unknown` where it was never started; `Over` where it has ended; else `Aborted`.
     pub fn quit(&mut self, t: Tid) -> Reply
-        ensures done { QuitEffect t (held_of R.chain R.settled A.list G.nodes G.pairs self.old) result (held_of R.chain R.settled A.list G.nodes G.pairs self.new) }
+        ensures done { QuitEffect t
+            (held_of R.chain R.settled A.list G.nodes G.pairs self.old) result
+            (held_of R.chain R.settled A.list G.nodes G.pairs self.new) }
         ensures procedures { self.new.procedures ≡ self.old.procedures }
         ensures limits { self.new.limits ≡ self.old.limits }
     {
@@ -192,7 +268,8 @@ impl<R: Records, A: Accesses, G: Graph> Sched<R, A, G> {
         ensures live { OnOk result (G.nodes self.now.graph t ≡ true) }
         ensures unended { OnOk result (IsUnended self.now.fates t) }
         ensures course { IfOk result (λ running. running.now ≡ (t, course_at self.now.live t)) }
-        ensures closed { IfErr result (IsClosed (nat_lt t (length self.now.fates)) (fate_at self.now.fates t)) }
+        ensures closed { IfErr result
+            (IsClosed (nat_lt t (length self.now.fates)) (fate_at self.now.fates t)) }
     {
         if let Some(running) = self.live.get(t) {
             return Ok(running);
@@ -208,10 +285,13 @@ impl<R: Records, A: Accesses, G: Graph> Sched<R, A, G> {
     fn next(&self, t: Tid) -> Result<Next, Reply>
         ensures live { OnOk result (G.nodes self.now.graph t ≡ true) }
         ensures unended { OnOk result (IsUnended self.now.fates t) }
-        ensures next { IfOk result (λ next. seen next ≡ next_along self.now.procedures (course_at self.now.live t)) }
+        ensures next { IfOk result (λ next.
+            seen next ≡ next_along self.now.procedures (course_at self.now.live t)) }
         ensures in_range { IfOk result StoresValue }
-        ensures few { IfOk result (λ next. IsAccess next → (course_at self.now.live t).made < 64) }
-        ensures closed { IfErr result (IsClosed (nat_lt t (length self.now.fates)) (fate_at self.now.fates t)) }
+        ensures few { IfOk result (λ next.
+            IsAccess next → (course_at self.now.live t).made < 64) }
+        ensures closed { IfErr result
+            (IsClosed (nat_lt t (length self.now.fates)) (fate_at self.now.fates t)) }
     {
         match self.running(t) {
             Ok(running) => Ok(next_of(self.procedures.as_slice(), running)),
@@ -219,10 +299,13 @@ impl<R: Records, A: Accesses, G: Graph> Sched<R, A, G> {
         }
     }
 
-    // Aborts a live transaction. With one live at a time, nobody else has read from it.
+    // Aborts a live transaction. Those that have read from it would fall with it: as long as at most one transaction is live,
+    // `MOST_LIVE` of sgt_model, there are none. Nothing else in this crate rests on that limit.
     fn abort(&mut self, t: Tid, cause: Cause) -> Reply
         requires live { G.nodes self.old.graph t ≡ true }
-        ensures aborts { AbortsIn t cause (held_of R.chain R.settled A.list G.nodes G.pairs self.old) result (held_of R.chain R.settled A.list G.nodes G.pairs self.new) }
+        ensures aborts { AbortsIn t cause
+            (held_of R.chain R.settled A.list G.nodes G.pairs self.old) result
+            (held_of R.chain R.settled A.list G.nodes G.pairs self.new) }
         ensures procedures { self.new.procedures ≡ self.old.procedures }
         ensures limits { self.new.limits ≡ self.old.limits }
     {
@@ -247,10 +330,18 @@ impl<R: Records, A: Accesses, G: Graph> Sched<R, A, G> {
         requires live { G.nodes self.old.graph t ≡ true }
         requires next { next_along self.old.procedures (course_at self.old.live t) ≡ Looks key }
         requires few { (course_at self.old.live t).made < 64 }
-        ensures done { IfOk result (λ r. RefusesIn t key Look (held_of R.chain R.settled A.list G.nodes G.pairs self.old) r (held_of R.chain R.settled A.list G.nodes G.pairs self.new) ⊎ MakesLook t key (held_of R.chain R.settled A.list G.nodes G.pairs self.old) r (held_of R.chain R.settled A.list G.nodes G.pairs self.new)) }
+        ensures done { IfOk result (λ r.
+            RefusesIn t key Look
+            (held_of R.chain R.settled A.list G.nodes G.pairs self.old) r
+            (held_of R.chain R.settled A.list G.nodes G.pairs self.new)
+            ⊎ MakesLook t key
+            (held_of R.chain R.settled A.list G.nodes G.pairs self.old) r
+            (held_of R.chain R.settled A.list G.nodes G.pairs self.new)) }
         ensures procedures { self.new.procedures ≡ self.old.procedures }
         ensures limits { self.new.limits ≡ self.old.limits }
-        ensures refused { OnErr result (Same (held_of R.chain R.settled A.list G.nodes G.pairs self.old) (held_of R.chain R.settled A.list G.nodes G.pairs self.new)) }
+        ensures refused { OnErr result (Same
+            (held_of R.chain R.settled A.list G.nodes G.pairs self.old)
+            (held_of R.chain R.settled A.list G.nodes G.pairs self.new)) }
     {
         let rivals = self.accesses.rivals(t, key, Kind::Look);
         match self.graph.test(t, &rivals) {
@@ -275,10 +366,18 @@ impl<R: Records, A: Accesses, G: Graph> Sched<R, A, G> {
         requires next { next_along self.old.procedures (course_at self.old.live t) ≡ Puts key value }
         requires few { (course_at self.old.live t).made < 64 }
         requires in_range { IsValue value }
-        ensures done { IfOk result (λ r. RefusesIn t key Store (held_of R.chain R.settled A.list G.nodes G.pairs self.old) r (held_of R.chain R.settled A.list G.nodes G.pairs self.new) ⊎ MakesStore t key value (held_of R.chain R.settled A.list G.nodes G.pairs self.old) r (held_of R.chain R.settled A.list G.nodes G.pairs self.new)) }
+        ensures done { IfOk result (λ r.
+            RefusesIn t key Store
+            (held_of R.chain R.settled A.list G.nodes G.pairs self.old) r
+            (held_of R.chain R.settled A.list G.nodes G.pairs self.new)
+            ⊎ MakesStore t key value
+            (held_of R.chain R.settled A.list G.nodes G.pairs self.old) r
+            (held_of R.chain R.settled A.list G.nodes G.pairs self.new)) }
         ensures procedures { self.new.procedures ≡ self.old.procedures }
         ensures limits { self.new.limits ≡ self.old.limits }
-        ensures refused { OnErr result (Same (held_of R.chain R.settled A.list G.nodes G.pairs self.old) (held_of R.chain R.settled A.list G.nodes G.pairs self.new)) }
+        ensures refused { OnErr result (Same
+            (held_of R.chain R.settled A.list G.nodes G.pairs self.old)
+            (held_of R.chain R.settled A.list G.nodes G.pairs self.new)) }
     {
         let rivals = self.accesses.rivals(t, key, Kind::Store);
         match self.graph.test(t, &rivals) {
@@ -299,7 +398,9 @@ impl<R: Records, A: Accesses, G: Graph> Sched<R, A, G> {
     fn settle(&mut self, t: Tid, answers: Answers) -> Reply
         requires live { G.nodes self.old.graph t ≡ true }
         requires first { (u : ℕ) → G.pairs self.old.graph u t ≡ false }
-        ensures commits { CommitsIn t answers (held_of R.chain R.settled A.list G.nodes G.pairs self.old) result (held_of R.chain R.settled A.list G.nodes G.pairs self.new) }
+        ensures commits { CommitsIn t answers
+            (held_of R.chain R.settled A.list G.nodes G.pairs self.old) result
+            (held_of R.chain R.settled A.list G.nodes G.pairs self.new) }
         ensures procedures { self.new.procedures ≡ self.old.procedures }
         ensures limits { self.new.limits ≡ self.old.limits }
     {
@@ -315,7 +416,7 @@ impl<R: Records, A: Accesses, G: Graph> Sched<R, A, G> {
         Reply::Committed(answers)
     }
 
-    /// The records, as the live transactions have left them.
+    /// The records: the committed values, and above them what the live transactions have stored.
     pub fn records(&self) -> &R
         ensures { result.now ≡ self.now.records }
     {

@@ -1,5 +1,7 @@
 use Rattle.std.proofs.Common.{◌≡◌, take}
 use Rattle.sgt_model.specs.Databases.{contents_of}
+use Rattle.sgt_model.specs.Headline.{Headline}
+use Rattle.sgt_model.specs.Legality.{Legal}
 use Rattle.sgt_model.specs.Settings.{setting}
 use Rattle.sgt_engine.specs.Parts.{setting_of, events_of}
 use Rattle.sgt_engine.proofs.run.run_list.Given as goal
@@ -9,4 +11,6 @@ invariant-loop-event g l = record {
   done : l.done ≡ l.event-index;
   setting : setting_of l.engine ≡ setting (contents_of l.fn.opening) l.fn.procedures.items l.fn.limits;
   events : events_of l.engine.past ≡ take l.done l.events;
+  legal : Legal (setting_of l.engine) l.engine.past;
+  headline : Headline (setting_of l.engine) l.engine.past;
 }

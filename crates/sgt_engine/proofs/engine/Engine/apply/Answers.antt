@@ -4,7 +4,7 @@ use Rattle.sgt_model.specs.Settings.{setting}
 use Rattle.sgt_model.proofs.Headline.{headline}
 use Rattle.sgt_sched.specs.Parts.{held_of}
 use Rattle.sgt_engine.specs.Parts.{setting_of}
-use Rattle.sgt_engine.proofs.Entries.{same_setting, kept_entry, legal_reply, legal_same}
+use Rattle.sgt_engine.proofs.Entries.{added, same_setting, kept_entry, legal_reply, legal_same}
 use Rattle.sgt_engine.proofs.engine.Engine.apply.Goals as goal
 
 pub returns-in_err-reserve-clause-headline : goal.returns-in_err-reserve-clause-headline
@@ -21,7 +21,7 @@ pub invariant_of-self-2 : goal.invariant_of-self-2
 invariant_of-self-2 g c =
     let s = setting (contents_of c.self.inside.opening) c.self.inside.sched.procedures c.self.inside.sched.limits in
     kept_entry s _ c.self.inside.history.items c.push_reserved.new.self.items (held_of g.R.Records.chain g.R.Records.settled g.A.Accesses.list g.G.Graph.nodes g.G.Graph.pairs c.self.inside.sched) (held_of g.R.Records.chain g.R.Records.settled g.A.Accesses.list g.G.Graph.nodes g.G.Graph.pairs c.call.new.self) c.args.event c.in_ok-reply.reply (same_setting _ _ _ _ _ c.call.ensures.procedures c.call.ensures.limits)
-    (c.push_reserved.ensures.items ∙ ap (λ l. l ++ record { event = c.args.event; reply = c.copied.result } ∷ []) c.reserve.ensures.items ∙ ap (λ r. c.self.inside.history.items ++ record { event = c.args.event; reply = r } ∷ []) c.copied.ensures)
+    (added _ _ _ _ _ _ c.push_reserved.ensures.items c.reserve.ensures.items c.copied.ensures)
     c.self.invariant (c.in_ok-reply.ensures.done (contents_of c.self.inside.opening))
 
 pub returns-clause-legal : goal.returns-clause-legal

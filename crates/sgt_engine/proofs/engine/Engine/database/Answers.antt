@@ -1,14 +1,14 @@
 use Rattle.std.proofs.Common.{sym, ap, ◌∙◌}
+use Rattle.std.proofs.lemmas.Result.{IfOk-weaker}
 use Rattle.sgt_model.specs.Databases.{contents_of}
 use Rattle.sgt_model.specs.Settings.{setting}
 use Rattle.sgt_model.specs.Replay.{replayed, told}
 use Rattle.sgt_model.proofs.Replays.{is_serial}
 use Rattle.sgt_engine.specs.Parts.{setting_of}
-use Rattle.sgt_engine.proofs.Entries.{if_ok-map}
 use Rattle.sgt_engine.proofs.engine.Engine.database.Goals as goal
 
 pub returns-clause-replayed : goal.returns-clause-replayed
-returns-clause-replayed g c = if_ok-map c.all.result _ _ (λ d are k.
+returns-clause-replayed g c = IfOk-weaker c.all.result _ _ (λ d are k.
     are k
     ∙ (ap (λ r. g.R.Records.settled r k) c.records.ensures
     ∙ (c.self.invariant.1.settled k

@@ -1,10 +1,9 @@
-use Rattle.std.proofs.Common.{rules, refl, ℕ, ◌≡◌, true, Some, ap, ◌∙◌, sym, subst, slice_set}
+use Rattle.std.proofs.Common.{refl, Some, ap, ◌∙◌, sym, slice_set}
 use Rattle.std.proofs.lemmas.Bool.{true≢false}
 use Rattle.std.specs.Option.{option_or}
 use Rattle.sgt_model.specs.Chains.{value_in}
 use Rattle.sgt_model.specs.declared.reply.Fate.TheVariants as fate
 use Rattle.sgt_model.proofs.Conditions.{may_settle}
-use Rattle.sgt_sched.specs.Parts.{held_of, IsKept}
 use Rattle.sgt_sched.proofs.Ended.{kept_after, removes_seen, fates_seen}
 use Rattle.sgt_sched.proofs.sched.Sched.settle.Goals as goal
 
@@ -15,7 +14,7 @@ settle-requires g c = record {
 
 pub invariant_of-self : goal.invariant_of-self
 invariant_of-self g c =
-    kept_after g.R.Records.chain g.R.Records.settled g.A.Accesses.list g.G.Graph.nodes g.G.Graph.pairs _ c.self.invariant c.args.t (ap (λ p. g.G.Graph.nodes p.graph c.args.t) c.self.view_is ∙ c.requires.live) fate.Committed c.settle.new.self c.leave.new.accesses c.leave.new.graph c.settle.ensures.chain c.leave.ensures.accesses c.leave.ensures.nodes c.leave.ensures.pairs
+    kept_after c.self.invariant c.args.t (ap (λ p. g.G.Graph.nodes p.graph c.args.t) c.self.view_is ∙ c.requires.live) fate.Committed c.settle.new.self c.leave.new.accesses c.leave.new.graph c.settle.ensures.chain c.leave.ensures.accesses c.leave.ensures.nodes c.leave.ensures.pairs
     c.args.self.now c.self.view_is c.leave.new.live c.leave.new.read_from.items _ c.leave.ensures.live c.leave.ensures.read_from (ap (λ t. slice_set c.self.inside.fates.items t (Some fate.Committed)) c.t.view_is)
 
 pub returns-clause-commits : goal.returns-clause-commits
@@ -26,8 +25,8 @@ returns-clause-commits g c =
       first = λ u h. true≢false (sym h ∙ c.requires.first u);
       reply = refl;
       settles = record {
-        removes = removes_seen g.R.Records.chain g.R.Records.settled g.A.Accesses.list g.G.Graph.nodes g.G.Graph.pairs _ c.self.invariant c.args.t node fate.Committed c.settle.new.self c.leave.new.accesses c.leave.new.graph c.settle.ensures.chain c.leave.ensures.accesses c.leave.ensures.nodes c.leave.ensures.pairs c.args.self.now c.self.view_is c.leave.new.live c.leave.new.read_from.items _ c.leave.ensures.live c.leave.ensures.read_from fates_are;
+        removes = removes_seen c.self.invariant c.args.t node fate.Committed c.settle.new.self c.leave.new.accesses c.leave.new.graph c.settle.ensures.chain c.leave.ensures.accesses c.leave.ensures.nodes c.leave.ensures.pairs c.args.self.now c.self.view_is c.leave.new.live c.leave.new.read_from.items _ c.leave.ensures.live c.leave.ensures.read_from fates_are;
         settled = λ k. c.settle.ensures.settled k ∙ ap (λ p. option_or (value_in c.args.t (g.R.Records.chain p.records k)) (g.R.Records.settled p.records k)) c.self.view_is;
-        fates = fates_seen g.R.Records.chain g.R.Records.settled g.A.Accesses.list g.G.Graph.nodes g.G.Graph.pairs _ c.self.invariant c.args.t node fate.Committed c.settle.new.self c.leave.new.accesses c.leave.new.graph c.settle.ensures.chain c.leave.ensures.accesses c.leave.ensures.nodes c.leave.ensures.pairs c.args.self.now c.self.view_is c.leave.new.live c.leave.new.read_from.items _ c.leave.ensures.live c.leave.ensures.read_from fates_are;
+        fates = fates_seen c.self.invariant c.args.t node fate.Committed c.settle.new.self c.leave.new.accesses c.leave.new.graph c.settle.ensures.chain c.leave.ensures.accesses c.leave.ensures.nodes c.leave.ensures.pairs c.args.self.now c.self.view_is c.leave.new.live c.leave.new.read_from.items _ c.leave.ensures.live c.leave.ensures.read_from fates_are;
       };
     }

@@ -13,23 +13,23 @@ use Rattle.sgt_sched.proofs.Looks.{inserted, store_last, store_room, kept_store,
 use Rattle.sgt_sched.proofs.sched.Sched.store.Goals as goal
 
 pub rivals-rivals-requires : goal.rivals-rivals-requires
-rivals-rivals-requires g c = record { few = rivals_few g.R.Records.chain g.R.Records.settled g.A.Accesses.list g.G.Graph.nodes g.G.Graph.pairs _ c.self.invariant }
+rivals-rivals-requires g c = record { few = rivals_few c.self.invariant }
 
 pub test-requires-clause-preds : goal.test-requires-clause-preds
-test-requires-clause-preds g c = rivals_are_nodes g.R.Records.chain g.R.Records.settled g.A.Accesses.list g.G.Graph.nodes g.G.Graph.pairs _ c.self.invariant c.args.t (ap (λ p. g.G.Graph.nodes p.graph c.args.t) c.self.view_is ∙ c.requires.live) c.args.key Store c.rivals-rivals.result c.rivals-rivals.ensures.exact
+test-requires-clause-preds g c = rivals_are_nodes c.self.invariant c.args.t (ap (λ p. g.G.Graph.nodes p.graph c.args.t) c.self.view_is ∙ c.requires.live) c.args.key Store c.rivals-rivals.result c.rivals-rivals.ensures.exact
 
 pub insert-requires-clause-preds : goal.insert-requires-clause-preds
-insert-requires-clause-preds g c = rivals_are_nodes g.R.Records.chain g.R.Records.settled g.A.Accesses.list g.G.Graph.nodes g.G.Graph.pairs _ c.self.invariant c.args.t (ap (λ p. g.G.Graph.nodes p.graph c.args.t) c.self.view_is ∙ c.requires.live) c.args.key Store c.rivals-rivals.result c.rivals-rivals.ensures.exact
+insert-requires-clause-preds g c = rivals_are_nodes c.self.invariant c.args.t (ap (λ p. g.G.Graph.nodes p.graph c.args.t) c.self.view_is ∙ c.requires.live) c.args.key Store c.rivals-rivals.result c.rivals-rivals.ensures.exact
 
 pub write-requires-clause-last : goal.write-requires-clause-last
-write-requires-clause-last g c = subst (λ l. IsLastIn c.args.t l) (sym (c.reserve.ensures.chain c.args.key)) (store_last g.R.Records.chain g.R.Records.settled g.A.Accesses.list g.G.Graph.nodes g.G.Graph.pairs _ c.args.self.now c.self.view_is c.self.invariant c.args.t (ap (λ p. g.G.Graph.nodes p.graph c.args.t) c.self.view_is ∙ c.requires.live) c.args.key c.rivals-rivals.result c.in-Accepted.ensures.verdict c.rivals-rivals.ensures.exact)
+write-requires-clause-last g c = subst (λ l. IsLastIn c.args.t l) (sym (c.reserve.ensures.chain c.args.key)) (store_last c.self.view_is c.self.invariant c.args.t (ap (λ p. g.G.Graph.nodes p.graph c.args.t) c.self.view_is ∙ c.requires.live) c.args.key c.rivals-rivals.result c.in-Accepted.ensures.verdict c.rivals-rivals.ensures.exact)
 
 pub write-requires-clause-room : goal.write-requires-clause-room
-write-requires-clause-room g c = subst (λ l. writes_in c.args.t l ≡ false → length l < 32) (sym (c.reserve.ensures.chain c.args.key)) (store_room g.R.Records.chain g.R.Records.settled g.A.Accesses.list g.G.Graph.nodes g.G.Graph.pairs _ c.args.self.now c.self.view_is c.self.invariant c.args.t (ap (λ p. g.G.Graph.nodes p.graph c.args.t) c.self.view_is ∙ c.requires.live) c.args.key c.rivals-rivals.result c.in-Accepted.ensures.verdict c.rivals-rivals.ensures.exact)
+write-requires-clause-room g c = subst (λ l. writes_in c.args.t l ≡ false → length l < 32) (sym (c.reserve.ensures.chain c.args.key)) (store_room c.self.view_is c.self.invariant c.args.t (ap (λ p. g.G.Graph.nodes p.graph c.args.t) c.self.view_is ∙ c.requires.live) c.args.key c.rivals-rivals.result c.in-Accepted.ensures.verdict c.rivals-rivals.ensures.exact)
 
 pub invariant_of-self-in-Accepted : goal.invariant_of-self-in-Accepted
 invariant_of-self-in-Accepted g c =
-    kept_store g.R.Records.chain g.R.Records.settled g.A.Accesses.list g.G.Graph.nodes g.G.Graph.pairs _ c.args.self.now c.self.view_is c.self.invariant c.args.t (ap (λ p. g.G.Graph.nodes p.graph c.args.t) c.self.view_is ∙ c.requires.live) c.args.key c.rivals-rivals.result c.in-Accepted.ensures.verdict c.rivals-rivals.ensures.exact c.args.value
+    kept_store c.self.view_is c.self.invariant c.args.t (ap (λ p. g.G.Graph.nodes p.graph c.args.t) c.self.view_is ∙ c.requires.live) c.args.key c.rivals-rivals.result c.in-Accepted.ensures.verdict c.rivals-rivals.ensures.exact c.args.value
     (ap (λ p. next_along p.procedures (course_at p.live c.args.t)) c.self.view_is ∙ c.requires.next) c.write.new.self c.note.new.self c.insert.new.self c.store.new.self
     (λ j. c.write.ensures.chain j ∙ (ap (λ z. cond (key_eq c.args.key j) (write_last c.args.t z (g.R.Records.chain c.reserve.new.self j)) (g.R.Records.chain c.reserve.new.self j)) (to_z-of_z w64 c.args.value c.ranges.value) ∙ ap (λ l. cond (key_eq c.args.key j) (write_last c.args.t c.args.value l) l) (c.reserve.ensures.chain j)))
     (λ j. c.write.ensures.settled j ∙ c.reserve.ensures.settled j)
@@ -40,11 +40,11 @@ invariant_of-self-in-Accepted g c =
 pub returns-in-Closes-clause-done : goal.returns-in-Closes-clause-done
 returns-in-Closes-clause-done g c =
     let closes = c.in-Closes.ensures.verdict in
-    inl (refuses_seen (held_of g.R.Records.chain g.R.Records.settled g.A.Accesses.list g.G.Graph.nodes g.G.Graph.pairs) _ c.args.self.now c.self.view_is c.args.t c.args.key Store closes.0 c.in-Closes.walk _ _ closes.1 (blocks_from_walk g.R.Records.chain g.R.Records.settled g.A.Accesses.list g.G.Graph.nodes g.G.Graph.pairs _ c.self.invariant c.args.t (ap (λ p. g.G.Graph.nodes p.graph c.args.t) c.self.view_is ∙ c.requires.live) c.args.key Store c.rivals-rivals.result c.rivals-rivals.ensures.exact closes.0 closes.2) c.abort.ensures.aborts)
+    inl (refuses_seen (held_of g.R.Records.chain g.R.Records.settled g.A.Accesses.list g.G.Graph.nodes g.G.Graph.pairs) _ c.args.self.now c.self.view_is c.args.t c.args.key Store closes.0 c.in-Closes.walk _ _ closes.1 (blocks_from_walk c.self.invariant c.args.t (ap (λ p. g.G.Graph.nodes p.graph c.args.t) c.self.view_is ∙ c.requires.live) c.args.key Store c.rivals-rivals.result c.rivals-rivals.ensures.exact closes.0 closes.2) c.abort.ensures.aborts)
 
 pub returns-in_ok-reserve-in-Accepted-2-clause-done : goal.returns-in_ok-reserve-in-Accepted-2-clause-done
 returns-in_ok-reserve-in-Accepted-2-clause-done g c =
-    inr (makes_store g.R.Records.chain g.R.Records.settled g.A.Accesses.list g.G.Graph.nodes g.G.Graph.pairs _ c.args.self.now c.self.view_is c.self.invariant c.args.t (ap (λ p. g.G.Graph.nodes p.graph c.args.t) c.self.view_is ∙ c.requires.live) c.args.key c.rivals-rivals.result c.in-Accepted.ensures.verdict c.rivals-rivals.ensures.exact c.args.value
+    inr (makes_store c.self.view_is c.self.invariant c.args.t (ap (λ p. g.G.Graph.nodes p.graph c.args.t) c.self.view_is ∙ c.requires.live) c.args.key c.rivals-rivals.result c.in-Accepted.ensures.verdict c.rivals-rivals.ensures.exact c.args.value
     (ap (λ p. next_along p.procedures (course_at p.live c.args.t)) c.self.view_is ∙ c.requires.next) c.write.new.self c.note.new.self c.insert.new.self c.store.new.self
     (λ j. c.write.ensures.chain j ∙ (ap (λ z. cond (key_eq c.args.key j) (write_last c.args.t z (g.R.Records.chain c.reserve.new.self j)) (g.R.Records.chain c.reserve.new.self j)) (to_z-of_z w64 c.args.value c.ranges.value) ∙ ap (λ l. cond (key_eq c.args.key j) (write_last c.args.t c.args.value l) l) (c.reserve.ensures.chain j)))
     (λ j. c.write.ensures.settled j ∙ c.reserve.ensures.settled j)
