@@ -1,14 +1,13 @@
 -- A procedure without a flaw makes at most 64 accesses.
-use Rattle.std.proofs.Common.{◌≡◌, ℕ, zero, suc, ℤ, ◌<◌, ◌≤◌, ◌+◌, arith, Bool, true, false, cond, List, [], ◌∷◌, ◌++◌, Option, Some, None, subst, refl, slice_set, nat_lt, length}
+use Rattle.std.proofs.Common.{◌≡◌, ℕ, zero, suc, ℤ, ◌<◌, ◌≤◌, ◌+◌, arith, Bool, true, false, cond, List, [], ◌∷◌, ◌++◌, Option, Some, None, subst, slice_set, nat_lt, length}
 use Rattle.sgt_model.specs.Numbers.{is_value}
-use Rattle.sgt_model.specs.Contents.{Key}
 use Rattle.sgt_model.specs.Syntax.{Block, Program}
 use Rattle.sgt_model.specs.Syntax as text
 use Rattle.sgt_model.specs.Ways.{Way, onto}
 use Rattle.sgt_model.specs.Ways as way
 use Rattle.sgt_model.specs.Runs.{Run, looks, puts, ends, asks}
 use Rattle.sgt_model.specs.Traces.{Next, Looks, Puts, Ends, Asks, trace, next_at, Used}
-use Rattle.sgt_model.specs.Meaning.{Got, is, over, missing, Holds, holds, too_far, unknown, Registers, value_of, result_of, with_value, with_test, with_key, is_key, with_stored, with_room, if_found, run, run_with, fresh}
+use Rattle.sgt_model.specs.Meaning.{Got, is, over, missing, Holds, holds, too_far, unknown, Registers, value_of, result_of, with_value, with_test, is_key, if_found, run, run_with, fresh}
 use Rattle.sgt_proc.specs.declared.flaw.Flaw.TheVariants.{TooLong}
 use Rattle.sgt_proc.specs.declared.next.Next.{Next as DeclaredNext}
 use Rattle.sgt_proc.specs.declared.next.Next.TheVariants as declared
