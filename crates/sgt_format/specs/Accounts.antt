@@ -11,13 +11,15 @@ use Rattle.sgt_format.specs.declared.errors.OpeningError.TheVariants.{BadOpening
 use Rattle.sgt_format.specs.declared.errors.OpeningFault.{OpeningFault}
 use Rattle.sgt_format.specs.declared.errors.OpeningFault.TheVariants.{SameName, SameCustomer, Range}
 
--- the rows of an account: its customer by its name, and its saving and its checking by its customer
+-- the rows of an account: table 0 has its customer by its name
 abbrev pub name_key : Account → Key
 name_key a = (0, a.name)
 
+-- table 1 has its saving by its customer
 abbrev pub saving_key : Account → Key
 saving_key a = (1, a.customer)
 
+-- and table 2 its checking
 abbrev pub checking_key : Account → Key
 checking_key a = (2, a.customer)
 

@@ -22,6 +22,7 @@ procedure tree = option_and_then (natural 16) (whole tree)
 abbrev pub arguments_from : List Data → Option (List ℤ)
 arguments_from trees = cond (nat_le (length trees) 4) (each whole trees) None
 
+-- the same, of a tree that is a list
 abbrev pub arguments : Data → Option (List ℤ)
 arguments tree = option_and_then arguments_from (list tree)
 
@@ -39,6 +40,7 @@ event_from (word ∷ t ∷ []) = option_and_then (λ w. option_and_then (of_tran
 event_from (word ∷ p ∷ args ∷ []) = option_and_then (λ w. option_and_then (λ n. option_and_then (of_procedure w n) (arguments args)) (procedure p)) (as_str word)
 event_from trees = None
 
+-- the event that a tree spells
 abbrev pub event_in : Data → Option Event
 event_in tree = option_and_then event_from (list tree)
 

@@ -28,6 +28,7 @@ abbrev pub pair_from : List ℤ → Option (ℤ × ℤ)
 pair_from (live ∷ begins ∷ []) = Some (live, begins)
 pair_from numbers = None
 
+-- a tree that is a list of two
 abbrev pub pair : Data → Option (ℤ × ℤ)
 pair tree = option_and_then pair_from (wholes tree)
 
@@ -36,6 +37,7 @@ abbrev pub account_from : List ℤ → Option Account
 account_from (name ∷ customer ∷ saving ∷ checking ∷ []) = Some (record { name = name; customer = customer; saving = saving; checking = checking })
 account_from numbers = None
 
+-- a tree that is a list of four
 abbrev pub account : Data → Option Account
 account tree = option_and_then account_from (wholes tree)
 
@@ -62,9 +64,11 @@ parts_of tree = option_and_then parts_from (all_three (option_and_then pair (get
 abbrev pub parts_in : Data → Option ((ℤ × ℤ) × List Data)
 parts_in tree = option_and_then (λ members. cond (nat_eq (count members) 3) (parts_of tree) None) (as_object tree)
 
+-- the limits and the accounts, each of four whole numbers
 abbrev pub sheet_from : (ℤ × ℤ) × List Data → Option Sheet
 sheet_from parts = option_map (λ accounts. record { limits = parts.0; accounts = accounts }) (each account parts.1)
 
+-- those that a tree spells
 abbrev pub sheet_in : Data → Option Sheet
 sheet_in tree = option_and_then sheet_from (parts_in tree)
 

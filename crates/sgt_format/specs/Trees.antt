@@ -23,6 +23,7 @@ abbrev pub listed : Items → List Data
 listed no_items = []
 listed (item tree items) = tree ∷ listed items
 
+-- the trees in a tree that is a list
 abbrev pub list : Data → Option (List Data)
 list tree = option_map listed (as_array tree)
 

@@ -74,9 +74,10 @@ next_along args read way m = next_in read (run args way m.registers m.answers) m
 abbrev pub Walked : List ℤ → List (Option ℤ) → Block → Machine → Result Unit Next → Machine → Type 0
 Walked args read b old result new = (rest : Way) → next_along args read (onto b rest) old ≡ or_next result (λ _. next_along args read rest new)
 
--- the same of one statement, and of statements in a row
+-- the same of one statement
 abbrev pub WalkedOne : List ℤ → List (Option ℤ) → Statement → Machine → Result Unit Next → Machine → Type 0
 WalkedOne args read s = Walked args read (before s empty)
 
+-- and of statements in a row
 abbrev pub WalkedAll : List ℤ → List (Option ℤ) → List Statement → Machine → Result Unit Next → Machine → Type 0
 WalkedAll args read list = Walked args read (block_of list)
