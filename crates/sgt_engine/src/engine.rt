@@ -51,18 +51,18 @@ impl<R: Records, A: Accesses, G: Graph> Model for Engine<R, A, G> {
     ghost coded = { Prim.hlevel (codes, coded_program) };
 
     ghost view = { λ e. record {
-        opening = e.opening;
-        procedures = e.sched.procedures;
-        limits = e.sched.limits;
-        past = reverse e.history.items;
+      opening = e.opening;
+      procedures = e.sched.procedures;
+      limits = e.sched.limits;
+      past = reverse e.history.items;
     } };
 
     ghost invariant = { λ e.
         Legal (setting (contents_of e.opening) e.sched.procedures e.sched.limits)
-            (reverse e.history.items)
+        (reverse e.history.items)
         × IsState (setting (contents_of e.opening) e.sched.procedures e.sched.limits)
-            (reverse e.history.items)
-            (held_of R.chain R.settled A.list G.nodes G.pairs e.sched) };
+        (reverse e.history.items)
+        (held_of R.chain R.settled A.list G.nodes G.pairs e.sched) };
 }
 
 impl<R: Records, A: Accesses, G: Graph> Engine<R, A, G> {
