@@ -38,7 +38,10 @@ fn put_and_look(a: Global) -> Result<Vec<Checked>, NoMemory> {
 }
 
 fn run(a: Global, events: &[Event]) -> Result<ListRan, MakeError> {
-    let limits = Limits { live: 1, begins: 10 };
+    let limits = Limits {
+        live: 1,
+        begins: 10,
+    };
     run_list(a, Database::empty(a), put_and_look(a)?, limits, events)
 }
 
@@ -95,13 +98,21 @@ fn limits_are_refused(rt: HostRuntime) -> Result<(), Fail> {
     let a = rt.alloc();
     for (live, begins) in [(2, 10), (0, 10), (1, 0), (1, 4_000_000_001)] {
         let limits = Limits { live, begins };
-        let made: Result<Engine<ListRecords, OneList, PairGraph>, MakeError> =
-            Engine::new(a, Database::empty(a), Vec::new(a), limits);
+        let made: Result<Engine<ListRecords, OneList, PairGraph>, MakeError> = Engine::new(
+            a,
+            Database::empty(a),
+            Vec::new(a),
+            limits,
+        );
         let refused = match made {
             Ok(_) => None,
             Err(error) => Some(error),
         };
-        assert_eq!(rt; refused, Some(MakeError::BadLimits), "{live} live, {begins} begins");
+        assert_eq!(rt;
+            refused,
+            Some(MakeError::BadLimits),
+            "{live} live, {begins} begins"
+        );
     }
     Ok(())
 }
