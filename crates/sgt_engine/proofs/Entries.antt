@@ -1,5 +1,5 @@
 -- One more entry.
-use Rattle.std.proofs.Common.{◌≡◌, ℕ, ◌<◌, ◌+◌, length, map, take, get_or, List, [], ◌∷◌, ◌++◌, reverse, refl, sym, ap, ap₂, ◌∙◌, subst, subst₂}
+use Rattle.std.proofs.Common.{◌≡◌, ℕ, ◌<◌, ◌+◌, length, map, take, get_or, List, [], ◌∷◌, ◌++◌, reverse, sym, ap, ap₂, ◌∙◌, subst, subst₂}
 use Rattle.std.proofs.lemmas.List.{reverse-append, map-append, take_more}
 use Rattle.std.proofs.lemmas.Grind.{reverse_onto}
 use Rattle.sgt_model.specs.declared.entry.Entry.{Entry}
@@ -25,6 +25,7 @@ Kept s past c = Legal s past × IsState s past c
 pub longer : (items new : List Entry) (e : Entry) → new ≡ items ++ e ∷ [] → reverse new ≡ e ∷ reverse items
 longer items new e is = ap reverse is ∙ reverse-append items (e ∷ [])
 
+-- a setting is the same where its parts are
 pub same_setting : (opening : Contents) (procedures procedures' : List Program) (limits limits' : Limits) → procedures' ≡ procedures → limits' ≡ limits → setting opening procedures limits ≡ setting opening procedures' limits'
 same_setting opening procedures procedures' limits limits' p l = ap₂ (setting opening) (sym p) (sym l)
 
@@ -55,6 +56,7 @@ legal_same s s' items new same is legal = subst₂ (λ (x : Setting) (l : List E
 pub events_of-entry : (e : Entry) (past : List Entry) → events_of (e ∷ past) ≡ events_of past ++ e.event ∷ []
 events_of-entry e past = ap (map (λ (x : Entry). x.event)) (reverse_onto past e []) ∙ map-append (λ (x : Entry). x.event) (reverse past) (e ∷ [])
 
+-- one more event was applied
 pub events_taken : (e : Entry) (past : List Entry) (events : List Event) (done at : ℕ) (event : Event) → done ≡ at → at < length events → events_of past ≡ take done events → event ≡ get_or events at event → e.event ≡ event → events_of (e ∷ past) ≡ take (done + 1) events
 events_taken e past events done at event same within taken item is =
     events_of-entry e past ∙ (ap₂ (λ l x. l ++ x ∷ []) taken (is ∙ (item ∙ ap (λ i. get_or events i event) (sym same))) ∙ sym (take_more events done event (subst (λ i. i < length events) (sym same) within)))

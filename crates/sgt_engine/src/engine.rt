@@ -94,8 +94,8 @@ impl<R: Records, A: Accesses, G: Graph> Engine<R, A, G> {
     /// that of chapter 2. That a commit waits for its live predecessors, so that commit order is a serial order, is from
     /// Durner and Neumann (ICDE 2019).
     ///
-    /// `NoMemory` where a growth was refused; then nothing has changed. What it costs does not grow with the history, but for
-    /// growing a list now and then.
+    /// `NoMemory` where a growth was refused; then nothing has changed. What it costs does not grow with the history, which is
+    /// never looked at, but for growing a list now and then.
     pub fn apply(&mut self, event: Event) -> Result<Reply, NoMemory>
         ensures adds { IfOk result (λ r. self.new ≡ with_entry event r self.old) }
         ensures reply { IfOk result (LegalReply (setting_of self.old) self.old.past event) }
@@ -121,8 +121,8 @@ impl<R: Records, A: Accesses, G: Graph> Engine<R, A, G> {
         self.history.as_slice()
     }
 
-    /// The committed value of the key, or none: what its last committed transaction stored, else the opening's. It is also what
-    /// the committed transactions leave, run one after another in commit order.
+    /// The committed value of the key, or none: the last one that a committed transaction stored, else the opening's. It is also
+    /// what the committed transactions leave there, run one after another in commit order.
     pub fn committed(&self, key: Key) -> Option<i64>
         ensures value { result ≡ settled (contents_of self.now.opening) self.now.past key }
         ensures replayed { result ≡ replayed (setting_of self.now) (told self.now.past) key }

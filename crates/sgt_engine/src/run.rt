@@ -19,7 +19,7 @@ use std::alloc::Global;
 pub struct Ran<R: Records, A: Accesses, G: Graph> {
     /// The engine, with the events that were applied as its history.
     pub engine: Engine<R, A, G>,
-    /// How many were applied: all, or as many as came before a growth was refused.
+    /// How many were applied: all, or as many as came before a growth was refused. So fewer than all means `NoMemory`.
     pub done: usize,
 }
 

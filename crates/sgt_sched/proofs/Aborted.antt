@@ -33,6 +33,7 @@ or_false : (b : Bool) → b ≡ (b || false)
 or_false true = refl
 or_false false = refl
 
+-- with one live at a time, taking t out of all layers is an abort with its cascade
 pub aborts_alone : (most : ℕ) (before after : Held) (t : ℕ) (why : Cause) (fell : List ℕ) → most ≤ 1 → Sound most before → before.nodes t ≡ true → fell ≡ [] → Removes (λ u. nat_eq t u) before after → ((k : Key) → after.settled k ≡ before.settled k) → ((u : ℕ) → after.fates u ≡ cond (nat_eq t u) (Some (fate.Aborted why)) (before.fates u)) → AbortsIn t why before (reply.Aborted why fell) after
 aborts_alone most before after t why fell one sound node none removes settled fates = record {
   fell = [];

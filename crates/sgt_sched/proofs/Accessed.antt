@@ -57,6 +57,7 @@ read_added (Some w) s t reads u v = both (nat_eq w.0 t) refl where
   both true e = subst (λ c. Has (cond c reads (reads ++ (w.0, t) ∷ [])) u v ↔ (Has reads u v ⊎ ((v ≡ t) × (u ≢ t) × (w.0 ≡ u)))) (sym e) ((λ h. inl h), (λ h. elim h [ inl old ↦ old | inr new ↦ absurd (new.1 (sym new.2 ∙ eqb-true w.0 t e)) ]))
   both false e = subst (λ c. Has (cond c reads (reads ++ (w.0, t) ∷ [])) u v ↔ (Has reads u v ⊎ ((v ≡ t) × (u ≢ t) × (w.0 ≡ u)))) (sym e) ((λ h. elim (added reads h) [ inl old ↦ inl old | inr new ↦ inr (sym new.1, (λ i. eqb-false w.0 t e (new.0 ∙ i)), new.0) ]), (λ h. elim h [ inl old ↦ old_stays reads old | inr new ↦ new_there reads new.2 (sym new.0) ]))
 
+-- what a look finds, as what is held tells it
 pub value_of-from : (o : Option (ℕ × ℤ)) (s : Option ℤ) → value_of (top_from o s) ≡ top_value o s
 value_of-from None None = refl
 value_of-from None (Some v) = refl
@@ -80,11 +81,13 @@ module _ {R A G : Type 0} {chain : R → Key → List (ℕ × ℤ)} {settled : R
     pub blocks_from_walk : (rest : List ℕ) → Walk (pairs before.graph) t rivals rest → Blocks (held_of chain settled list nodes pairs before) t k kind rest
     blocks_from_walk rest w = let r = (exact (last_of t rest)).0 w.ends in record { distinct = w.distinct; pairs = w.goes; rival = record { apart = r.0; touches = r.1 } }
 
+    -- without a walk to a rival nothing blocks
     pub not_blocked : NoWalk (pairs before.graph) t rivals → (rest : List ℕ) → Blocks (held_of chain settled list nodes pairs before) t k kind rest → ⊥
     not_blocked free rest b = free rest (record { distinct = b.distinct; goes = b.pairs; ends = (exact (last_of t rest)).1 (b.rival.apart, b.rival.touches) })
 
     -- the parts after an access that was noted
     module _ (records : R) (accesses : A) (graph : G) (change : Course → Course) (read_from : List (ℕ × ℕ)) (settled_is : (j : Key) → settled records j ≡ settled before.records j) (list_is : list accesses ≡ list before.accesses ++ record { by = t; key = k; kind = kind } ∷ []) (nodes_are : (u : ℕ) → nodes graph u ≡ nodes before.graph u) (pairs_are : (u v : ℕ) → (pairs graph u v ≡ true) ↔ ((pairs before.graph u v ≡ true) ⊎ ((v ≡ t) × Member u rivals))) where
+      -- the parts after the access
       abbrev pub after_access : Parts R A G
       after_access = record {
         procedures = before.procedures;
@@ -97,6 +100,7 @@ module _ {R A G : Type 0} {chain : R → Key → List (ℕ × ℤ)} {settled : R
         fates = before.fates;
       }
 
+      -- what is held notes the access
       pub notes : Notes t k kind (held_of chain settled list nodes pairs before) (held_of chain settled list nodes pairs after_access)
       notes = record {
         live = numbers-changed t change before.live;
@@ -109,6 +113,7 @@ module _ {R A G : Type 0} {chain : R → Key → List (ℕ × ℤ)} {settled : R
         courses = λ u h. course_at-changed t u change before.live h;
       }
 
+      -- t's course is the changed one
       pub own_course : course_at (changed t change before.live) t ≡ change (course_at before.live t)
       own_course = course_at-own t change before.live ((kept.sound.listed t).0 live_t)
 

@@ -34,6 +34,7 @@ unread-left t (p ∷ rest) u v h = both (not (nat_eq p.0 t) && not (nat_eq p.1 t
   both true e (inr there) rec = let r = rec there in (inr r.0, r.1, r.2)
   both false e there rec = let r = rec there in (inr r.0, r.1, r.2)
 
+-- and all of those are left
 pub unread-kept : (t : ℕ) (reads : List (ℕ × ℕ)) (u v : ℕ) → Has reads u v → nat_eq t u ≡ false → nat_eq t v ≡ false → Has (unread t reads) u v
 unread-kept t [] u v h f g = absurd h
 unread-kept t (p ∷ rest) u v h f g = both (not (nat_eq p.0 t) && not (nat_eq p.1 t)) refl h (unread-kept t rest u v) where
@@ -64,9 +65,11 @@ module _ {R A G : Type 0} {chain : R → Key → List (ℕ × ℤ)} {settled : R
   begun : t < length before.fates
   begun = ((kept.unended t).0 live_t).0
 
+  -- t has its fate, the others keep theirs
   pub fates_end : (u : ℕ) → fate_at after_end.fates u ≡ cond (nat_eq t u) (Some f) (fate_at before.fates u)
   fates_end u = fate_at-set before.fates t u f begun
 
+  -- what is held loses t
   pub removes : Removes (λ u. nat_eq t u) (held_of chain settled list nodes pairs before) (held_of chain settled list nodes pairs after_end)
   removes = record {
     live = numbers-without t before.live;
@@ -79,6 +82,7 @@ module _ {R A G : Type 0} {chain : R → Key → List (ℕ × ℤ)} {settled : R
     courses = λ u g. course_at-without t u before.live g;
   }
 
+  -- what holds at every moment holds afterwards
   pub kept_end : IsKept chain settled list nodes pairs after_end
   kept_end = record {
     in_range = kept.in_range;
@@ -106,6 +110,7 @@ module _ {R A G : Type 0} {chain : R → Key → List (ℕ × ℤ)} {settled : R
 
   -- the same, of parts that were seen as others, before and after
   module _ (now : Parts R A G) (seen : before ≡ now) (live : List (ℕ × Course)) (read_from : List (ℕ × ℕ)) (fates : List (Option Fate)) (live_is : live ≡ without t before.live) (reads_are : read_from ≡ unread t before.read_from) (fates_are : fates ≡ slice_set before.fates t (Some f)) where
+    -- the parts after the end, as they were computed
     abbrev pub after_parts : Parts R A G
     after_parts = record {
       procedures = before.procedures;
@@ -130,13 +135,16 @@ module _ {R A G : Type 0} {chain : R → Key → List (ℕ × ℤ)} {settled : R
       fates = sym fates_are i;
     }
 
+    -- what holds at every moment holds of them
     pub kept_after : IsKept chain settled list nodes pairs after_parts
     kept_after = subst (IsKept chain settled list nodes pairs) is_after kept_end
 
+    -- what is held loses t, from what callers saw
     pub removes_seen : Removes (λ u. nat_eq t u) (held_of chain settled list nodes pairs now) (held_of chain settled list nodes pairs after_parts)
     removes_seen =
         subst (λ (p : Parts R A G). Removes (λ u. nat_eq t u) (held_of chain settled list nodes pairs p) (held_of chain settled list nodes pairs after_parts)) seen
         (subst (λ (p : Parts R A G). Removes (λ u. nat_eq t u) (held_of chain settled list nodes pairs before) (held_of chain settled list nodes pairs p)) is_after removes)
 
+    -- t has its fate, from what callers saw
     pub fates_seen : (u : ℕ) → fate_at fates u ≡ cond (nat_eq t u) (Some f) (fate_at now.fates u)
     fates_seen u = ap (λ l. fate_at l u) fates_are ∙ (fates_end u ∙ ap (λ (p : Parts R A G). cond (nat_eq t u) (Some f) (fate_at p.fates u)) seen)

@@ -33,6 +33,7 @@ none_member (q ∷ rest) t e m = both (nat_eq q.0 t) refl (none_member rest t) m
   both false h rec (inr i) = rec (sym (ap (λ b. cond b (Some q) (find (has_number t) rest)) h) ∙ e) i
 
 module _ {R A G : Type 0} {chain : R → Key → List (ℕ × ℤ)} {settled : R → Key → Option ℤ} {list : A → List Touch} {nodes : G → ℕ → Bool} {pairs : G → ℕ → ℕ → Bool} {p : Parts R A G} (kept : IsKept chain settled list nodes pairs p) (t : ℕ) where
+  -- who is found among the live ones is a node
   pub found_node : (r : ℕ × Course) → find (has_number t) p.live ≡ Some r → nodes p.graph t ≡ true
   found_node r e = (kept.sound.listed t).1 (found_member p.live t r e).0
 

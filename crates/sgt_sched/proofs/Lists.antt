@@ -9,9 +9,11 @@ use Rattle.sgt_sched.specs.Parts.{fate_at}
 
 -- numbers
 
+-- numbers that differ are told apart
 pub other : (t u : ℕ) → (t ≡ u → ⊥) → nat_eq t u ≡ false
 other t u h = false_from_ne_true (nat_eq t u) (λ e. h (eqb-true t u e))
 
+-- either way round
 pub nat_eq-swap : (t u : ℕ) → nat_eq t u ≡ nat_eq u t
 nat_eq-swap t u = both (nat_eq t u) refl where
   both : (b : Bool) → nat_eq t u ≡ b → nat_eq t u ≡ nat_eq u t
@@ -20,20 +22,24 @@ nat_eq-swap t u = both (nat_eq t u) refl where
 
 -- a course that is added, as the last
 
+-- one more at the end
 pub numbers-added : (live : List (ℕ × Course)) (t : ℕ) (c : Course) → numbers (live ++ (t, c) ∷ []) ≡ numbers live ++ t ∷ []
 numbers-added [] t c = refl
 numbers-added (r ∷ rest) t c = ap (λ l. r.0 ∷ l) (numbers-added rest t c)
 
+-- the others keep their courses
 pub course_at-added : (live : List (ℕ × Course)) (t u : ℕ) (c : Course) → u ≢ t → course_at (live ++ (t, c) ∷ []) u ≡ course_at live u
 course_at-added [] t u c h = ap (λ b. cond b c (course_at [] u)) (other t u (λ e. h (sym e)))
 course_at-added (r ∷ rest) t u c h = ap (λ d. cond (nat_eq r.0 u) r.1 d) (course_at-added rest t u c h)
 
+-- the added one has its own
 pub course_at-new : (live : List (ℕ × Course)) (t : ℕ) (c : Course) → (Member t (numbers live) → ⊥) → course_at (live ++ (t, c) ∷ []) t ≡ c
 course_at-new [] t c h = ap (λ b. cond b c (course_at [] t)) (eq-eqb t t refl)
 course_at-new (r ∷ rest) t c h = ap (λ b. cond b r.1 (course_at (rest ++ (t, c) ∷ []) t)) (other r.0 t (λ e. h (inl (sym e)))) ∙ course_at-new rest t c (λ m. h (inr m))
 
 -- a course that is changed
 
+-- a change keeps the numbers
 pub numbers-changed : (t : ℕ) (f : Course → Course) (live : List (ℕ × Course)) → numbers (changed t f live) ≡ numbers live
 numbers-changed t f [] = refl
 numbers-changed t f (r ∷ rest) = both (nat_eq r.0 t) refl (numbers-changed t f rest) where
@@ -41,6 +47,7 @@ numbers-changed t f (r ∷ rest) = both (nat_eq r.0 t) refl (numbers-changed t f
   both true e h = rw e refl
   both false e h = rw e (ap (λ l. r.0 ∷ l) h)
 
+-- and the courses of the others
 pub course_at-changed : (t u : ℕ) (f : Course → Course) (live : List (ℕ × Course)) → u ≢ t → course_at (changed t f live) u ≡ course_at live u
 course_at-changed t u f [] h = refl
 course_at-changed t u f (r ∷ rest) h = both (nat_eq r.0 t) refl (course_at-changed t u f rest h) where
@@ -50,6 +57,7 @@ course_at-changed t u f (r ∷ rest) h = both (nat_eq r.0 t) refl (course_at-cha
       ap (λ b. course_at (cond b ((r.0, f r.1) ∷ rest) (r ∷ changed t f rest)) u) e ∙ (ap (λ b. cond b (f r.1) (course_at rest u)) no ∙ sym (ap (λ b. cond b r.1 (course_at rest u)) no))
   both false e rec = ap (λ b. course_at (cond b ((r.0, f r.1) ∷ rest) (r ∷ changed t f rest)) u) e ∙ ap (λ c. cond (nat_eq r.0 u) r.1 c) rec
 
+-- the changed one has the changed course
 pub course_at-own : (t : ℕ) (f : Course → Course) (live : List (ℕ × Course)) → Member t (numbers live) → course_at (changed t f live) t ≡ f (course_at live t)
 course_at-own t f [] m = absurd m
 course_at-own t f (r ∷ rest) m = both (nat_eq r.0 t) refl (course_at-own t f rest) where
@@ -62,6 +70,7 @@ course_at-own t f (r ∷ rest) m = both (nat_eq r.0 t) refl (course_at-own t f r
 
 -- a course that is dropped
 
+-- dropping one drops its number
 pub numbers-without : (t : ℕ) (live : List (ℕ × Course)) → numbers (without t live) ≡ filter (λ u. not (nat_eq t u)) (numbers live)
 numbers-without t [] = refl
 numbers-without t (r ∷ rest) = ap (λ b. numbers (cond (not b) (r ∷ without t rest) (without t rest))) (nat_eq-swap r.0 t) ∙ both (nat_eq t r.0) (numbers-without t rest) where
@@ -69,6 +78,7 @@ numbers-without t (r ∷ rest) = ap (λ b. numbers (cond (not b) (r ∷ without 
   both true h = h
   both false h = ap (λ l. r.0 ∷ l) h
 
+-- and keeps the courses of the others
 pub course_at-without : (t u : ℕ) (live : List (ℕ × Course)) → nat_eq t u ≡ false → course_at (without t live) u ≡ course_at live u
 course_at-without t u [] h = refl
 course_at-without t u (r ∷ rest) h = both (nat_eq r.0 t) refl (course_at-without t u rest h) where
@@ -80,17 +90,20 @@ course_at-without t u (r ∷ rest) h = both (nat_eq r.0 t) refl (course_at-witho
 
 -- fates
 
+-- a start gives nobody a fate
 pub fate_at-added : (fates : List (Option Fate)) (u : ℕ) → fate_at (fates ++ None ∷ []) u ≡ fate_at fates u
 fate_at-added [] zero = refl
 fate_at-added [] (suc u) = refl
 fate_at-added (f ∷ fates) zero = refl
 fate_at-added (f ∷ fates) (suc u) = fate_at-added fates u
 
+-- the fate that was set
 pub fate_at-own : (fates : List (Option Fate)) (t : ℕ) (f : Option Fate) → t < length fates → fate_at (slice_set fates t f) t ≡ f
 fate_at-own [] t f h = absurd (omega arith)
 fate_at-own (g ∷ fates) zero f h = refl
 fate_at-own (g ∷ fates) (suc t) f h = fate_at-own fates t f (omega arith)
 
+-- the others keep theirs
 pub fate_at-other : (fates : List (Option Fate)) (t u : ℕ) (f : Option Fate) → t ≢ u → fate_at (slice_set fates t f) u ≡ fate_at fates u
 fate_at-other [] t u f h = refl
 fate_at-other (g ∷ fates) zero zero f h = absurd (h refl)
@@ -98,12 +111,14 @@ fate_at-other (g ∷ fates) zero (suc u) f h = refl
 fate_at-other (g ∷ fates) (suc t) zero f h = refl
 fate_at-other (g ∷ fates) (suc t) (suc u) f h = fate_at-other fates t u f (λ e. h (ap suc e))
 
+-- both in one
 pub fate_at-set : (fates : List (Option Fate)) (t u : ℕ) (f : Fate) → t < length fates → fate_at (slice_set fates t (Some f)) u ≡ cond (nat_eq t u) (Some f) (fate_at fates u)
 fate_at-set fates t u f h = both (nat_eq t u) refl where
   both : (b : Bool) → nat_eq t u ≡ b → fate_at (slice_set fates t (Some f)) u ≡ cond (nat_eq t u) (Some f) (fate_at fates u)
   both true e = ap (fate_at (slice_set fates t (Some f))) (sym (eqb-true t u e)) ∙ (fate_at-own fates t (Some f) h ∙ sym (ap (λ b. cond b (Some f) (fate_at fates u)) e))
   both false e = fate_at-other fates t u (Some f) (eqb-false t u e) ∙ sym (ap (λ b. cond b (Some f) (fate_at fates u)) e)
 
+-- who was never started has none
 pub fate_at-past : (fates : List (Option Fate)) (u : ℕ) → length fates ≤ u → fate_at fates u ≡ None
 fate_at-past [] u h = refl
 fate_at-past (f ∷ fates) zero h = absurd (omega arith)

@@ -19,6 +19,7 @@ pub record IsFirst (t : ℕ) (live : List (ℕ × Course)) (i : ℕ) (r : ℕ ×
   pub course : course_at live t ≡ r.1
   pub change : (f : Course → Course) → slice_set live i (r.0, f r.1) ≡ changed t f live
 
+-- what stands at the first place of t
 pub first_at : (t : ℕ) (live : List (ℕ × Course)) (i : ℕ) (r : ℕ × Course) → position_or_len (has_number t) live ≡ i → slice_get live i ≡ Some r → IsFirst t live i r
 first_at t [] i r e at = absurd (cc)
 first_at t (q ∷ rest) zero r e at =
@@ -63,11 +64,13 @@ missed n len e = both (nat_lt n len) refl where
   both true h = absurd (let f : None ≡ Some n = sym e ∙ ap (λ c. cond c (Some n) None) h in cc)
   both false h = ltb-false n len h
 
+-- the same of a list that was seen as another
 pub found_at : (t : ℕ) (rows seen : List (ℕ × Course)) (i : ℕ) (r : ℕ × Course) → rows ≡ seen → Some i ≡ position (has_number t) seen → r ≡ get_or rows i r → IsFirst t seen i r
 found_at t rows seen i r same found read =
     let at : position_or_len (has_number t) seen ≡ i = placed _ (length seen) i (sym found) in
     first_at t seen i r at (slice_get_read seen (length seen) i r refl (within (position_or_len (has_number t) seen) (length seen) i (sym found)) (subst (λ l. r ≡ get_or l i r) same read))
 
+-- where t has no place, a change does nothing
 pub none_found : (t : ℕ) (live : List (ℕ × Course)) (f : Course → Course) → None ≡ position (has_number t) live → live ≡ changed t f live
 none_found t live f missing = sym (unchanged t live f (missed _ (length live) (sym missing)))
 

@@ -35,6 +35,7 @@ inserted old new t preds (Closes walk) told free pairs = absurd (free told.0 tol
 
 module _ {R A G : Type 0} {chain : R → Key → List (ℕ × ℤ)} {settled : R → Key → Option ℤ} {list : A → List Touch} {nodes : G → ℕ → Bool} {pairs : G → ℕ → ℕ → Bool} {before now : Parts R A G} (seen : before ≡ now) (kept : IsKept chain settled list nodes pairs before) (t : ℕ) (live_t : nodes before.graph t ≡ true) (k : Key) (rivals : List ℕ) (free : NoWalk (pairs before.graph) t rivals) where
   module _ (exact : (u : ℕ) → Member u rivals ↔ ((u ≢ t) × (touches_in (list before.accesses) u k Look ≡ true))) (next : next_along before.procedures (course_at before.live t) ≡ Looks k) (accesses : A) (graph : G) (live : List (ℕ × Course)) (read_from : List (ℕ × ℕ)) (value : Option ℤ) (list_is : list accesses ≡ list before.accesses ++ record { by = t; key = k; kind = Look } ∷ []) (nodes_are : (u : ℕ) → nodes graph u ≡ nodes before.graph u) (pairs_are : (u v : ℕ) → (pairs graph u v ≡ true) ↔ ((pairs before.graph u v ≡ true) ⊎ ((v ≡ t) × Member u rivals))) (value_is : value ≡ value_of (top_from (last_or None (chain before.records k)) (settled before.records k))) (live_is : live ≡ changed t (looked value) before.live) (reads_are : read_from ≡ with_source (top_from (last_or None (chain before.records k)) (settled before.records k)) t before.read_from) where
+    -- the parts after the look
     abbrev pub after_look : Parts R A G
     after_look = record { procedures = before.procedures; limits = before.limits; records = before.records; accesses = accesses; graph = graph; live = live; read_from = read_from; fates = before.fates }
 
@@ -52,12 +53,14 @@ module _ {R A G : Type 0} {chain : R → Key → List (ℕ × ℤ)} {settled : R
       course = own_course kept t live_t k Look rivals exact before.records accesses graph (looked value) (with_source (top_from (last_or None (chain before.records k)) (settled before.records k)) t before.read_from) (λ j. refl) list_is nodes_are pairs_are ∙ ap (λ v. looked v (course_at before.live t)) found_is;
     }
 
+    -- what holds at every moment holds after it
     pub kept_look : IsKept chain settled list nodes pairs after_look
     kept_look = subst (IsKept chain settled list nodes pairs) is_after
         (kept_access kept t live_t k Look rivals exact before.records accesses graph (looked value) (with_source (top_from (last_or None (chain before.records k)) (settled before.records k)) t before.read_from) (λ j. refl) list_is nodes_are pairs_are
         (used_look (runs_in before.procedures (course_at before.live t).call.procedure (course_at before.live t).call.args) (course_at before.live t).read (course_at before.live t).made k value (kept.used t live_t) next)
         (sound_look before.limits.live _ _ kept.sound t k live_t looks))
 
+    -- it is a look that nothing blocks
     pub makes_look : MakesLook t k (held_of chain settled list nodes pairs now) (reply.Looked k value) (held_of chain settled list nodes pairs after_look)
     makes_look = subst (λ (p : Parts R A G). MakesLook t k (held_of chain settled list nodes pairs p) (reply.Looked k value) (held_of chain settled list nodes pairs after_look)) seen (record {
       free = not_blocked kept t live_t k Look rivals exact free;
@@ -70,10 +73,12 @@ module _ {R A G : Type 0} {chain : R → Key → List (ℕ × ℤ)} {settled : R
     pub store_last : IsLastIn t (chain before.records k)
     store_last = may_write before.limits.live _ kept.sound t k live_t (not_blocked kept t live_t k Store rivals exact free)
 
+    -- t's chain has room
     pub store_room : writes_in t (chain before.records k) ≡ false → length (chain before.records k) < 32
     store_room h = let few = chain_room before.limits.live _ kept.sound t k live_t h in omega (arith, kept.in_range.few_live)
 
     module _ (v : ℤ) (next : next_along before.procedures (course_at before.live t) ≡ Puts k v) (records : R) (accesses : A) (graph : G) (live : List (ℕ × Course)) (chain_is : (j : Key) → chain records j ≡ cond (key_eq k j) (write_last t v (chain before.records j)) (chain before.records j)) (settled_is : (j : Key) → settled records j ≡ settled before.records j) (list_is : list accesses ≡ list before.accesses ++ record { by = t; key = k; kind = Store } ∷ []) (nodes_are : (u : ℕ) → nodes graph u ≡ nodes before.graph u) (pairs_are : (u v : ℕ) → (pairs graph u v ≡ true) ↔ ((pairs before.graph u v ≡ true) ⊎ ((v ≡ t) × Member u rivals))) (live_is : live ≡ changed t stored before.live) where
+      -- the parts after the store
       abbrev pub after_store : Parts R A G
       after_store = record { procedures = before.procedures; limits = before.limits; records = records; accesses = accesses; graph = graph; live = live; read_from = before.read_from; fates = before.fates }
 
@@ -88,12 +93,14 @@ module _ {R A G : Type 0} {chain : R → Key → List (ℕ × ℤ)} {settled : R
         course = own_course kept t live_t k Store rivals exact records accesses graph stored before.read_from settled_is list_is nodes_are pairs_are;
       }
 
+      -- what holds at every moment holds after it
       pub kept_store : IsKept chain settled list nodes pairs after_store
       kept_store = subst (IsKept chain settled list nodes pairs) store_is
           (kept_access kept t live_t k Store rivals exact records accesses graph stored before.read_from settled_is list_is nodes_are pairs_are
           (used_store (runs_in before.procedures (course_at before.live t).call.procedure (course_at before.live t).call.args) (course_at before.live t).read (course_at before.live t).made k v (kept.used t live_t) next)
           (sound_store before.limits.live _ _ kept.sound t k v live_t stores.notes stores.chain stores.read_from))
 
+      -- it is a store that nothing blocks
       pub makes_store : (w : ℤ) → w ≡ v → MakesStore t k v (held_of chain settled list nodes pairs now) (reply.Wrote k w) (held_of chain settled list nodes pairs after_store)
       makes_store w told = subst (λ (p : Parts R A G). MakesStore t k v (held_of chain settled list nodes pairs p) (reply.Wrote k w) (held_of chain settled list nodes pairs after_store)) seen (record {
         free = not_blocked kept t live_t k Store rivals exact free;

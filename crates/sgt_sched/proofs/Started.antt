@@ -37,6 +37,7 @@ module _ {R A G : Type 0} {chain : R → Key → List (ℕ × ℤ)} {settled : R
   not_live : Member (length before.fates) (numbers before.live) → ⊥
   not_live m = next_no_node before.limits.live (held_of chain settled list nodes pairs before) kept.sound ((kept.sound.listed (length before.fates)).1 m)
 
+  -- what is held starts it
   pub starts : Starts (record { procedure = procedure; args = args }) (held_of chain settled list nodes pairs before) (held_of chain settled list nodes pairs after_start)
   starts = record {
     live = numbers-added before.live (length before.fates) (started procedure args);

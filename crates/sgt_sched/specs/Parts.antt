@@ -29,6 +29,10 @@ pub record Parts (R A G : Type 0) : Type 0 where
 abbrev pub fate_at : List (Option Fate) → ℕ → Option Fate
 fate_at fates t = slice_index_or fates t None
 
+-- the values that a course's looks found are those that its procedure has used
+abbrev pub HasUsed : List Program → Course → Type 0
+HasUsed programs c = Used (runs_in programs c.call.procedure c.call.args) c.read c.made
+
 -- by what the layers tell: of records the chain and the committed value of each key, of accesses their list, of a graph its
 -- nodes and pairs
 module _ {R A G : Type 0} (chain : R → Key → List (ℕ × ℤ)) (settled : R → Key → Option ℤ) (list : A → List Touch) (nodes : G → ℕ → Bool) (pairs : G → ℕ → ℕ → Bool) where
@@ -54,4 +58,4 @@ module _ {R A G : Type 0} (chain : R → Key → List (ℕ × ℤ)) (settled : R
     pub begun : length p.fates ≤ p.limits.begins
     pub sound : Sound p.limits.live (held_of p)
     pub unended : (t : ℕ) → (nodes p.graph t ≡ true) ↔ ((t < length p.fates) × (fate_at p.fates t ≡ None))
-    pub used : (t : ℕ) → nodes p.graph t ≡ true → Used (runs_in p.procedures (course_at p.live t).call.procedure (course_at p.live t).call.args) (course_at p.live t).read (course_at p.live t).made
+    pub used : (t : ℕ) → nodes p.graph t ≡ true → HasUsed p.procedures (course_at p.live t)

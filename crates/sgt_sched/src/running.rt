@@ -1,8 +1,7 @@
 ghost use Rattle.std.specs.Prelude.{◌≡◌, ◌<◌, OnOk, OnErr};
-ghost use Rattle.sgt_model.specs.Settings.{runs_in};
-ghost use Rattle.sgt_model.specs.Traces.{Used};
 ghost use Rattle.sgt_proc.specs.Nexts.{seen, IsAccess, StoresValue};
 ghost use Rattle.sgt_sched.specs.Courses.{looked, stored};
+ghost use Rattle.sgt_sched.specs.Parts.{HasUsed};
 ghost use Rattle.sgt_sched.specs.Steps.{next_along};
 
 use sgt_model::{Args, NoMemory, Tid};
@@ -64,8 +63,7 @@ pub fn next_of(procedures: &[Checked], running: &Running) -> Next
     ensures next { seen result ≡ next_along procedures.now running.now.1 }
     ensures in_range { StoresValue result }
     ensures few { IsAccess result
-        → Used (runs_in procedures.now running.now.1.call.procedure running.now.1.call.args)
-        running.now.1.read running.now.1.made
+        → HasUsed procedures.now running.now.1
         → running.now.1.made < 64 }
 {
     match procedures.get(usize::from(running.procedure)) {

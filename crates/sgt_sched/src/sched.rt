@@ -42,8 +42,9 @@ use std::marker::Model;
 /// that have read from it (chapter 2). A commit waits for the transaction's live predecessors, so commit order agrees with
 /// the order of conflicts (Durner and Neumann, ICDE 2019).
 ///
-/// Of a transaction that has ended it keeps how it ended, and nothing else. So what a call costs grows with the live
-/// transactions and what they have done, and not with how many came before them, but for growing a list now and then.
+/// Of a transaction that has ended it keeps how it ended, and nothing else. So what a call costs grows with what the live
+/// transactions have done and with what the layers take for it, and not with how many came before, but for growing a list
+/// now and then.
 #[derive(Drop)]
 pub struct Sched<R: Records, A: Accesses, G: Graph> {
     procedures: Vec<Checked>,
@@ -328,7 +329,8 @@ impl<R: Records, A: Accesses, G: Graph> Sched<R, A, G> {
     // Makes a look of a live transaction, or aborts it where the look would close a cycle.
     fn look(&mut self, t: Tid, key: Key) -> Result<Reply, NoMemory>
         requires live { G.nodes self.old.graph t ≡ true }
-        requires next { next_along self.old.procedures (course_at self.old.live t) ≡ Looks key }
+        requires next { next_along self.old.procedures (course_at self.old.live t)
+            ≡ Looks key }
         requires few { (course_at self.old.live t).made < 64 }
         ensures done { IfOk result (λ r.
             RefusesIn t key Look
@@ -363,7 +365,8 @@ impl<R: Records, A: Accesses, G: Graph> Sched<R, A, G> {
     // Makes a store of a live transaction, or aborts it where the store would close a cycle.
     fn store(&mut self, t: Tid, key: Key, value: i64) -> Result<Reply, NoMemory>
         requires live { G.nodes self.old.graph t ≡ true }
-        requires next { next_along self.old.procedures (course_at self.old.live t) ≡ Puts key value }
+        requires next { next_along self.old.procedures (course_at self.old.live t)
+            ≡ Puts key value }
         requires few { (course_at self.old.live t).made < 64 }
         requires in_range { IsValue value }
         ensures done { IfOk result (λ r.

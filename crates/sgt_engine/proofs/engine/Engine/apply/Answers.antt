@@ -1,4 +1,4 @@
-use Rattle.std.proofs.Common.{refl, sym, ap, ◌∙◌, ◌++◌, ◌∷◌, [], reverse}
+use Rattle.std.proofs.Common.{refl, ap, reverse}
 use Rattle.sgt_model.specs.Databases.{contents_of}
 use Rattle.sgt_model.specs.Settings.{setting}
 use Rattle.sgt_model.proofs.Headline.{headline}
