@@ -19,17 +19,6 @@ link_cases l links a b h = elim (or_cases (nat_eq l.0 a && nat_eq l.1 b) _ h) [
   | inr there ↦ inr there
 ]
 
--- a link of one more than the first i is one of the first i, or the next
-pub link_take : (links : List (ℕ × ℕ)) (i : ℕ) (d : ℕ × ℕ) → i < length links → (a b : ℕ) → is_link (take (i + 1) links) a b ≡ true
-    → (is_link (take i links) a b ≡ true) ⊎ (((slice_index_or links i d).0 ≡ a) × ((slice_index_or links i d).1 ≡ b))
-link_take links i d below a b h =
-    let parts : (is_link (take i links) a b || is_link (slice_index_or links i d ∷ []) a b) ≡ true =
-    sym (list_any-append (λ l. nat_eq l.0 a && nat_eq l.1 b) (take i links) (slice_index_or links i d ∷ [])) ∙ subst (λ ls. is_link ls a b ≡ true) (take_next links i d below) h in
-    elim (or_cases (is_link (take i links) a b) _ parts) [
-      | inl early ↦ inl early
-      | inr next ↦ elim (link_cases (slice_index_or links i d) [] a b next) [ inl here ↦ inr here | inr none ↦ absurd (both_ways false refl none) ]
-    ]
-
 -- both numbers of a link are ends
 pub link_ends : (links : List (ℕ × ℕ)) (a b : ℕ) → is_link links a b ≡ true → (is_end links a ≡ true) × (is_end links b ≡ true)
 link_ends [] a b h = cc

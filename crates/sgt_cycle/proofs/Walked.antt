@@ -104,10 +104,6 @@ walked_fits links source seen at path few w =
     within x (inl e) = subst (λ y. Member y few.among) (sym e) (few.all source (or_left _ _ (eq-eqb source source refl)))
     within x (inr m) = along source w.rest w.goes x m
 
--- the ends of links alone are no more
-pub ends_few : (links : List (ℕ × ℕ)) (source : ℕ) → AtMost 32 (occurs links source) → AtMost 32 (is_end links)
-ends_few links source few = record { among = few.among; few = few.few; all = λ t end. few.all t (or_right (nat_eq source t) _ end) }
-
 -- in a path whose neighbours are related each number is related to the next, and only in such a path
 pub follows_iff : (test : ℕ → ℕ → Bool) (path : List ℕ) → Follows test path ↔ ((k : ℕ) → k + 1 < length path → Holds test (slice_index path k) (slice_index path (k + 1)))
 follows_iff test [] = ((λ p k below. absurd (omega arith)), λ each. tt)

@@ -16,11 +16,6 @@ use Rattle.sgt_format.specs.ReplyText.{text}
 use Rattle.sgt_script.specs.Lines.{Cut}
 use Rattle.sgt_script.specs.Scripts.{events, events_of, replies, End, end_of, Answered, NoEvent, AllAnswered, Closing, Tells, IsExact, IsOfScript}
 
--- no line answered yet
-pub answered-none : (n : ℕ) (c : Option Cut) → Answered n c [] n c
-answered-none n None = tt
-answered-none n (Some c) = (refl, refl)
-
 -- one more line answered
 pub answered-next : (n m k : ℕ) (a b c : Option Cut) (past : List Entry) (e : Entry) → Answered n a past m b → Answered m b (e ∷ []) k c → Answered n a (e ∷ past) k c
 answered-next n m k None b c past e first next = tt
@@ -28,13 +23,6 @@ answered-next n m k (Some a) None c past e first next = absurd first
 answered-next n m k (Some a) (Some b) None past e first next = next
 answered-next n m k (Some a) (Some b) (Some c) past e first next =
     (first.0 ∙ ap (λ l. events_of past ++ l) next.0 ∙ sym (append_assoc (events_of past) (e.event ∷ []) (events c.given)), first.1 ∙ next.1)
-
--- the last line answered
-pub answered-all : (n m : ℕ) (a b : Option Cut) (past : List Entry) (end : End) → Answered n a past m b → NoEvent m b end → AllAnswered n a past end
-answered-all n m None b past end first last = tt
-answered-all n m (Some a) None past end first last = absurd first
-answered-all n m (Some a) (Some b) past end first last =
-    (first.0 ∙ ap (λ l. events_of past ++ l) last.0 ∙ append-nil (events_of past), first.1 ∙ last.1)
 
 -- what is written in two parts
 pub appends-trans : (a b c : Option (List ℕ)) (xs ys : List ℕ) → Appends a b xs → Appends b c ys → Appends a c (xs ++ ys)

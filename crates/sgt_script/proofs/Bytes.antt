@@ -25,12 +25,6 @@ appends_more (Some xs) (Some ys) None bs at n first next = next
 appends_more (Some xs) (Some ys) (Some zs) bs at n first next =
     next ∙ ap (λ l. ys ++ take n l) (rest_of bs at) ∙ ap (λ l. l ++ take n (drop at bs)) first ∙ append_assoc xs (take at bs) (take n (drop at bs)) ∙ ap (λ l. xs ++ l) (sym (take-add at n bs))
 
--- the first n bytes behind a are the first n of what was put there
-pub put_behind : (a k n : ℕ) (xs ys : List ℕ) → a ≤ length xs → n ≤ length ys → take n (drop a (put_mid a k xs ys)) ≡ take n ys
-put_behind a k n xs ys inside fits =
-    let front : length (take a xs) ≡ a = grind (arith, common_steps) in
-    ap (λ l. take n l) (ap (λ j. drop j (put_mid a k xs ys)) (sym front) ∙ drop-append_seam (take a xs) (ys ++ post_of a k xs)) ∙ take-append-le n ys (post_of a k xs) fits
-
 -- of a list kept whole, the n bytes behind the first h
 pub behind_held : (h n len : ℕ) (ys zs : List ℕ) → length ys ≡ len → h + n ≤ len → drop h (take (h + n - 0) (take len (ys ++ drop (length ys) zs))) ≡ take n (drop h ys)
 behind_held h n len ys zs whole fits =

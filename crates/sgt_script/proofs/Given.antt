@@ -51,10 +51,6 @@ keeps-ends k k' None mid ending kept same ends = tt
 keeps-ends k k' (Some xs) None ending kept same ends = absurd kept
 keeps-ends k k' (Some xs) (Some ys) ending kept same ends = subst (λ (l : ℕ). EndsAs ending (option_map (cut_within l) (Some xs))) same (subst (λ (l : List ℕ). EndsAs ending (option_map (cut_within k') (Some l))) kept ends)
 
--- where the source has ended and nothing is held, no line is left
-pub ends-at-end : (i : Intake) (rest : Option (List ℕ)) → i.held ≡ [] → i.ended ≡ true → EndsAs AtEnd (cut_left i rest)
-ends-at-end i rest nothing ended = rw (ended, nothing) (cut-nothing i.within)
-
 -- as far as what follows is known
 ends-with-known : (ending : Ending) (i : Intake) (rest : Option (List ℕ)) → ((ys : List ℕ) → cut_within i.within (i.held ++ ys) ≡ record { given = []; ending = ending }) → EndsAs ending (option_map (cut_within i.within) (prepend_known i.held rest))
 ends-with-known ending i None each = tt
@@ -84,12 +80,6 @@ ends-at-limit i rest none few past =
     let size : i.within < length (i.held ++ ys) = grind (arith, common_steps, past) in
     cut-limit i.within (i.held ++ ys) (ap has_break front ∙ none) few size)
 
--- a last line is all that is left
-consumes-last : (i k : Intake) (xs : List ℕ) (rest : Option (List ℕ)) → IsGiven i k → k.ended ≡ true → i.ended ≡ true → Keeps (Some xs) (left i rest) → Consumes (Some xs) (left k rest) (taken k)
-consumes-last i k xs rest given ended ended' kept =
-    let text : i.held ≡ xs = subst (λ (o : Bool). Keeps (Some xs) (if o then Some i.held else prepend_known i.held rest)) ended' kept in
-    subst (λ (o : Bool). Consumes (Some xs) (if o then Some k.held else prepend_known k.held rest) (taken k)) (sym ended) (sym text ∙ given.bytes)
-
 -- a whole line stands before the bytes that are left behind it
 consumes-known : (i k : Intake) (xs : List ℕ) (rest : Option (List ℕ)) → IsGiven i k → Keeps (Some xs) (prepend_known i.held rest) → Consumes (Some xs) (prepend_known k.held rest) (taken k)
 consumes-known i k xs None given kept = kept
@@ -98,15 +88,6 @@ consumes-known i k xs (Some ys) given kept = sym kept ∙ ap (λ l. l ++ ys) giv
 consumes-whole : (i k : Intake) (xs : List ℕ) (rest : Option (List ℕ)) → IsGiven i k → k.ended ≡ false → i.ended ≡ false → Keeps (Some xs) (left i rest) → Consumes (Some xs) (left k rest) (taken k)
 consumes-whole i k xs rest given going going' kept =
     subst (λ (o : Bool). Consumes (Some xs) (if o then Some k.held else prepend_known k.held rest) (taken k)) (sym going) (consumes-known i k xs rest given (subst (λ (o : Bool). Keeps (Some xs) (if o then Some i.held else prepend_known i.held rest)) going' kept))
-
--- the bytes left begin with those of the line given
-pub consumes-taken : (i k : Intake) (old rest : Option (List ℕ)) → IsGiven i k → Keeps old (left i rest) → Consumes old (left k rest) (taken k)
-consumes-taken i k None rest given kept = tt
-consumes-taken i k (Some xs) rest given kept =
-    elim (cases_Bool k.ended) [
-      | inl ended ↦ (let ended' : i.ended ≡ true = sym given.ended ∙ ended in consumes-last i k xs rest given ended ended' kept)
-      | inr going ↦ (let going' : i.ended ≡ false = sym given.ended ∙ going in consumes-whole i k xs rest given going going' kept)
-    ]
 
 -- where all bytes held are within the limit and none is a byte 10, no whole line is held
 pub no-line : (within : ℕ) (held : List ℕ) → has_break (take within held) ≡ false → length held ≤ within → whole_lines held ≡ []

@@ -1,0 +1,6 @@
+use Rattle.sgt_proc_json.proofs.Spelled.{read_spelled}
+use Rattle.sgt_proc_json.proofs.Found.{spelled_read}
+use Rattle.sgt_proc_json.proofs.laws.reading_is_spelling.Goals as goal
+
+pub returns : goal.returns
+returns c = λ p tree. (read_spelled p tree, spelled_read p tree)

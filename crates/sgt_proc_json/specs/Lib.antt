@@ -1,0 +1,5 @@
+pub mod Trees
+pub mod Spelling
+pub mod Readings
+pub mod Refusals
+pub mod Laws

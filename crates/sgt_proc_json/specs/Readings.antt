@@ -1,0 +1,120 @@
+-- What a tree spells, or the place of its first misfit in reading order: from the top, a list before its items, and items
+-- from left to right.
+use Rattle.std.specs.Prelude.{ℕ, ◌+◌, take, Bool, false, cond, List, [], ◌∷◌, Option, Some, None, option_and_then, Result, Ok, Err, codes}
+use Rattle.std.specs.Str.{bytes_eq}
+use Rattle.serde_json.specs.Data.{Data, array, Items, no_items, item}
+use Rattle.serde_json.specs.Find.{as_str}
+use Rattle.sgt_model.specs.Syntax.{Term, num, arg, reg, sum, diff, Test, less, at_most, equal, Block, empty, look, put, save, ask, choose, answer, Program}
+use Rattle.sgt_proc_json.specs.Trees.{whole, natural}
+
+-- a thing that is spelled, or the place of a misfit: positions from the top, counted from 0
+abbrev pub Reading : Type 0 → Type 0
+Reading A = Result A (List ℕ)
+
+-- a misfit of the tree itself
+abbrev pub here : {A : Type 0} → Reading A
+here = Err []
+
+-- the reading of the item at a position; of a place the first 128 positions are kept
+abbrev pub at : {A : Type 0} → ℕ → Reading A → Reading A
+at n (Ok a) = Ok a
+at n (Err place) = Err (take 128 (n ∷ place))
+
+-- what is made of one thing that is read, or of more, of which the first misfit counts
+abbrev pub one : {A B : Type 0} → (A → B) → Reading A → Reading B
+one make (Ok a) = Ok (make a)
+one make (Err place) = Err place
+
+abbrev pub two : {A B C : Type 0} → (A → B → C) → Reading A → Reading B → Reading C
+two make (Ok a) b = one (make a) b
+two make (Err place) b = Err place
+
+abbrev pub three : {A B C D : Type 0} → (A → B → C → D) → Reading A → Reading B → Reading C → Reading D
+three make (Ok a) b c = two (make a) b c
+three make (Err place) b c = Err place
+
+abbrev pub four : {A B C D E : Type 0} → (A → B → C → D → E) → Reading A → Reading B → Reading C → Reading D → Reading E
+four make (Ok a) b c d = three (make a) b c d
+four make (Err place) b c d = Err place
+
+-- what is there, or a misfit
+abbrev pub or_here : {A : Type 0} → Option A → Reading A
+or_here None = here
+or_here (Some a) = Ok a
+
+-- a number from 0 to 255
+abbrev pub byte : Data → Reading ℕ
+byte tree = or_here (option_and_then (natural 8) (whole tree))
+
+-- a number from 0 to 65,535
+abbrev pub short : Data → Reading ℕ
+short tree = or_here (option_and_then (natural 16) (whole tree))
+
+-- a text that is this word
+abbrev pub is_word : Option (List ℕ) → List ℕ → Bool
+is_word None word = false
+is_word (Some text) word = bytes_eq text word
+
+-- the expression that a tree spells
+abbrev pub expression : Data → Reading Term
+expression (array (item w (item n no_items))) =
+    cond (is_word (as_str w) (codes "arg")) (one arg (at 1 (byte n)))
+    (cond (is_word (as_str w) (codes "reg")) (one reg (at 1 (byte n))) here)
+expression (array (item w (item a (item b no_items)))) =
+    cond (is_word (as_str w) (codes "sum")) (two sum (at 1 (expression a)) (at 2 (expression b)))
+    (cond (is_word (as_str w) (codes "diff")) (two diff (at 1 (expression a)) (at 2 (expression b))) here)
+expression tree = one num (or_here (whole tree))
+
+-- the condition that a tree spells
+abbrev pub condition : Data → Reading Test
+condition (array (item w (item a (item b no_items)))) =
+    cond (is_word (as_str w) (codes "less")) (two less (at 1 (expression a)) (at 2 (expression b)))
+    (cond (is_word (as_str w) (codes "most")) (two at_most (at 1 (expression a)) (at 2 (expression b)))
+    (cond (is_word (as_str w) (codes "same")) (two equal (at 1 (expression a)) (at 2 (expression b))) here))
+condition tree = here
+
+-- the statement that a word and one item spell, which is put in front of others
+abbrev pub one_item : Option (List ℕ) → Data → Reading (Block → Block)
+one_item word a =
+    cond (is_word word (codes "ask")) (one (λ code rest. ask code rest) (at 1 (short a)))
+    (cond (is_word word (codes "answer")) (one (λ value rest. answer value rest) (at 1 (expression a))) here)
+
+-- the same of two items
+abbrev pub two_items : Option (List ℕ) → Data → Data → Reading (Block → Block)
+two_items word a b = cond (is_word word (codes "let")) (two (λ to value rest. save to value rest) (at 1 (byte a)) (at 2 (expression b))) here
+
+-- the same of three
+abbrev pub three_items : Option (List ℕ) → Data → Data → Data → Reading (Block → Block)
+three_items word a b c =
+    cond (is_word word (codes "put")) (three (λ table id value rest. put table id value rest) (at 1 (byte a)) (at 2 (expression b)) (at 3 (expression c))) here
+
+-- the same of four
+abbrev pub four_items : Option (List ℕ) → Data → Data → Data → Data → Reading (Block → Block)
+four_items word a b c d =
+    cond (is_word word (codes "look")) (four (λ to table id absent rest. look to table id absent rest) (at 1 (byte a)) (at 2 (byte b)) (at 3 (expression c)) (at 4 (short d))) here
+
+abbrev mutual
+  -- the statement that a tree spells, which is put in front of others
+  pub statement : Data → Reading (Block → Block)
+  statement (array (item w (item a no_items))) = one_item (as_str w) a
+  statement (array (item w (item a (item b no_items)))) = two_items (as_str w) a b
+  statement (array (item w (item a (item b (item c no_items))))) =
+      cond (is_word (as_str w) (codes "if")) (three (λ test ys ns rest. choose test ys ns rest) (at 1 (condition a)) (at 2 (block b)) (at 3 (block c)))
+      (three_items (as_str w) a b c)
+  statement (array (item w (item a (item b (item c (item d no_items)))))) = four_items (as_str w) a b c d
+  statement tree = here
+
+  -- the statements that a tree spells, in a row
+  pub block : Data → Reading Block
+  block (array items) = statements 0 items
+  block tree = here
+
+  -- the statements that items spell, of which the first stands at this position
+  pub statements : ℕ → Items → Reading Block
+  statements n no_items = Ok empty
+  statements n (item tree items) = two (λ first rest. first rest) (at n (statement tree)) (statements (n + 1) items)
+
+-- the procedure that a tree spells
+abbrev pub reading : Data → Reading Program
+reading (array (item a (item b no_items))) = two (λ args body. record { args = args; body = body }) (at 0 (byte a)) (at 1 (block b))
+reading tree = here

@@ -1,0 +1,73 @@
+-- Which tree of JSON spells a procedure: the table of the formats, a row for each kind of statement, condition and
+-- expression.
+use Rattle.std.specs.Prelude.{◌≡◌, ⊤, ℕ, ℤ, List, [], ◌∷◌, Some, option_and_then, codes}
+use Rattle.serde_json.specs.Data.{Data, array, string, Items, no_items, item}
+use Rattle.sgt_model.specs.Syntax.{Term, num, arg, reg, sum, diff, Test, less, at_most, equal, Block, empty, look, put, save, ask, choose, answer, Program}
+use Rattle.sgt_proc_json.specs.Trees.{whole, natural}
+
+-- what a tree may be
+abbrev pub Shape : Type 1
+Shape = Data → Type 0
+
+-- as many items as shapes, each of its shape
+abbrev pub Each : List Shape → Items → Type 0
+Each [] no_items = ⊤
+Each [] (item tree items) = ⊥
+Each (shape ∷ shapes) no_items = ⊥
+Each (shape ∷ shapes) (item tree items) = shape tree × Each shapes items
+
+-- a list of a word and then these
+abbrev pub Row : List ℕ → List Shape → Shape
+Row word shapes (array (item (string w) items)) = (w ≡ word) × Each shapes items
+Row word shapes tree = ⊥
+
+-- a whole number
+abbrev pub Whole : ℤ → Shape
+Whole z tree = whole tree ≡ Some z
+
+-- a whole number from 0 to 255
+abbrev pub Byte : ℕ → Shape
+Byte n tree = option_and_then (natural 8) (whole tree) ≡ Some n
+
+-- a whole number from 0 to 65,535
+abbrev pub Short : ℕ → Shape
+Short n tree = option_and_then (natural 16) (whole tree) ≡ Some n
+
+-- the tree spells the expression
+abbrev pub SpellsTerm : Term → Shape
+SpellsTerm (num z) = Whole z
+SpellsTerm (arg n) = Row (codes "arg") (Byte n ∷ [])
+SpellsTerm (reg n) = Row (codes "reg") (Byte n ∷ [])
+SpellsTerm (sum a b) = Row (codes "sum") (SpellsTerm a ∷ SpellsTerm b ∷ [])
+SpellsTerm (diff a b) = Row (codes "diff") (SpellsTerm a ∷ SpellsTerm b ∷ [])
+
+-- the tree spells the condition
+abbrev pub SpellsTest : Test → Shape
+SpellsTest (less a b) = Row (codes "less") (SpellsTerm a ∷ SpellsTerm b ∷ [])
+SpellsTest (at_most a b) = Row (codes "most") (SpellsTerm a ∷ SpellsTerm b ∷ [])
+SpellsTest (equal a b) = Row (codes "same") (SpellsTerm a ∷ SpellsTerm b ∷ [])
+
+-- a list whose items are so
+abbrev pub Listed : (Items → Type 0) → Shape
+Listed so (array items) = so items
+Listed so tree = ⊥
+
+-- the first item spells a statement, and the others those behind it
+abbrev pub First : Shape → (Items → Type 0) → Items → Type 0
+First shape rest no_items = ⊥
+First shape rest (item tree items) = shape tree × rest items
+
+-- the items spell the statements, one after another
+abbrev pub SpellsBlock : Block → Items → Type 0
+SpellsBlock empty no_items = ⊤
+SpellsBlock empty (item tree items) = ⊥
+SpellsBlock (look to table id absent b) items = First (Row (codes "look") (Byte to ∷ Byte table ∷ SpellsTerm id ∷ Short absent ∷ [])) (SpellsBlock b) items
+SpellsBlock (put table id value b) items = First (Row (codes "put") (Byte table ∷ SpellsTerm id ∷ SpellsTerm value ∷ [])) (SpellsBlock b) items
+SpellsBlock (save to value b) items = First (Row (codes "let") (Byte to ∷ SpellsTerm value ∷ [])) (SpellsBlock b) items
+SpellsBlock (ask code b) items = First (Row (codes "ask") (Short code ∷ [])) (SpellsBlock b) items
+SpellsBlock (choose test ys ns b) items = First (Row (codes "if") (SpellsTest test ∷ Listed (SpellsBlock ys) ∷ Listed (SpellsBlock ns) ∷ [])) (SpellsBlock b) items
+SpellsBlock (answer value b) items = First (Row (codes "answer") (SpellsTerm value ∷ [])) (SpellsBlock b) items
+
+-- the tree spells the procedure: a list of the count of its arguments and the list of its statements
+abbrev pub Spells : Program → Shape
+Spells p = Listed (Each (Byte p.args ∷ Listed (SpellsBlock p.body) ∷ []))

@@ -1,0 +1,29 @@
+//! Procedures as trees of JSON: `read` takes a tree apart, and `write` makes one.
+//!
+//! It knows no text: `serde_json` makes a tree of a line. Nor does it ask whether a procedure may run, which `sgt_proc` does:
+//! it reads any register from 0 to 255, say, though only 0 to 15 have a place.
+//!
+//! ```
+//! let tree = Value::from_str(alloc, "[1,[[\"look\",0,2,[\"arg\",0],5],[\"answer\",[\"reg\",0]]]]")?;
+//! let procedure = sgt_proc_json::read(alloc, &tree)?;
+//! let same = sgt_proc_json::write(alloc, &procedure)?;
+//! ```
+#![tactic(auto)]
+
+mod errors;
+mod laws;
+mod place;
+mod read_cond;
+mod read_expr;
+mod read_number;
+mod read_statement;
+mod reader;
+mod write_expr;
+mod write_statement;
+mod writer;
+
+pub use errors::ReadError;
+pub use laws::reading_is_spelling;
+pub use place::Place;
+pub use reader::read;
+pub use writer::write;

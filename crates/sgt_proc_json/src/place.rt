@@ -1,0 +1,52 @@
+ghost use Rattle.std.specs.Prelude.{◌≡◌, ◌≤◌, [], ◌∷◌, length, take};
+
+use sgt_model::Bounded;
+use std::marker::Model;
+
+/// The place of a thing in a tree: the positions that lead to it from the top, counted from 0. The empty place is the top.
+/// A place keeps its first 128 positions.
+#[derive(Debug, Drop, PartialEq, Eq)]
+pub struct Place {
+    positions: Bounded<u64, 128>,
+}
+
+impl Model for Place {
+    ghost use Rattle.std.specs.Prelude.{ℕ, List};
+
+    ghost Value = { List ℕ };
+
+    ghost view = { λ p. p.positions };
+
+    ghost inverse = { λ v. record { positions = v } };
+}
+
+impl Place {
+    /// The top.
+    pub(crate) fn top() -> Self
+        ensures { result ≡ [] }
+    {
+        Place {
+            positions: Bounded::new(),
+        }
+    }
+
+    /// The same place, seen from the list whose item at this position it is in.
+    pub(crate) fn under(&self, position: u64) -> Self
+        ensures { result ≡ take 128 (position ∷ self.now) }
+    {
+        let kept = self.positions.len().min(127);
+        let mut positions = Bounded::new();
+        positions.push(position);
+        for next in &self.positions.as_slice()[..kept] {
+            positions.push(*next);
+        }
+        Place { positions }
+    }
+
+    /// The positions, from the top.
+    pub fn as_slice(&self) -> &[u64]
+        ensures { result.now ≡ self.now }
+    {
+        self.positions.as_slice()
+    }
+}

@@ -1,0 +1,43 @@
+ghost use Rattle.std.specs.Prelude.{◌≡◌, Ok, IfOk, IfErr};
+ghost use Rattle.serde_json.specs.Data.{array};
+ghost use Rattle.serde_json.specs.View.{view, items_view};
+ghost use Rattle.sgt_model.specs.Programs.{test_of};
+ghost use Rattle.sgt_proc_json.specs.Readings.{at, condition};
+ghost use Rattle.sgt_proc_json.specs.Refusals.{Tells};
+
+use crate::errors::ReadError;
+use crate::read_expr::expr_at;
+use serde_json::Value;
+use sgt_model::Cond;
+use std::alloc::Global;
+
+/// The condition that the item at this position of a list spells.
+pub(crate) fn cond_at(alloc: Global, position: u64, tree: &Value) -> Result<Cond, ReadError>
+    ensures ok { IfOk result (λ c. at position (condition (view tree.now)) ≡ Ok (test_of c)) }
+    ensures err { IfErr result (Tells (at position (condition (view tree.now)))) }
+{
+    let cond = match tree {
+        Value::Array(items) => read_row(alloc, items.as_slice()),
+        _ => Err(ReadError::here()),
+    };
+    match cond {
+        Ok(cond) => Ok(cond),
+        Err(error) => Err(error.under(position)),
+    }
+}
+
+/// The condition that a list of these items spells.
+fn read_row(alloc: Global, items: &[Value]) -> Result<Cond, ReadError>
+    ensures ok { IfOk result (λ c. condition (array (items_view items.now)) ≡ Ok (test_of c)) }
+    ensures err { IfErr result (Tells (condition (array (items_view items.now)))) }
+{
+    match items {
+        [word, a, b] => match word.as_str() {
+            Some("less") => Ok(Cond::Less(expr_at(alloc, 1, a)?, expr_at(alloc, 2, b)?)),
+            Some("most") => Ok(Cond::AtMost(expr_at(alloc, 1, a)?, expr_at(alloc, 2, b)?)),
+            Some("same") => Ok(Cond::Equal(expr_at(alloc, 1, a)?, expr_at(alloc, 2, b)?)),
+            _ => Err(ReadError::here()),
+        },
+        _ => Err(ReadError::here()),
+    }
+}

@@ -1,0 +1,69 @@
+ghost use Rattle.std.specs.Prelude.{◌≡◌, Ok, IfOk, IfErr};
+ghost use Rattle.serde_json.specs.View.{view, items_view};
+ghost use Rattle.serde_json.specs.Data.{array};
+ghost use Rattle.sgt_model.specs.Programs.{term_of};
+ghost use Rattle.sgt_proc_json.specs.Readings.{at, expression};
+ghost use Rattle.sgt_proc_json.specs.Refusals.{Tells};
+
+use crate::errors::ReadError;
+use crate::read_number::byte_at;
+use serde_json::Value;
+use sgt_model::Expr;
+use std::alloc::Global;
+
+/// The expression that a tree spells.
+#[cycle(expression)]
+fn read_expr(alloc: Global, tree: &Value) -> Result<Expr, ReadError>
+    ensures ok { IfOk result (λ e. expression (view tree.now) ≡ Ok (term_of e)) }
+    ensures err { IfErr result (Tells (expression (view tree.now))) }
+{
+    match tree {
+        Value::Array(items) => read_row(alloc, items.as_slice()),
+        _ => match tree.as_i64() {
+            Some(n) => Ok(Expr::Num(n)),
+            None => Err(ReadError::here()),
+        },
+    }
+}
+
+/// The expression that a list of these items spells.
+#[cycle(expression)]
+fn read_row(alloc: Global, items: &[Value]) -> Result<Expr, ReadError>
+    ensures ok { IfOk result (λ e. expression (array (items_view items.now)) ≡ Ok (term_of e)) }
+    ensures err { IfErr result (Tells (expression (array (items_view items.now)))) }
+{
+    match items {
+        [word, n] => match word.as_str() {
+            Some("arg") => Ok(Expr::Arg(byte_at(1, n)?)),
+            Some("reg") => Ok(Expr::Reg(byte_at(1, n)?)),
+            _ => Err(ReadError::here()),
+        },
+        [word, a, b] => match word.as_str() {
+            Some("sum") => Ok(Expr::Sum(boxed_at(alloc, 1, a)?, boxed_at(alloc, 2, b)?)),
+            Some("diff") => Ok(Expr::Diff(boxed_at(alloc, 1, a)?, boxed_at(alloc, 2, b)?)),
+            _ => Err(ReadError::here()),
+        },
+        _ => Err(ReadError::here()),
+    }
+}
+
+/// The expression that the item at this position of a list spells.
+#[cycle(expression)]
+pub(crate) fn expr_at(alloc: Global, position: u64, tree: &Value) -> Result<Expr, ReadError>
+    ensures ok { IfOk result (λ e. at position (expression (view tree.now)) ≡ Ok (term_of e)) }
+    ensures err { IfErr result (Tells (at position (expression (view tree.now)))) }
+{
+    match read_expr(alloc, tree) {
+        Ok(expr) => Ok(expr),
+        Err(error) => Err(error.under(position)),
+    }
+}
+
+/// The same, in a box.
+#[cycle(expression)]
+fn boxed_at(alloc: Global, position: u64, tree: &Value) -> Result<Box<Expr>, ReadError>
+    ensures ok { IfOk result (λ e. at position (expression (view tree.now)) ≡ Ok (term_of e.value)) }
+    ensures err { IfErr result (Tells (at position (expression (view tree.now)))) }
+{
+    Ok(Box::new(alloc, expr_at(alloc, position, tree)?)?)
+}

@@ -1,0 +1,45 @@
+ghost use Rattle.std.specs.Prelude.{◌≡◌, Ok, IfOk, IfErr};
+ghost use Rattle.serde_json.specs.Data.{array};
+ghost use Rattle.serde_json.specs.View.{view, items_view};
+ghost use Rattle.sgt_model.specs.Programs.{program_of};
+ghost use Rattle.sgt_proc_json.specs.Readings.{reading};
+ghost use Rattle.sgt_proc_json.specs.Refusals.{Tells};
+
+use crate::errors::ReadError;
+use crate::read_number::byte_at;
+use crate::read_statement::block_at;
+use serde_json::Value;
+use sgt_model::Procedure;
+use std::alloc::Global;
+
+/// The procedure that a tree spells: a list of the count of its arguments, from 0 to 255, and the list of its statements.
+///
+/// It goes as deep as the tree, and no deeper: a tree that `serde_json` read is at most 127 deep.
+///
+/// # Errors
+///
+/// `Shape` with the place of the first misfit, where the tree spells none, and `NoMemory`.
+pub fn read(alloc: Global, tree: &Value) -> Result<Procedure, ReadError>
+    ensures procedure { IfOk result (λ p. reading (view tree.now) ≡ Ok (program_of p)) }
+    ensures shape { IfErr result (Tells (reading (view tree.now))) }
+{
+    match tree {
+        Value::Array(items) => read_items(alloc, items.as_slice()),
+        _ => Err(ReadError::here()),
+    }
+}
+
+/// The procedure that a list of these items spells.
+fn read_items(alloc: Global, items: &[Value]) -> Result<Procedure, ReadError>
+    ensures procedure { IfOk result
+        (λ p. reading (array (items_view items.now)) ≡ Ok (program_of p)) }
+    ensures shape { IfErr result (Tells (reading (array (items_view items.now)))) }
+{
+    match items {
+        [args, body] => Ok(Procedure {
+            args: byte_at(0, args)?,
+            body: block_at(alloc, 1, body)?,
+        }),
+        _ => Err(ReadError::here()),
+    }
+}

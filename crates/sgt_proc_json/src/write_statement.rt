@@ -1,0 +1,70 @@
+ghost use Rattle.std.specs.Prelude.{IfOk};
+ghost use Rattle.serde_json.specs.Data.{Items, item};
+ghost use Rattle.serde_json.specs.View.{view};
+ghost use Rattle.sgt_model.specs.Syntax.{Block};
+ghost use Rattle.sgt_model.specs.Programs.{before, block_of};
+ghost use Rattle.sgt_proc_json.specs.Spelling.{Listed, SpellsBlock};
+
+use crate::write_expr::{write_byte, write_cond, write_expr, write_short};
+use serde_json::Value;
+use sgt_model::{NoMemory, Statement};
+use std::alloc::Global;
+
+/// The tree of a statement.
+#[cycle(statement)]
+fn write_statement(alloc: Global, statement: &Statement) -> Result<Value, NoMemory>
+    ensures { IfOk result (λ v. (b : Block) (items : Items) →
+        SpellsBlock b items → SpellsBlock (before statement.now b) (item (view v) items)) }
+{
+    match statement {
+        Statement::Look {
+            reg,
+            table,
+            id,
+            absent,
+        } => Ok(Value::Array(vec![in alloc;
+            Value::try_from_str(alloc, "look")?,
+            write_byte(*reg),
+            write_byte(*table),
+            write_expr(alloc, id)?,
+            write_short(*absent),
+        ]?)),
+        Statement::Put { table, id, value } => Ok(Value::Array(vec![in alloc;
+            Value::try_from_str(alloc, "put")?,
+            write_byte(*table),
+            write_expr(alloc, id)?,
+            write_expr(alloc, value)?,
+        ]?)),
+        Statement::Let { reg, value } => Ok(Value::Array(vec![in alloc;
+            Value::try_from_str(alloc, "let")?,
+            write_byte(*reg),
+            write_expr(alloc, value)?,
+        ]?)),
+        Statement::Ask { code } => Ok(Value::Array(vec![in alloc;
+            Value::try_from_str(alloc, "ask")?,
+            write_short(*code),
+        ]?)),
+        Statement::If { cond, yes, no } => Ok(Value::Array(vec![in alloc;
+            Value::try_from_str(alloc, "if")?,
+            write_cond(alloc, cond)?,
+            write_block(alloc, yes)?,
+            write_block(alloc, no)?,
+        ]?)),
+        Statement::Answer { value } => Ok(Value::Array(vec![in alloc;
+            Value::try_from_str(alloc, "answer")?,
+            write_expr(alloc, value)?,
+        ]?)),
+    }
+}
+
+/// The tree of statements in a row.
+#[cycle(statement)]
+pub(crate) fn write_block(alloc: Global, list: &[Statement]) -> Result<Value, NoMemory>
+    ensures { IfOk result (λ v. Listed (SpellsBlock (block_of list.now)) (view v)) }
+{
+    let mut trees = Vec::with_capacity(alloc, list.len())?;
+    for statement in list {
+        trees.push(write_statement(alloc, statement)?)?;
+    }
+    Ok(Value::Array(trees))
+}

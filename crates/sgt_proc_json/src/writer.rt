@@ -1,0 +1,32 @@
+ghost use Rattle.std.specs.Prelude.{◌≡◌, Ok, IfOk};
+ghost use Rattle.serde_json.specs.View.{view};
+ghost use Rattle.sgt_model.specs.Programs.{program_of};
+ghost use Rattle.sgt_proc_json.specs.Spelling.{Spells};
+ghost use Rattle.sgt_proc_json.specs.Readings.{reading};
+
+use crate::write_expr::write_byte;
+use crate::write_statement::write_block;
+use serde_json::Value;
+use sgt_model::{NoMemory, Procedure};
+use std::alloc::Global;
+
+/// A tree of the procedure, which `read` gives back.
+///
+/// # Errors
+///
+/// `NoMemory` where a growth was refused.
+pub fn write(alloc: Global, procedure: &Procedure) -> Result<Value, NoMemory>
+    ensures spells { IfOk result (λ v. Spells (program_of procedure.now) (view v)) }
+    ensures reads_back { IfOk result (λ v. reading (view v) ≡ Ok (program_of procedure.now)) }
+{
+    let tree = write_items(alloc, procedure)?;
+    Ok(tree)
+}
+
+/// The tree of the count of arguments and the statements.
+fn write_items(alloc: Global, procedure: &Procedure) -> Result<Value, NoMemory>
+    ensures { IfOk result (λ v. Spells (program_of procedure.now) (view v)) }
+{
+    let body = write_block(alloc, &procedure.body)?;
+    Ok(Value::Array(vec![in alloc; write_byte(procedure.args), body]?))
+}
