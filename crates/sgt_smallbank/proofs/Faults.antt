@@ -1,5 +1,5 @@
 -- The faults of accounts, seen in the contents that the earlier ones made.
-use Rattle.std.proofs.Common.{◌≡◌, ℕ, ℤ, Bool, true, false, ◌&&◌, ◌||◌, cond, List, [], ◌∷◌, ◌++◌, Option, Some, None, refl, ap, sym, ◌∙◌, ◌+◌, ◌<◌, length, take, drop, get_or, append_assoc, arith}
+use Rattle.std.proofs.Common.{◌≡◌, ℕ, ℤ, Bool, true, false, ◌||◌, cond, List, [], ◌∷◌, ◌++◌, Option, Some, None, refl, ap, sym, ◌∙◌, ◌+◌, ◌<◌, length, take, drop, get_or, append_assoc}
 use Rattle.std.proofs.lemmas.List.{append-nil, take-append-drop, take_more, drop_more}
 use Rattle.std.specs.Prelude.{is_some}
 use Rattle.std.specs.Option.{option_or}
@@ -11,36 +11,9 @@ use Rattle.sgt_smallbank.specs.declared.account.Account.{Account}
 use Rattle.sgt_smallbank.specs.declared.errors.BadOpening.{BadOpening}
 use Rattle.sgt_smallbank.specs.declared.errors.BadOpening.TheVariants.{Fault, NoMemory}
 use Rattle.sgt_smallbank.specs.declared.errors.OpeningFault.{OpeningFault}
-use Rattle.sgt_smallbank.specs.declared.errors.OpeningFault.TheVariants.{SameName, SameCustomer, Range}
-use Rattle.sgt_smallbank.specs.Accounts.{name_key, saving_key, checking_key, with_account, with_accounts, opened, HasValues, has_values, fault, fault_in, fault_behind, first_fault, fault_of, IsRefused, AreRefused}
-use Rattle.sgt_smallbank.proofs.Values.{Decides-is_value}
+use Rattle.sgt_smallbank.specs.Accounts.{name_key, saving_key, checking_key, with_account, with_accounts, opened, fault, fault_in, fault_behind, first_fault, fault_of, IsRefused, AreRefused}
 
 -- ---- one account
-
-all_four : (p q r s : Bool) → p ≡ true → q ≡ true → r ≡ true → s ≡ true → (p && (q && (r && s))) ≡ true
-all_four p q r s hp hq hr hs = grind arith
-
-not_all : (p q r s : Bool) → (p ≡ true → q ≡ true → r ≡ true → s ≡ true → ⊥) → (p && (q && (r && s))) ≡ false
-not_all true true true true h = absurd (h refl refl refl refl)
-not_all true true true false h = refl
-not_all true true false s h = refl
-not_all true false r s h = refl
-not_all false q r s h = refl
-
-pub has_values-true : (a : Account) → HasValues a → has_values a ≡ true
-has_values-true a v = all_four _ _ _ _ ((Decides-is_value a.name).1 v.name) ((Decides-is_value a.customer).1 v.customer) ((Decides-is_value a.saving).1 v.saving) ((Decides-is_value a.checking).1 v.checking)
-
-pub fault_range : (m : Contents) (a : Account) → ¬ HasValues a → fault_in m a ≡ Some Range
-fault_range m a out = ap (λ b. cond b (cond (is_some (m (name_key a))) (Some SameName) (cond (is_some (m (saving_key a))) (Some SameCustomer) None)) (Some Range)) (not_all _ _ _ _ (λ n c s k. out (record { name = (Decides-is_value a.name).0 n; customer = (Decides-is_value a.customer).0 c; saving = (Decides-is_value a.saving).0 s; checking = (Decides-is_value a.checking).0 k })))
-
-pub fault_name : (m : Contents) (a : Account) → HasValues a → is_some (m (name_key a)) ≡ true → fault_in m a ≡ Some SameName
-fault_name m a v named = rw (has_values-true a v, named) refl
-
-pub fault_customer : (m : Contents) (a : Account) → HasValues a → is_some (m (name_key a)) ≡ false → is_some (m (saving_key a)) ≡ true → fault_in m a ≡ Some SameCustomer
-fault_customer m a v unnamed served = rw (has_values-true a v, unnamed, served) refl
-
-pub fault_none : (m : Contents) (a : Account) → HasValues a → is_some (m (name_key a)) ≡ false → is_some (m (saving_key a)) ≡ false → fault_in m a ≡ None
-fault_none m a v unnamed unserved = rw (has_values-true a v, unnamed, unserved) refl
 
 -- the rows of an account, put one after another
 pub rows_put : (before named saved after : Contents) (a : Account) (name saving checking : Key) (u v w : ℤ) → ((k : Key) → named k ≡ put_in before name u k) → ((k : Key) → saved k ≡ put_in named saving v k) → ((k : Key) → after k ≡ put_in saved checking w k) → name ≡ name_key a → u ≡ a.customer → saving ≡ saving_key a → v ≡ a.saving → checking ≡ checking_key a → w ≡ a.checking → (k : Key) → after k ≡ with_account before a k
@@ -97,6 +70,7 @@ rows_next before after accounts i d within same put k =
     ∙ ap (λ m. m k) (sym (with_accounts-append (λ key. None) (take i accounts) (get_or accounts i d)))
     ∙ ap (λ accounts. opened accounts k) (sym (take_more accounts i d within))
 
+-- where neither of two has a fault
 neither : (o p : Option OpeningFault) → option_or o p ≡ None → (o ≡ None) × (p ≡ None)
 neither None p e = (refl, e)
 neither (Some f) p e = absurd cc
@@ -125,6 +99,7 @@ first_fault-append earlier (b ∷ good) a faultless none =
     ap (λ f. option_or f (first_fault (earlier ++ b ∷ []) (good ++ a ∷ []))) parts.0
     ∙ first_fault-append (earlier ++ b ∷ []) good a parts.1 (ap (λ l. fault_behind l a) (append_assoc earlier (b ∷ []) good) ∙ none)
 
+-- the accounts up to and with the one at i have no fault, where those before it have none, nor has it
 pub fault_of-next : (accounts : List Account) (i : ℕ) (d : Account) → i < length accounts → fault_of (take i accounts) ≡ None → fault_behind (take i accounts) (get_or accounts i d) ≡ None → fault_of (take (i + 1) accounts) ≡ None
 fault_of-next accounts i d within faultless none =
     ap fault_of (take_more accounts i d within) ∙ first_fault-append [] (take i accounts) (get_or accounts i d) faultless none
