@@ -1,1 +1,5 @@
-pub mod Balance
+pub mod Texts
+pub mod Forks
+pub mod Tables
+pub mod Arithmetic
+pub mod Accounts

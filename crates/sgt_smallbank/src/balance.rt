@@ -1,43 +1,22 @@
 ghost use Rattle.std.specs.Prelude.{◌≡◌, IfOk};
 ghost use Rattle.sgt_model.specs.Programs.{program_of};
-ghost use Rattle.sgt_smallbank.specs.Balance.{balance};
+ghost use Rattle.sgt_smallbank.specs.Texts.{balance};
 
+use crate::statements::{look_up_balance, look_up_customer, sum_of};
+use crate::tables::{CHECKING, SAVING};
 use sgt_model::{Expr, NoMemory, Procedure, Statement};
 use std::alloc::Global;
 
-const ACCOUNT: u8 = 0;
-
-const SAVING: u8 = 1;
-
-const CHECKING: u8 = 2;
-
-const UNKNOWN_NAME: u16 = 1;
-
-const NO_BALANCE: u16 = 5;
-
 /// Balance(name): the sum of the saving and the checking of the name's customer.
-pub fn balance(alloc: Global) -> Result<Procedure, NoMemory>
+pub(crate) fn balance(alloc: Global) -> Result<Procedure, NoMemory>
     ensures { IfOk result (λ p. program_of p ≡ balance) }
 {
-    let sum = Expr::Sum(
-        Box::new(alloc, Expr::Reg(1))?,
-        Box::new(alloc, Expr::Reg(2))?,
-    );
-    let mut body = Vec::with_capacity(alloc, 4)?;
-    body.push_reserved(look(0, ACCOUNT, Expr::Arg(0), UNKNOWN_NAME));
-    body.push_reserved(look(1, SAVING, Expr::Reg(0), NO_BALANCE));
-    body.push_reserved(look(2, CHECKING, Expr::Reg(0), NO_BALANCE));
-    body.push_reserved(Statement::Answer { value: sum });
+    let value = sum_of(alloc, Expr::Reg(1), Expr::Reg(2))?;
+    let body = vec![in alloc;
+        look_up_customer(0, 0),
+        look_up_balance(1, SAVING, 0),
+        look_up_balance(2, CHECKING, 0),
+        Statement::Answer { value },
+    ]?;
     Ok(Procedure { args: 1, body })
-}
-
-fn look(reg: u8, table: u8, id: Expr, absent: u16) -> Statement
-    ensures { result ≡ Statement.Look reg table id absent }
-{
-    Statement::Look {
-        reg,
-        table,
-        id,
-        absent,
-    }
 }

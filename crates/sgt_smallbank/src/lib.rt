@@ -1,14 +1,53 @@
-//! The procedures of SmallBank, in whole cents, checked and ready for an engine. So far there is one, Balance.
+//! SmallBank: its five procedures, checked and ready for an engine, and the database that its accounts open. All amounts are
+//! whole cents, and all numbers lie within fifteen decimal digits.
 //!
-//! It keeps no account and runs nothing: a procedure is a text that an engine runs for its transactions.
+//! A name has a customer (table 0), and a customer has a saving (table 1) and a checking (table 2), which may be negative.
+//!
+//! | Number | Procedure | What it does | Answer |
+//! |---|---|---|---|
+//! | 0 | Balance(name) | nothing | saving and checking together |
+//! | 1 | DepositChecking(name, amount) | adds the amount to the checking | the new checking |
+//! | 2 | TransactSaving(name, amount) | adds the amount, which may be negative, to the saving | the new saving |
+//! | 3 | Amalgamate(from, to) | moves all that the first customer has to the second one's checking | what was moved |
+//! | 4 | WriteCheck(name, amount) | takes the amount from the checking, and 100 more where saving and checking together are smaller | the new checking |
+//!
+//! A procedure that can't be done changes nothing and asks a code: 1 where the name is unknown, 2 where DepositChecking or
+//! WriteCheck is given a negative amount, 3 where the saving would be negative, 4 where Amalgamate is given one name twice,
+//! 5 where a customer has no saving or no checking, and 1000 where a number would be out of range. What each does, to the
+//! cent and with its refusals in their order, stands in `specs/Arithmetic.antt`, and [`serial_is_bank`] says that it does
+//! so. The names of the three tables and of the five procedures, and they alone, are those of SmallBank (Alomari, Cahill,
+//! Fekete and Röhm, *The Cost of Serializability on Platforms That Use Snapshot Isolation*, ICDE 2008).
+//!
+//! It is no bank that runs: it keeps no account and makes no access. A procedure is a text that an engine runs for its
+//! transactions, and the accounts become the rows that the engine begins with.
 //!
 //! ```
+//! // Name 1 is customer 101, who has 6 on the savings and 4 on the checking account.
+//! let account = Account { name: 1, customer: 101, saving: 600, checking: 400 };
+//! let database = sgt_smallbank::opening(alloc, &[account])?;
 //! let procedures = sgt_smallbank::procedures(alloc)?;
-//! let engine = Engine::new(alloc, opening, procedures, limits)?;
+//!
+//! // A check over 5 is a transaction of procedure 4 with the arguments 1 and 500.
+//! let first = procedures[4].next(&args, &[], 0);
 //! ```
 #![tactic(auto)]
 
+mod account;
+mod amalgamate;
 mod balance;
-mod listed;
+mod bank;
+mod deposit_checking;
+mod errors;
+mod laws;
+mod statements;
+mod tables;
+mod transact_saving;
+mod write_check;
 
-pub use listed::procedures;
+pub use account::{Account, opening};
+pub use bank::{PROCEDURES, procedures};
+pub use errors::{BadOpening, OpeningFault};
+pub use laws::serial_is_bank;
+
+#[cfg(test)]
+mod tests;

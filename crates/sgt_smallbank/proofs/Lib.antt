@@ -1,0 +1,5 @@
+pub mod Values
+pub mod Forks
+pub mod Flawless
+pub mod Banks
+pub mod Faults

@@ -1,0 +1,96 @@
+//! The statements and expressions that the five procedures are made of.
+ghost use Rattle.std.specs.Prelude.{◌≡◌, IfOk};
+ghost use Rattle.sgt_model.specs.Programs.{term_of};
+ghost use Rattle.sgt_model.specs.Syntax.{sum, diff};
+ghost use Rattle.sgt_smallbank.specs.Forks.{AsksWhere, SetsBy};
+
+use crate::tables::{ACCOUNT, NO_BALANCE, UNKNOWN_NAME};
+use sgt_model::{Cond, Expr, NoMemory, Statement};
+use std::alloc::Global;
+
+/// Sets the register to the customer of the name that is this argument.
+pub(crate) fn look_up_customer(reg: u8, name: u8) -> Statement
+    ensures { result ≡ Statement.Look reg ACCOUNT (Expr.Arg name) UNKNOWN_NAME }
+{
+    Statement::Look {
+        reg,
+        table: ACCOUNT,
+        id: Expr::Arg(name),
+        absent: UNKNOWN_NAME,
+    }
+}
+
+/// Sets the register to the balance, in this table, of the customer in another register.
+pub(crate) fn look_up_balance(reg: u8, table: u8, customer: u8) -> Statement
+    ensures { result ≡ Statement.Look reg table (Expr.Reg customer) NO_BALANCE }
+{
+    Statement::Look {
+        reg,
+        table,
+        id: Expr::Reg(customer),
+        absent: NO_BALANCE,
+    }
+}
+
+/// Stores the balance, in this table, of the customer in a register.
+pub(crate) fn store_balance(table: u8, customer: u8, value: Expr) -> Statement
+    ensures { result ≡ Statement.Put table (Expr.Reg customer) value }
+{
+    Statement::Put {
+        table,
+        id: Expr::Reg(customer),
+        value,
+    }
+}
+
+/// Sets the register to the value.
+pub(crate) fn set_register(reg: u8, value: Expr) -> Statement
+    ensures { result ≡ Statement.Let reg value }
+{
+    Statement::Let { reg, value }
+}
+
+/// Asks the code where the condition holds.
+pub(crate) fn ask_where(alloc: Global, cond: Cond, code: u16) -> Result<Statement, NoMemory>
+    ensures { IfOk result (AsksWhere cond code) }
+{
+    let yes = vec![in alloc; Statement::Ask { code }]?;
+    Ok(Statement::If {
+        cond,
+        yes,
+        no: Vec::new(alloc),
+    })
+}
+
+/// Sets the register to the first value where the condition holds, and else to the second.
+pub(crate) fn set_by(
+    alloc: Global,
+    cond: Cond,
+    reg: u8,
+    first: Expr,
+    second: Expr,
+) -> Result<Statement, NoMemory>
+    ensures { IfOk result (SetsBy cond reg first second) }
+{
+    let yes = vec![in alloc; set_register(reg, first)]?;
+    let no = vec![in alloc; set_register(reg, second)]?;
+    Ok(Statement::If { cond, yes, no })
+}
+
+/// The sum of the two.
+pub(crate) fn sum_of(alloc: Global, left: Expr, right: Expr) -> Result<Expr, NoMemory>
+    ensures { IfOk result (λ e. term_of e ≡ sum (term_of left) (term_of right)) }
+{
+    let left = Box::new(alloc, left)?;
+    let right = Box::new(alloc, right)?;
+    Ok(Expr::Sum(left, right))
+}
+
+/// The first less the second.
+pub(crate) fn difference_of(alloc: Global, left: Expr, right: Expr) -> Result<Expr, NoMemory>
+    ensures { IfOk result (λ e. term_of e ≡ diff (term_of left) (term_of right)) }
+{
+    let left = Box::new(alloc, left)?;
+    let right = Box::new(alloc, right)?;
+    Ok(Expr::Diff(left, right))
+}
