@@ -1,5 +1,4 @@
 pub mod Begins
 pub mod Views
 pub mod Shapes
-pub mod Values
-pub mod Faults
+pub mod ReadProcedures

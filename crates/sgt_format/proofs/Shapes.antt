@@ -7,13 +7,15 @@ use Rattle.serde_json.specs.Data.{Data, Members}
 use Rattle.serde_json.specs.Find.{get, as_object}
 use Rattle.serde_json.specs.View.{view, members_view}
 use Rattle.serde_json.specs.declared.value.Value.{Value}
-use Rattle.sgt_format.specs.Trees.{tree_of, whole, list, each}
-use Rattle.sgt_model.specs.declared.limits.Limits.{Limits}
-use Rattle.sgt_format.specs.Accounts.{fault_of, IsFault}
-use Rattle.sgt_format.specs.Openings.{Sheet, count, pair_from, pair, account_from, account, list_at, all_three, parts_from, parts_of, parts_in, sheet_of, AreLimits, Refuses}
-use Rattle.sgt_format.specs.declared.account.Account.{Account}
+use Rattle.sgt_format.specs.Trees.{tree_of, list, each}
+use Rattle.sgt_proc_json.specs.Trees.{whole}
+use Rattle.sgt_smallbank.specs.Accounts.{fault_of, AreRefused}
+use Rattle.sgt_smallbank.specs.declared.account.Account.{Account}
+use Rattle.sgt_smallbank.specs.declared.errors.BadOpening as smallbank
+use Rattle.sgt_smallbank.specs.declared.errors.BadOpening.TheVariants as bad
+use Rattle.sgt_format.specs.Openings.{Sheet, count, pair_from, pair, account_from, account, list_at, all_three, parts_of, parts_in, sheet_of, HasLimits, ProcedureIsRefused, IsRefused, error_of, Refuses}
 use Rattle.sgt_format.specs.declared.errors.OpeningError.{OpeningError}
-use Rattle.sgt_format.specs.declared.errors.OpeningError.TheVariants.{NotJson, BadLine, BadLimits, BadOpening, NoMemory}
+use Rattle.sgt_format.specs.declared.errors.OpeningError.TheVariants.{NotJson, BadLine, BadLimits, BadOpening, ProcShape, ProcFlaw, NoMemory}
 
 longer : {A : Type 0} (first : Option A) (rest : Option (List A)) (found : List A) (n : ℕ) → ((others : List A) → rest ≡ Some others → length others ≡ n) → option_and_then (λ a. option_map (λ others. a ∷ others) rest) first ≡ Some found → length found ≡ suc n
 longer None rest found n same e = absurd (cc)
@@ -67,23 +69,39 @@ count_members [] = refl
 count_members (m ∷ members) = grind (arith, count_members members)
 
 -- the parts of an object that has them
-pub parts_found : (tree : Data) (members : Members) (limits : ℤ × ℤ) (accounts procedures : List Data) → Some members ≡ as_object tree → count members ≡ 3 → Some limits ≡ option_and_then pair (get (codes "limits") tree) → Some accounts ≡ list_at (codes "accounts") tree → Some procedures ≡ list_at (codes "procedures") tree → length procedures ≡ 0 → Some (limits, accounts) ≡ parts_in tree
-parts_found tree ms limits accounts procedures object three at_limits at_accounts at_procedures none =
+pub parts_found : (tree : Data) (members : Members) (limits : ℤ × ℤ) (accounts procedures : List Data) → Some members ≡ as_object tree → count members ≡ 3 → Some limits ≡ option_and_then pair (get (codes "limits") tree) → Some accounts ≡ list_at (codes "accounts") tree → Some procedures ≡ list_at (codes "procedures") tree → Some (limits, accounts, procedures) ≡ parts_in tree
+parts_found tree ms limits accounts procedures object three at_limits at_accounts at_procedures =
     sym (ap (option_and_then (λ members. cond (nat_eq (count members) 3) (parts_of tree) None)) (sym object)
     ∙ ap (λ n. cond (nat_eq n 3) (parts_of tree) None) three
-    ∙ ap (λ o. option_and_then parts_from (all_three o (list_at (codes "accounts") tree) (list_at (codes "procedures") tree))) (sym at_limits)
-    ∙ ap (λ o. option_and_then parts_from (all_three (Some limits) o (list_at (codes "procedures") tree))) (sym at_accounts)
-    ∙ ap (λ o. option_and_then parts_from (all_three (Some limits) (Some accounts) o)) (sym at_procedures)
-    ∙ ap (λ n. cond (nat_eq n 0) (Some (limits, accounts)) None) none)
+    ∙ ap (λ o. all_three o (list_at (codes "accounts") tree) (list_at (codes "procedures") tree)) (sym at_limits)
+    ∙ ap (λ o. all_three (Some limits) o (list_at (codes "procedures") tree)) (sym at_accounts)
+    ∙ ap (λ o. all_three (Some limits) (Some accounts) o) (sym at_procedures))
 
--- ---- the sheet of a line
+-- the sheet of a line
+pub sheet_found : (line : List ℕ) (tree : Data) (limits : ℤ × ℤ) (trees procedures : List Data) (accounts : List Account) → Some tree ≡ tree_of line → Some (limits, trees, procedures) ≡ parts_in tree → Some accounts ≡ each account trees → sheet_of line ≡ Some (record { limits = limits; accounts = accounts; procedures = procedures })
+sheet_found line tree limits trees procedures accounts at_line at_tree at_trees = rw (← at_line) (rw (← at_tree) (rw (← at_trees) refl))
 
-pub sheet_found : (line : List ℕ) (tree : Data) (limits : ℤ × ℤ) (trees : List Data) (accounts : List Account) → Some tree ≡ tree_of line → Some (limits, trees) ≡ parts_in tree → Some accounts ≡ each account trees → sheet_of line ≡ Some (record { limits = limits; accounts = accounts })
-sheet_found line tree limits trees accounts at_line at_tree at_trees = rw (← at_line) (rw (← at_tree) (rw (← at_trees) refl))
+-- a line is refused as what it says is
+pub refused_sheet : (line : List ℕ) (sheet : Sheet) (error : OpeningError) → sheet_of line ≡ Some sheet → IsRefused sheet error → Refuses line error
+refused_sheet line sheet NotJson shape is = absurd is
+refused_sheet line sheet BadLine shape is = absurd is
+refused_sheet line sheet BadLimits shape is = (sheet, shape, is)
+refused_sheet line sheet (BadOpening fault) shape is = (sheet, shape, is)
+refused_sheet line sheet (ProcShape number place) shape is = (sheet, shape, is)
+refused_sheet line sheet (ProcFlaw number flaw) shape is = (sheet, shape, is)
+refused_sheet line sheet NoMemory shape is = tt
 
-pub refused_account : (line : List ℕ) (sheet : Sheet) (limits : Limits) (error : OpeningError) → sheet_of line ≡ Some sheet → AreLimits sheet.limits limits → IsFault (fault_of sheet.accounts) error → Refuses line error
-refused_account line sheet limits (BadOpening fault) shape are is = (sheet, shape, (limits, are), is)
-refused_account line sheet limits NoMemory shape are is = tt
-refused_account line sheet limits NotJson shape are is = absurd is
-refused_account line sheet limits BadLine shape are is = absurd is
-refused_account line sheet limits BadLimits shape are is = absurd is
+-- a sheet is refused as its procedures are, where its limits and accounts are not
+pub refused_procedure : (sheet : Sheet) (error : OpeningError) → HasLimits sheet → fault_of sheet.accounts ≡ None → ProcedureIsRefused sheet.procedures error → IsRefused sheet error
+refused_procedure sheet NotJson limits accounts is = absurd is
+refused_procedure sheet BadLine limits accounts is = absurd is
+refused_procedure sheet BadLimits limits accounts is = absurd is
+refused_procedure sheet (BadOpening fault) limits accounts is = absurd is
+refused_procedure sheet (ProcShape number place) limits accounts is = (limits, accounts, is)
+refused_procedure sheet (ProcFlaw number flaw) limits accounts is = (limits, accounts, is)
+refused_procedure sheet NoMemory limits accounts is = tt
+
+-- a sheet is refused as its accounts are, where its limits are not
+pub refused_account : (sheet : Sheet) (error : smallbank.BadOpening) → HasLimits sheet → AreRefused sheet.accounts error → IsRefused sheet (error_of error)
+refused_account sheet (bad.Fault fault) limits is = (limits, is)
+refused_account sheet bad.NoMemory limits is = tt

@@ -6,7 +6,8 @@ use Rattle.serde_json.specs.Data.{Data}
 use Rattle.serde_json.specs.Find.{as_str}
 use Rattle.sgt_model.specs.declared.event.Event.{Event}
 use Rattle.sgt_model.specs.declared.event.Event.TheVariants.{Start, Step, Commit, Quit}
-use Rattle.sgt_format.specs.Trees.{tree_of, whole, natural, list, each}
+use Rattle.sgt_proc_json.specs.Trees.{whole, natural}
+use Rattle.sgt_format.specs.Trees.{tree_of, list, each}
 use Rattle.sgt_format.specs.declared.errors.LineError.{LineError}
 use Rattle.sgt_format.specs.declared.errors.LineError.TheVariants.{NotJson, BadLine}
 

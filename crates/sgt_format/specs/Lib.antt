@@ -3,5 +3,5 @@ pub mod ReplyText
 pub mod DatabaseText
 pub mod Trees
 pub mod EventLines
-pub mod Accounts
+pub mod Procedures
 pub mod Openings

@@ -1,22 +1,26 @@
 -- Which opening a line spells, and why it spells none.
-use Rattle.std.specs.Prelude.{◌≡◌, ℕ, ℤ, pos, nat_eq, ◌+◌, cond, length, List, [], ◌∷◌, Option, Some, None, IsSome, option_map, option_and_then, codes, ⊤}
+use Rattle.std.specs.Prelude.{◌≡◌, ℕ, ℤ, pos, nat_eq, ◌+◌, cond, List, [], ◌∷◌, Option, Some, None, IsSome, option_map, option_and_then, codes, ⊤}
 use Rattle.serde_json.specs.Data.{Data, Members, no_members, member}
 use Rattle.serde_json.specs.Find.{get, as_object}
 use Rattle.sgt_model.specs.Bounds.{AreInRange}
 use Rattle.sgt_model.specs.Contents.{Key}
 use Rattle.sgt_model.specs.Databases.{contents_of}
 use Rattle.sgt_model.specs.declared.limits.Limits.{Limits}
+use Rattle.sgt_smallbank.specs.Accounts.{opened, fault_of}
+use Rattle.sgt_smallbank.specs.declared.account.Account.{Account}
+use Rattle.sgt_smallbank.specs.declared.errors.BadOpening as accounts
+use Rattle.sgt_smallbank.specs.declared.errors.BadOpening.TheVariants as bad
 use Rattle.sgt_format.specs.Trees.{tree_of, list, each, wholes}
-use Rattle.sgt_format.specs.Accounts.{opened, fault_of}
-use Rattle.sgt_format.specs.declared.account.Account.{Account}
+use Rattle.sgt_format.specs.Procedures.{AreProcedures, HasMisfit, HasFlaw, NextIs}
 use Rattle.sgt_format.specs.declared.errors.OpeningError.{OpeningError}
-use Rattle.sgt_format.specs.declared.errors.OpeningError.TheVariants.{NotJson, BadLine, BadLimits, BadOpening, NoMemory}
+use Rattle.sgt_format.specs.declared.errors.OpeningError.TheVariants.{NotJson, BadLine, BadLimits, BadOpening, ProcShape, ProcFlaw, NoMemory}
 use Rattle.sgt_format.specs.declared.opening.Opening.{Opening}
 
--- what an opening's line says: how many may be live and how many may be started, and the accounts
+-- what an opening's line says: how many may be live and how many may be started, the accounts, and the trees of procedures
 pub record Sheet : Type 0 where
   pub limits : ℤ × ℤ
   pub accounts : List Account
+  pub procedures : List Data
 
 -- how many members an object has
 abbrev pub count : Members → ℕ
@@ -52,21 +56,17 @@ all_three (Some a) None c = None
 all_three (Some a) (Some b) None = None
 all_three (Some a) (Some b) (Some c) = Some (a, b, c)
 
--- the limits and the trees of the accounts, where there are no procedures
-abbrev pub parts_from : (ℤ × ℤ) × List Data × List Data → Option ((ℤ × ℤ) × List Data)
-parts_from parts = cond (nat_eq (length parts.2) 0) (Some (parts.0, parts.1)) None
-
--- those of an object with `limits`, `accounts` and `procedures`
-abbrev pub parts_of : Data → Option ((ℤ × ℤ) × List Data)
-parts_of tree = option_and_then parts_from (all_three (option_and_then pair (get (codes "limits") tree)) (list_at (codes "accounts") tree) (list_at (codes "procedures") tree))
+-- the limits, and the trees of the accounts and of the procedures, of an object with these members
+abbrev pub parts_of : Data → Option ((ℤ × ℤ) × List Data × List Data)
+parts_of tree = all_three (option_and_then pair (get (codes "limits") tree)) (list_at (codes "accounts") tree) (list_at (codes "procedures") tree)
 
 -- those of an object that has no other member
-abbrev pub parts_in : Data → Option ((ℤ × ℤ) × List Data)
+abbrev pub parts_in : Data → Option ((ℤ × ℤ) × List Data × List Data)
 parts_in tree = option_and_then (λ members. cond (nat_eq (count members) 3) (parts_of tree) None) (as_object tree)
 
--- the limits and the accounts, each of four whole numbers
-abbrev pub sheet_from : (ℤ × ℤ) × List Data → Option Sheet
-sheet_from parts = option_map (λ accounts. record { limits = parts.0; accounts = accounts }) (each account parts.1)
+-- the same with the accounts, each of four whole numbers
+abbrev pub sheet_from : (ℤ × ℤ) × List Data × List Data → Option Sheet
+sheet_from parts = option_map (λ accounts. record { limits = parts.0; accounts = accounts; procedures = parts.2 }) (each account parts.1)
 
 -- those that a tree spells
 abbrev pub sheet_in : Data → Option Sheet
@@ -82,18 +82,63 @@ pub record AreLimits (numbers : ℤ × ℤ) (limits : Limits) : Type 0 where
   pub begins : numbers.1 ≡ pos limits.begins
   pub in_range : AreInRange limits
 
+-- the number of the first procedure of an opening, behind the five of SmallBank
+abbrev pub first_number : ℕ
+first_number = 5
+
+-- an opening of what a line says
+pub record IsOpened (sheet : Sheet) (opening : Opening) : Type 0 where
+  pub limits : AreLimits sheet.limits opening.limits
+  pub no_fault : fault_of sheet.accounts ≡ None
+  pub contents : (key : Key) → contents_of opening.database key ≡ opened sheet.accounts key
+  pub procedures : AreProcedures sheet.procedures opening.procedures.items
+
 -- the line spells the opening
 pub record Opens (line : List ℕ) (opening : Opening) : Type 0 where
   pub sheet : Sheet
   pub shape : sheet_of line ≡ Some sheet
-  pub limits : AreLimits sheet.limits opening.limits
-  pub no_fault : fault_of sheet.accounts ≡ None
-  pub contents : (key : Key) → contents_of opening.database key ≡ opened sheet.accounts key
+  pub opens : IsOpened sheet opening
 
--- why the line spells none: it is no JSON, or it has not the shape, or its limits are out of their ranges, or an account is at fault
+-- what a line says has limits in their ranges
+abbrev pub HasLimits : Sheet → Type 0
+HasLimits sheet = (limits : Limits) × AreLimits sheet.limits limits
+
+-- a procedure of those that trees spell is refused: the first that is none, or that has a flaw
+abbrev pub ProcedureIsRefused : List Data → OpeningError → Type 0
+ProcedureIsRefused trees (ProcShape number place) = (n : ℕ) × (number ≡ first_number + n) × NextIs (HasMisfit place) n trees
+ProcedureIsRefused trees (ProcFlaw number flaw) = (n : ℕ) × (number ≡ first_number + n) × NextIs (HasFlaw flaw) n trees
+ProcedureIsRefused trees NoMemory = ⊤
+ProcedureIsRefused trees other = ⊥
+
+-- the procedure of this number is refused
+abbrev pub ThisIsRefused : ℕ → Data → OpeningError → Type 0
+ThisIsRefused number tree (ProcShape n place) = (n ≡ number) × HasMisfit place tree
+ThisIsRefused number tree (ProcFlaw n flaw) = (n ≡ number) × HasFlaw flaw tree
+ThisIsRefused number tree NoMemory = ⊤
+ThisIsRefused number tree other = ⊥
+
+-- the error of accounts that are refused
+abbrev pub error_of : accounts.BadOpening → OpeningError
+error_of (bad.Fault fault) = BadOpening fault
+error_of bad.NoMemory = NoMemory
+
+-- why what a line says is refused: its limits are out of their ranges, or else an account is at fault, or else a procedure is refused
+abbrev pub IsRefused : Sheet → OpeningError → Type 0
+IsRefused sheet NotJson = ⊥
+IsRefused sheet BadLine = ⊥
+IsRefused sheet BadLimits = (limits : Limits) → ¬ AreLimits sheet.limits limits
+IsRefused sheet (BadOpening fault) = HasLimits sheet × (fault_of sheet.accounts ≡ Some fault)
+IsRefused sheet (ProcShape number place) = HasLimits sheet × (fault_of sheet.accounts ≡ None) × ProcedureIsRefused sheet.procedures (ProcShape number place)
+IsRefused sheet (ProcFlaw number flaw) = HasLimits sheet × (fault_of sheet.accounts ≡ None) × ProcedureIsRefused sheet.procedures (ProcFlaw number flaw)
+IsRefused sheet NoMemory = ⊤
+
+-- the same of a line that has the shape of an opening
+abbrev pub SheetIsRefused : List ℕ → OpeningError → Type 0
+SheetIsRefused line error = (sheet : Sheet) × (sheet_of line ≡ Some sheet) × IsRefused sheet error
+
+-- why the line spells none: it is no JSON, or it has not the shape, or what it says is refused
 abbrev pub Refuses : List ℕ → OpeningError → Type 0
 Refuses line NotJson = tree_of line ≡ None
 Refuses line BadLine = IsSome (tree_of line) × (sheet_of line ≡ None)
-Refuses line BadLimits = (sheet : Sheet) × (sheet_of line ≡ Some sheet) × ((limits : Limits) → ¬ AreLimits sheet.limits limits)
-Refuses line (BadOpening fault) = (sheet : Sheet) × (sheet_of line ≡ Some sheet) × ((limits : Limits) × AreLimits sheet.limits limits) × (fault_of sheet.accounts ≡ Some fault)
 Refuses line NoMemory = ⊤
+Refuses line error = SheetIsRefused line error

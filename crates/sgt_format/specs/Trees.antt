@@ -1,22 +1,14 @@
--- What trees of JSON stand for: a line's tree, whole numbers, lists.
-use Rattle.std.specs.Prelude.{ℕ, ◌^◌, ℤ, pos, negsuc, nat_lt, cond, List, [], ◌∷◌, Option, Some, None, option_map, option_and_then}
+-- What trees of JSON stand for: a line's tree, and lists.
+use Rattle.std.specs.Prelude.{ℕ, ℤ, cond, List, [], ◌∷◌, Option, Some, None, option_map, option_and_then}
 use Rattle.std.specs.Str.{is_utf8}
 use Rattle.serde_json.specs.Data.{Data, Items, no_items, item}
-use Rattle.serde_json.specs.Find.{as_i64, as_number, as_array}
+use Rattle.serde_json.specs.Find.{as_array}
 use Rattle.serde_json.specs.Read.{read}
+use Rattle.sgt_proc_json.specs.Trees.{whole}
 
 -- the tree of a line, where the line is JSON
 abbrev pub tree_of : List ℕ → Option Data
 tree_of line = cond (is_utf8 line) (read line) None
-
--- a whole number
-abbrev pub whole : Data → Option ℤ
-whole tree = option_and_then as_i64 (as_number tree)
-
--- a whole number of this many bits, without a sign
-abbrev pub natural : ℕ → ℤ → Option ℕ
-natural bits (pos n) = cond (nat_lt n (2 ^ bits)) (Some n) None
-natural bits (negsuc n) = None
 
 -- the trees in a list
 abbrev pub listed : Items → List Data

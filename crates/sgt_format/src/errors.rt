@@ -3,6 +3,10 @@ ghost use Rattle.sgt_format.specs.declared.errors.LineError.TheVariants as line_
 ghost use Rattle.sgt_format.specs.declared.errors.OpeningError.TheVariants as opening_error;
 
 use sgt_model::NoMemory;
+use sgt_proc::Flaw;
+use sgt_proc_json::Place;
+use sgt_smallbank::{BadOpening, OpeningFault};
+use std::alloc::AllocError;
 
 /// Why a line gives no event.
 #[derive(Clone, Copy, Debug, PartialEq, Eq)]
@@ -24,7 +28,7 @@ impl From<NoMemory> for LineError {
 }
 
 /// Why a line gives no opening.
-#[derive(Clone, Copy, Debug, PartialEq, Eq)]
+#[derive(Debug, Drop, PartialEq, Eq)]
 pub enum OpeningError {
     /// The line is no JSON.
     NotJson,
@@ -34,6 +38,10 @@ pub enum OpeningError {
     BadLimits,
     /// An account has this fault.
     BadOpening(OpeningFault),
+    /// The procedure of this number spells none, and its first misfit is at this place.
+    ProcShape(u64, Place),
+    /// The procedure of this number has this flaw, and none with a smaller number.
+    ProcFlaw(u64, Flaw),
     /// A growth was refused.
     NoMemory,
 }
@@ -46,28 +54,23 @@ impl From<NoMemory> for OpeningError {
     }
 }
 
-/// What is wrong with an account of an opening.
-#[derive(Clone, Copy, Debug, PartialEq, Eq)]
-pub enum OpeningFault {
-    /// An earlier account has its name.
-    SameName,
-    /// An earlier account has its customer.
-    SameCustomer,
-    /// One of its numbers is no value.
-    Range,
+impl From<AllocError> for OpeningError {
+    ghost from_gives = { λ _ error. error ≡ opening_error.NoMemory };
+
+    fn from(_: AllocError) -> Self {
+        OpeningError::NoMemory
+    }
 }
 
-impl OpeningFault {
-    ghost use Rattle.sgt_format.specs.Accounts.{number_of};
+impl From<BadOpening> for OpeningError {
+    ghost use Rattle.sgt_format.specs.Openings.{error_of};
 
-    /// The number that a fault line names it by, from 1 to 3.
-    pub fn number(self) -> u8
-        ensures { result ≡ number_of self }
-    {
-        match self {
-            OpeningFault::SameName => 1,
-            OpeningFault::SameCustomer => 2,
-            OpeningFault::Range => 3,
+    ghost from_gives = { λ bad error. error ≡ error_of bad };
+
+    fn from(bad: BadOpening) -> Self {
+        match bad {
+            BadOpening::Fault(fault) => OpeningError::BadOpening(fault),
+            BadOpening::NoMemory => OpeningError::NoMemory,
         }
     }
 }

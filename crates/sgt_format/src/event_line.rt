@@ -1,7 +1,6 @@
 ghost use Rattle.std.specs.Prelude.{◌≡◌, ◌≢◌, Ok, Err, IfOk, IfErr};
 ghost use Rattle.std.specs.Option.{option_map};
 ghost use Rattle.serde_json.specs.View.{view};
-ghost use Rattle.sgt_format.specs.Trees.{whole, natural};
 ghost use Rattle.sgt_format.specs.EventLines.{tid, procedure, arguments, event_in, event_of};
 ghost use Rattle.sgt_format.specs.declared.errors.LineError.TheVariants.{NoMemory};
 

@@ -1,107 +1,62 @@
-ghost use Rattle.std.specs.Prelude.{◌≡◌, IfOk, IfErr, IfSome, IsNone, map, option_map};
+ghost use Rattle.std.specs.Prelude.{◌≡◌, IfOk, IfErr, map};
 ghost use Rattle.serde_json.specs.View.{view};
-ghost use Rattle.sgt_model.specs.declared.limits.Limits.{Limits as L};
-ghost use Rattle.sgt_format.specs.Trees.{each};
-ghost use Rattle.sgt_format.specs.Openings.{pair, account, parts_in, AreLimits, Opens, Refuses};
+ghost use Rattle.sgt_format.specs.Openings.{Opens, Refuses, IsOpened, IsRefused};
 
-use crate::account::{Account, open};
 use crate::errors::OpeningError;
-use crate::tree::{items, read_tree};
+use crate::procedures::read_procedures;
+use crate::sheet::{limits, parts, read_accounts};
+use crate::tree::read_tree;
 use serde_json::Value;
-use sgt_model::{Database, Limits, NoMemory};
+use sgt_model::{Database, Limits};
+use sgt_proc::Checked;
+use sgt_smallbank::Account;
 use std::alloc::Global;
 
 /// What the first line of an input gives.
-#[derive(Debug, Drop)]
+#[derive(Drop)]
 pub struct Opening {
     pub limits: Limits,
     pub database: Database,
+    /// The procedures that stand behind those of SmallBank.
+    pub procedures: Vec<Checked>,
 }
 
 /// The opening that a line spells, without its end: an object with the members `limits`, `[live, begins]`, `accounts`,
-/// `[[name, customer, saving, checking], ..]`, and `procedures`, an empty list so far.
+/// `[[name, customer, saving, checking], ..]`, and `procedures`, of which the first has the number 5.
 ///
-/// The first of these errors that applies is given: `NotJson`, `BadLine` for any other shape, `BadLimits`, and `BadOpening`
-/// with the fault of the first account that has one.
+/// # Errors
+///
+/// The first of these that applies: `NotJson`, `BadLine` for any other shape, `BadLimits`, `BadOpening` with the fault of the
+/// first account that has one, and `ProcShape` or `ProcFlaw` of the first procedure that has a misfit or a flaw. `NoMemory`
+/// where a growth was refused.
 pub fn read_opening(alloc: Global, line: &[u8]) -> Result<Opening, OpeningError>
     ensures opening { IfOk result (Opens line.now) }
     ensures refused { IfErr result (Refuses line.now) }
 {
     let tree = read_tree(alloc, line)?.ok_or(OpeningError::NotJson)?;
-    let (numbers, trees) = parts(&tree).ok_or(OpeningError::BadLine)?;
+    let (numbers, trees, procedures) = parts(&tree).ok_or(OpeningError::BadLine)?;
     let accounts = read_accounts(alloc, trees)?.ok_or(OpeningError::BadLine)?;
+    open(alloc, numbers, accounts.as_slice(), procedures)
+}
+
+/// The opening of these limits, these accounts and the procedures that these trees spell.
+fn open(
+    alloc: Global,
+    numbers: (i64, i64),
+    accounts: &[Account],
+    procedures: &[Value],
+) -> Result<Opening, OpeningError>
+    ensures opening { IfOk result (IsOpened (record {
+        limits = numbers; accounts = accounts.now; procedures = map view procedures.now })) }
+    ensures refused { IfErr result (IsRefused (record {
+        limits = numbers; accounts = accounts.now; procedures = map view procedures.now })) }
+{
     let limits = limits(numbers).ok_or(OpeningError::BadLimits)?;
-    let database = open(alloc, accounts.as_slice())?;
-    Ok(Opening { limits, database })
-}
-
-/// The two limits, and the trees of the accounts.
-#[tactic(auto, using(crate::proofs::Shapes::count_members))]
-fn parts(tree: &Value) -> Option<((i64, i64), &[Value])>
-    ensures { option_map (λ p. (p.0, map view p.1.now)) result ≡ parts_in (view tree.now) }
-{
-    if tree.as_object()?.len() != 3 {
-        return None;
-    }
-    let limits = pair(tree.get("limits")?)?;
-    let accounts = items(tree.get("accounts")?)?;
-    let procedures = items(tree.get("procedures")?)?;
-    if !procedures.is_empty() {
-        return None;
-    }
-    Some((limits, accounts))
-}
-
-fn pair(tree: &Value) -> Option<(i64, i64)>
-    ensures { result ≡ pair (view tree.now) }
-{
-    match items(tree)? {
-        [first, second] => Some((first.as_i64()?, second.as_i64()?)),
-        _ => None,
-    }
-}
-
-/// The accounts, or none where one of the trees is no account.
-fn read_accounts(alloc: Global, trees: &[Value]) -> Result<Option<Vec<Account>>, NoMemory>
-    ensures { IfOk result
-        (λ accounts. option_map (λ v. v.items) accounts ≡ each account (map view trees.now)) }
-{
-    let mut accounts = Vec::new(alloc);
-    for tree in trees {
-        match account(tree) {
-            Some(account) => accounts.push(account)?,
-            None => return Ok(None),
-        }
-    }
-    Ok(Some(accounts))
-}
-
-fn account(tree: &Value) -> Option<Account>
-    ensures { result ≡ account (view tree.now) }
-{
-    match items(tree)? {
-        [name, customer, saving, checking] => Some(Account {
-            name: name.as_i64()?,
-            customer: customer.as_i64()?,
-            saving: saving.as_i64()?,
-            checking: checking.as_i64()?,
-        }),
-        _ => None,
-    }
-}
-
-/// Limits of these numbers, or none where one is out of its range.
-fn limits(numbers: (i64, i64)) -> Option<Limits>
-    ensures some { IfSome result (AreLimits numbers) }
-    ensures none { IsNone result → (limits : L) → ¬ AreLimits numbers limits }
-{
-    let limits = Limits {
-        live: u32::try_from(numbers.0).ok()?,
-        begins: u32::try_from(numbers.1).ok()?,
-    };
-    if limits.are_in_range() {
-        Some(limits)
-    } else {
-        None
-    }
+    let database = sgt_smallbank::opening(alloc, accounts)?;
+    let procedures = read_procedures(alloc, procedures)?;
+    Ok(Opening {
+        limits,
+        database,
+        procedures,
+    })
 }

@@ -1,8 +1,10 @@
 use crate::{
-    LineError, OpeningError, OpeningFault, append_database, append_reply, read_event, read_opening,
+    LineError, OpeningError, append_database, append_reply, read_event, read_opening,
     reply_line,
 };
 use sgt_model::{Answers, Args, Cause, Database, Event, Fate, Key, Limits, Reply, Tid, Tids};
+use sgt_proc::Flaw;
+use sgt_smallbank::OpeningFault;
 use std::alloc::AllocGlobal;
 use std::process::Abort;
 use std::test::Fail;
@@ -148,6 +150,60 @@ fn an_opening_is_read(rt: HostRuntime) -> Result<(), Fail> {
 }
 
 #[test]
+fn procedures_of_an_opening_are_read(rt: HostRuntime) -> Result<(), Fail> {
+    let line =
+        b"{\"limits\":[1,1],\"accounts\":[],\"procedures\":[[0,[]],[2,[[\"answer\",[\"arg\",1]]]]]}";
+    let opening = read_opening(rt.alloc(), line).expect(&rt, "an opening");
+    assert_eq!(rt; opening.procedures.len(), 2);
+    assert_eq!(rt; opening.procedures[0].args(), 0);
+    assert_eq!(rt; opening.procedures[1].args(), 2);
+    Ok(())
+}
+
+#[test]
+fn procedures_are_refused(rt: HostRuntime) {
+    let shape: &[u8] =
+        b"{\"limits\":[1,1],\"accounts\":[],\"procedures\":[[0,[]],[0,[[\"jump\"]]],7]}";
+    let Err(OpeningError::ProcShape(number, place)) = read_opening(rt.alloc(), shape) else {
+        panic!(rt; "its second procedure has no word that is allowed there");
+    };
+    assert_eq!(rt; number, 6);
+    assert!(rt; place.as_slice() == [1, 0].as_slice());
+    let flaw: &[u8] =
+        b"{\"limits\":[1,1],\"accounts\":[],\"procedures\":[[0,[[\"answer\",[\"reg\",0]]]],7]}";
+    let Err(OpeningError::ProcFlaw(number, flaw)) = read_opening(rt.alloc(), flaw) else {
+        panic!(rt; "its first procedure answers a register that is not set");
+    };
+    assert_eq!(rt; (number, flaw), (5, Flaw::UnsetRegister));
+}
+
+#[test]
+fn an_account_is_refused_before_a_procedure(rt: HostRuntime) {
+    let line = b"{\"limits\":[1,1],\"accounts\":[[1,1,1,1],[1,2,1,1]],\"procedures\":[7]}";
+    assert!(rt; matches!(read_opening(rt.alloc(), line), Err(OpeningError::BadOpening(OpeningFault::SameName))));
+}
+
+/// The five procedures of SmallBank, as they are written.
+const SMALLBANK: [&str; 5] = [
+    "[1,[[\"look\",0,0,[\"arg\",0],1],[\"look\",1,1,[\"reg\",0],5],[\"look\",2,2,[\"reg\",0],5],[\"answer\",[\"sum\",[\"reg\",1],[\"reg\",2]]]]]",
+    "[2,[[\"if\",[\"less\",[\"arg\",1],0],[[\"ask\",2]],[]],[\"look\",0,0,[\"arg\",0],1],[\"look\",1,2,[\"reg\",0],5],[\"let\",2,[\"sum\",[\"reg\",1],[\"arg\",1]]],[\"put\",2,[\"reg\",0],[\"reg\",2]],[\"answer\",[\"reg\",2]]]]",
+    "[2,[[\"look\",0,0,[\"arg\",0],1],[\"look\",1,1,[\"reg\",0],5],[\"let\",2,[\"sum\",[\"reg\",1],[\"arg\",1]]],[\"if\",[\"less\",[\"reg\",2],0],[[\"ask\",3]],[]],[\"put\",1,[\"reg\",0],[\"reg\",2]],[\"answer\",[\"reg\",2]]]]",
+    "[2,[[\"if\",[\"same\",[\"arg\",0],[\"arg\",1]],[[\"ask\",4]],[]],[\"look\",0,0,[\"arg\",0],1],[\"look\",1,0,[\"arg\",1],1],[\"look\",2,1,[\"reg\",0],5],[\"look\",3,2,[\"reg\",0],5],[\"let\",4,[\"sum\",[\"reg\",2],[\"reg\",3]]],[\"put\",1,[\"reg\",0],0],[\"put\",2,[\"reg\",0],0],[\"look\",5,2,[\"reg\",1],5],[\"let\",6,[\"sum\",[\"reg\",5],[\"reg\",4]]],[\"put\",2,[\"reg\",1],[\"reg\",6]],[\"answer\",[\"reg\",4]]]]",
+    "[2,[[\"if\",[\"less\",[\"arg\",1],0],[[\"ask\",2]],[]],[\"look\",0,0,[\"arg\",0],1],[\"look\",1,1,[\"reg\",0],5],[\"look\",2,2,[\"reg\",0],5],[\"if\",[\"less\",[\"sum\",[\"reg\",1],[\"reg\",2]],[\"arg\",1]],[[\"let\",3,[\"diff\",[\"diff\",[\"reg\",2],[\"arg\",1]],100]]],[[\"let\",3,[\"diff\",[\"reg\",2],[\"arg\",1]]]]],[\"put\",2,[\"reg\",0],[\"reg\",3]],[\"answer\",[\"reg\",3]]]]",
+];
+
+#[test]
+fn smallbank_is_written_as_its_trees(rt: HostRuntime) -> Result<(), Fail> {
+    let procedures = sgt_smallbank::procedures(rt.alloc())?;
+    assert_eq!(rt; procedures.len(), SMALLBANK.len());
+    for (checked, text) in procedures.iter().zip(SMALLBANK.iter()) {
+        let tree = sgt_proc_json::write(rt.alloc(), checked.procedure())?;
+        assert!(rt; tree.to_string(rt.alloc())?.as_str() == *text, "{text}");
+    }
+    Ok(())
+}
+
+#[test]
 fn openings_are_refused(rt: HostRuntime) {
     let bad = OpeningError::BadOpening;
     let rows: [(&[u8], OpeningError); 14] = [
@@ -171,8 +227,8 @@ fn openings_are_refused(rt: HostRuntime) {
             OpeningError::BadLine,
         ),
         (
-            b"{\"limits\":[0,1],\"accounts\":[],\"procedures\":[[0,[]]]}",
-            OpeningError::BadLine,
+            b"{\"limits\":[0,1],\"accounts\":[],\"procedures\":[7]}",
+            OpeningError::BadLimits,
         ),
         (
             b"{\"limits\":[33,1],\"accounts\":[[1,2,3,1000000000000000]],\"procedures\":[]}",
@@ -206,7 +262,4 @@ fn openings_are_refused(rt: HostRuntime) {
         };
         assert!(rt; refused, "{error:?}");
     }
-    assert_eq!(rt; OpeningFault::SameName.number(), 1);
-    assert_eq!(rt; OpeningFault::SameCustomer.number(), 2);
-    assert_eq!(rt; OpeningFault::Range.number(), 3);
 }

@@ -50,6 +50,13 @@ pub fn check(procedure: Procedure) -> Result<Checked, Flawed>
 }
 
 impl Checked {
+    /// The procedure as it is written.
+    pub fn procedure(&self) -> &Procedure
+        ensures { program_of result.now ≡ self.now }
+    {
+        &self.procedure
+    }
+
     /// How many arguments it takes, at most 4.
     pub fn args(&self) -> u8
         ensures value { result ≡ self.now.args }

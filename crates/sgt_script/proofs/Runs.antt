@@ -69,6 +69,8 @@ wrote-fault programs i rest held (fault.NotJson n) start told exact = absurd tol
 wrote-fault programs i rest held (fault.BadLine n) start told exact = absurd told
 wrote-fault programs i rest held fault.BadLimits start told exact = absurd told
 wrote-fault programs i rest held (fault.BadOpening k) start told exact = absurd told
+wrote-fault programs i rest held (fault.ProcShape n place) start told exact = absurd told
+wrote-fault programs i rest held (fault.ProcFlaw n k) start told exact = absurd told
 
 -- where the first line was not given
 pub wrote-no-line : (programs : List Program) (i : Intake) (rest held : Option (List ℕ)) (f : Fault) (r : End) → i ≡ before_input → r ≡ Err f → Explains f i.number (cut_left i rest) → IsExact r → Wrote programs rest held held r

@@ -11,7 +11,8 @@ use Rattle.sgt_model.specs.Legality.{Legal}
 use Rattle.sgt_model.specs.Values.{settled}
 use Rattle.sgt_format.specs.EventLines.{event_of}
 use Rattle.sgt_format.specs.Openings.{Opens, Refuses}
-use Rattle.sgt_format.specs.Accounts.{number_of}
+use Rattle.sgt_proc.specs.Flaws.{number}
+use Rattle.sgt_smallbank.specs.Accounts.{number_of}
 use Rattle.sgt_format.specs.ReplyText.{text}
 use Rattle.sgt_format.specs.DatabaseText.{database_text}
 use Rattle.sgt_format.specs.declared.opening.Opening.{Opening}
@@ -92,11 +93,13 @@ fault_of_opening opening_error.NotJson = fault.NotJson 1
 fault_of_opening opening_error.BadLine = fault.BadLine 1
 fault_of_opening opening_error.BadLimits = fault.BadLimits
 fault_of_opening (opening_error.BadOpening kind) = fault.BadOpening (number_of kind)
+fault_of_opening (opening_error.ProcShape n place) = fault.ProcShape n place
+fault_of_opening (opening_error.ProcFlaw n flaw) = fault.ProcFlaw n (number flaw)
 fault_of_opening opening_error.NoMemory = fault.NoMemory
 
--- the setting of an opening, with these procedures
+-- the setting of an opening, whose procedures stand behind these
 abbrev pub setting_of : List Program → Opening → Setting
-setting_of programs opening = setting (contents_of opening.database) programs opening.limits
+setting_of programs opening = setting (contents_of opening.database) (programs ++ opening.procedures.items) opening.limits
 
 -- line 1 is an opening, and the later lines are answered
 pub record Opened (programs : List Program) (line : List ℕ) (later : List (List ℕ)) (ending : Ending) (out : List ℕ) (end : End) : Type 0 where

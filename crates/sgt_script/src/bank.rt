@@ -1,6 +1,6 @@
 ghost use Rattle.std.specs.Prelude.{◌≡◌, ◌≢◌, ℕ, List, IfSome, Err, ◌+◌, ◌^◌, ◌<◌};
 ghost use Rattle.std.specs.Io.KnownBytes.{Appends};
-ghost use Rattle.sgt_smallbank.specs.Balance.{procedures};
+ghost use Rattle.sgt_smallbank.specs.Texts.{procedures};
 ghost use Rattle.sgt_script.specs.Scripts.{IsExact, Script};
 
 use crate::fault::Fault;
@@ -16,7 +16,8 @@ use sgt_model::{Database, Event, MakeError, NoMemory, Reply};
 use sgt_records::ListRecords;
 use std::alloc::Global;
 
-/// What the program runs scripts on: an engine with SmallBank's procedures, and the bodies of the layers that it names.
+/// What the program runs scripts on: an engine with SmallBank's procedures and behind them those of the opening, and the
+/// bodies of the layers that it names.
 #[derive(Drop)]
 pub struct Bank {
     engine: Engine<ListRecords, OneList, PairGraph>,
@@ -24,7 +25,7 @@ pub struct Bank {
 
 impl Machine for Bank {
     ghost use Rattle.sgt_engine.specs.Parts as parts;
-    ghost use Rattle.sgt_smallbank.specs.Balance as smallbank;
+    ghost use Rattle.sgt_smallbank.specs.Texts as smallbank;
 
     ghost programs = { smallbank.procedures };
 
@@ -33,8 +34,14 @@ impl Machine for Bank {
     ghost past = { λ b. b.engine.past };
 
     fn open(alloc: Global, opening: Opening) -> Result<Self, NoMemory> {
-        let Opening { limits, database } = opening;
-        match Engine::new(alloc, database, sgt_smallbank::procedures(alloc)?, limits) {
+        let Opening {
+            limits,
+            database,
+            mut procedures,
+        } = opening;
+        let mut all = sgt_smallbank::procedures(alloc)?;
+        all.append(&mut procedures)?;
+        match Engine::new(alloc, database, all, limits) {
             Ok(engine) => Ok(Bank { engine }),
             Err(MakeError::NoMemory) => Err(NoMemory),
             Err(MakeError::BadLimits) => unreachable!(),
@@ -47,6 +54,7 @@ impl Machine for Bank {
 
     fn database(&self, alloc: Global) -> Result<Database, NoMemory> {
         let database = self.engine.database(alloc)?;
+        // The rows of a database are in the order of their keys.
         let _ = database.rows();
         Ok(database)
     }

@@ -1,10 +1,11 @@
 ghost use Rattle.std.specs.Prelude.{◌≡◌};
 ghost use Rattle.sgt_script.specs.declared.fault.Fault.TheVariants as fault;
 
+use sgt_proc_json::Place;
 use thiserror::Error;
 
 /// How a run can end before its end. Lines are numbered from 1, and the opening is line 1.
-#[derive(Clone, Copy, Debug, PartialEq, Eq, Error)]
+#[derive(Debug, Drop, PartialEq, Eq, Error)]
 pub enum Fault {
     /// The input is empty.
     #[error("line 1: no opening")]
@@ -21,6 +22,12 @@ pub enum Fault {
     /// An account of the opening is refused, with the number of the kind of its fault.
     #[error("line 1: bad opening {0}")]
     BadOpening(u8),
+    /// The procedure of this number in the opening spells none, and its first misfit is at this place.
+    #[error("line 1: procedure {0} shape {1}")]
+    ProcShape(u64, Place),
+    /// The procedure of this number in the opening has a flaw, and this is the number of the least.
+    #[error("line 1: procedure {0} flaw {1}")]
+    ProcFlaw(u64, u8),
     /// The line is longer than 65,536 bytes without its byte 10.
     #[error("line {0}: long line")]
     LongLine(u64),

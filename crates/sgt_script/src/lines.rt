@@ -98,7 +98,7 @@ impl Lines {
         self.number
     }
 
-    /// Whether the whole of the next line has come already, so that `next` does not read.
+    /// Whether the whole of the next line has come already, so that `next_line` does not read.
     pub fn has_line(&self) -> bool
         ensures { result ≡ has_whole_line self.now }
     {

@@ -15,7 +15,7 @@ pub trait Machine: Drop {
     ghost use Rattle.sgt_model.specs.Values.{settled};
     ghost use Rattle.sgt_script.specs.Scripts.{setting_of};
 
-    /// The procedures, numbered from 0.
+    /// The procedures that stand before those of an opening, numbered from 0.
     ghost programs: { List Program };
 
     /// What it was made from.

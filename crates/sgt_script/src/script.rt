@@ -198,6 +198,8 @@ fn opening_of(alloc: Global, lines: &Lines) -> Result<Opening, Fault>
         Err(OpeningError::BadLine) => Err(Fault::BadLine(1)),
         Err(OpeningError::BadLimits) => Err(Fault::BadLimits),
         Err(OpeningError::BadOpening(kind)) => Err(Fault::BadOpening(kind.number())),
+        Err(OpeningError::ProcShape(number, place)) => Err(Fault::ProcShape(number, place)),
+        Err(OpeningError::ProcFlaw(number, flaw)) => Err(Fault::ProcFlaw(number, flaw.number())),
         Err(OpeningError::NoMemory) => Err(Fault::NoMemory),
     }
 }

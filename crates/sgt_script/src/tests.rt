@@ -149,6 +149,7 @@ fn fault_texts(rt: HostRuntime) -> Result<(), Fail> {
         (Fault::BadLine(2), "line 2: bad line"),
         (Fault::BadLimits, "line 1: bad limits"),
         (Fault::BadOpening(1), "line 1: bad opening 1"),
+        (Fault::ProcFlaw(5, 2), "line 1: procedure 5 flaw 2"),
         (Fault::LongLine(18), "line 18: long line"),
         (Fault::TooLong, "input too long"),
         (Fault::Reading, "reading failed"),

@@ -7,7 +7,7 @@ use Rattle.sgt_model.specs.declared.procedure.Statement.TheVariants.{If}
 use Rattle.sgt_model.specs.declared.procedure.Cond.{Cond}
 use Rattle.sgt_model.specs.Syntax.{Block, choose}
 use Rattle.sgt_model.specs.Programs.{test_of, before, block_of}
-use Rattle.sgt_proc.proofs.Texts.{before_if}
+use Rattle.sgt_model.proofs.Texts.{before_if}
 
 -- an If whose branches have these statements
 pub before_branches : (c : Cond) (first second : Vec Statement Global) (xs ys : List Statement) → first.items ≡ xs → second.items ≡ ys → (rest : Block) → before (If c first second) rest ≡ choose (test_of c) (block_of xs) (block_of ys) rest

@@ -1,7 +1,8 @@
 use Rattle.std.proofs.Common.{◌≡◌, ◌++◌, drop, length}
 use Rattle.std.specs.Prelude.{map, option_map}
 use Rattle.serde_json.specs.View.{view}
-use Rattle.sgt_format.specs.Trees.{whole, each}
+use Rattle.sgt_format.specs.Trees.{each}
+use Rattle.sgt_proc_json.specs.Trees.{whole}
 use Rattle.sgt_format.proofs.event_line.arguments.Given as goal
 
 abbrev pub invariant-loop-item : goal.invariant-loop-item

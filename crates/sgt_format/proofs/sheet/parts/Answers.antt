@@ -1,12 +1,10 @@
-use Rattle.std.proofs.Common.{rules, arith, ◌≡◌, Some, length, map, ◌∙◌}
+use Rattle.std.proofs.Common.{rules, ◌≡◌, Some, length, map, ◌∙◌}
 use Rattle.std.specs.Prelude.{codes, option_and_then}
-use Rattle.std.proofs.lemmas.Grind.{common_steps}
-use Rattle.std.proofs.lemmas.List.{length-map}
 use Rattle.serde_json.specs.Find.{get, as_object}
 use Rattle.serde_json.specs.View.{view, members_view}
 use Rattle.sgt_format.specs.Openings.{pair, list_at}
 use Rattle.sgt_format.proofs.Shapes.{count_members, parts_found}
-use Rattle.sgt_format.proofs.opening.parts.Goals as goal
+use Rattle.sgt_format.proofs.sheet.parts.Goals as goal
 
 pub returns : goal.returns
 returns c =
@@ -15,5 +13,4 @@ returns c =
     let limits : Some c.in_ok-limits.limits ≡ option_and_then pair (get (codes "limits") (view c.args.tree.now)) = search rules in
     let accounts : Some (map view c.in_ok-accounts.accounts.now) ≡ list_at (codes "accounts") (view c.args.tree.now) = search rules in
     let procedures : Some (map view c.in_ok-procedures.procedures.now) ≡ list_at (codes "procedures") (view c.args.tree.now) = search rules in
-    let none : length c.in_ok-procedures.procedures.now ≡ 0 = grind (arith, common_steps) in
-    parts_found _ _ _ _ _ object (count_members _ ∙ entries) limits accounts procedures (length-map _ view ∙ none)
+    parts_found _ _ _ _ _ object (count_members _ ∙ entries) limits accounts procedures

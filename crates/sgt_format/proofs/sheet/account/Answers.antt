@@ -1,7 +1,7 @@
 use Rattle.std.proofs.Common.{rules, arith}
 use Rattle.serde_json.specs.View.{view}
 use Rattle.sgt_format.proofs.Shapes.{no_account}
-use Rattle.sgt_format.proofs.opening.account.Goals as goal
+use Rattle.sgt_format.proofs.sheet.account.Goals as goal
 
 pub returns-in_default : goal.returns-in_default
 returns-in_default c = no_account (view c.args.tree.now) c.in_ok-items.field-0.now (search rules) (grind arith)

@@ -1,0 +1,13 @@
+use Rattle.std.proofs.Common.{◌≡◌, take, length, map}
+use Rattle.std.specs.Vec.{vec_len, vec_capacity}
+use Rattle.serde_json.specs.View.{view}
+use Rattle.sgt_format.specs.Procedures.{AreProcedures}
+use Rattle.sgt_format.proofs.procedures.read_procedures.Given as goal
+
+-- the trees so far spell the procedures so far, and there is room for all
+abbrev pub invariant-loop-index : goal.invariant-loop-index
+invariant-loop-index l = record {
+  so_far : AreProcedures (map view (take l.index l.trees)) l.list.items;
+  room : vec_capacity l.list ≡ length l.trees;
+  count : vec_len l.list ≡ l.index;
+}
