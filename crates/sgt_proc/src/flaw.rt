@@ -78,6 +78,7 @@ impl Flaw {
             Flaw::BadLiteral => 10,
         }
     }
+
     /// Whether the procedure has this flaw.
     pub(crate) fn is_in(&self, procedure: &Procedure) -> bool
         ensures { IsTrue result ↔ HasFlaw self.now (program_of procedure.now) }

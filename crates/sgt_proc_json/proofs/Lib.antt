@@ -5,3 +5,4 @@ pub mod Rows
 pub mod Spelled
 pub mod Written
 pub mod Found
+pub mod Outcomes

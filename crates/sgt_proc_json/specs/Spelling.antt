@@ -71,3 +71,7 @@ SpellsBlock (answer value b) items = First (Row (codes "answer") (SpellsTerm val
 -- the tree spells the procedure: a list of the count of its arguments and the list of its statements
 abbrev pub Spells : Program → Shape
 Spells p = Listed (Each (Byte p.args ∷ Listed (SpellsBlock p.body) ∷ []))
+
+-- the tree spells no procedure
+abbrev pub SpellsNone : Shape
+SpellsNone tree = (p : Program) → Spells p tree → ⊥

@@ -3,13 +3,16 @@ ghost use Rattle.sgt_proc_json.specs.declared.errors.ReadError.TheVariants as re
 
 use crate::place::Place;
 use std::alloc::{AllocError, AllocFailed};
+use thiserror::Error;
 
 /// Why a tree gives no procedure.
-#[derive(Debug, Drop, PartialEq, Eq)]
+#[derive(Debug, Drop, PartialEq, Eq, Error)]
 pub enum ReadError {
     /// The tree spells no procedure, and its first misfit is at this place.
+    #[error("shape at {0}")]
     Shape(Place),
     /// A growth was refused.
+    #[error("no memory")]
     NoMemory,
 }
 

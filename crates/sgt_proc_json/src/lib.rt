@@ -27,3 +27,6 @@ pub use laws::reading_is_spelling;
 pub use place::Place;
 pub use reader::read;
 pub use writer::write;
+
+#[cfg(test)]
+mod tests;

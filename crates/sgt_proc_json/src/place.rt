@@ -1,10 +1,11 @@
 ghost use Rattle.std.specs.Prelude.{◌≡◌, ◌≤◌, [], ◌∷◌, length, take};
 
 use sgt_model::Bounded;
+use std::fmt;
 use std::marker::Model;
 
 /// The place of a thing in a tree: the positions that lead to it from the top, counted from 0. The empty place is the top.
-/// A place keeps its first 128 positions.
+/// A place keeps its first 128 positions. It shows as its positions, parted by blanks, or as `top`.
 #[derive(Debug, Drop, PartialEq, Eq)]
 pub struct Place {
     positions: Bounded<u64, 128>,
@@ -37,7 +38,7 @@ impl Place {
         let kept = self.positions.len().min(127);
         let mut positions = Bounded::new();
         positions.push(position);
-        for next in &self.positions.as_slice()[..kept] {
+        for next in &self.as_slice()[..kept] {
             positions.push(*next);
         }
         Place { positions }
@@ -48,5 +49,20 @@ impl Place {
         ensures { result.now ≡ self.now }
     {
         self.positions.as_slice()
+    }
+}
+
+impl fmt::Display for Place {
+    fn fmt<W: fmt::Write>(&self, f: &mut fmt::Formatter<W>) -> fmt::Result {
+        match self.as_slice() {
+            [] => f.write_str("top"),
+            [first, others @ ..] => {
+                write!(f, "{first}")?;
+                for position in others {
+                    write!(f, " {position}")?;
+                }
+                Ok(())
+            }
+        }
     }
 }

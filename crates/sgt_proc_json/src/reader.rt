@@ -1,9 +1,11 @@
-ghost use Rattle.std.specs.Prelude.{◌≡◌, Ok, IfOk, IfErr};
+ghost use Rattle.std.specs.Prelude.{◌≡◌, ◌≢◌, Ok, IfOk, IfErr};
 ghost use Rattle.serde_json.specs.Data.{array};
 ghost use Rattle.serde_json.specs.View.{view, items_view};
 ghost use Rattle.sgt_model.specs.Programs.{program_of};
+ghost use Rattle.sgt_proc_json.specs.Spelling.{Spells, SpellsNone};
 ghost use Rattle.sgt_proc_json.specs.Readings.{reading};
 ghost use Rattle.sgt_proc_json.specs.Refusals.{Tells};
+ghost use Rattle.sgt_proc_json.specs.declared.errors.ReadError.TheVariants.{NoMemory};
 
 use crate::errors::ReadError;
 use crate::read_number::byte_at;
@@ -20,6 +22,16 @@ use std::alloc::Global;
 ///
 /// `Shape` with the place of the first misfit, where the tree spells none, and `NoMemory`.
 pub fn read(alloc: Global, tree: &Value) -> Result<Procedure, ReadError>
+    ensures spells { IfOk result (λ p. Spells (program_of p) (view tree.now)) }
+    ensures procedure { IfOk result (λ p. reading (view tree.now) ≡ Ok (program_of p)) }
+    ensures shape { IfErr result (Tells (reading (view tree.now))) }
+    ensures none { IfErr result (λ error. error ≢ NoMemory → SpellsNone (view tree.now)) }
+{
+    read_tree(alloc, tree)
+}
+
+/// The procedure that a tree spells.
+fn read_tree(alloc: Global, tree: &Value) -> Result<Procedure, ReadError>
     ensures procedure { IfOk result (λ p. reading (view tree.now) ≡ Ok (program_of p)) }
     ensures shape { IfErr result (Tells (reading (view tree.now))) }
 {
