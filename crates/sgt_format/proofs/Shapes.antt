@@ -1,7 +1,7 @@
 -- Lists and objects of another size than an opening's.
 use Rattle.std.proofs.Common.{◌≡◌, ◌≢◌, ℕ, suc, ℤ, List, [], ◌∷◌, Some, None, Option, refl, ap, sym, ◌∙◌, length, map, arith}
 use Rattle.std.proofs.lemmas.List.{length-map}
-use Rattle.std.specs.Prelude.{cond, nat_eq, codes, option_map, option_and_then, String}
+use Rattle.std.specs.Prelude.{Result, Ok, Err, IfErr, cond, nat_eq, codes, option_map, option_and_then, String}
 use Rattle.std.specs.declared.alloc.Global.{Global}
 use Rattle.serde_json.specs.Data.{Data, Members}
 use Rattle.serde_json.specs.Find.{get, as_object}
@@ -9,12 +9,10 @@ use Rattle.serde_json.specs.View.{view, members_view}
 use Rattle.serde_json.specs.declared.value.Value.{Value}
 use Rattle.sgt_format.specs.Trees.{tree_of, list, each}
 use Rattle.sgt_proc_json.specs.Trees.{whole}
-use Rattle.sgt_smallbank.specs.Accounts.{fault_of, AreRefused}
 use Rattle.sgt_smallbank.specs.declared.account.Account.{Account}
-use Rattle.sgt_smallbank.specs.declared.errors.BadOpening as smallbank
-use Rattle.sgt_smallbank.specs.declared.errors.BadOpening.TheVariants as bad
-use Rattle.sgt_format.specs.Openings.{Sheet, count, pair_from, pair, account_from, account, list_at, all_three, parts_of, parts_in, sheet_of, HasLimits, ProcedureIsRefused, IsRefused, error_of, Refuses}
+use Rattle.sgt_format.specs.Openings.{Sheet, count, pair_from, pair, account_from, account, list_at, all_three, parts_of, parts_in, sheet_of, IsRefused, Refuses}
 use Rattle.sgt_format.specs.declared.errors.OpeningError.{OpeningError}
+use Rattle.sgt_format.specs.declared.opening.Opening.{Opening}
 use Rattle.sgt_format.specs.declared.errors.OpeningError.TheVariants.{NotJson, BadLine, BadLimits, BadOpening, ProcShape, ProcFlaw, NoMemory}
 
 longer : {A : Type 0} (first : Option A) (rest : Option (List A)) (found : List A) (n : ℕ) → ((others : List A) → rest ≡ Some others → length others ≡ n) → option_and_then (λ a. option_map (λ others. a ∷ others) rest) first ≡ Some found → length found ≡ suc n
@@ -81,8 +79,7 @@ parts_found tree ms limits accounts procedures object three at_limits at_account
 pub sheet_found : (line : List ℕ) (tree : Data) (limits : ℤ × ℤ) (trees procedures : List Data) (accounts : List Account) → Some tree ≡ tree_of line → Some (limits, trees, procedures) ≡ parts_in tree → Some accounts ≡ each account trees → sheet_of line ≡ Some (record { limits = limits; accounts = accounts; procedures = procedures })
 sheet_found line tree limits trees procedures accounts at_line at_tree at_trees = rw (← at_line) (rw (← at_tree) (rw (← at_trees) refl))
 
--- a line is refused as what it says is
-pub refused_sheet : (line : List ℕ) (sheet : Sheet) (error : OpeningError) → sheet_of line ≡ Some sheet → IsRefused sheet error → Refuses line error
+refused_sheet : (line : List ℕ) (sheet : Sheet) (error : OpeningError) → sheet_of line ≡ Some sheet → IsRefused sheet error → Refuses line error
 refused_sheet line sheet NotJson shape is = absurd is
 refused_sheet line sheet BadLine shape is = absurd is
 refused_sheet line sheet BadLimits shape is = (sheet, shape, is)
@@ -91,17 +88,7 @@ refused_sheet line sheet (ProcShape number place) shape is = (sheet, shape, is)
 refused_sheet line sheet (ProcFlaw number flaw) shape is = (sheet, shape, is)
 refused_sheet line sheet NoMemory shape is = tt
 
--- a sheet is refused as its procedures are, where its limits and accounts are not
-pub refused_procedure : (sheet : Sheet) (error : OpeningError) → HasLimits sheet → fault_of sheet.accounts ≡ None → ProcedureIsRefused sheet.procedures error → IsRefused sheet error
-refused_procedure sheet NotJson limits accounts is = absurd is
-refused_procedure sheet BadLine limits accounts is = absurd is
-refused_procedure sheet BadLimits limits accounts is = absurd is
-refused_procedure sheet (BadOpening fault) limits accounts is = absurd is
-refused_procedure sheet (ProcShape number place) limits accounts is = (limits, accounts, is)
-refused_procedure sheet (ProcFlaw number flaw) limits accounts is = (limits, accounts, is)
-refused_procedure sheet NoMemory limits accounts is = tt
-
--- a sheet is refused as its accounts are, where its limits are not
-pub refused_account : (sheet : Sheet) (error : smallbank.BadOpening) → HasLimits sheet → AreRefused sheet.accounts error → IsRefused sheet (error_of error)
-refused_account sheet (bad.Fault fault) limits is = (limits, is)
-refused_account sheet bad.NoMemory limits is = tt
+-- what gives an opening or not is refused as what the line says is
+pub refused_line : (line : List ℕ) (sheet : Sheet) (result : Result Opening OpeningError) → sheet_of line ≡ Some sheet → IfErr result (IsRefused sheet) → IfErr result (Refuses line)
+refused_line line sheet (Ok opening) shape is = tt
+refused_line line sheet (Err error) shape is = refused_sheet line sheet error shape is

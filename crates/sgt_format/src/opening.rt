@@ -47,9 +47,15 @@ fn open(
     procedures: &[Value],
 ) -> Result<Opening, OpeningError>
     ensures opening { IfOk result (IsOpened (record {
-        limits = numbers; accounts = accounts.now; procedures = map view procedures.now })) }
+      limits = numbers;
+      accounts = accounts.now;
+      procedures = map view procedures.now;
+    })) }
     ensures refused { IfErr result (IsRefused (record {
-        limits = numbers; accounts = accounts.now; procedures = map view procedures.now })) }
+      limits = numbers;
+      accounts = accounts.now;
+      procedures = map view procedures.now;
+    })) }
 {
     let limits = limits(numbers).ok_or(OpeningError::BadLimits)?;
     let database = sgt_smallbank::opening(alloc, accounts)?;

@@ -11,10 +11,7 @@ use sgt_smallbank::PROCEDURES;
 use std::alloc::Global;
 
 /// The procedures that these trees spell, which are numbered behind those of SmallBank.
-pub(crate) fn read_procedures(
-    alloc: Global,
-    trees: &[Value],
-) -> Result<Vec<Checked>, OpeningError>
+pub(crate) fn read_procedures(alloc: Global, trees: &[Value]) -> Result<Vec<Checked>, OpeningError>
     ensures procedures { IfOk result (λ list. AreProcedures (map view trees.now) list.items) }
     ensures refused { IfErr result (ProcedureIsRefused (map view trees.now)) }
 {

@@ -1,11 +1,10 @@
 use crate::{
-    LineError, OpeningError, append_database, append_reply, read_event, read_opening,
-    reply_line,
+    LineError, OpeningError, append_database, append_reply, read_event, read_opening, reply_line,
 };
 use sgt_model::{Answers, Args, Cause, Database, Event, Fate, Key, Limits, Reply, Tid, Tids};
 use sgt_proc::Flaw;
 use sgt_smallbank::OpeningFault;
-use std::alloc::AllocGlobal;
+use std::alloc::{AllocGlobal, Global};
 use std::process::Abort;
 use std::test::Fail;
 
@@ -149,6 +148,11 @@ fn an_opening_is_read(rt: HostRuntime) -> Result<(), Fail> {
     Ok(())
 }
 
+/// Why a line gives no opening.
+fn refusal(alloc: Global, line: &[u8]) -> Option<OpeningError> {
+    read_opening(alloc, line).err()
+}
+
 #[test]
 fn procedures_of_an_opening_are_read(rt: HostRuntime) -> Result<(), Fail> {
     let line =
@@ -162,25 +166,18 @@ fn procedures_of_an_opening_are_read(rt: HostRuntime) -> Result<(), Fail> {
 
 #[test]
 fn procedures_are_refused(rt: HostRuntime) {
-    let shape: &[u8] =
-        b"{\"limits\":[1,1],\"accounts\":[],\"procedures\":[[0,[]],[0,[[\"jump\"]]],7]}";
-    let Err(OpeningError::ProcShape(number, place)) = read_opening(rt.alloc(), shape) else {
+    let shape = "{\"limits\":[1,1],\"accounts\":[],\"procedures\":[[0,[]],[0,[[\"jump\"]]],7]}";
+    let Some(OpeningError::ProcShape(number, place)) = refusal(rt.alloc(), shape.as_bytes()) else {
         panic!(rt; "its second procedure has no word that is allowed there");
     };
     assert_eq!(rt; number, 6);
     assert!(rt; place.as_slice() == [1, 0].as_slice());
-    let flaw: &[u8] =
-        b"{\"limits\":[1,1],\"accounts\":[],\"procedures\":[[0,[[\"answer\",[\"reg\",0]]]],7]}";
-    let Err(OpeningError::ProcFlaw(number, flaw)) = read_opening(rt.alloc(), flaw) else {
+    let flaw =
+        "{\"limits\":[1,1],\"accounts\":[],\"procedures\":[[0,[[\"answer\",[\"reg\",0]]]],7]}";
+    let Some(OpeningError::ProcFlaw(number, flaw)) = refusal(rt.alloc(), flaw.as_bytes()) else {
         panic!(rt; "its first procedure answers a register that is not set");
     };
     assert_eq!(rt; (number, flaw), (5, Flaw::UnsetRegister));
-}
-
-#[test]
-fn an_account_is_refused_before_a_procedure(rt: HostRuntime) {
-    let line = b"{\"limits\":[1,1],\"accounts\":[[1,1,1,1],[1,2,1,1]],\"procedures\":[7]}";
-    assert!(rt; matches!(read_opening(rt.alloc(), line), Err(OpeningError::BadOpening(OpeningFault::SameName))));
 }
 
 /// The five procedures of SmallBank, as they are written.
@@ -204,62 +201,59 @@ fn smallbank_is_written_as_its_trees(rt: HostRuntime) -> Result<(), Fail> {
 }
 
 #[test]
-fn openings_are_refused(rt: HostRuntime) {
-    let bad = OpeningError::BadOpening;
-    let rows: [(&[u8], OpeningError); 14] = [
-        (b"{\"limits\":[1,1]", OpeningError::NotJson),
-        (b"[]", OpeningError::BadLine),
-        (b"{\"limits\":[1,1],\"accounts\":[]}", OpeningError::BadLine),
+fn openings_of_no_shape_are_refused(rt: HostRuntime) {
+    let no_json = b"{\"limits\":[1,1]";
+    assert!(rt; refusal(rt.alloc(), no_json) == Some(OpeningError::NotJson));
+    let lines: [&str; 6] = [
+        "[]",
+        "{\"limits\":[1,1],\"accounts\":[]}",
+        "{\"limits\":[1,1],\"accounts\":[],\"procedures\":[],\"more\":0}",
+        "{\"limits\":[1],\"accounts\":[],\"procedures\":[]}",
+        "{\"limits\":[1,1.0],\"accounts\":[],\"procedures\":[]}",
+        "{\"limits\":[0,1],\"accounts\":[[1,2,3]],\"procedures\":[7]}",
+    ];
+    for line in lines.iter() {
+        let bad_line = refusal(rt.alloc(), line.as_bytes()) == Some(OpeningError::BadLine);
+        assert!(rt; bad_line, "{line}");
+    }
+}
+
+#[test]
+fn limits_are_tested_before_accounts_and_procedures(rt: HostRuntime) {
+    let lines: [&str; 4] = [
+        "{\"limits\":[33,1],\"accounts\":[[1,2,3,1000000000000000]],\"procedures\":[]}",
+        "{\"limits\":[1,4000000001],\"accounts\":[],\"procedures\":[]}",
+        "{\"limits\":[-1,4294967297],\"accounts\":[],\"procedures\":[]}",
+        "{\"limits\":[0,1],\"accounts\":[],\"procedures\":[7]}",
+    ];
+    for line in lines.iter() {
+        let bad_limits = refusal(rt.alloc(), line.as_bytes()) == Some(OpeningError::BadLimits);
+        assert!(rt; bad_limits, "{line}");
+    }
+}
+
+#[test]
+fn accounts_are_refused(rt: HostRuntime) {
+    let rows: [(&str, OpeningFault); 4] = [
         (
-            b"{\"limits\":[1,1],\"accounts\":[],\"procedures\":[],\"more\":0}",
-            OpeningError::BadLine,
+            "{\"limits\":[1,1],\"accounts\":[[1,101,0,0],[1,101,0,0]],\"procedures\":[]}",
+            OpeningFault::SameName,
         ),
         (
-            b"{\"limits\":[1],\"accounts\":[],\"procedures\":[]}",
-            OpeningError::BadLine,
+            "{\"limits\":[1,1],\"accounts\":[[1,101,0,0],[2,101,0,0]],\"procedures\":[]}",
+            OpeningFault::SameCustomer,
         ),
         (
-            b"{\"limits\":[1,1.0],\"accounts\":[],\"procedures\":[]}",
-            OpeningError::BadLine,
+            "{\"limits\":[1,1],\"accounts\":[[1,101,0,0],[1,101,0,1000000000000000],[1,1,1,1]],\"procedures\":[]}",
+            OpeningFault::Range,
         ),
         (
-            b"{\"limits\":[0,1],\"accounts\":[[1,2,3]],\"procedures\":[]}",
-            OpeningError::BadLine,
-        ),
-        (
-            b"{\"limits\":[0,1],\"accounts\":[],\"procedures\":[7]}",
-            OpeningError::BadLimits,
-        ),
-        (
-            b"{\"limits\":[33,1],\"accounts\":[[1,2,3,1000000000000000]],\"procedures\":[]}",
-            OpeningError::BadLimits,
-        ),
-        (
-            b"{\"limits\":[1,4000000001],\"accounts\":[],\"procedures\":[]}",
-            OpeningError::BadLimits,
-        ),
-        (
-            b"{\"limits\":[-1,4294967297],\"accounts\":[],\"procedures\":[]}",
-            OpeningError::BadLimits,
-        ),
-        (
-            b"{\"limits\":[1,1],\"accounts\":[[1,101,0,0],[1,101,0,0]],\"procedures\":[]}",
-            bad(OpeningFault::SameName),
-        ),
-        (
-            b"{\"limits\":[1,1],\"accounts\":[[1,101,0,0],[2,101,0,0]],\"procedures\":[]}",
-            bad(OpeningFault::SameCustomer),
-        ),
-        (
-            b"{\"limits\":[1,1],\"accounts\":[[1,101,0,0],[1,101,0,1000000000000000],[1,1,1,1]],\"procedures\":[]}",
-            bad(OpeningFault::Range),
+            "{\"limits\":[1,1],\"accounts\":[[1,1,1,1],[1,2,1,1]],\"procedures\":[7]}",
+            OpeningFault::SameName,
         ),
     ];
-    for (line, error) in rows.iter() {
-        let refused = match read_opening(rt.alloc(), line) {
-            Ok(_) => false,
-            Err(given) => given == *error,
-        };
-        assert!(rt; refused, "{error:?}");
+    for (line, fault) in rows.iter() {
+        let bad = refusal(rt.alloc(), line.as_bytes()) == Some(OpeningError::BadOpening(*fault));
+        assert!(rt; bad, "{line}");
     }
 }

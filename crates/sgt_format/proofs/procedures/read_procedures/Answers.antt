@@ -1,5 +1,4 @@
 use Rattle.std.proofs.Common.{rules, ◌≡◌, Err}
-use Rattle.std.specs.Prelude.{IfErr}
 use Rattle.sgt_format.proofs.ReadProcedures.{one_more, next_refused}
 use Rattle.sgt_format.proofs.procedures.read_procedures.Goals as goal
 
