@@ -18,28 +18,6 @@ pub struct Buffer {
     end: usize,
 }
 
-/// Reads once, into the bytes from one place up to another.
-fn read_between<S: Source>(
-    source: &mut S,
-    bytes: &mut [u8],
-    from: usize,
-    to: usize,
-) -> Result<usize, Failed>
-    requires countable { S.failures source.old + 1 < 2 ^ 64 }
-    requires some { from < to }
-    requires bounds { to ≤ length bytes.old }
-    ensures within { IfOk result (λ n. from + n ≤ to) }
-    ensures kept { take from bytes.new ≡ take from bytes.old }
-    ensures bytes { IfOk result (λ n.
-        Consumes (S.rest source.old) (S.rest source.new) (take n (drop from bytes.new))) }
-    ensures end { IfOk result (λ n. n ≡ 0 → IsAtEnd (S.rest source.new)) }
-    ensures rest { OnErr result (Keeps (S.rest source.old) (S.rest source.new)) }
-    ensures well { OnOk result (S.failures source.new ≡ S.failures source.old) }
-    ensures failed { OnErr result (S.failures source.new ≡ S.failures source.old + 1) }
-{
-    source.read(&mut bytes[from..to])
-}
-
 impl Model for Buffer {
     ghost use Rattle.std.specs.Prelude.{◌≡◌, ◌≤◌, ◌-◌, take, drop, vec_len};
     ghost use Rattle.sgt_script.specs.Buffers.{Held};
@@ -128,4 +106,26 @@ impl Buffer {
         self.end += n;
         Ok(n)
     }
+}
+
+/// Reads once, into the bytes from one place up to another.
+fn read_between<S: Source>(
+    source: &mut S,
+    bytes: &mut [u8],
+    from: usize,
+    to: usize,
+) -> Result<usize, Failed>
+    requires countable { S.failures source.old + 1 < 2 ^ 64 }
+    requires some { from < to }
+    requires bounds { to ≤ length bytes.old }
+    ensures within { IfOk result (λ n. from + n ≤ to) }
+    ensures kept { take from bytes.new ≡ take from bytes.old }
+    ensures bytes { IfOk result (λ n.
+        Consumes (S.rest source.old) (S.rest source.new) (take n (drop from bytes.new))) }
+    ensures end { IfOk result (λ n. n ≡ 0 → IsAtEnd (S.rest source.new)) }
+    ensures rest { OnErr result (Keeps (S.rest source.old) (S.rest source.new)) }
+    ensures well { OnOk result (S.failures source.new ≡ S.failures source.old) }
+    ensures failed { OnErr result (S.failures source.new ≡ S.failures source.old + 1) }
+{
+    source.read(&mut bytes[from..to])
 }

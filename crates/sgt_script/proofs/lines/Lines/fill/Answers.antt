@@ -40,6 +40,6 @@ returns-then-held-self-clause-fault g c =
 pub returns-then-is_err-clause-come : goal.returns-then-is_err-clause-come
 returns-then-is_err-clause-come g c = come-trans c.args.self.now c.loop-self.self c.read.new.self _ _ _ c.loop-self.invariant.come c.read.ensures.come
 
-pub returns-after-loop-self-clause-ready : goal.returns-after-loop-self-clause-ready
-returns-after-loop-self-clause-ready g c =
+pub returns-clause-ready : goal.returns-clause-ready
+returns-clause-ready g c =
     inl (ap has_whole_line (sym c.self.view_is) ∙ sym (found-is (take c.self.inside.within c.self.inside.buffer.held) _ c.self.invariant.at) ∙ c.loop-self-test.ensures)
