@@ -1,10 +1,11 @@
-use Rattle.std.proofs.Common.{rules, ◌≡◌, ◌<◌, ◌≤◌, sym, ◌∙◌, ap, subst, false, take, length, inl}
+use Rattle.std.proofs.Common.{rules, ◌≡◌, ◌<◌, ◌≤◌, sym, ◌∙◌, ap, subst, false, take, length, inl, inr}
 use Rattle.sgt_script.specs.Lines.{AtLongLine, AtLimit}
 use Rattle.sgt_script.specs.Intake.{has_whole_line, IsReady}
 use Rattle.sgt_script.proofs.Breaks.{found-is, long-none}
 use Rattle.sgt_script.proofs.Known.{keeps-trans, come-trans, not-ready}
 use Rattle.sgt_script.proofs.Given.{keeps-ends, ends-at-long, ends-at-limit}
 use Rattle.sgt_script.proofs.lines.Lines.fill.Goals as goal
+use Rattle.sgt_script.proofs.lines.Lines.fill.Goals.{then-loop-self-test+else-not-self, else-loop-self-test}
 
 pub loop-self-preserved : goal.loop-self-preserved
 loop-self-preserved g c =
@@ -42,4 +43,7 @@ returns-then-is_err-clause-come g c = come-trans c.args.self.now c.loop-self.sel
 
 pub returns-clause-ready : goal.returns-clause-ready
 returns-clause-ready g c =
-    inl (ap has_whole_line (sym c.self.view_is) ∙ sym (found-is (take c.self.inside.within c.self.inside.buffer.held) _ c.self.invariant.at) ∙ c.loop-self-test.ensures)
+    elim c.loop-self-test.branch [
+      | then-loop-self-test+else-not-self w ↦ inr (search rules)
+      | else-loop-self-test w ↦ inl (ap has_whole_line (sym c.self.view_is) ∙ sym (found-is (take c.self.inside.within c.self.inside.buffer.held) _ c.self.invariant.at) ∙ w.loop-self-test.ensures)
+    ]
