@@ -6,8 +6,6 @@ use Rattle.sgt_model.specs.declared.procedure.Statement.{Statement}
 use Rattle.sgt_model.specs.Syntax.{Block, empty}
 use Rattle.sgt_model.specs.Programs.{before, block_of}
 use Rattle.sgt_proc_json.specs.Readings.{Reading, at, one, two, statement, statements}
-use Rattle.sgt_proc_json.specs.Refusals.{Tells}
-use Rattle.sgt_proc_json.specs.declared.errors.ReadError.{ReadError}
 
 -- statements in front of others
 abbrev pub onto_block : List Statement → Block → Block
@@ -35,12 +33,6 @@ pub one_more : (items : List Value) (i : ℕ) (v : Value) (list : List Statement
 one_more items i v list s r so h e read =
     so ∙ ap (one (onto_block list)) (items_next items i v h e ∙ ap (λ f. two (λ first rest. first rest) f (statements (i + 1) (items_view (drop (i + 1) items)))) read)
     ∙ one_last list s (statements (i + 1) (items_view (drop (i + 1) items)))
-
--- an item spells none
-pub stopped : (items : List Value) (i : ℕ) (v : Value) (list : List Statement) (error : ReadError) (r : Reading Block) → r ≡ one (onto_block list) (statements i (items_view (drop i items))) → i < length items → v ≡ get_or items i v
-    → Tells (at i (statement (view v))) error → Tells r error
-stopped items i v list error r so h e told place is =
-    so ∙ ap (one (onto_block list)) (items_next items i v h e ∙ ap (λ f. two (λ first rest. first rest) f (statements (i + 1) (items_view (drop (i + 1) items)))) (told place is))
 
 -- in front of none
 pub onto_all : (list : List Statement) → onto_block list empty ≡ block_of list

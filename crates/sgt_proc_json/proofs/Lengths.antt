@@ -6,11 +6,7 @@ use Rattle.serde_json.specs.declared.value.Value.{Value}
 use Rattle.sgt_proc_json.specs.Readings.{Reading, here, expression, condition, statement, reading}
 use Rattle.sgt_proc_json.specs.Refusals.{Tells}
 use Rattle.sgt_proc_json.specs.declared.errors.ReadError.{ReadError}
-use Rattle.sgt_proc_json.specs.declared.errors.ReadError.TheVariants.{Shape, NoMemory}
-
--- want of memory tells nothing
-pub told_nothing : {A : Type 0} (r : Reading A) (e : ReadError) → e ≡ NoMemory → Tells r e
-told_nothing r e is place e' = absurd (cc)
+use Rattle.sgt_proc_json.specs.declared.errors.ReadError.TheVariants.{Shape}
 
 -- a misfit of the tree itself is told by the empty place
 pub told_here : {A : Type 0} (r : Reading A) (e : ReadError) → e ≡ Shape [] → r ≡ here → Tells r e

@@ -3,7 +3,6 @@ use Rattle.std.proofs.Common.{◌≡◌, ◌≢◌, refl, sym, ◌∙◌, Result
 use Rattle.std.specs.Prelude.{IfOk, IfErr}
 use Rattle.serde_json.specs.Data.{Data}
 use Rattle.sgt_model.specs.declared.procedure.Procedure.{Procedure}
-use Rattle.sgt_model.specs.Syntax.{Program}
 use Rattle.sgt_model.specs.Programs.{program_of}
 use Rattle.sgt_proc_json.specs.Spelling.{Spells, SpellsNone}
 use Rattle.sgt_proc_json.specs.Readings.{reading}

@@ -80,7 +80,7 @@ four_are word s t u v d is =
     (x.0, y.0, z.0, k.0, r.1 ∙ ap (λ l. array (item (string word) l)) (x.2 ∙ ap (item x.0) (y.2 ∙ ap (item y.0) (z.2 ∙ ap (item z.0) (k.2 ∙ ap (item k.0) (none_is k.1 k.4))))), x.3, y.3, z.3, k.3)
 
 -- an expression
-pub read_term : (e : Term) (d : Data) → SpellsTerm e d → expression d ≡ Ok e
+read_term : (e : Term) (d : Data) → SpellsTerm e d → expression d ≡ Ok e
 read_term (num z) null is = absurd (cc)
 read_term (num z) (boolean b) is = absurd (cc)
 read_term (num z) (number n) is = ap (λ o. one num (or_here o)) is

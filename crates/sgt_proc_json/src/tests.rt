@@ -34,6 +34,7 @@ fn comes_back<R: AllocGlobal + Abort>(rt: &R, text: &str) -> Result<(), Fail> {
     let tree = Value::from_str(rt.alloc(), text)?;
     let procedure = read(rt.alloc(), &tree)?;
     let written = write(rt.alloc(), &procedure)?;
+    assert!(rt; written == tree, "{text}");
     assert_eq!(rt; written.to_string(rt.alloc())?.as_str(), text);
     Ok(())
 }
@@ -140,6 +141,10 @@ fn numbers_past_their_ranges_misfit(rt: HostRuntime) -> Result<(), Fail> {
 #[test]
 fn what_is_read_is_written_as_it_was(rt: HostRuntime) -> Result<(), Fail> {
     comes_back(&rt, "[0,[]]")?;
+    comes_back(
+        &rt,
+        "[1,[[\"look\",0,2,[\"arg\",0],5],[\"answer\",[\"reg\",0]]]]",
+    )?;
     comes_back(&rt, EVERY_KIND)
 }
 
@@ -244,8 +249,8 @@ fn a_place_keeps_its_first_128_positions(rt: HostRuntime) -> Result<(), Fail> {
 
 #[test]
 fn an_error_shows_its_place(rt: HostRuntime) -> Result<(), Fail> {
-    let tops = Value::from_str(rt.alloc(), "7")?;
-    let error = ReadError::Shape(misfit(&rt, &tops));
+    let seven = Value::from_str(rt.alloc(), "7")?;
+    let error = ReadError::Shape(misfit(&rt, &seven));
     assert_eq!(rt; error.to_string(rt.alloc())?.as_str(), "shape at top");
     let deeper = Value::from_str(rt.alloc(), "[0,[[\"ask\",1],[\"let\",0,\"x\"]]]")?;
     let error = ReadError::Shape(misfit(&rt, &deeper));

@@ -5,7 +5,9 @@ ghost use Rattle.sgt_model.specs.Syntax.{Block};
 ghost use Rattle.sgt_model.specs.Programs.{before, block_of};
 ghost use Rattle.sgt_proc_json.specs.Spelling.{Listed, SpellsBlock};
 
-use crate::write_expr::{write_byte, write_cond, write_expr, write_short};
+use crate::write_cond::write_cond;
+use crate::write_expr::write_expr;
+use crate::write_number::{write_byte, write_short};
 use serde_json::Value;
 use sgt_model::{NoMemory, Statement};
 use std::alloc::Global;

@@ -4,7 +4,7 @@ ghost use Rattle.sgt_model.specs.Programs.{program_of};
 ghost use Rattle.sgt_proc_json.specs.Spelling.{Spells};
 ghost use Rattle.sgt_proc_json.specs.Readings.{reading};
 
-use crate::write_expr::write_byte;
+use crate::write_number::write_byte;
 use crate::write_statement::write_block;
 use serde_json::Value;
 use sgt_model::{NoMemory, Procedure};
