@@ -1,6 +1,6 @@
 -- Procedures that are read one after another.
 use Rattle.std.proofs.Common.{◌≡◌, refl, ap, sym, ◌∙◌, subst, ℕ, zero, suc, ◌+◌, ◌<◌, length, get_or, take, List, [], ◌∷◌, ◌++◌, map, arith}
-use Rattle.std.proofs.lemmas.List.{take_more}
+use Rattle.std.proofs.lemmas.List.{take_more, map-append}
 use Rattle.serde_json.specs.Data.{Data}
 use Rattle.serde_json.specs.View.{view}
 use Rattle.serde_json.specs.declared.value.Value.{Value}
@@ -16,14 +16,10 @@ are_procedures-last [] (q ∷ programs) tree p are is = absurd are
 are_procedures-last (t ∷ trees) [] tree p are is = absurd are
 are_procedures-last (t ∷ trees) (q ∷ programs) tree p are is = (are.0, are_procedures-last trees programs tree p are.1 is)
 
-view-last : (trees : List Value) (v : Value) → map view (trees ++ v ∷ []) ≡ map view trees ++ view v ∷ []
-view-last [] v = refl
-view-last (x ∷ trees) v = ap (λ l. view x ∷ l) (view-last trees v)
-
 -- one more is read
 pub one_more : (trees : List Value) (i : ℕ) (v : Value) (programs : List Program) (p : Program) → i < length trees → v ≡ get_or trees i v → AreProcedures (map view (take i trees)) programs → IsProcedure (view v) p → AreProcedures (map view (take (i + 1) trees)) (programs ++ p ∷ [])
 one_more trees i v programs p h e are is =
-    rw (take_more trees i v h ∙ ap (λ x. take i trees ++ x ∷ []) (sym e), view-last (take i trees) v) (are_procedures-last (map view (take i trees)) programs (view v) p are is)
+    rw (take_more trees i v h ∙ ap (λ x. take i trees ++ x ∷ []) (sym e), map-append view (take i trees) (v ∷ [])) (are_procedures-last (map view (take i trees)) programs (view v) p are is)
 
 -- the next is so
 next_is : (so : Data → Type 0) (trees : List Value) (i : ℕ) (v : Value) (programs : List Program) → i < length trees → v ≡ get_or trees i v → AreProcedures (map view (take i trees)) programs → so (view v) → NextIs so i (map view trees)

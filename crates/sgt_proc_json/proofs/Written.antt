@@ -1,6 +1,6 @@
 -- Statements that are written one after another.
 use Rattle.std.proofs.Common.{◌≡◌, refl, ap, sym, ◌∙◌, subst, ℕ, ◌+◌, ◌<◌, length, get_or, take, List, [], ◌∷◌, ◌++◌}
-use Rattle.std.proofs.lemmas.List.{take_more}
+use Rattle.std.proofs.lemmas.List.{take_more, map-append}
 use Rattle.std.specs.Prelude.{codes, map}
 use Rattle.std.specs.declared.vec.Vec.{Vec}
 use Rattle.std.specs.declared.alloc.Global.{Global}
@@ -40,13 +40,9 @@ onto_items-last (x ∷ trees) d rest = ap (item x) (onto_items-last trees d rest
 abbrev pub Written : List Statement → List Value → Type 0
 Written list trees = (b : Block) (rest : Items) → SpellsBlock b rest → SpellsBlock (onto_block list b) (onto_items (map view trees) rest)
 
-view-last : (trees : List Value) (v : Value) → map view (trees ++ v ∷ []) ≡ map view trees ++ view v ∷ []
-view-last [] v = refl
-view-last (x ∷ trees) v = ap (λ l. view x ∷ l) (view-last trees v)
-
 written_last : (list : List Statement) (s : Statement) (trees : List Value) (v : Value) → Written list trees → ((b : Block) (rest : Items) → SpellsBlock b rest → SpellsBlock (before s b) (item (view v) rest)) → Written (list ++ s ∷ []) (trees ++ v ∷ [])
 written_last list s trees v so one b rest others =
-    rw (onto_last list s b, ap (λ l. onto_items l rest) (view-last trees v) ∙ onto_items-last (map view trees) (view v) rest) (so (before s b) (item (view v) rest) (one b rest others))
+    rw (onto_last list s b, ap (λ l. onto_items l rest) (map-append view trees (v ∷ [])) ∙ onto_items-last (map view trees) (view v) rest) (so (before s b) (item (view v) rest) (one b rest others))
 
 -- one more
 pub written_more : (list : List Statement) (i : ℕ) (s : Statement) (trees longer : List Value) (v : Value) → i < length list → s ≡ get_or list i s → longer ≡ trees ++ v ∷ [] → Written (take i list) trees → ((b : Block) (rest : Items) → SpellsBlock b rest → SpellsBlock (before s b) (item (view v) rest)) → Written (take (i + 1) list) longer
