@@ -1,15 +1,15 @@
-ghost use Rattle.std.specs.Prelude.{IfOk};
+ghost use Rattle.std.specs.Prelude.{[], ◌∷◌, codes, IfOk};
 ghost use Rattle.serde_json.specs.Data.{Items, item};
 ghost use Rattle.serde_json.specs.View.{view};
 ghost use Rattle.sgt_model.specs.Syntax.{Block};
-ghost use Rattle.sgt_model.specs.Programs.{before, block_of};
-ghost use Rattle.sgt_proc_json.specs.Spelling.{Listed, SpellsBlock};
+ghost use Rattle.sgt_model.specs.Programs.{term_of, before, block_of};
+ghost use Rattle.sgt_proc_json.specs.Spelling.{Row, Byte, Short, SpellsTerm, Listed, SpellsBlock};
 
 use crate::write_cond::write_cond;
 use crate::write_expr::write_expr;
 use crate::write_number::{write_byte, write_short};
 use serde_json::Value;
-use sgt_model::{NoMemory, Statement};
+use sgt_model::{Expr, NoMemory, Statement};
 use std::alloc::Global;
 
 /// The tree of a statement.
@@ -24,13 +24,7 @@ fn write_statement(alloc: Global, statement: &Statement) -> Result<Value, NoMemo
             table,
             id,
             absent,
-        } => Ok(Value::Array(vec![in alloc;
-            Value::try_from_str(alloc, "look")?,
-            write_byte(*reg),
-            write_byte(*table),
-            write_expr(alloc, id)?,
-            write_short(*absent),
-        ]?)),
+        } => write_look(alloc, *reg, *table, id, *absent),
         Statement::Put { table, id, value } => Ok(Value::Array(vec![in alloc;
             Value::try_from_str(alloc, "put")?,
             write_byte(*table),
@@ -57,6 +51,20 @@ fn write_statement(alloc: Global, statement: &Statement) -> Result<Value, NoMemo
             write_expr(alloc, value)?,
         ]?)),
     }
+}
+
+/// The tree of a look.
+fn write_look(alloc: Global, reg: u8, table: u8, id: &Expr, absent: u16) -> Result<Value, NoMemory>
+    ensures { IfOk result (λ v. Row (codes "look")
+        (Byte reg ∷ Byte table ∷ SpellsTerm (term_of id.now) ∷ Short absent ∷ []) (view v)) }
+{
+    Ok(Value::Array(vec![in alloc;
+        Value::try_from_str(alloc, "look")?,
+        write_byte(reg),
+        write_byte(table),
+        write_expr(alloc, id)?,
+        write_short(absent),
+    ]?))
 }
 
 /// The tree of statements in a row.
