@@ -1,9 +1,7 @@
 -- Links, one after another.
-use Rattle.std.specs.Prelude.{◌≡◌, ℕ, ◌<◌, ◌+◌, true, false, ◌&&◌, ◌||◌, ◌⊎◌, nat_eq, List, [], ◌∷◌, length, slice_index_or}
-use Rattle.std.proofs.Common.{take, zero, suc, refl, sym, ◌∙◌, subst, inl, inr, arith}
-use Rattle.std.proofs.lemmas.List.Folds.{list_any-append}
-use Rattle.sgt_cycle.proofs.Members.{take_next}
-use Rattle.std.proofs.lemmas.Bool.{eq-eqb, eqb-true, and_from, and_parts, or_left, or_right, or_cases, both_ways}
+use Rattle.std.specs.Prelude.{◌≡◌, ℕ, ◌<◌, true, ◌&&◌, ◌||◌, ◌⊎◌, nat_eq, List, [], ◌∷◌, length, slice_index_or}
+use Rattle.std.proofs.Common.{zero, suc, refl, inl, inr, arith}
+use Rattle.std.proofs.lemmas.Bool.{eq-eqb, eqb-true, and_from, and_parts, or_left, or_right, or_cases}
 use Rattle.sgt_cycle.specs.Links.{is_link, is_end}
 
 -- what stands in the list is a link
