@@ -35,6 +35,3 @@ pub use laws::reading_is_spelling;
 pub use place::Place;
 pub use reader::read;
 pub use writer::write;
-
-#[cfg(test)]
-mod tests;

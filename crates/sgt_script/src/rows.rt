@@ -123,8 +123,9 @@ fn openings_refused(rt: HostRuntime) -> Result<(), Fail> {
     assert!(rt; writes(alloc, &same_name, &[], Err(Fault::BadOpening(1)))?);
     let many_live = ["{\"limits\":[33,1],\"accounts\":[],\"procedures\":[]}\n"];
     assert!(rt; writes(alloc, &many_live, &[], Err(Fault::BadLimits))?);
-    let unset =
-        ["{\"limits\":[1,1],\"accounts\":[],\"procedures\":[[0,[[\"answer\",[\"reg\",0]]]]]}\n"];
+    let unset = [
+        "{\"limits\":[1,1],\"accounts\":[],\"procedures\":[[0,[[\"answer\",[\"reg\",0]]]]]}\n",
+    ];
     assert!(rt; writes(alloc, &unset, &[], Err(Fault::ProcFlaw(5, 2)))?);
     let jump = ["{\"limits\":[1,1],\"accounts\":[],\"procedures\":[[0,[[\"jump\"]]]]}\n"];
     assert!(rt; ends(alloc, &jump, "line 1: procedure 5 shape 1 0")?);

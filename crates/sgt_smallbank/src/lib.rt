@@ -48,6 +48,3 @@ pub use account::{Account, opening};
 pub use bank::{PROCEDURES, procedures};
 pub use errors::{BadOpening, OpeningFault};
 pub use laws::serial_is_bank;
-
-#[cfg(test)]
-mod tests;

@@ -1,6 +1,8 @@
-use crate::{Account, BadOpening, OpeningFault, opening, procedures};
+//! SmallBank: what each procedure does after what it found, and which accounts open a database.
+
 use sgt_model::{Answers, Args, Key};
 use sgt_proc::Next;
+use sgt_smallbank::{Account, BadOpening, OpeningFault, opening, procedures};
 use std::alloc::AllocGlobal;
 use std::process::Abort;
 use std::test::Fail;

@@ -1,6 +1,8 @@
-use crate::{Place, ReadError, read, write};
+//! Procedures as trees of JSON: places of misfits, and what is read and written back.
+
 use serde_json::Value;
 use sgt_model::{Cond, Expr, Procedure, Statement};
+use sgt_proc_json::{Place, ReadError, read, write};
 use std::alloc::{AllocGlobal, Global};
 use std::process::Abort;
 use std::test::Fail;

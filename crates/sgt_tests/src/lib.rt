@@ -1,0 +1,10 @@
+//! Tests of the crates below the scheduler, in a crate of their own: a crate with tests is proved twice, and these would be
+//! proved again for nothing.
+//!
+//! It has no function for others to call. What a test shows is in its name.
+#![tactic(auto)]
+
+#[cfg(test)]
+mod procedures_as_trees;
+#[cfg(test)]
+mod smallbank;
