@@ -43,45 +43,60 @@ fn comes_back<R: AllocGlobal + Abort>(rt: &R, text: &str) -> Result<(), Fail> {
 
 #[test]
 fn a_misfit_has_its_place(rt: HostRuntime) -> Result<(), Fail> {
-    misfits(&rt, "7", &[])?;
-    misfits(&rt, "{}", &[])?;
-    misfits(&rt, "[]", &[])?;
-    misfits(&rt, "[0]", &[])?;
-    misfits(&rt, "[0,[],[]]", &[])?;
-    misfits(&rt, "[300,[]]", &[0])?;
-    misfits(&rt, "[0,5]", &[1])?;
-    misfits(&rt, "[0,[[\"jump\"]]]", &[1, 0])?;
-    misfits(&rt, "[0,[[\"ask\",1],[\"let\",0,\"x\"]]]", &[1, 1, 2])?;
-    misfits(&rt, "[0,[[\"answer\",[\"sum\",1]]]]", &[1, 0, 1])?;
+    let rows: [(&str, &[u64]); 10] = [
+        ("7", &[]),
+        ("{}", &[]),
+        ("[]", &[]),
+        ("[0]", &[]),
+        ("[0,[],[]]", &[]),
+        ("[300,[]]", &[0]),
+        ("[0,5]", &[1]),
+        ("[0,[[\"jump\"]]]", &[1, 0]),
+        ("[0,[[\"ask\",1],[\"let\",0,\"x\"]]]", &[1, 1, 2]),
+        ("[0,[[\"answer\",[\"sum\",1]]]]", &[1, 0, 1]),
+    ];
+    for (text, positions) in rows.iter() {
+        misfits(&rt, text, positions)?;
+    }
     Ok(())
 }
 
 #[test]
 fn a_list_of_no_row_misfits_itself(rt: HostRuntime) -> Result<(), Fail> {
-    misfits(&rt, "[0,[[]]]", &[1, 0])?;
-    misfits(&rt, "[0,[[7,1]]]", &[1, 0])?;
-    misfits(&rt, "[0,[[\"Ask\",1]]]", &[1, 0])?;
-    misfits(&rt, "[0,[[\"arg\",1]]]", &[1, 0])?;
-    misfits(&rt, "[0,[[\"ask\",1,2]]]", &[1, 0])?;
-    misfits(&rt, "[0,[[\"look\",0,0,0]]]", &[1, 0])?;
-    misfits(&rt, "[0,[[\"look\",0,0,0,1,1]]]", &[1, 0])?;
-    misfits(&rt, "[0,[[\"if\",[\"less\",0,1],[]]]]", &[1, 0])?;
-    misfits(&rt, "[0,[[\"answer\",[\"less\",0,1]]]]", &[1, 0, 1])?;
-    misfits(&rt, "[0,[[\"if\",[\"sum\",0,1],[],[]]]]", &[1, 0, 1])?;
-    misfits(&rt, "[0,[[\"if\",[\"less\",0],[],[]]]]", &[1, 0, 1])?;
+    let rows: [(&str, &[u64]); 11] = [
+        ("[0,[[]]]", &[1, 0]),
+        ("[0,[[7,1]]]", &[1, 0]),
+        ("[0,[[\"Ask\",1]]]", &[1, 0]),
+        ("[0,[[\"arg\",1]]]", &[1, 0]),
+        ("[0,[[\"ask\",1,2]]]", &[1, 0]),
+        ("[0,[[\"look\",0,0,0]]]", &[1, 0]),
+        ("[0,[[\"look\",0,0,0,1,1]]]", &[1, 0]),
+        ("[0,[[\"if\",[\"less\",0,1],[]]]]", &[1, 0]),
+        ("[0,[[\"answer\",[\"less\",0,1]]]]", &[1, 0, 1]),
+        ("[0,[[\"if\",[\"sum\",0,1],[],[]]]]", &[1, 0, 1]),
+        ("[0,[[\"if\",[\"less\",0],[],[]]]]", &[1, 0, 1]),
+    ];
+    for (text, positions) in rows.iter() {
+        misfits(&rt, text, positions)?;
+    }
     Ok(())
 }
 
 #[test]
 fn a_thing_of_another_kind_misfits_at_its_place(rt: HostRuntime) -> Result<(), Fail> {
-    misfits(&rt, "[\"1\",[]]", &[0])?;
-    misfits(&rt, "[0,{}]", &[1])?;
-    misfits(&rt, "[0,[\"ask\"]]", &[1, 0])?;
-    misfits(&rt, "[0,[{\"ask\":1}]]", &[1, 0])?;
-    misfits(&rt, "[0,[[\"answer\",null]]]", &[1, 0, 1])?;
-    misfits(&rt, "[0,[[\"answer\",1.0]]]", &[1, 0, 1])?;
-    misfits(&rt, "[0,[[\"if\",true,[],[]]]]", &[1, 0, 1])?;
-    misfits(&rt, "[0,[[\"if\",[\"less\",0,1],5,[]]]]", &[1, 0, 2])?;
+    let rows: [(&str, &[u64]); 8] = [
+        ("[\"1\",[]]", &[0]),
+        ("[0,{}]", &[1]),
+        ("[0,[\"ask\"]]", &[1, 0]),
+        ("[0,[{\"ask\":1}]]", &[1, 0]),
+        ("[0,[[\"answer\",null]]]", &[1, 0, 1]),
+        ("[0,[[\"answer\",1.0]]]", &[1, 0, 1]),
+        ("[0,[[\"if\",true,[],[]]]]", &[1, 0, 1]),
+        ("[0,[[\"if\",[\"less\",0,1],5,[]]]]", &[1, 0, 2]),
+    ];
+    for (text, positions) in rows.iter() {
+        misfits(&rt, text, positions)?;
+    }
     Ok(())
 }
 
@@ -94,16 +109,20 @@ fn an_unknown_word_is_found_in_deep_blocks(rt: HostRuntime) -> Result<(), Fail> 
 
 #[test]
 fn the_first_misfit_counts(rt: HostRuntime) -> Result<(), Fail> {
-    misfits(&rt, "[300,5]", &[0])?;
-    misfits(&rt, "[0,[[\"look\",256,0,0]]]", &[1, 0])?;
-    misfits(&rt, "[0,[[\"look\",0,256,\"x\",65536]]]", &[1, 0, 2])?;
-    misfits(&rt, "[0,[[\"ask\",65536],7]]", &[1, 0, 1])?;
-    misfits(&rt, "[0,[[\"if\",[\"same\",1,[]],5,5]]]", &[1, 0, 1, 2])?;
-    misfits(
-        &rt,
-        "[0,[[\"put\",0,[\"sum\",[\"arg\",256],[]],[]]]]",
-        &[1, 0, 2, 1, 1],
-    )?;
+    let rows: [(&str, &[u64]); 6] = [
+        ("[300,5]", &[0]),
+        ("[0,[[\"look\",256,0,0]]]", &[1, 0]),
+        ("[0,[[\"look\",0,256,\"x\",65536]]]", &[1, 0, 2]),
+        ("[0,[[\"ask\",65536],7]]", &[1, 0, 1]),
+        ("[0,[[\"if\",[\"same\",1,[]],5,5]]]", &[1, 0, 1, 2]),
+        (
+            "[0,[[\"put\",0,[\"sum\",[\"arg\",256],[]],[]]]]",
+            &[1, 0, 2, 1, 1],
+        ),
+    ];
+    for (text, positions) in rows.iter() {
+        misfits(&rt, text, positions)?;
+    }
     Ok(())
 }
 
@@ -124,19 +143,24 @@ fn numbers_are_read_to_the_ends_of_their_ranges(rt: HostRuntime) -> Result<(), F
 
 #[test]
 fn numbers_past_their_ranges_misfit(rt: HostRuntime) -> Result<(), Fail> {
-    misfits(&rt, "[256,[]]", &[0])?;
-    misfits(&rt, "[-1,[]]", &[0])?;
-    misfits(&rt, "[0,[[\"ask\",65536]]]", &[1, 0, 1])?;
-    misfits(&rt, "[0,[[\"ask\",-1]]]", &[1, 0, 1])?;
-    misfits(&rt, "[0,[[\"let\",256,0]]]", &[1, 0, 1])?;
-    misfits(&rt, "[0,[[\"put\",256,0,0]]]", &[1, 0, 1])?;
-    misfits(&rt, "[0,[[\"look\",256,0,0,0]]]", &[1, 0, 1])?;
-    misfits(&rt, "[0,[[\"look\",0,256,0,0]]]", &[1, 0, 2])?;
-    misfits(&rt, "[0,[[\"look\",0,0,0,65536]]]", &[1, 0, 4])?;
-    misfits(&rt, "[0,[[\"answer\",[\"arg\",256]]]]", &[1, 0, 1, 1])?;
-    misfits(&rt, "[0,[[\"answer\",[\"reg\",256]]]]", &[1, 0, 1, 1])?;
-    misfits(&rt, "[0,[[\"answer\",9223372036854775808]]]", &[1, 0, 1])?;
-    misfits(&rt, "[0,[[\"answer\",-9223372036854775809]]]", &[1, 0, 1])?;
+    let rows: [(&str, &[u64]); 13] = [
+        ("[256,[]]", &[0]),
+        ("[-1,[]]", &[0]),
+        ("[0,[[\"ask\",65536]]]", &[1, 0, 1]),
+        ("[0,[[\"ask\",-1]]]", &[1, 0, 1]),
+        ("[0,[[\"let\",256,0]]]", &[1, 0, 1]),
+        ("[0,[[\"put\",256,0,0]]]", &[1, 0, 1]),
+        ("[0,[[\"look\",256,0,0,0]]]", &[1, 0, 1]),
+        ("[0,[[\"look\",0,256,0,0]]]", &[1, 0, 2]),
+        ("[0,[[\"look\",0,0,0,65536]]]", &[1, 0, 4]),
+        ("[0,[[\"answer\",[\"arg\",256]]]]", &[1, 0, 1, 1]),
+        ("[0,[[\"answer\",[\"reg\",256]]]]", &[1, 0, 1, 1]),
+        ("[0,[[\"answer\",9223372036854775808]]]", &[1, 0, 1]),
+        ("[0,[[\"answer\",-9223372036854775809]]]", &[1, 0, 1]),
+    ];
+    for (text, positions) in rows.iter() {
+        misfits(&rt, text, positions)?;
+    }
     Ok(())
 }
 
