@@ -20,19 +20,22 @@ abbrev pub at : {A : Type 0} → ℕ → Reading A → Reading A
 at n (Ok a) = Ok a
 at n (Err place) = Err (take 128 (n ∷ place))
 
--- what is made of one thing that is read, or of more, of which the first misfit counts
+-- what is made of one thing that is read
 abbrev pub one : {A B : Type 0} → (A → B) → Reading A → Reading B
 one make (Ok a) = Ok (make a)
 one make (Err place) = Err place
 
+-- of two, of which the first misfit counts
 abbrev pub two : {A B C : Type 0} → (A → B → C) → Reading A → Reading B → Reading C
 two make (Ok a) b = one (make a) b
 two make (Err place) b = Err place
 
+-- of three
 abbrev pub three : {A B C D : Type 0} → (A → B → C → D) → Reading A → Reading B → Reading C → Reading D
 three make (Ok a) b c = two (make a) b c
 three make (Err place) b c = Err place
 
+-- of four
 abbrev pub four : {A B C D E : Type 0} → (A → B → C → D → E) → Reading A → Reading B → Reading C → Reading D → Reading E
 four make (Ok a) b c d = three (make a) b c d
 four make (Err place) b c d = Err place
