@@ -14,7 +14,7 @@ use Rattle.sgt_model.specs.declared.entry.Entry.{Entry}
 use Rattle.std.specs.Io.KnownBytes.{Appends}
 use Rattle.sgt_format.specs.ReplyText.{text}
 use Rattle.sgt_script.specs.Lines.{Cut}
-use Rattle.sgt_script.specs.Scripts.{events, events_of, replies, End, end_of, Answered, NoEvent, AllAnswered, Closing, Tells, IsExact, IsOfScript}
+use Rattle.sgt_script.specs.Scripts.{events, events_of, replies, End, end_of, Answered, AllAnswered, Closing, Tells, IsExact, IsOfScript}
 
 -- one more line answered
 pub answered-next : (n m k : ℕ) (a b c : Option Cut) (past : List Entry) (e : Entry) → Answered n a past m b → Answered m b (e ∷ []) k c → Answered n a (e ∷ past) k c

@@ -1,14 +1,14 @@
 -- What giving a line, or none, does to the lines that are left.
-use Rattle.std.proofs.Common.{◌≡◌, ℕ, ◌+◌, ◌-◌, ◌<◌, ◌≤◌, Bool, true, false, List, [], ◌∷◌, ◌++◌, length, take, drop, refl, ap, sym, ◌∙◌, arith, append_assoc, append-nil, subst, inl, inr}
-use Rattle.std.specs.Prelude.{Option, None, Some, if◌then◌else◌}
+use Rattle.std.proofs.Common.{◌≡◌, ℕ, ◌+◌, ◌-◌, ◌<◌, ◌≤◌, true, false, List, [], ◌∷◌, ◌++◌, length, take, drop, refl, ap, sym, ◌∙◌, arith, append_assoc, append-nil, subst, inl, inr}
+use Rattle.std.specs.Prelude.{Option, None, Some}
 use Rattle.std.proofs.lemmas.Grind.{common_steps}
 use Rattle.std.proofs.lemmas.Bool.{cases_Bool}
 use Rattle.std.proofs.lemmas.List.{take-append-drop, take-append-le, take_all, length-take-le}
 use Rattle.std.specs.Option.{option_map}
-use Rattle.std.specs.Io.KnownBytes.{Keeps, Consumes, prepend_known}
-use Rattle.sgt_script.specs.Lines.{has_break, whole_lines, cut_within, Cut, Ending, AtEnd, AtLongLine, AtLimit}
-use Rattle.sgt_script.specs.Intake.{Intake, left, cut_left, Gives, EndsAs, taken, IsGiven, IsLong}
-use Rattle.sgt_script.proofs.Cuts.{cut-first, cut-last, cut-nothing, cut-long, cut-limit, whole_lines-none}
+use Rattle.std.specs.Io.KnownBytes.{Keeps, prepend_known}
+use Rattle.sgt_script.specs.Lines.{has_break, whole_lines, cut_within, Cut, Ending, AtLongLine, AtLimit}
+use Rattle.sgt_script.specs.Intake.{Intake, cut_left, Gives, EndsAs, taken, IsGiven, IsLong}
+use Rattle.sgt_script.proofs.Cuts.{cut-first, cut-last, cut-long, cut-limit, whole_lines-none}
 
 -- a line given with its byte 10
 gives-whole : (i k : Intake) (rest : Option (List ℕ)) → IsGiven i k → i.ended ≡ false → k.ended ≡ false → Gives (option_map (cut_within i.within) (prepend_known i.held rest)) k.line (option_map (cut_within k.within) (prepend_known k.held rest))
@@ -79,15 +79,6 @@ ends-at-limit i rest none few past =
     let front : take i.within (i.held ++ ys) ≡ take i.within i.held = take-append-le i.within i.held ys (omega (arith, past)) in
     let size : i.within < length (i.held ++ ys) = grind (arith, common_steps, past) in
     cut-limit i.within (i.held ++ ys) (ap has_break front ∙ none) few size)
-
--- a whole line stands before the bytes that are left behind it
-consumes-known : (i k : Intake) (xs : List ℕ) (rest : Option (List ℕ)) → IsGiven i k → Keeps (Some xs) (prepend_known i.held rest) → Consumes (Some xs) (prepend_known k.held rest) (taken k)
-consumes-known i k xs None given kept = kept
-consumes-known i k xs (Some ys) given kept = sym kept ∙ ap (λ l. l ++ ys) given.bytes ∙ append_assoc (taken k) k.held ys
-
-consumes-whole : (i k : Intake) (xs : List ℕ) (rest : Option (List ℕ)) → IsGiven i k → k.ended ≡ false → i.ended ≡ false → Keeps (Some xs) (left i rest) → Consumes (Some xs) (left k rest) (taken k)
-consumes-whole i k xs rest given going going' kept =
-    subst (λ (o : Bool). Consumes (Some xs) (if o then Some k.held else prepend_known k.held rest) (taken k)) (sym going) (consumes-known i k xs rest given (subst (λ (o : Bool). Keeps (Some xs) (if o then Some i.held else prepend_known i.held rest)) going' kept))
 
 -- where all bytes held are within the limit and none is a byte 10, no whole line is held
 pub no-line : (within : ℕ) (held : List ℕ) → has_break (take within held) ≡ false → length held ≤ within → whole_lines held ≡ []
