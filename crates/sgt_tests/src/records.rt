@@ -1,7 +1,8 @@
+//! What a look finds after writes, undone and settled, over any body.
 ghost use Rattle.std.specs.Prelude.{◌≡◌, []};
 ghost use Rattle.sgt_model.specs.Contents.{Key as K};
 
-use crate::{ListRecords, Records, Top};
+use sgt_records::{ListRecords, Records, Top};
 use sgt_model::{Database, Key, NoMemory, Tid};
 use std::process::Abort;
 use std::test::Fail;

@@ -1,6 +1,7 @@
+//! Which accesses rival each other, over any body.
 ghost use Rattle.std.specs.Prelude.{◌≡◌, [], ◌∷◌, ◌++◌, OnOk};
 
-use crate::{Accesses, OneList};
+use sgt_access::{Accesses, OneList};
 use sgt_model::{Key, Kind, NoMemory, Tid};
 use std::process::Abort;
 use std::test::Fail;

@@ -1,6 +1,7 @@
+//! What a graph answers, over any body.
 ghost use Rattle.std.specs.Prelude.{◌≡◌, ℕ, false, [], ◌∷◌, nat_lt};
 
-use crate::{Graph, PairGraph, Verdict};
+use sgt_graph::{Graph, PairGraph, Verdict};
 use sgt_model::{Tid, Tids};
 use std::process::Abort;
 

@@ -2,7 +2,7 @@ use Rattle.std.proofs.Common.{◌≡◌, ◌∙◌, ℕ, Bool, true, List, [], �
 use Rattle.std.specs.Prelude.{◌||◌}
 use Rattle.std.proofs.lemmas.Bool.{both_ways, or_cases}
 use Rattle.sgt_model.specs.Walks.{Member}
-use Rattle.sgt_graph.proofs.tests.three_nodes.Goals as goal
+use Rattle.sgt_tests.proofs.graphs.three_nodes.Goals as goal
 
 -- one more node
 added : (old new : ℕ → Bool) (t : ℕ) (list : List ℕ) → ((u : ℕ) → old u ≡ true → Member u list) → ((u : ℕ) → new u ≡ (old u || nat_eq u t)) → (u : ℕ) → new u ≡ true → Member u (t ∷ list)

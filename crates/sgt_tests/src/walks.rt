@@ -1,7 +1,8 @@
+//! The search for a walk: what it finds, what it does not, and the most that it can meet.
 ghost use Rattle.std.specs.Prelude.{◌≡◌, ◌<◌, ℕ, true, [], ◌∷◌};
 ghost use Rattle.sgt_cycle.specs.Links.{is_end};
 
-use crate::{is_walk, walk};
+use sgt_cycle::{is_walk, walk};
 use sgt_model::{Bounded, Tid, Tids};
 
 #[test]
