@@ -17,7 +17,7 @@ use Rattle.sgt_model.specs.CallEffects.{CallEffect}
 use Rattle.sgt_engine.specs.EngineView.{EngineView, setting_of, made_of, events_of}
 use Rattle.sgt_model.proofs.Joining.{calls_simulate}
 
--- what an engine keeps: a legal history, and a scheduler that holds what is held after it
+-- what an engine keeps: a legal history, and a scheduler whose state is the one after it
 abbrev pub Kept : Setting → List Entry → State → Type 0
 Kept s past c = Legal s past × IsStateAfter s past c
 

@@ -1,4 +1,4 @@
--- A call that does to what is held what its contract says answers legally, and leaves what is held after the longer history.
+-- A call that changes the state as its contract says answers legally, and leaves the state after the longer history.
 use Rattle.std.proofs.Common.{◌≡◌, ℕ, ℤ, Bool, true, false, cond, ◌⊎◌, List, ◌∷◌, Option, Some, None, nat_eq, nat_lt, refl, sym, ap, ap₂, subst, inl, inr, ◌∙◌}
 use Rattle.std.specs.Prelude.{length}
 use Rattle.std.proofs.lemmas.Bool.{or_cases, eqb-true, ltb-true}

@@ -1,4 +1,4 @@
--- What a call answers and does, as a relation of what is held before and after.
+-- What a call answers and does, as a relation of the states before and after.
 use Rattle.std.specs.Prelude.{◌≡◌, ℕ, ◌≤◌, ℤ, Bool, true, false, cond, ◌⊎◌, nat_eq, nat_lt, List, ◌∷◌, length, Option, Some, None}
 use Rattle.sgt_model.specs.declared.event.Event.{Event}
 use Rattle.sgt_model.specs.declared.event.Event.TheVariants.{Start, Step, Commit, Quit}
@@ -117,7 +117,7 @@ abbrev pub taken_reply : Limits → ℕ → ℕ → Option ℕ → List ℤ → 
 taken_reply limits begun living None args = reply.NoProcedure
 taken_reply limits begun living (Some count) args = cond (args_fit count args) (room_reply limits begun living) reply.BadArgs
 
--- the one reply to a start, from what is held: the tests of `start_reply`, in the same order
+-- the one reply to a start, from the state: the tests of `start_reply`, in the same order
 abbrev pub start_answer : Rules → State → ℕ → List ℤ → Reply
 start_answer rules c p args = taken_reply rules.limits c.starts (length c.live) (rules.procedures p) args
 

@@ -1,4 +1,4 @@
--- What is held of a live transaction's procedure: its call and how far it has come.
+-- How far a live transaction has come: its call, what it read, and how many accesses it made.
 use Rattle.std.specs.Prelude.{ℕ, ℤ, List, Option}
 use Rattle.sgt_model.specs.declared.entry.Entry.{Entry}
 use Rattle.sgt_model.specs.Traces.{trace, Next, next_at}

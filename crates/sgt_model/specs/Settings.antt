@@ -33,9 +33,9 @@ abbrev pub runs_in : List Program → ℕ → List ℤ → Run
 runs_in programs n = run_if (slice_get programs n)
 
 -- the rules of these procedures and limits
-abbrev pub rules_of : List Program → Limits → Rules
-rules_of programs limits = record { procedures = args_in programs; runs = runs_in programs; limits = limits }
+abbrev pub rules_from : List Program → Limits → Rules
+rules_from programs limits = record { procedures = args_in programs; runs = runs_in programs; limits = limits }
 
 -- the setting of these opening contents, procedures and limits
 abbrev pub setting : Contents → List Program → Limits → Setting
-setting opening programs limits = record { opening = opening; rules = rules_of programs limits }
+setting opening programs limits = record { opening = opening; rules = rules_from programs limits }
