@@ -48,3 +48,5 @@ pub mod Soundness
 pub mod NewHeld
 pub mod Sameness
 pub mod Refinement
+-- what the statements of a procedure mean
+pub mod Executions
