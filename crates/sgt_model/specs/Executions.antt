@@ -45,7 +45,7 @@ pub record Workspace : Type 0 where
 abbrev pub workspace_of : Contents → Workspace
 workspace_of database = record { registers = replicate 16 None; working = database; answers = [] }
 
--- one register is set
+-- one register is set; a number over 15 names none, and nothing is set
 abbrev pub with_register : ℕ → ℤ → Workspace → Workspace
 with_register to v w = record { registers = slice_set w.registers to (Some v); working = w.working; answers = w.answers }
 
