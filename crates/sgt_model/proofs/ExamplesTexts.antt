@@ -23,13 +23,11 @@ abbrev pub draw : Program
 draw = record {
   args = 2;
   body =
-    text.look 0 2 (arg 0) 5
-    (text.choose (at_most (arg 1) (reg 0))
-      (text.save 1 (diff (reg 0) (arg 1)) text.empty)
-      (text.save 1 (reg 0) text.empty)
-    (text.put 2 (arg 0) (reg 1)
-    (text.answer (diff (reg 0) (reg 1))
-    text.empty)));
+      text.look 0 2 (arg 0) 5
+      (text.choose (at_most (arg 1) (reg 0)) (text.save 1 (diff (reg 0) (arg 1)) text.empty) (text.save 1 (reg 0) text.empty)
+      (text.put 2 (arg 0) (reg 1)
+      (text.answer (diff (reg 0) (reg 1))
+      text.empty)));
 }
 
 -- all that is there may be drawn

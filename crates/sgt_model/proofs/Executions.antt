@@ -102,29 +102,29 @@ behind_first : (args : List ℤ) (b : Block) (behind : Way) (r : OrCode Workspac
 behind_first args b behind (Ok w) first same so = so ∙ same w
 behind_first args b behind (Err code) first same so = so
 
-executed : (args : List ℤ) (b : Block) (behind : Way) (w : Workspace) → along args (onto b behind) w ≡ after (execute args b w) (along args behind)
-executed args empty behind w = refl
-executed args (look to table id absent b) behind w =
-    behind_first args b behind (look_at_record args to table id absent w) _ (executed args b behind)
+block_is : (args : List ℤ) (b : Block) (behind : Way) (w : Workspace) → along args (onto b behind) w ≡ after (execute args b w) (along args behind)
+block_is args empty behind w = refl
+block_is args (look to table id absent b) behind w =
+    behind_first args b behind (look_at_record args to table id absent w) _ (block_is args b behind)
     (value_step (value_of id args w.registers) (evaluate id args w) _ w.working _ (along args (onto b behind)) (value_is id args w)
     (λ n. key_step (is_key table n) (table, n) _ w.working _ (along args (onto b behind))
     (found_step (w.working (table, n)) absent _ w.working _ (along args (onto b behind)) (λ v. refl))))
-executed args (put table id value b) behind w =
-    behind_first args b behind (put_record args table id value w) _ (executed args b behind)
+block_is args (put table id value b) behind w =
+    behind_first args b behind (put_record args table id value w) _ (block_is args b behind)
     (value_step (value_of id args w.registers) (evaluate id args w) _ w.working _ (along args (onto b behind)) (value_is id args w)
     (λ n. value_step (value_of value args w.registers) (evaluate value args w) _ w.working _ (along args (onto b behind)) (value_is value args w)
     (λ v. key_step (is_key table n) (table, n) _ w.working _ (along args (onto b behind))
     (last_step (is_value v) _ _ w.working (along args (onto b behind)) refl))))
-executed args (save to value b) behind w =
-    behind_first args b behind (let_register args to value w) _ (executed args b behind)
+block_is args (save to value b) behind w =
+    behind_first args b behind (let_register args to value w) _ (block_is args b behind)
     (value_step (value_of value args w.registers) (evaluate value args w) _ w.working _ (along args (onto b behind)) (value_is value args w) (λ v. refl))
-executed args (ask code b) behind w = refl
-executed args (choose test ys ns b) behind w =
+block_is args (ask code b) behind w = refl
+block_is args (choose test ys ns b) behind w =
     test_step (result_of test args w.registers) (decide test args w) _ _ w.working _ (along args behind) (test_is test args w)
-    (behind_first args b behind (execute args ys w) _ (executed args b behind) (executed args ys (onto b behind) w))
-    (behind_first args b behind (execute args ns w) _ (executed args b behind) (executed args ns (onto b behind) w))
-executed args (answer value b) behind w =
-    behind_first args b behind (give_answer args value w) _ (executed args b behind)
+    (behind_first args b behind (execute args ys w) _ (block_is args b behind) (block_is args ys (onto b behind) w))
+    (behind_first args b behind (execute args ns w) _ (block_is args b behind) (block_is args ns (onto b behind) w))
+block_is args (answer value b) behind w =
+    behind_first args b behind (give_answer args value w) _ (block_is args b behind)
     (value_step (value_of value args w.registers) (evaluate value args w) _ w.working _ (along args (onto b behind)) (value_is value args w)
     (λ v. last_step (nat_lt (length w.answers) 8) _ _ w.working (along args (onto b behind)) refl))
 
@@ -136,4 +136,4 @@ ended args (Err code) = refl
 
 -- the law
 pub serial_is : SerialIsExecution
-serial_is p args database = executed args p.body way.end (workspace_of database) ∙ ended args (execute args p.body (workspace_of database))
+serial_is p args database = block_is args p.body way.end (workspace_of database) ∙ ended args (execute args p.body (workspace_of database))

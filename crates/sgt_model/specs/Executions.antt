@@ -45,17 +45,17 @@ pub record Workspace : Type 0 where
 abbrev pub workspace_of : Contents → Workspace
 workspace_of database = record { registers = replicate 16 None; working = database; answers = [] }
 
--- one register is set; a number over 15 names none, and nothing is set
-abbrev pub with_register : ℕ → ℤ → Workspace → Workspace
-with_register to v w = record { registers = slice_set w.registers to (Some v); working = w.working; answers = w.answers }
+-- a value goes into a register; a number over 15 names none, and nothing is set
+abbrev pub into_register : ℕ → ℤ → Workspace → Workspace
+into_register to v w = record { registers = slice_set w.registers to (Some v); working = w.working; answers = w.answers }
 
--- one record is stored
-abbrev pub with_record : Key → ℤ → Workspace → Workspace
-with_record key v w = record { registers = w.registers; working = put_in w.working key v; answers = w.answers }
+-- a value goes into a record of the working map
+abbrev pub into_record : Key → ℤ → Workspace → Workspace
+into_record key v w = record { registers = w.registers; working = put_in w.working key v; answers = w.answers }
 
--- one answer is added
-abbrev pub with_answer : ℤ → Workspace → Workspace
-with_answer v w = record { registers = w.registers; working = w.working; answers = w.answers ++ v ∷ [] }
+-- a value goes behind the answers
+abbrev pub into_answers : ℤ → Workspace → Workspace
+into_answers v w = record { registers = w.registers; working = w.working; answers = w.answers ++ v ∷ [] }
 
 -- expressions and conditions
 
@@ -93,7 +93,7 @@ look_at_record args to table id absent w =
     and_then (evaluate id args w) (λ n.
     and_then (key_of table n) (λ key.
     and_then (ok_or (w.working key) absent) (λ v.
-    Ok (with_register to v w))))
+    Ok (into_register to v w))))
 
 -- Put: the value goes into the record
 abbrev pub put_record : List ℤ → (table : ℕ) → (id value : Term) → Workspace → OrCode Workspace
@@ -101,15 +101,15 @@ put_record args table id value w =
     and_then (evaluate id args w) (λ n.
     and_then (evaluate value args w) (λ v.
     and_then (key_of table n) (λ key.
-    provided (is_value v) (with_record key v w) stuck)))
+    provided (is_value v) (into_record key v w) stuck)))
 
 -- Let: the value goes into the register
 abbrev pub let_register : List ℤ → (to : ℕ) → (value : Term) → Workspace → OrCode Workspace
-let_register args to value w = and_then (evaluate value args w) (λ v. Ok (with_register to v w))
+let_register args to value w = and_then (evaluate value args w) (λ v. Ok (into_register to v w))
 
 -- Answer: the value is one answer more, of at most eight
 abbrev pub give_answer : List ℤ → (value : Term) → Workspace → OrCode Workspace
-give_answer args value w = and_then (evaluate value args w) (λ v. provided (nat_lt (length w.answers) 8) (with_answer v w) stuck)
+give_answer args value w = and_then (evaluate value args w) (λ v. provided (nat_lt (length w.answers) 8) (into_answers v w) stuck)
 
 -- statements in a row: the first one, and then the rest. An Ask ends the procedure with its code; an If is the branch that its
 -- condition chooses, and then the rest
