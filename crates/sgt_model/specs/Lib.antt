@@ -50,3 +50,4 @@ pub mod Sameness
 pub mod Refinement
 -- what the statements of a procedure mean
 pub mod Executions
+pub mod ExecutedReplay
