@@ -49,3 +49,6 @@ pub mod Soundness
 pub mod NewState
 pub mod Sameness
 pub mod Refinement
+-- what the statements of a procedure mean
+pub mod Executions
+pub mod ExecutedReplay
