@@ -1,5 +1,6 @@
 -- The definitions as tests that compute, so that a written-out history is proved legal by computing. Each test says that its
 -- definition holds; where the definition speaks of all walks or all transactions, the test is given a set that has them.
+-- The tests of pairs, and of who read from whom, hold exactly where the definitions do.
 use Rattle.std.specs.Prelude.{◌≡◌, ◌≢◌, ℕ, ◌≤◌, ℤ, Bool, true, false, not, ◌&&◌, ◌||◌, nat_eq, nat_lt, List, [], ◌∷◌, length, Option, Some, None}
 use Rattle.std.specs.List.{list_any, list_all}
 use Rattle.std.proofs.Common.{refl, sym, ap, subst, inl, inr, arith}

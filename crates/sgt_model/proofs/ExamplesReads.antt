@@ -1,4 +1,4 @@
--- Worked examples of looks: what is not committed, the own value, and a value that changed in between.
+-- Worked examples of looks: what is not committed, the own value, also over another's, and a value that changed in between.
 use Rattle.std.specs.Prelude.{◌≡◌, pos, List, [], ◌∷◌, Some, None, refl}
 use Rattle.std.proofs.Common.{inl, inr}
 use Rattle.sgt_model.specs.declared.event.Event.TheVariants.{Start, Step, Commit, Quit}
