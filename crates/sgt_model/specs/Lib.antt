@@ -25,6 +25,7 @@ pub mod Bounds
 pub mod Settings
 pub mod Progress
 pub mod Legality
+pub mod OneReply
 -- what is true of legal histories
 pub mod Replay
 pub mod CommitOrder
