@@ -29,6 +29,7 @@ pub mod Replay
 pub mod CommitOrder
 pub mod Aborts
 pub mod Headline
+pub mod StoredValues
 pub mod Laws
 -- what a scheduler holds after a history
 pub mod Touches
