@@ -15,7 +15,7 @@ use Rattle.sgt_model.proofs.Replays.{is_serial}
 
 -- ---- what a run stores
 
-is_value-fact : (v : ℤ) → is_value v ≡ true → IsValue v
+pub is_value-fact : (v : ℤ) → is_value v ≡ true → IsValue v
 is_value-fact v e =
     let parts = and_parts (int_le (negsuc 999999999999998) v) (int_le v (pos 999999999999999)) e in
     (record { le = subst T (sym parts.0) tt }, record { le = subst T (sym parts.1) tt })
