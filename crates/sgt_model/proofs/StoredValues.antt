@@ -71,7 +71,7 @@ stores_if_any (Some p) args = runs_store_values p args
 
 -- ---- what the contents hold
 
-value_put : (test : Bool) (v : ℤ) (before : Option ℤ) → IsValue v → IfSome before IsValue → IfSome (cond test (Some v) before) IsValue
+pub value_put : (test : Bool) (v : ℤ) (before : Option ℤ) → IsValue v → IfSome before IsValue → IfSome (cond test (Some v) before) IsValue
 value_put true v before fits stood = fits
 value_put false v before fits stood = stood
 
