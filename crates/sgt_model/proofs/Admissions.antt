@@ -13,7 +13,7 @@ use Rattle.sgt_model.specs.Fates.{is_start, starts, subject}
 use Rattle.sgt_model.specs.Settings.{Setting}
 use Rattle.sgt_model.specs.Progress.{Call, call_at, call_in, call_of}
 use Rattle.sgt_model.specs.Legality.{Legal}
-use Rattle.sgt_model.specs.Replay.{Told, told_in, told}
+use Rattle.sgt_model.specs.Replay.{CommittedRun, committed_run_in, committed_runs}
 use Rattle.sgt_model.proofs.Effects.{Begins, effect, Commits}
 use Rattle.sgt_model.proofs.Facts.{call-kept, commits_or_not, Uncommitted, live-started}
 use Rattle.sgt_model.proofs.Room.{starts_or_not}
@@ -21,7 +21,7 @@ use Rattle.sgt_model.proofs.StoredValues.{is_value-fact}
 
 -- the setting has the call's procedure, which takes so many arguments as these, and each is a value
 pub record IsAdmitted (s : Setting) (c : Call) : Type 0 where
-  pub known : s.procedures c.procedure ≡ Some (length c.args)
+  pub known : s.rules.procedures c.procedure ≡ Some (length c.args)
   pub values : All IsValue c.args
 
 values_fit : (args : List ℤ) → list_all is_value args ≡ true → All IsValue args
@@ -53,17 +53,17 @@ started_admitted s (e ∷ past) t h started = by_age (started_admitted s past t 
     by_age before (inr new) = by_start new (starts_or_not (effect s past e.event e.reply h.1))
 
 -- so was each that committed
-abbrev pub AreAdmitted : Setting → List Told → Type 0
+abbrev pub AreAdmitted : Setting → List CommittedRun → Type 0
 AreAdmitted s [] = Unit {0}
 AreAdmitted s (c ∷ before) = AreAdmitted s before × IsAdmitted s c.call
 
-pub committed_admitted : (s : Setting) (past : List Entry) → Legal s past → AreAdmitted s (told past)
+pub committed_admitted : (s : Setting) (past : List Entry) → Legal s past → AreAdmitted s (committed_runs past)
 committed_admitted s [] h = tt
 committed_admitted s (e ∷ past) h = by_end (committed_admitted s past h.0) (commits_or_not (effect s past e.event e.reply h.1))
   where
-    by_end : AreAdmitted s (told past) → Commits s past e.event e.reply ⊎ Uncommitted s past e.event e.reply → AreAdmitted s (told_in past e.event e.reply ++ told past)
+    by_end : AreAdmitted s (committed_runs past) → Commits s past e.event e.reply ⊎ Uncommitted s past e.event e.reply → AreAdmitted s (committed_run_in past e.event e.reply ++ committed_runs past)
     by_end before (inl c) =
         let who : subject e.event ≡ c.t = ap subject c.event_is in
         let admitted = started_admitted s past c.t h.0 (live-started past c.t c.is_live) in
-        subst (λ r. AreAdmitted s (told_in past e.event r ++ told past)) (sym c.reply_is) (before, subst (λ u. IsAdmitted s (call_of past u)) (sym who) admitted)
-    by_end before (inr quiet) = subst (λ l. AreAdmitted s (l ++ told past)) (sym quiet.not_told) before
+        subst (λ r. AreAdmitted s (committed_run_in past e.event r ++ committed_runs past)) (sym c.reply_is) (before, subst (λ u. IsAdmitted s (call_of past u)) (sym who) admitted)
+    by_end before (inr quiet) = subst (λ l. AreAdmitted s (l ++ committed_runs past)) (sym quiet.not_committed_run) before

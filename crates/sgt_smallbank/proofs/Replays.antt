@@ -13,7 +13,7 @@ use Rattle.sgt_model.specs.Runs.{Outcome, Done, serial, contents_after}
 use Rattle.sgt_model.specs.Meaning.{run_with}
 use Rattle.sgt_model.specs.Settings.{Setting, run_if}
 use Rattle.sgt_model.specs.Progress.{run_of}
-use Rattle.sgt_model.specs.Replay.{Told, told, replayed, Gives, AsTold}
+use Rattle.sgt_model.specs.Replay.{CommittedRun, committed_runs, replayed, Gives, AnswersAgree}
 use Rattle.sgt_model.specs.StoredValues.{HoldValues}
 use Rattle.sgt_model.proofs.Replays.{is_serial}
 use Rattle.sgt_model.proofs.StoredValues.{is_value-fact, value_put, replays_hold_values}
@@ -60,13 +60,13 @@ module _ (opening : Contents) (others : List Program) (limits : Limits) (hold : 
   abbrev the_setting : Setting
   the_setting = bank_setting opening others limits
 
-  does_bank : (c : Told) (before : List Told) → IsAdmitted the_setting c.call → Gives (serial (run_of the_setting c.call) (replayed the_setting before)) c.reply → c.call.procedure < 5 → DoesBank the_setting c before
+  does_bank : (c : CommittedRun) (before : List CommittedRun) → IsAdmitted the_setting c.call → Gives (serial (run_of the_setting.rules c.call) (replayed the_setting before)) c.reply → c.call.procedure < 5 → DoesBank the_setting c before
   does_bank c before admitted gives below =
       let m : Contents = replayed the_setting before in
       let one = one_of_five others c.call.procedure below in
-      let done = ran (serial (run_of the_setting c.call) m) c.reply gives in
+      let done = ran (serial (run_of the_setting.rules c.call) m) c.reply gives in
       let count : length c.call.args ≡ one.program.args = sym (same_count one.program.args (length c.call.args) (sym (ap (λ o. option_map (λ (p : Program). p.args) o) one.of_all) ∙ admitted.known)) in
-      let runs : serial (run_of the_setting c.call) m ≡ serial (run_with one.program c.call.args) m = ap (λ o. serial (run_if o c.call.args) m) one.of_all in
+      let runs : serial (run_of the_setting.rules c.call) m ≡ serial (run_with one.program c.call.args) m = ap (λ o. serial (run_if o c.call.args) m) one.of_all in
       let banks : serial (run_with one.program c.call.args) m ≡ bank c.call.procedure c.call.args m = serial_is_bank c.call.procedure one.program c.call.args m one.of_bank count admitted.values (replays_hold_values opening (procedures ++ others) limits before hold) in
       let left : done.last ≡ replayed the_setting (c ∷ before) = ap (λ o. contents_after o m) (sym done.gave) in
       record {
@@ -75,14 +75,14 @@ module _ (opening : Contents) (others : List Program) (limits : Limits) (hold : 
         is_bank = sym banks ∙ (sym runs ∙ (done.gave ∙ ap (Done done.answers) left));
       }
 
-  each_does_bank : (all : List Told) → AreAdmitted the_setting all → AsTold the_setting all → EachDoesBank the_setting all
-  each_does_bank [] admitted as_told = tt
-  each_does_bank (c ∷ before) admitted as_told = (each_does_bank before admitted.0 as_told.0, does_bank c before admitted.1 as_told.1)
+  each_does_bank : (all : List CommittedRun) → AreAdmitted the_setting all → AnswersAgree the_setting all → EachDoesBank the_setting all
+  each_does_bank [] admitted answers = tt
+  each_does_bank (c ∷ before) admitted answers = (each_does_bank before admitted.0 answers.0, does_bank c before admitted.1 answers.1)
 
 pub replays_do_bank : ReplaysDoBank
 replays_do_bank opening others limits past hold legal =
     let s = bank_setting opening others limits in
-    each_does_bank opening others limits hold (told past) (committed_admitted s past legal) (is_serial s past legal).as_told
+    each_does_bank opening others limits hold (committed_runs past) (committed_admitted s past legal) (is_serial s past legal).answers
 
 -- ---- what accounts open
 
