@@ -31,6 +31,7 @@ pub mod Replay
 pub mod CommitOrder
 pub mod Aborts
 pub mod Headline
+pub mod StoredValues
 pub mod Laws
 -- the state of a scheduler, and the one that belongs to a history
 pub mod AccessList

@@ -47,4 +47,4 @@ mod write_check;
 pub use account::{Account, opening};
 pub use bank::{PROCEDURES, procedures};
 pub use errors::{BadOpening, OpeningFault};
-pub use laws::serial_is_bank;
+pub use laws::{replays_do_bank, serial_is_bank};
