@@ -35,9 +35,9 @@
 mod account;
 mod amalgamate;
 mod balance;
-mod bank;
 mod deposit_checking;
 mod errors;
+mod five_procedures;
 mod laws;
 mod statements;
 mod tables;
@@ -45,6 +45,6 @@ mod transact_saving;
 mod write_check;
 
 pub use account::{Account, opening};
-pub use bank::{PROCEDURES, procedures};
 pub use errors::{BadOpening, OpeningFault};
+pub use five_procedures::{PROCEDURES, procedures};
 pub use laws::serial_is_bank;
