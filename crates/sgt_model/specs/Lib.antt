@@ -30,14 +30,14 @@ pub mod CommitOrder
 pub mod Aborts
 pub mod Headline
 pub mod Laws
--- what a scheduler holds after a history
+-- the state of a scheduler, and the one that belongs to a history
 pub mod AccessList
 pub mod Chains
 pub mod ChainOrder
 pub mod LiveProgress
 pub mod State
 pub mod StateAfter
--- what a scheduler decides and does, from what it holds
+-- what a scheduler decides and does, from its state
 pub mod Blocks
 pub mod Found
 pub mod FallsIn
