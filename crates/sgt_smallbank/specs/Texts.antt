@@ -63,8 +63,8 @@ amalgamate = record {
       empty)))))))))));
 }
 
--- what is left of the checking in register 2 once the amount is taken, and 100 more where it and the saving in register 1
--- together are smaller than the amount
+-- register 3 becomes the checking in register 2 less the amount, and less 100 more where the saving in register 1 and the
+-- checking together are smaller than the amount
 abbrev pub charge : Block → Block
 charge =
     choose (less (sum (reg 1) (reg 2)) (arg 1))

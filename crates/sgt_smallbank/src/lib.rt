@@ -18,7 +18,7 @@
 //! so. The names of the three tables and of the five procedures, and they alone, are those of SmallBank (Alomari, Cahill,
 //! Fekete and Röhm, *The Cost of Serializability on Platforms That Use Snapshot Isolation*, ICDE 2008).
 //!
-//! It is no bank that runs: it keeps no account and makes no access. A procedure is a text that an engine runs for its
+//! It runs nothing: it keeps no account and makes no access. A procedure is a text that an engine runs for its
 //! transactions, and the accounts become the rows that the engine begins with.
 //!
 //! ```

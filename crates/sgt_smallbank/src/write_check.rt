@@ -29,21 +29,19 @@ pub(crate) fn write_check(alloc: Global) -> Result<Procedure, NoMemory>
     Ok(Procedure { args: 2, body })
 }
 
-/// Sets register 3 to the checking without the amount, and without the penalty where the amount is not covered.
+/// Sets register 3 to the checking less the amount, and less the penalty too where the amount is not covered.
 fn charge(alloc: Global) -> Result<Statement, NoMemory>
     ensures { IfOk result (λ s. (rest : Block) → before s rest ≡ charge rest) }
 {
     let yes = alone(alloc, set_register(3, less_penalty(alloc)?))?;
-    let no = alone(
-        alloc,
-        set_register(3, difference_of(alloc, Expr::Reg(2), Expr::Arg(1))?),
-    )?;
+    let left = difference_of(alloc, Expr::Reg(2), Expr::Arg(1))?;
+    let no = alone(alloc, set_register(3, left))?;
     let sum = sum_of(alloc, Expr::Reg(1), Expr::Reg(2))?;
     let cond = Cond::Less(sum, Expr::Arg(1));
     Ok(Statement::If { cond, yes, no })
 }
 
-/// The checking without the amount and the penalty.
+/// The checking less the amount and the penalty.
 fn less_penalty(alloc: Global) -> Result<Expr, NoMemory>
     ensures { IfOk result (λ e. term_of e ≡ diff (diff (reg 2) (arg 1)) (num (pos 100))) }
 {
