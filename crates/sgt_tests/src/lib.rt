@@ -5,9 +5,7 @@
 #![tactic(auto)]
 
 #[cfg(test)]
-mod accesses;
-#[cfg(test)]
-mod graphs;
+    accesses, cfg, formats, graphs, mod, test,
 #[cfg(test)]
 mod procedures_as_trees;
 #[cfg(test)]
