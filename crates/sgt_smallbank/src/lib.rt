@@ -46,4 +46,5 @@ mod write_check;
 
 pub use account::{Account, opening};
 pub use errors::{BadOpening, OpeningFault};
-    PROCEDURES, five_procedures, laws, procedures, pub, replays_do_bank, serial_is_bank, use,
+pub use five_procedures::{PROCEDURES, procedures};
+pub use laws::{replays_do_bank, serial_is_bank};

@@ -5,7 +5,11 @@
 #![tactic(auto)]
 
 #[cfg(test)]
-    accesses, cfg, formats, graphs, mod, test,
+mod accesses;
+#[cfg(test)]
+mod formats;
+#[cfg(test)]
+mod graphs;
 #[cfg(test)]
 mod procedures_as_trees;
 #[cfg(test)]
