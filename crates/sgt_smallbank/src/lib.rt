@@ -16,8 +16,9 @@
 //! 5 where a customer has no saving or no checking, and 1000 where a number would be out of range. What each does, to the
 //! cent and with its refusals in their order, stands in `specs/Arithmetic.antt`, and [`serial_is_bank`] says that it does
 //! so. [`replays_do_bank`] says it of every legal history: each committed transaction did its arithmetic on what those
-//! committed before it left, and was told its answers. The names of the three tables and of the five procedures, and they alone, are those of SmallBank (Alomari, Cahill,
-//! Fekete and Röhm, *The Cost of Serializability on Platforms That Use Snapshot Isolation*, ICDE 2008).
+//! committed before it left, and was told its answers. The names of the three tables and of the five procedures, and they
+//! alone, are those of SmallBank (Alomari, Cahill, Fekete and Röhm, *The Cost of Serializability on Platforms That Use
+//! Snapshot Isolation*, ICDE 2008).
 //!
 //! It is no bank that runs: it keeps no account and makes no access. A procedure is a text that an engine runs for its
 //! transactions, and the accounts become the rows that the engine begins with.
