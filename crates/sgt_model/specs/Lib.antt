@@ -25,6 +25,7 @@ pub mod Bounds
 pub mod Settings
 pub mod Progress
 pub mod Legality
+pub mod OneReply
 -- what is true of legal histories
 pub mod Replay
 pub mod CommitOrder
@@ -50,3 +51,6 @@ pub mod Soundness
 pub mod NewState
 pub mod Sameness
 pub mod Refinement
+-- what the statements of a procedure mean
+pub mod Executions
+pub mod ExecutedReplay
