@@ -22,7 +22,7 @@ use Rattle.sgt_smallbank.specs.declared.account.Account.{Account}
 use Rattle.sgt_smallbank.specs.declared.errors.OpeningFault.{OpeningFault}
 use Rattle.sgt_smallbank.specs.Texts.{balance, deposit_checking, transact_saving, amalgamate, write_check, procedures}
 use Rattle.sgt_smallbank.specs.Arithmetic.{bank}
-use Rattle.sgt_smallbank.specs.Accounts.{name_key, saving_key, checking_key, with_account, with_accounts, has_values, fault_behind, first_fault}
+use Rattle.sgt_smallbank.specs.Accounts.{name_key, saving_key, checking_key, with_account, with_accounts, is_in_range, fault_behind, first_fault}
 use Rattle.sgt_smallbank.specs.Replays.{DoesBank, EachDoesBank, bank_setting, ReplaysDoBank, OpeningsHoldValues}
 use Rattle.sgt_smallbank.proofs.Banks.{serial_is_bank}
 
@@ -97,7 +97,7 @@ none_twice (Some f) second e = absurd (cc)
 hold_put : (m : Contents) (k : Key) (v : ℤ) → IsValue v → HoldValues m → HoldValues (put_in m k v)
 hold_put m k v fits hold other = value_put (key_eq k other) v (m other) fits (hold other)
 
-hold_account : (m : Contents) (a : Account) → has_values a ≡ true → HoldValues m → HoldValues (with_account m a)
+hold_account : (m : Contents) (a : Account) → is_in_range a ≡ true → HoldValues m → HoldValues (with_account m a)
 hold_account m a fits hold =
     let behind_name = (and_parts (is_value a.name) _ fits).1 in
     let customer = and_parts (is_value a.customer) _ behind_name in
@@ -110,7 +110,7 @@ hold_accounts : (earlier accounts : List Account) (m : Contents) → first_fault
 hold_accounts earlier [] m none hold = hold
 hold_accounts earlier (a ∷ accounts) m none hold =
     let parts = none_twice (fault_behind earlier a) (first_fault (earlier ++ a ∷ []) accounts) none in
-    hold_accounts (earlier ++ a ∷ []) accounts (with_account m a) parts.1 (hold_account m a (no_range_fault (has_values a) _ parts.0) hold)
+    hold_accounts (earlier ++ a ∷ []) accounts (with_account m a) parts.1 (hold_account m a (no_range_fault (is_in_range a) _ parts.0) hold)
 
 pub openings_hold_values : OpeningsHoldValues
 openings_hold_values accounts none = hold_accounts [] accounts (λ key. None) none (λ key. tt)
