@@ -12,6 +12,7 @@ pub mod Meaning
 pub mod Codes
 -- histories: accesses, fates, values, who read from whom, conflicts
 pub mod Walks
+pub mod Histories
 pub mod Accesses
 pub mod Fates
 pub mod Values
