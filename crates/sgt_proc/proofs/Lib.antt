@@ -6,5 +6,5 @@ pub mod AllFlaws
 pub mod Clean
 pub mod Sounds
 pub mod Lefts
-pub mod Steps
+pub mod Executed
 pub mod Fews
