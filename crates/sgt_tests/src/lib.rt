@@ -5,6 +5,8 @@
 #![tactic(auto)]
 
 #[cfg(test)]
+mod procedures;
+#[cfg(test)]
 mod procedures_as_trees;
 #[cfg(test)]
 mod smallbank;
