@@ -19,7 +19,7 @@ use Rattle.sgt_proc.specs.declared.next.Next.{Next}
 use Rattle.sgt_proc.specs.declared.next.Next.TheVariants.{Asks}
 use Rattle.sgt_proc.specs.Nexts.{seen, or_next}
 use Rattle.sgt_proc.specs.Execution.{as_value, as_test, as_key, next_past, next_executing, Executed}
-use Rattle.sgt_proc.proofs.Texts.{onto_drop, onto_if}
+use Rattle.sgt_proc.proofs.StatementTexts.{onto_drop, onto_if}
 use Rattle.sgt_proc.proofs.Lefts.{next_is_first, ends_stays, asks_stays}
 
 -- what an answer of the code says of the meaning

@@ -1,6 +1,6 @@
-pub mod Texts
+pub mod StatementTexts
 pub mod Ifs
-pub mod Lists
+pub mod StatementLists
 pub mod Caps
 pub mod AllFlaws
 pub mod Clean
