@@ -47,6 +47,5 @@ pub(crate) fn two_exprs(
 ) -> Result<Value, NoMemory>
     ensures { IfOk result (λ v. view v ≡ array (item (string word.now) (item (view left) (item (view right) no_items)))) }
 {
-    let word = Value::try_from_str(alloc, word)?;
-    Ok(Value::Array(vec![in alloc; word, left, right]?))
+    Ok(Value::Array(vec![in alloc; Value::try_from_str(alloc, word)?, left, right]?))
 }
