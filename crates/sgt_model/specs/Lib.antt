@@ -12,6 +12,7 @@ pub mod Meaning
 pub mod Codes
 -- histories: accesses, fates, values, who read from whom, conflicts
 pub mod Walks
+pub mod Histories
 pub mod Accesses
 pub mod Fates
 pub mod Values
@@ -24,27 +25,32 @@ pub mod Bounds
 pub mod Settings
 pub mod Progress
 pub mod Legality
+pub mod OneReply
 -- what is true of legal histories
 pub mod Replay
 pub mod CommitOrder
 pub mod Aborts
 pub mod Headline
+pub mod StoredValues
 pub mod Laws
--- what a scheduler holds after a history
-pub mod Touches
+-- the state of a scheduler, and the one that belongs to a history
+pub mod AccessList
 pub mod Chains
 pub mod ChainOrder
-pub mod Courses
-pub mod Held
-pub mod States
--- what a scheduler decides and does, from what it holds
-pub mod Verdicts
-pub mod Tops
-pub mod Fallers
+pub mod LiveProgress
+pub mod State
+pub mod StateAfter
+-- what a scheduler decides and does, from its state
+pub mod Blocks
+pub mod Found
+pub mod FallsIn
 pub mod Changes
 pub mod CallEffects
 -- why that is legal
 pub mod Soundness
-pub mod NewHeld
+pub mod NewState
 pub mod Sameness
 pub mod Refinement
+-- what the statements of a procedure mean
+pub mod Executions
+pub mod ExecutedReplay

@@ -21,7 +21,9 @@ mod live;
 mod reads;
 mod running;
 mod sched;
+mod scheduler;
 #[cfg(test)]
 mod tests;
 
 pub use sched::Sched;
+pub use scheduler::Scheduler;

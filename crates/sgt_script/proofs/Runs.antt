@@ -45,8 +45,8 @@ wrote-refused programs i (Some bytes) held line (Some c) e r start gives refuses
 
 -- line 1 opens
 pub wrote-opened : (programs : List Program) (i : Intake) (s : Setting) (rest held held' : Option (List ℕ)) (line : List ℕ) (new : Option Cut) (o : Opening) (r : End) → i ≡ before_input → Gives (cut_left i rest) line new → Opens line o → s ≡ setting_of programs o → IfSome new (λ c. (out : List ℕ) × Appends held held' out × Tells s c.given c.ending out r) → Wrote programs rest held held' r
-wrote-opened programs i s None held held' line new o r start gives opens is told = tt
-wrote-opened programs i s (Some bytes) held held' line None o r start gives opens is told = absurd (subst (λ (j : Intake). Gives (cut_left j (Some bytes)) line None) start gives)
+wrote-opened programs i s None held held' line new o r start gives opens is committed_runs = tt
+wrote-opened programs i s (Some bytes) held held' line None o r start gives opens is committed_runs = absurd (subst (λ (j : Intake). Gives (cut_left j (Some bytes)) line None) start gives)
 wrote-opened programs i s (Some bytes) held held' line (Some c) o r start gives opens is (out, wrote, tells) =
     let gives' : Gives (cut_left before_input (Some bytes)) line (Some c) = subst (λ (j : Intake). Gives (cut_left j (Some bytes)) line (Some c)) start gives in (
       out,
@@ -57,22 +57,22 @@ wrote-opened programs i s (Some bytes) held held' line (Some c) o r start gives 
 
 -- line 1 is too long, or the input is
 wrote-fault : (programs : List Program) (i : Intake) (rest held : Option (List ℕ)) (f : Fault) → i ≡ before_input → Explains f i.number (cut_left i rest) → IsExact (Err f) → Wrote programs rest held held (Err f)
-wrote-fault programs i rest held (fault.LongLine n) start told exact =
-    let one : n ≡ 1 = told.0 ∙ ap (λ (j : Intake). j.number + 1) start in
-    wrote-nothing programs i rest held AtLongLine (Err (fault.LongLine n)) start told.1 (ap (λ k. Err (fault.LongLine k)) one)
-wrote-fault programs i rest held fault.TooLong start told exact = wrote-nothing programs i rest held AtLimit (Err fault.TooLong) start told refl
-wrote-fault programs i rest held fault.Reading start told exact = absurd exact
-wrote-fault programs i rest held fault.Writing start told exact = absurd exact
-wrote-fault programs i rest held fault.NoMemory start told exact = absurd exact
-wrote-fault programs i rest held fault.NoOpening start told exact = absurd told
-wrote-fault programs i rest held (fault.NotJson n) start told exact = absurd told
-wrote-fault programs i rest held (fault.BadLine n) start told exact = absurd told
-wrote-fault programs i rest held fault.BadLimits start told exact = absurd told
-wrote-fault programs i rest held (fault.BadOpening k) start told exact = absurd told
-wrote-fault programs i rest held (fault.ProcShape n place) start told exact = absurd told
-wrote-fault programs i rest held (fault.ProcFlaw n k) start told exact = absurd told
+wrote-fault programs i rest held (fault.LongLine n) start committed_runs exact =
+    let one : n ≡ 1 = committed_runs.0 ∙ ap (λ (j : Intake). j.number + 1) start in
+    wrote-nothing programs i rest held AtLongLine (Err (fault.LongLine n)) start committed_runs.1 (ap (λ k. Err (fault.LongLine k)) one)
+wrote-fault programs i rest held fault.TooLong start committed_runs exact = wrote-nothing programs i rest held AtLimit (Err fault.TooLong) start committed_runs refl
+wrote-fault programs i rest held fault.Reading start committed_runs exact = absurd exact
+wrote-fault programs i rest held fault.Writing start committed_runs exact = absurd exact
+wrote-fault programs i rest held fault.NoMemory start committed_runs exact = absurd exact
+wrote-fault programs i rest held fault.NoOpening start committed_runs exact = absurd committed_runs
+wrote-fault programs i rest held (fault.NotJson n) start committed_runs exact = absurd committed_runs
+wrote-fault programs i rest held (fault.BadLine n) start committed_runs exact = absurd committed_runs
+wrote-fault programs i rest held fault.BadLimits start committed_runs exact = absurd committed_runs
+wrote-fault programs i rest held (fault.BadOpening k) start committed_runs exact = absurd committed_runs
+wrote-fault programs i rest held (fault.ProcShape n place) start committed_runs exact = absurd committed_runs
+wrote-fault programs i rest held (fault.ProcFlaw n k) start committed_runs exact = absurd committed_runs
 
 -- where the first line was not given
 pub wrote-no-line : (programs : List Program) (i : Intake) (rest held : Option (List ℕ)) (f : Fault) (r : End) → i ≡ before_input → r ≡ Err f → Explains f i.number (cut_left i rest) → IsExact r → Wrote programs rest held held r
-wrote-no-line programs i rest held f r start is told exact =
-    subst (Wrote programs rest held held) (sym is) (wrote-fault programs i rest held f start told (subst IsExact is exact))
+wrote-no-line programs i rest held f r start is committed_runs exact =
+    subst (Wrote programs rest held held) (sym is) (wrote-fault programs i rest held f start committed_runs (subst IsExact is exact))

@@ -24,7 +24,7 @@ pub struct Bank {
 }
 
 impl Machine for Bank {
-    ghost use Rattle.sgt_engine.specs.Parts as parts;
+    ghost use Rattle.sgt_engine.specs.EngineView as parts;
     ghost use Rattle.sgt_smallbank.specs.Texts as smallbank;
 
     ghost programs = { smallbank.procedures };

@@ -1,0 +1,33 @@
+-- What callers see of an engine.
+use Rattle.std.specs.Prelude.{List, [], ◌∷◌}
+use Rattle.sgt_model.specs.declared.entry.Entry.{Entry}
+use Rattle.sgt_model.specs.declared.event.Event.{Event}
+use Rattle.sgt_model.specs.declared.reply.Reply.{Reply}
+use Rattle.sgt_model.specs.declared.limits.Limits.{Limits}
+use Rattle.sgt_model.specs.Databases.{Row, contents_of}
+use Rattle.sgt_model.specs.Syntax.{Program}
+use Rattle.sgt_model.specs.Settings.{Setting, setting}
+
+-- the opening database, the procedures, the limits, and the history, newest entry first
+pub record EngineView : Type 0 where
+  pub opening : List Row
+  pub procedures : List Program
+  pub limits : Limits
+  pub past : List Entry
+
+-- what it was made of, as the definitions of histories have it
+abbrev pub setting_of : EngineView → Setting
+setting_of e = setting (contents_of e.opening) e.procedures e.limits
+
+-- a new engine
+abbrev pub made_of : List Row → List Program → Limits → EngineView
+made_of opening procedures limits = record { opening = opening; procedures = procedures; limits = limits; past = [] }
+
+-- the engine with one entry more
+abbrev pub with_entry : Event → Reply → EngineView → EngineView
+with_entry event reply e = record {
+  opening = e.opening;
+  procedures = e.procedures;
+  limits = e.limits;
+  past = record { event = event; reply = reply } ∷ e.past;
+}

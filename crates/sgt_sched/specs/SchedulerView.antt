@@ -1,0 +1,65 @@
+-- What a scheduler is made of, and what it holds.
+use Rattle.std.specs.Prelude.{◌≡◌, ◌<◌, ◌≤◌, ◌↔◌, ℕ, ℤ, Bool, true, List, length, Option, None, slice_index_or}
+use Rattle.sgt_model.specs.declared.limits.Limits.{Limits}
+use Rattle.sgt_model.specs.declared.reply.Fate.{Fate}
+use Rattle.sgt_model.specs.Bounds.{AreInRange}
+use Rattle.sgt_model.specs.Contents.{Key}
+use Rattle.sgt_model.specs.Syntax.{Program}
+use Rattle.sgt_model.specs.Traces.{Used}
+use Rattle.sgt_model.specs.Settings.{Rules, rules_from, runs_in}
+use Rattle.sgt_model.specs.AccessList.{ListedAccess}
+use Rattle.sgt_model.specs.LiveProgress.{Progress}
+use Rattle.sgt_model.specs.State.{State}
+use Rattle.sgt_model.specs.Soundness.{Sound}
+use Rattle.sgt_sched.specs.LiveList.{numbers, progress_at}
+
+-- the procedures and limits, the three layers, the live transactions with their progress, who read from whom (source and
+-- reader), and of each started transaction how it ended, if it did
+pub record SchedulerView (R A G : Type 0) : Type 0 where
+  pub procedures : List Program
+  pub limits : Limits
+  pub records : R
+  pub accesses : A
+  pub graph : G
+  pub live : List (ℕ × Progress)
+  pub read_from : List (ℕ × ℕ)
+  pub fates : List (Option Fate)
+
+-- the rules that it goes by
+abbrev pub rules_of : {R A G : Type 0} → SchedulerView R A G → Rules
+rules_of p = rules_from p.procedures p.limits
+
+-- how t ended, if it did
+abbrev pub fate_at : List (Option Fate) → ℕ → Option Fate
+fate_at fates t = slice_index_or fates t None
+
+-- the values that a transaction's looks found are those that its procedure has used
+abbrev pub HasUsed : List Program → Progress → Type 0
+HasUsed programs c = Used (runs_in programs c.call.procedure c.call.args) c.read c.made
+
+-- by what the layers tell: of records the chain and the committed value of each key, of accesses their list, of a graph its
+-- nodes and pairs
+module _ {R A G : Type 0} (chain : R → Key → List (ℕ × ℤ)) (settled : R → Key → Option ℤ) (list : A → List ListedAccess) (nodes : G → ℕ → Bool) (pairs : G → ℕ → ℕ → Bool) where
+  -- the state
+  abbrev pub state_of : SchedulerView R A G → State
+  state_of p = record {
+    live = numbers p.live;
+    nodes = nodes p.graph;
+    pairs = pairs p.graph;
+    accesses = list p.accesses;
+    chain = chain p.records;
+    settled = settled p.records;
+    read_from = p.read_from;
+    fates = fate_at p.fates;
+    starts = length p.fates;
+    progress = progress_at p.live;
+  }
+
+  -- what holds at every moment: the limits are in their ranges and kept; the state is sound; the graph's nodes are those
+  -- that were started and have not ended; and the values looked at are those that the procedures have used
+  pub record IsKept (p : SchedulerView R A G) : Type 0 where
+    pub in_range : AreInRange p.limits
+    pub begun : length p.fates ≤ p.limits.begins
+    pub sound : Sound p.limits.live (state_of p)
+    pub unended : (t : ℕ) → (nodes p.graph t ≡ true) ↔ ((t < length p.fates) × (fate_at p.fates t ≡ None))
+    pub used : (t : ℕ) → nodes p.graph t ≡ true → HasUsed p.procedures (progress_at p.live t)
