@@ -11,6 +11,8 @@ mod formats;
 #[cfg(test)]
 mod graphs;
 #[cfg(test)]
+mod procedures;
+#[cfg(test)]
 mod procedures_as_trees;
 #[cfg(test)]
 mod records;

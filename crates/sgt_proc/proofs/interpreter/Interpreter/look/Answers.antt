@@ -1,8 +1,8 @@
 use Rattle.std.proofs.Common.{◌≡◌, [], ◌⊎◌, inl, inr, drop, drop-cons, add-one, arith}
 use Rattle.std.proofs.lemmas.List.{drop_all}
 use Rattle.sgt_proc.proofs.Lefts.{look_is_next, look_is_past}
-use Rattle.sgt_proc.proofs.machine.Machine.look.Goals as goal
-use Rattle.sgt_proc.proofs.machine.Machine.look.Goals.{then-self-eq0-via-then-self-eq0, then-self-eq0-via-else-self-eq0+then-read-self}
+use Rattle.sgt_proc.proofs.interpreter.Interpreter.look.Goals as goal
+use Rattle.sgt_proc.proofs.interpreter.Interpreter.look.Goals.{then-self-eq0-via-then-self-eq0, then-self-eq0-via-else-self-eq0+then-read-self}
 
 pub returns-then-self-eq0-clause-found : goal.returns-then-self-eq0-clause-found
 returns-then-self-eq0-clause-found c = λ go.

@@ -1,11 +1,11 @@
--- Stored statements and the text that they are.
+-- PassesStore statements and the text that they are.
 use Rattle.std.proofs.Common.{◌≡◌, refl, sym, ◌∙◌, ap, ℕ, suc, ◌+◌, ◌<◌, length, get_or, drop, add-one, drop-cons, List, [], ◌∷◌, ◌++◌}
 use Rattle.std.specs.declared.vec.Vec.{Vec}
 use Rattle.std.specs.declared.alloc.Global.{Global}
 use Rattle.sgt_model.specs.declared.procedure.Statement.{Statement}
 use Rattle.sgt_model.specs.declared.procedure.Statement.TheVariants.{Look, Put, Let, Ask, If', If, Answer}
 use Rattle.sgt_model.specs.declared.procedure.Cond.{Cond}
-use Rattle.sgt_model.specs.Syntax.{Block, empty, choose}
+use Rattle.sgt_model.specs.Syntax.{Block, empty}
 use Rattle.sgt_model.specs.Programs.{test_of, before, block_of}
 use Rattle.sgt_model.specs.Ways.{Way, fork, onto}
 use Rattle.sgt_model.proofs.Texts.{before_if}

@@ -1,15 +1,15 @@
 ghost use Rattle.std.specs.Prelude.{◌≡◌, IfErr};
 ghost use Rattle.sgt_proc.specs.Nexts.{StoresValue};
-ghost use Rattle.sgt_proc.specs.Walks.{with_register, Looked, Stored, Answered};
+ghost use Rattle.sgt_proc.specs.Execution.{with_register, PassesLook, PassesStore, AddsAnswer};
 
 use crate::answers::MOST_ANSWERS;
 use crate::next::Next;
 use crate::value::WRONG;
 use sgt_model::{Answers, Key, is_value};
 
-/// A procedure at work, which passes over the accesses that it made before.
+/// What runs a procedure's statements from their start, and passes over the accesses that were made before.
 #[derive(Drop)]
-pub struct Machine {
+pub struct Interpreter {
     pub registers: [Option<i64>; 16],
     pub answers: Answers,
     /// How many of the values that looks found before are used up.
@@ -18,7 +18,7 @@ pub struct Machine {
     pub left: usize,
 }
 
-impl Machine {
+impl Interpreter {
     /// Sets a register; one that is not there stays so.
     pub fn set(&mut self, register: u8, value: i64)
         ensures { self.new ≡ with_register self.old register value }
@@ -31,7 +31,7 @@ impl Machine {
 
     /// Passes over a look, and gives what it found; or the look, where it comes next.
     pub fn look(&mut self, key: Key, read: &[Option<i64>]) -> Result<Option<i64>, Next>
-        ensures found { Looked read.now key self.old result self.new }
+        ensures found { PassesLook read.now key self.old result self.new }
         ensures registers { self.new.registers ≡ self.old.registers }
         ensures answers { self.new.answers ≡ self.old.answers }
         ensures in_range { IfErr result StoresValue }
@@ -47,7 +47,7 @@ impl Machine {
 
     /// Passes over a store; or gives the store, where it comes next.
     pub fn put(&mut self, key: Key, value: i64) -> Result<(), Next>
-        ensures passed { Stored key value self.old result self.new }
+        ensures passed { PassesStore key value self.old result self.new }
         ensures registers { self.new.registers ≡ self.old.registers }
         ensures answers { self.new.answers ≡ self.old.answers }
         ensures in_range { IfErr result StoresValue }
@@ -64,7 +64,7 @@ impl Machine {
 
     /// Adds an answer, unless there are 8.
     pub fn answer(&mut self, value: i64) -> Result<(), Next>
-        ensures answered { Answered value self.old result self.new }
+        ensures answered { AddsAnswer value self.old result self.new }
         ensures registers { self.new.registers ≡ self.old.registers }
         ensures in_range { IfErr result StoresValue }
     {

@@ -1,4 +1,4 @@
--- What is known of statements, whatever stands behind them.
+-- What a backward dataflow analysis knows in front of statements, from what it knows behind them.
 use Rattle.std.specs.Prelude.{◌≡◌, ℕ, min, Bool}
 use Rattle.sgt_model.specs.Syntax.{Block}
 use Rattle.sgt_model.specs.Ways.{Way, onto}

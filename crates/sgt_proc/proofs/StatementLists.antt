@@ -7,7 +7,7 @@ use Rattle.sgt_model.specs.Programs.{term_of, test_of, before, row_block, block_
 use Rattle.sgt_proc.specs.declared.numbers.Number.{Number}
 use Rattle.sgt_proc.specs.declared.numbers.Number.TheVariants.{Register, Table, Code}
 use Rattle.sgt_proc.specs.Flaws.{in_term, in_test, in_block, size, depth, terms_depth}
-use Rattle.sgt_proc.proofs.Texts.{block_drop}
+use Rattle.sgt_proc.proofs.StatementTexts.{block_drop}
 
 or_first : (a b : Bool) → (a || b) ≡ ((a || false) || b)
 or_first true b = refl
