@@ -27,4 +27,4 @@ pub returns-clause-script : goal.returns-clause-script
 returns-clause-script g c = λ exact.
     wrote-opened g.M.Machine.programs c.in_ok-lines.lines (g.M.Machine.setting c.in_ok-machine.machine) (g.S.Source.rest c.args.source.now) (g.T.Sink.held c.args.sink.now) (g.T.Sink.held c.run_opened.new.sink)
     c.next_line.new.self.line (cut_left c.next_line.new.self (g.S.Source.rest c.next_line.new.source)) c.in_ok-opening.opening c.run_opened.result
-    c.in_ok-lines.ensures (search rules) c.in_ok-opening.ensures.opening c.in_ok-machine.ensures.setting (c.run_opened.ensures.tells exact)
+    c.in_ok-lines.ensures (search rules) c.in_ok-opening.ensures.opening c.in_ok-machine.ensures.setting (c.run_opened.ensures.output exact)
