@@ -21,7 +21,5 @@ mod live;
 mod reads;
 mod running;
 mod sched;
-#[cfg(test)]
-mod tests;
 
 pub use sched::Sched;

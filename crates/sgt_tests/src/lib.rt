@@ -1,10 +1,18 @@
-//! Tests of the crates below the scheduler, in a crate of their own: a crate with tests is proved twice, and these would be
-//! proved again for nothing.
+//! Tests of the other crates, in a crate of their own: a crate with tests is proved twice, and these would be proved again
+//! for nothing.
 //!
 //! It has no function for others to call. What a test shows is in its name.
 #![tactic(auto)]
 
 #[cfg(test)]
+mod engine;
+#[cfg(test)]
 mod procedures_as_trees;
 #[cfg(test)]
+mod scheduler;
+#[cfg(test)]
+mod scripts;
+#[cfg(test)]
 mod smallbank;
+#[cfg(test)]
+mod streams;
