@@ -1,5 +1,5 @@
 ghost use Rattle.std.specs.Prelude.{◌≡◌, ◌≢◌, true, ◌↔◌, IsTrue};
-ghost use Rattle.sgt_model.specs.Touches.{meets};
+ghost use Rattle.sgt_model.specs.AccessList.{is_conflicting};
 
 use sgt_model::{Key, Kind, Tid};
 use std::marker::Model;
@@ -13,9 +13,9 @@ pub struct Access {
 }
 
 impl Model for Access {
-    ghost use Rattle.sgt_model.specs.Touches.{Touch};
+    ghost use Rattle.sgt_model.specs.AccessList.{ListedAccess};
 
-    ghost Value = { Touch };
+    ghost Value = { ListedAccess };
 
     ghost view = { λ a. record { by = a.by; key = a.key; kind = a.kind } };
 
@@ -26,7 +26,7 @@ impl Access {
     /// Whether it is by another than t and conflicts with an access of this kind of the key.
     pub fn is_rival_of(&self, t: Tid, key: Key, kind: Kind) -> bool
         ensures { IsTrue result
-            ↔ ((self.now.by ≢ t) × (meets self.now.by key kind self.now ≡ true)) }
+            ↔ ((self.now.by ≢ t) × (is_conflicting self.now.by key kind self.now ≡ true)) }
     {
         self.by != t && self.key == key && (self.kind == Kind::Store || kind == Kind::Store)
     }

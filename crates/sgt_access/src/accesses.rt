@@ -1,6 +1,6 @@
 ghost use Rattle.std.specs.Prelude.{◌≡◌, ◌≢◌, ℕ, true, List, [], ◌∷◌, ◌++◌, ◌↔◌, OnOk};
 ghost use Rattle.sgt_model.specs.Contents.{Key as K};
-ghost use Rattle.sgt_model.specs.Touches.{Touch, touches_in, is_listed, forgotten};
+ghost use Rattle.sgt_model.specs.AccessList.{ListedAccess, lists_conflicting, is_listed, forgotten};
 ghost use Rattle.sgt_model.specs.Walks.{Member, Rising, AtMost};
 
 use sgt_model::{Key, Kind, NoMemory, Tid, Tids};
@@ -9,7 +9,7 @@ use std::alloc::Global;
 /// A list of the accesses of the live transactions.
 pub trait Accesses: Drop + Send {
     /// The accesses, oldest first.
-    ghost list: { Self → List Touch };
+    ghost list: { Self → List ListedAccess };
 
     /// An access of the key can be noted without memory.
     ghost is_ready: { Self → K → Type 0 };
@@ -36,7 +36,7 @@ pub trait Accesses: Drop + Send {
     fn rivals(&self, t: Tid, key: Key, kind: Kind) -> Tids
         requires few { AtMost 32 (is_listed (list self.now)) }
         ensures exact { (u : ℕ) → Member u result
-            ↔ ((u ≢ t) × (touches_in (list self.now) u key kind ≡ true)) }
+            ↔ ((u ≢ t) × (lists_conflicting (list self.now) u key kind ≡ true)) }
         ensures rising { Rising result };
 
     /// Drops the accesses of a transaction. The rest keep their order. This takes no memory.

@@ -4,9 +4,9 @@ ghost use Rattle.sgt_model.specs.Contents.{Key as K};
 ghost use Rattle.sgt_model.specs.Databases.{contents_of};
 ghost use Rattle.sgt_model.specs.Headline.{Headline};
 ghost use Rattle.sgt_model.specs.Legality.{Legal, LegalReply};
-ghost use Rattle.sgt_model.specs.Replay.{replayed, told};
+ghost use Rattle.sgt_model.specs.Replay.{replayed, committed_runs};
 ghost use Rattle.sgt_model.specs.Values.{settled};
-ghost use Rattle.sgt_engine.specs.Parts.{setting_of, made_of, with_entry};
+ghost use Rattle.sgt_engine.specs.EngineView.{setting_of, made_of, with_entry};
 
 use sgt_access::Accesses;
 use sgt_graph::Graph;
@@ -42,11 +42,11 @@ impl<R: Records, A: Accesses, G: Graph> Model for Engine<R, A, G> {
     ghost use Rattle.sgt_model.specs.Databases.{contents_of};
     ghost use Rattle.sgt_model.specs.Legality.{Legal};
     ghost use Rattle.sgt_model.specs.Settings.{setting};
-    ghost use Rattle.sgt_model.specs.States.{IsState};
-    ghost use Rattle.sgt_sched.specs.Parts.{held_of};
-    ghost use Rattle.sgt_engine.specs.Parts.{Parts};
+    ghost use Rattle.sgt_model.specs.StateAfter.{IsStateAfter};
+    ghost use Rattle.sgt_sched.specs.SchedulerView.{state_of};
+    ghost use Rattle.sgt_engine.specs.EngineView.{EngineView};
 
-    ghost Value = { Parts };
+    ghost Value = { EngineView };
 
     ghost coded = { Prim.hlevel (codes, coded_program) };
 
@@ -60,9 +60,9 @@ impl<R: Records, A: Accesses, G: Graph> Model for Engine<R, A, G> {
     ghost invariant = { λ e.
         Legal (setting (contents_of e.opening) e.sched.procedures e.sched.limits)
         (reverse e.history.items)
-        × IsState (setting (contents_of e.opening) e.sched.procedures e.sched.limits)
+        × IsStateAfter (setting (contents_of e.opening) e.sched.procedures e.sched.limits)
         (reverse e.history.items)
-        (held_of R.chain R.settled A.list G.nodes G.pairs e.sched) };
+        (state_of R.chain R.settled A.list G.nodes G.pairs e.sched) };
 }
 
 impl<R: Records, A: Accesses, G: Graph> Engine<R, A, G> {
@@ -125,7 +125,7 @@ impl<R: Records, A: Accesses, G: Graph> Engine<R, A, G> {
     /// what the committed transactions leave there, run one after another in commit order.
     pub fn committed(&self, key: Key) -> Option<i64>
         ensures value { result ≡ settled (contents_of self.now.opening) self.now.past key }
-        ensures replayed { result ≡ replayed (setting_of self.now) (told self.now.past) key }
+        ensures replayed { result ≡ replayed (setting_of self.now) (committed_runs self.now.past) key }
     {
         self.sched.records().committed(key)
     }
@@ -137,7 +137,7 @@ impl<R: Records, A: Accesses, G: Graph> Engine<R, A, G> {
         ensures values { IfOk result (λ d. (k : K) →
             contents_of d k ≡ settled (contents_of self.now.opening) self.now.past k) }
         ensures replayed { IfOk result (λ d. (k : K) →
-            contents_of d k ≡ replayed (setting_of self.now) (told self.now.past) k) }
+            contents_of d k ≡ replayed (setting_of self.now) (committed_runs self.now.past) k) }
     {
         self.sched.records().all(alloc)
     }

@@ -13,21 +13,21 @@ use Rattle.sgt_model.specs.Contents.{Key, key_eq}
 use Rattle.sgt_model.specs.Accesses.{Access, access_of, act_in, acts}
 use Rattle.sgt_model.specs.Fates.{aborted, committed, is_commit, live}
 use Rattle.sgt_model.specs.Values.{newest_store, value_or}
-use Rattle.sgt_model.specs.Pairs.{FollowsIn, Precedes, touches}
+use Rattle.sgt_model.specs.Pairs.{FollowsIn, Precedes, has_conflicting}
 use Rattle.sgt_model.specs.Settings.{Setting}
 use Rattle.sgt_model.specs.Progress.{looked, made, reads}
 use Rattle.sgt_model.specs.Legality.{Legal}
-use Rattle.sgt_model.specs.Touches.{touch_in, touched}
+use Rattle.sgt_model.specs.AccessList.{listed_in, access_list}
 use Rattle.sgt_model.specs.Chains.{chain_of, store_into, write_last}
-use Rattle.sgt_model.specs.Courses.{Course, course_of}
-use Rattle.sgt_model.specs.Held.{Has, Held}
-use Rattle.sgt_model.specs.States.{IsState, LivePair, LiveRead}
-use Rattle.sgt_model.specs.Verdicts.{IsRival}
-use Rattle.sgt_model.specs.Tops.{found}
+use Rattle.sgt_model.specs.LiveProgress.{Progress, progress_of}
+use Rattle.sgt_model.specs.State.{Has, State}
+use Rattle.sgt_model.specs.StateAfter.{IsStateAfter, LivePair, LiveRead}
+use Rattle.sgt_model.specs.Blocks.{IsRival}
+use Rattle.sgt_model.specs.Found.{found}
 use Rattle.sgt_model.specs.Changes.{LooksAt, Notes, StoresInto}
 use Rattle.sgt_model.proofs.Facts.{live-no_fate, live-stands}
 use Rattle.sgt_model.proofs.Plays.{act_own, act_other}
-use Rattle.sgt_model.proofs.Verdict.{source_from, source_live, source_to, touch_in-state, touch_live}
+use Rattle.sgt_model.proofs.Verdict.{source_from, source_live, source_to, listed_in-state, listed_live}
 
 -- the entry of a look that was made
 abbrev pub look_entry : ℕ → Key → Option ℤ → Entry
@@ -38,8 +38,8 @@ abbrev pub store_entry : ℕ → Key → ℤ → Entry
 store_entry t k v = record { event = Step t; reply = reply.Wrote k v }
 
 -- of the same call, reads and count
-pub course_path : (p q : Course) → p.call ≡ q.call → p.read ≡ q.read → p.made ≡ q.made → p ≡ q
-course_path p q e f g = λ i. record { call = e i; read = f i; made = g i }
+pub progress_path : (p q : Progress) → p.call ≡ q.call → p.read ≡ q.read → p.made ≡ q.made → p ≡ q
+progress_path p q e f g = λ i. record { call = e i; read = f i; made = g i }
 
 -- the accesses of another, and of t
 
@@ -52,9 +52,9 @@ acts_own a u l e = act_own (Some a) a u l refl (sym e)
 one_more : (n : ℕ) → suc n ≡ n + 1
 one_more n = omega arith
 
-module _ (s : Setting) (past : List Entry) (h : Legal s past) (before after : Held) (i : IsState s past before) (t : ℕ) (k : Key) (alive : live past t ≡ true) where
+module _ (s : Setting) (past : List Entry) (h : Legal s past) (before after : State) (i : IsStateAfter s past before) (t : ℕ) (k : Key) (alive : live past t ≡ true) where
   -- the pairs, after an access
-  pairs_after : (kind : Kind) (e : Entry) → ((u : ℕ) → live (e ∷ past) u ≡ live past u) → ((u : ℕ) → aborted (e ∷ past) u ≡ aborted past u) → ((u v : ℕ) → FollowsIn past (access_of e) u v ↔ ((t ≡ v) × (touches past u k kind ≡ true))) → Notes t k kind before after → (u v : ℕ) → (after.pairs u v ≡ true) ↔ LivePair (e ∷ past) u v
+  pairs_after : (kind : Kind) (e : Entry) → ((u : ℕ) → live (e ∷ past) u ≡ live past u) → ((u : ℕ) → aborted (e ∷ past) u ≡ aborted past u) → ((u v : ℕ) → FollowsIn past (access_of e) u v ↔ ((t ≡ v) × (has_conflicting past u k kind ≡ true))) → Notes t k kind before after → (u v : ℕ) → (after.pairs u v ≡ true) ↔ LivePair (e ∷ past) u v
   pairs_after kind e same_live same_aborted follows n u v = (λ q. elim ((n.pairs u v).0 q) [ inl old ↦ old_to old | inr new ↦ new_to new.0 new.1 ], λ q. (n.pairs u v).1 (from q q.pair.precedes))
     where
       old_to : before.pairs u v ≡ true → LivePair (e ∷ past) u v
@@ -62,21 +62,21 @@ module _ (s : Setting) (past : List Entry) (h : Legal s past) (before after : He
 
       new_to : v ≡ t → IsRival before t k kind u → LivePair (e ∷ past) u v
       new_to is_t r =
-          let u_live = touch_live s past h before i u k kind r.touches in
+          let u_live = listed_live s past h before i u k kind r.has_conflicting in
           let v_live : live past v ≡ true = ap (live past) is_t ∙ alive in
-          record { first_live = same_live u ∙ u_live; second_live = same_live v ∙ v_live; pair = record { apart = λ z. r.apart (z ∙ is_t); first_stands = same_aborted u ∙ live-stands past u u_live; second_stands = same_aborted v ∙ live-stands past v v_live; precedes = inl ((follows u v).1 (sym is_t, sym (touch_in-state s past h before i u k kind u_live) ∙ r.touches)) } }
+          record { first_live = same_live u ∙ u_live; second_live = same_live v ∙ v_live; pair = record { apart = λ z. r.apart (z ∙ is_t); first_stands = same_aborted u ∙ live-stands past u u_live; second_stands = same_aborted v ∙ live-stands past v v_live; precedes = inl ((follows u v).1 (sym is_t, sym (listed_in-state s past h before i u k kind u_live) ∙ r.has_conflicting)) } }
 
       from : LivePair (e ∷ past) u v → Precedes (e ∷ past) u v → (before.pairs u v ≡ true) ⊎ ((v ≡ t) × IsRival before t k kind u)
-      from q (inl now) = let f = (follows u v).0 now in inr (sym f.0, record { apart = λ z. q.pair.apart (z ∙ f.0); touches = touch_in-state s past h before i u k kind (sym (same_live u) ∙ q.first_live) ∙ f.1 })
+      from q (inl now) = let f = (follows u v).0 now in inr (sym f.0, record { apart = λ z. q.pair.apart (z ∙ f.0); has_conflicting = listed_in-state s past h before i u k kind (sym (same_live u) ∙ q.first_live) ∙ f.1 })
       from q (inr p) = inl ((i.pairs u v).1 (record { first_live = sym (same_live u) ∙ q.first_live; second_live = sym (same_live v) ∙ q.second_live; pair = record { apart = q.pair.apart; first_stands = sym (same_aborted u) ∙ q.pair.first_stands; second_stands = sym (same_aborted v) ∙ q.pair.second_stands; precedes = p } }))
 
-  accesses_after : (kind : Kind) (value : Option ℤ) → Notes t k kind before after → after.accesses ≡ touched (live past) past ++ touch_in (live past) (Some (record { by = t; key = k; kind = kind; value = value }))
+  accesses_after : (kind : Kind) (value : Option ℤ) → Notes t k kind before after → after.accesses ≡ access_list (live past) past ++ listed_in (live past) (Some (record { by = t; key = k; kind = kind; value = value }))
   accesses_after kind value n = n.accesses ∙ ap₂ (λ l b. l ++ cond b (record { by = t; key = k; kind = kind } ∷ []) []) i.accesses (sym alive)
 
   not_committed : committed past t ≡ false
   not_committed = ap is_commit (live-no_fate past t alive)
 
-  pub after_look : LooksAt t k before after → IsState s (look_entry t k (found before k) ∷ past) after
+  pub after_look : LooksAt t k before after → IsStateAfter s (look_entry t k (found before k) ∷ past) after
   after_look l = record {
     lives = l.notes.live ∙ i.lives;
     nodes = λ u. l.notes.nodes u ∙ i.nodes u;
@@ -87,7 +87,7 @@ module _ (s : Setting) (past : List Entry) (h : Legal s past) (before after : He
     read_from = λ u v. (to u v, from u v);
     fates = λ u. l.notes.fates u ∙ i.fates u;
     starts = l.notes.starts ∙ i.starts;
-    courses = λ u u_live. elim (cases_eq u t) [ inl e ↦ own u e u_live | inr n ↦ other u n u_live ];
+    progress = λ u u_live. elim (cases_eq u t) [ inl e ↦ own u e u_live | inr n ↦ other u n u_live ];
   }
     where
       a : Access
@@ -99,16 +99,16 @@ module _ (s : Setting) (past : List Entry) (h : Legal s past) (before after : He
       from : (u v : ℕ) → LiveRead (look_entry t k (found before k) ∷ past) v u → Has after.read_from u v
       from u v q = (l.read_from u v).1 (elim q.read [ inl now ↦ inr (sym now.1.1, (λ z. now.0 (sym (z ∙ now.1.1))), source_to s past h before i k u q.source_live now.1.2) | inr old ↦ inl ((i.read_from u v).1 (record { reader_live = q.reader_live; source_live = q.source_live; read = old })) ])
 
-      other : (u : ℕ) → u ≢ t → live past u ≡ true → after.courses u ≡ course_of (look_entry t k (found before k) ∷ past) u
+      other : (u : ℕ) → u ≢ t → live past u ≡ true → after.progress u ≡ progress_of (look_entry t k (found before k) ∷ past) u
       other u n u_live =
           let same = sym (acts_other a u (acts past u) n) in
-          l.notes.courses u n ∙ (i.courses u u_live ∙ course_path (course_of past u) (course_of (look_entry t k (found before k) ∷ past) u) refl (ap looked same) (ap length same))
+          l.notes.progress u n ∙ (i.progress u u_live ∙ progress_path (progress_of past u) (progress_of (look_entry t k (found before k) ∷ past) u) refl (ap looked same) (ap length same))
 
-      own : (u : ℕ) → u ≡ t → live past u ≡ true → after.courses u ≡ course_of (look_entry t k (found before k) ∷ past) u
+      own : (u : ℕ) → u ≡ t → live past u ≡ true → after.progress u ≡ progress_of (look_entry t k (found before k) ∷ past) u
       own u e u_live =
           let more = sym (acts_own a u (acts past u) e) in
-          let was : before.courses t ≡ course_of past u = ap before.courses (sym e) ∙ i.courses u u_live in
-          ap after.courses e ∙ (l.course ∙ course_path _ (course_of (look_entry t k (found before k) ∷ past) u) (ap (λ (r : Course). r.call) was) (ap (λ (r : Course). r.read ++ found before k ∷ []) was ∙ ap looked more) (ap (λ (r : Course). r.made + 1) was ∙ (sym (one_more (made past u)) ∙ ap length more)))
+          let was : before.progress t ≡ progress_of past u = ap before.progress (sym e) ∙ i.progress u u_live in
+          ap after.progress e ∙ (l.own_progress ∙ progress_path _ (progress_of (look_entry t k (found before k) ∷ past) u) (ap (λ (r : Progress). r.call) was) (ap (λ (r : Progress). r.read ++ found before k ∷ []) was ∙ ap looked more) (ap (λ (r : Progress). r.made + 1) was ∙ (sym (one_more (made past u)) ∙ ap length more)))
 
   stored_chain : (b : Bool) (v : ℤ) (c : List (ℕ × ℤ)) → cond b (write_last t v c) c ≡ store_into (cond (b && true) (Some (record { by = t; key = k; kind = Store; value = Some v })) None) c
   stored_chain true v c = refl
@@ -118,7 +118,7 @@ module _ (s : Setting) (past : List Entry) (h : Legal s past) (before after : He
   not_settled true a n = refl
   not_settled false a n = refl
 
-  pub after_store : (v : ℤ) → StoresInto t k v before after → IsState s (store_entry t k v ∷ past) after
+  pub after_store : (v : ℤ) → StoresInto t k v before after → IsStateAfter s (store_entry t k v ∷ past) after
   after_store w l = record {
     lives = l.notes.live ∙ i.lives;
     nodes = λ u. l.notes.nodes u ∙ i.nodes u;
@@ -129,7 +129,7 @@ module _ (s : Setting) (past : List Entry) (h : Legal s past) (before after : He
     read_from = λ u v. (to u v, from u v);
     fates = λ u. l.notes.fates u ∙ i.fates u;
     starts = l.notes.starts ∙ i.starts;
-    courses = λ u u_live. elim (cases_eq u t) [ inl e ↦ own u e u_live | inr n ↦ other u n u_live ];
+    progress = λ u u_live. elim (cases_eq u t) [ inl e ↦ own u e u_live | inr n ↦ other u n u_live ];
   }
     where
       a : Access
@@ -144,13 +144,13 @@ module _ (s : Setting) (past : List Entry) (h : Legal s past) (before after : He
           is_no_look : Store ≡ Look → ⊥
           is_no_look z = cc
 
-      other : (u : ℕ) → u ≢ t → live past u ≡ true → after.courses u ≡ course_of (store_entry t k w ∷ past) u
+      other : (u : ℕ) → u ≢ t → live past u ≡ true → after.progress u ≡ progress_of (store_entry t k w ∷ past) u
       other u n u_live =
           let same = sym (acts_other a u (acts past u) n) in
-          l.notes.courses u n ∙ (i.courses u u_live ∙ course_path (course_of past u) (course_of (store_entry t k w ∷ past) u) refl (ap looked same) (ap length same))
+          l.notes.progress u n ∙ (i.progress u u_live ∙ progress_path (progress_of past u) (progress_of (store_entry t k w ∷ past) u) refl (ap looked same) (ap length same))
 
-      own : (u : ℕ) → u ≡ t → live past u ≡ true → after.courses u ≡ course_of (store_entry t k w ∷ past) u
+      own : (u : ℕ) → u ≡ t → live past u ≡ true → after.progress u ≡ progress_of (store_entry t k w ∷ past) u
       own u e u_live =
           let more = sym (acts_own a u (acts past u) e) in
-          let was : before.courses t ≡ course_of past u = ap before.courses (sym e) ∙ i.courses u u_live in
-          ap after.courses e ∙ (l.course ∙ course_path _ (course_of (store_entry t k w ∷ past) u) (ap (λ (r : Course). r.call) was) (ap (λ (r : Course). r.read) was ∙ (sym (append-nil (reads past u)) ∙ ap looked more)) (ap (λ (r : Course). r.made + 1) was ∙ (sym (one_more (made past u)) ∙ ap length more)))
+          let was : before.progress t ≡ progress_of past u = ap before.progress (sym e) ∙ i.progress u u_live in
+          ap after.progress e ∙ (l.own_progress ∙ progress_path _ (progress_of (store_entry t k w ∷ past) u) (ap (λ (r : Progress). r.call) was) (ap (λ (r : Progress). r.read) was ∙ (sym (append-nil (reads past u)) ∙ ap looked more)) (ap (λ (r : Progress). r.made + 1) was ∙ (sym (one_more (made past u)) ∙ ap length more)))

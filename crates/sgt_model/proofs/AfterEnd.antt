@@ -21,19 +21,19 @@ use Rattle.sgt_model.specs.Pairs.{Precedes}
 use Rattle.sgt_model.specs.Settings.{Setting}
 use Rattle.sgt_model.specs.Progress.{call_in, call_of, looked}
 use Rattle.sgt_model.specs.Legality.{Legal}
-use Rattle.sgt_model.specs.Touches.{touch_in, touched}
+use Rattle.sgt_model.specs.AccessList.{listed_in, access_list}
 use Rattle.sgt_model.specs.Chains.{chain_of, store_into, value_in}
-use Rattle.sgt_model.specs.Courses.{course_of}
-use Rattle.sgt_model.specs.Held.{Has, Held}
-use Rattle.sgt_model.specs.States.{IsState, LivePair, LiveRead}
+use Rattle.sgt_model.specs.LiveProgress.{progress_of}
+use Rattle.sgt_model.specs.State.{Has, State}
+use Rattle.sgt_model.specs.StateAfter.{IsStateAfter, LivePair, LiveRead}
 use Rattle.sgt_model.specs.Changes.{Drops, Removes, Settles}
 use Rattle.sgt_model.proofs.Facts.{follows-access, live-no_fate, live-stands}
 use Rattle.sgt_model.proofs.Sources.{looks-access}
 use Rattle.sgt_model.proofs.Plays.{act_none}
-use Rattle.sgt_model.proofs.Counted.{chain-removed, filter-both, filter-same, touched-removed}
+use Rattle.sgt_model.proofs.Counted.{chain-removed, filter-both, filter-same, access_list-removed}
 use Rattle.sgt_model.proofs.Chains.{chain-value, newest-split, newest-value, stored_value}
 use Rattle.sgt_model.proofs.Verdict.{live_before_committed}
-use Rattle.sgt_model.proofs.AfterAccess.{course_path}
+use Rattle.sgt_model.proofs.AfterAccess.{progress_path}
 
 -- an entry that ends those that are gone, and does nothing else
 pub record EndsAll (gone : ℕ → Bool) (e : Entry) (past : List Entry) : Type 0 where
@@ -89,8 +89,8 @@ module _ (s : Setting) (past : List Entry) (gone : ℕ → Bool) (e : Entry) (x 
       no_some a q = cc
   read_was t u (inr r) = r
 
-  course_same : (u : ℕ) → course_of past u ≡ course_of (e ∷ past) u
-  course_same u = course_path (course_of past u) (course_of (e ∷ past) u) call (ap looked accesses) (ap length accesses)
+  progress_same : (u : ℕ) → progress_of past u ≡ progress_of (e ∷ past) u
+  progress_same u = progress_path (progress_of past u) (progress_of (e ∷ past) u) call (ap looked accesses) (ap length accesses)
     where
       call : call_of past u ≡ call_of (e ∷ past) u
       call = sym (ap (λ o. unwrap_or o (call_of past u)) (x.no_call u))
@@ -98,18 +98,18 @@ module _ (s : Setting) (past : List Entry) (gone : ℕ → Bool) (e : Entry) (x 
       accesses : acts past u ≡ acts (e ∷ past) u
       accesses = sym (act_none (access_of e) u (acts past u) x.no_access)
 
-  pub after_end : (before after : Held) → IsState s past before → Removes gone before after → ((k : Key) → after.settled k ≡ settled s.opening (e ∷ past) k) → ((u : ℕ) → after.fates u ≡ fate_of (e ∷ past) u) → IsState s (e ∷ past) after
+  pub after_end : (before after : State) → IsStateAfter s past before → Removes gone before after → ((k : Key) → after.settled k ≡ settled s.opening (e ∷ past) k) → ((u : ℕ) → after.fates u ≡ fate_of (e ∷ past) u) → IsStateAfter s (e ∷ past) after
   after_end before after i r same_settled same_fates = record {
     lives = r.live ∙ (ap (filter (λ u. not (gone u))) i.lives ∙ live_ones_after);
     nodes = λ u. r.nodes u ∙ (ap (λ b. b && not (gone u)) (i.nodes u) ∙ sym (live_after u));
     pairs = λ u v. (pairs_to u v, pairs_from u v);
-    accesses = r.accesses ∙ (ap (filter (λ a. not (gone a.by))) i.accesses ∙ (sym (touched-removed (live past) gone past) ∙ (ap (λ q. touched q past) live_is ∙ sym (ap (λ o. touched (live (e ∷ past)) past ++ touch_in (live (e ∷ past)) o) x.no_access ∙ append-nil (touched (live (e ∷ past)) past)))));
+    accesses = r.accesses ∙ (ap (filter (λ a. not (gone a.by))) i.accesses ∙ (sym (access_list-removed (live past) gone past) ∙ (ap (λ q. access_list q past) live_is ∙ sym (ap (λ o. access_list (live (e ∷ past)) past ++ listed_in (live (e ∷ past)) o) x.no_access ∙ append-nil (access_list (live (e ∷ past)) past)))));
     chain = λ k. r.chain k ∙ (ap (filter (λ w. not (gone w.0))) (i.chain k) ∙ (sym (chain-removed gone (live past) k past) ∙ (ap (λ q. chain_of q k past) live_is ∙ sym (ap (λ o. store_into (stores (live (e ∷ past)) k o) (chain_of (live (e ∷ past)) k past)) x.no_access))));
     settled = same_settled;
     read_from = λ u v. (read_to u v, read_from u v);
     fates = same_fates;
     starts = r.starts ∙ (i.starts ∙ sym starts_same);
-    courses = λ u q. let w = live_was u q in r.courses u w.1 ∙ (i.courses u w.0 ∙ course_same u);
+    progress = λ u q. let w = live_was u q in r.progress u w.1 ∙ (i.progress u w.0 ∙ progress_same u);
   }
     where
       live_ones_after : filter (λ u. not (gone u)) (live_ones past) ≡ live_ones (e ∷ past)
@@ -154,7 +154,7 @@ and_true : (a : Bool) → a ≡ (a && true)
 and_true true = refl
 and_true false = refl
 
-removes_none : (c : Held) → Removes no_one c c
+removes_none : (c : State) → Removes no_one c c
 removes_none c = record {
   live = filter_all c.live;
   nodes = λ u. and_true (c.nodes u);
@@ -163,10 +163,10 @@ removes_none c = record {
   chain = λ k. filter_all (c.chain k);
   read_from = λ u v. ((λ q. (q, refl, refl)), (λ q. q.0));
   starts = refl;
-  courses = λ u g. refl;
+  progress = λ u g. refl;
 }
 
-pub after_nothing : (s : Setting) (past : List Entry) (e : Entry) (c : Held) → EndsAll no_one e past → IsState s past c → IsState s (e ∷ past) c
+pub after_nothing : (s : Setting) (past : List Entry) (e : Entry) (c : State) → EndsAll no_one e past → IsStateAfter s past c → IsStateAfter s (e ∷ past) c
 after_nothing s past e c x i = after_end s past no_one e x c c i (removes_none c) (λ k. i.settled k ∙ sym (ap₂ (λ o q. value_or (option_or o (newest_store q k past)) (s.opening k)) (ap (stores (committed (e ∷ past)) k) x.no_access) (fun_ext (λ u. ap is_commit (same u))))) (λ u. i.fates u ∙ sym (same u))
   where
     same : (u : ℕ) → fate_of (e ∷ past) u ≡ fate_of past u
@@ -193,7 +193,7 @@ committed_now : (b : Bool) (o : Option Fate) → is_commit (option_or (cond b (S
 committed_now true o = refl
 committed_now false o = refl
 
-pub after_commit : (s : Setting) (past : List Entry) → Legal s past → (t : ℕ) (answers : List ℤ) (before after : Held) → live past t ≡ true → IsState s past before → Settles t before after → IsState s (commit_entry t answers ∷ past) after
+pub after_commit : (s : Setting) (past : List Entry) → Legal s past → (t : ℕ) (answers : List ℤ) (before after : State) → live past t ≡ true → IsStateAfter s past before → Settles t before after → IsStateAfter s (commit_entry t answers ∷ past) after
 after_commit s past h t answers before after alive i x = after_end s past (λ u. nat_eq t u) (commit_entry t answers) (commit_ends t answers past) before after i x.removes settles (λ u. x.fates u ∙ (ap (cond (nat_eq t u) (Some fate.Committed)) (i.fates u) ∙ fate_now (nat_eq t u) fate.Committed (fate_of past u)))
   where
     value_split : (k : Key) (np nq : Option Access) → newest_store (λ u. nat_eq t u) k past ≡ np → option_or (stored_value np) (value_or nq (s.opening k)) ≡ value_or (option_or np nq) (s.opening k)
@@ -247,7 +247,7 @@ abort_ends event t why fell past o = record {
     some false true g = (fate.Fell t, refl)
     some false false g = absurd (cc)
 
-pub after_abort : (s : Setting) (past : List Entry) (event : Event) (t : ℕ) (why : Cause) (fell : List ℕ) (before after : Held) → Of event t → ((u : ℕ) → gone_with t fell u ≡ true → live past u ≡ true) → IsState s past before → Drops t why fell before after → IsState s (abort_entry event why fell ∷ past) after
+pub after_abort : (s : Setting) (past : List Entry) (event : Event) (t : ℕ) (why : Cause) (fell : List ℕ) (before after : State) → Of event t → ((u : ℕ) → gone_with t fell u ≡ true → live past u ≡ true) → IsStateAfter s past before → Drops t why fell before after → IsStateAfter s (abort_entry event why fell ∷ past) after
 after_abort s past event t why fell before after o lived i x = after_end s past (gone_with t fell) e (abort_ends event t why fell past o) before after i x.removes settles (λ u. x.fates u ∙ (ap (λ (f : Option Fate). cond (nat_eq t u) (Some (fate.Aborted why)) (cond (list_any (λ v. nat_eq v u) fell) (Some (fate.Fell t)) f)) (i.fates u) ∙ (twice (nat_eq t u) (list_any (λ v. nat_eq v u) fell) (fate_of past u) ∙ ap (λ z. option_or z (fate_of past u)) (sym (ending event t why fell o u)))))
   where
     e : Entry

@@ -13,17 +13,17 @@ use Rattle.sgt_model.specs.Pairs.{Precedes}
 use Rattle.sgt_model.specs.Settings.{Setting}
 use Rattle.sgt_model.specs.Progress.{Call, call_of, looked}
 use Rattle.sgt_model.specs.Legality.{Legal}
-use Rattle.sgt_model.specs.Touches.{touched}
-use Rattle.sgt_model.specs.Courses.{course_of}
-use Rattle.sgt_model.specs.Held.{Held}
-use Rattle.sgt_model.specs.States.{IsState, LivePair, LiveRead}
+use Rattle.sgt_model.specs.AccessList.{access_list}
+use Rattle.sgt_model.specs.LiveProgress.{progress_of}
+use Rattle.sgt_model.specs.State.{State}
+use Rattle.sgt_model.specs.StateAfter.{IsStateAfter, LivePair, LiveRead}
 use Rattle.sgt_model.specs.Changes.{Starts}
 use Rattle.sgt_model.proofs.Facts.{live-started, precedes-started, unstarted-no_fate}
 use Rattle.sgt_model.proofs.Sources.{read-precedes}
 use Rattle.sgt_model.proofs.Plays.{acts_unstarted}
 use Rattle.sgt_model.proofs.Room.{begun_below}
-use Rattle.sgt_model.proofs.Counted.{filter_listed, AgreeOn, chain-agree, legal-agree, touched-agree}
-use Rattle.sgt_model.proofs.AfterAccess.{course_path}
+use Rattle.sgt_model.proofs.Counted.{filter_listed, AgreeOn, chain-agree, legal-agree, access_list-agree}
+use Rattle.sgt_model.proofs.AfterAccess.{progress_path}
 
 -- the entry of a start
 abbrev pub start_entry : ℕ → List ℤ → ℕ → Entry
@@ -70,18 +70,18 @@ module _ (s : Setting) (past : List Entry) (h : Legal s past) (p : ℕ) (args : 
   was_live : (u : ℕ) → u < starts past → live (start_entry p args (starts past) ∷ past) u ≡ true → live past u ≡ true
   was_live u lt l = sym (started_same u lt) ∙ l
 
-  pub after_start : (before after : Held) → IsState s past before → Starts (record { procedure = p; args = args }) before after → IsState s (start_entry p args (starts past) ∷ past) after
+  pub after_start : (before after : State) → IsStateAfter s past before → Starts (record { procedure = p; args = args }) before after → IsStateAfter s (start_entry p args (starts past) ∷ past) after
   after_start before after i x = record {
     lives = x.live ∙ (ap₂ (λ l n. l ++ n ∷ []) i.lives i.starts ∙ live_ones_after);
     nodes = λ u. x.nodes u ∙ (ap₂ (λ b n. b || nat_eq u n) (i.nodes u) i.starts ∙ sym (live_is u));
     pairs = λ u v. ((λ q. pairs_to u v ((i.pairs u v).0 (sym (x.pairs u v) ∙ q))), (λ q. x.pairs u v ∙ (i.pairs u v).1 (pairs_from u v q q.pair.precedes)));
-    accesses = x.accesses ∙ (i.accesses ∙ (touched-agree (live past) (live (start_entry p args (starts past) ∷ past)) past agree ∙ sym (append-nil (touched (live (start_entry p args (starts past) ∷ past)) past))));
+    accesses = x.accesses ∙ (i.accesses ∙ (access_list-agree (live past) (live (start_entry p args (starts past) ∷ past)) past agree ∙ sym (append-nil (access_list (live (start_entry p args (starts past) ∷ past)) past))));
     chain = λ k. x.chain k ∙ (i.chain k ∙ chain-agree (live past) (live (start_entry p args (starts past) ∷ past)) k past agree);
     settled = λ k. x.settled k ∙ i.settled k;
     read_from = λ u v. ((λ q. read_to u v ((i.read_from u v).0 ((x.read_from u v).0 q))), (λ q. (x.read_from u v).1 ((i.read_from u v).1 (read_back u v q q.read))));
     fates = λ u. x.fates u ∙ i.fates u;
     starts = x.starts ∙ ap (λ n. n + 1) i.starts;
-    courses = λ u l. courses u l (cases_lt u (starts past));
+    progress = λ u l. progress u l (cases_lt u (starts past));
   }
     where
       or_true : (b : Bool) → (b || true) ≡ true
@@ -113,15 +113,15 @@ module _ (s : Setting) (past : List Entry) (h : Legal s past) (p : ℕ) (args : 
       own_call true c d z = refl
       own_call false c d z = absurd (cc)
 
-      courses : (u : ℕ) → live (start_entry p args (starts past) ∷ past) u ≡ true → (u < starts past) ⊎ (starts past ≤ u) → after.courses u ≡ course_of (start_entry p args (starts past) ∷ past) u
-      courses u l (inl lt) =
+      progress : (u : ℕ) → live (start_entry p args (starts past) ∷ past) u ≡ true → (u < starts past) ⊎ (starts past ≤ u) → after.progress u ≡ progress_of (start_entry p args (starts past) ∷ past) u
+      progress u l (inl lt) =
           let call : call_of (start_entry p args (starts past) ∷ past) u ≡ call_of past u = other_call (nat_eq (starts past) u) (record { procedure = p; args = args }) (call_of past u) (ne_eqb (starts past) u (λ e. absurd (omega (arith, e)))) in
-          x.courses u (λ e. absurd (omega (arith, e, i.starts))) ∙ (i.courses u (was_live u lt l) ∙ course_path (course_of past u) (course_of (start_entry p args (starts past) ∷ past) u) (sym call) refl refl)
-      courses u l (inr le) =
+          x.progress u (λ e. absurd (omega (arith, e, i.starts))) ∙ (i.progress u (was_live u lt l) ∙ progress_path (progress_of past u) (progress_of (start_entry p args (starts past) ∷ past) u) (sym call) refl refl)
+      progress u l (inr le) =
           let is : u ≡ starts past = at_end (live-started (start_entry p args (starts past) ∷ past) u l) le in
           let call : call_of (start_entry p args (starts past) ∷ past) u ≡ record { procedure = p; args = args } = own_call (nat_eq (starts past) u) (record { procedure = p; args = args }) (call_of past u) (eq-eqb (starts past) u (sym is)) in
           let unused = acts_unstarted s past u h le in
-          ap after.courses (is ∙ sym i.starts) ∙ (x.course ∙ course_path (record { call = record { procedure = p; args = args }; read = []; made = 0 }) (course_of (start_entry p args (starts past) ∷ past) u) (sym call) (ap looked (sym unused)) (ap length (sym unused)))
+          ap after.progress (is ∙ sym i.starts) ∙ (x.own_progress ∙ progress_path (record { call = record { procedure = p; args = args }; read = []; made = 0 }) (progress_of (start_entry p args (starts past) ∷ past) u) (sym call) (ap looked (sym unused)) (ap length (sym unused)))
         where
           at_end : u < starts past + 1 → starts past ≤ u → u ≡ starts past
           at_end lt le = omega arith

@@ -3,9 +3,9 @@ use Rattle.std.proofs.Common.{◌≡◌, ℕ, ◌≤◌, true, List, [], ◌∷�
 use Rattle.sgt_model.specs.declared.kind.Kind.{Kind}
 use Rattle.sgt_model.specs.Contents.{Key}
 use Rattle.sgt_model.specs.Walks.{Member, last_of}
-use Rattle.sgt_model.specs.Held.{Held}
-use Rattle.sgt_model.specs.Verdicts.{Blocks, IsRival}
-use Rattle.sgt_model.specs.Fallers.{FallsIn}
+use Rattle.sgt_model.specs.State.{State}
+use Rattle.sgt_model.specs.Blocks.{Blocks, IsRival}
+use Rattle.sgt_model.specs.FallsIn.{FallsIn}
 use Rattle.sgt_model.specs.Soundness.{Sound}
 
 only : (l : List ℕ) → length l ≤ 1 → (t u : ℕ) → Member t l → Member u l → u ≡ t
@@ -15,12 +15,12 @@ only (x ∷ []) h t u (inl e) (inr n) = absurd n
 only (x ∷ []) h t u (inr m) n = absurd m
 only (x ∷ y ∷ l) h t u m n = absurd (omega arith)
 
-module _ (c : Held) (sound : Sound 1 c) (t : ℕ) (node : c.nodes t ≡ true) where
+module _ (c : State) (sound : Sound 1 c) (t : ℕ) (node : c.nodes t ≡ true) where
   pub alone : (u : ℕ) → c.nodes u ≡ true → u ≡ t
   alone u other = only c.live sound.few t u ((sound.listed t).0 node) ((sound.listed u).0 other)
 
   pub no_rival : (k : Key) (kind : Kind) (u : ℕ) → IsRival c t k kind u → ⊥
-  no_rival k kind u r = r.apart (alone u (sound.access_nodes u k kind r.touches))
+  no_rival k kind u r = r.apart (alone u (sound.access_nodes u k kind r.has_conflicting))
 
   pub never_blocks : (k : Key) (kind : Kind) (rest : List ℕ) → Blocks c t k kind rest → ⊥
   never_blocks k kind rest b = no_rival k kind (last_of t rest) b.rival

@@ -11,11 +11,11 @@ use Rattle.sgt_model.specs.declared.kind.Kind.TheVariants.{Look, Store}
 use Rattle.sgt_model.specs.Contents.{Key}
 use Rattle.sgt_model.specs.Accesses.{Access, access_of, is_store}
 use Rattle.sgt_model.specs.Values.{stores}
-use Rattle.sgt_model.specs.Pairs.{FollowsIn, Precedes, touches}
+use Rattle.sgt_model.specs.Pairs.{FollowsIn, Precedes, has_conflicting}
 use Rattle.sgt_model.specs.Chains.{chain_of, store_into, without, write_last, writes_in}
 use Rattle.sgt_model.specs.ChainOrder.{EachAfter, InOrder, IsFirstIn, IsLastIn}
 use Rattle.sgt_model.proofs.Facts.{some_is}
-use Rattle.sgt_model.proofs.Stores.{Stored, key_eq-true, stores-some, stored-conflicts, stored-touches}
+use Rattle.sgt_model.proofs.Stores.{Stored, key_eq-true, stores-some, stored-conflicts, stored-has_conflicting}
 
 pub each-map : (R S : ℕ → ℕ → Type 0) → ((a b : ℕ) → R a b → S a b) → (t : ℕ) (c : List (ℕ × ℤ)) → EachAfter R t c → EachAfter S t c
 each-map R S f t [] h = tt
@@ -99,7 +99,7 @@ without-apart t u (w ∷ c) h = go (nat_eq w.0 u) refl (without-apart t u c) h
 -- who has a value in a chain counts, and stored the key
 pub record Wrote (p : ℕ → Bool) (k : Key) (past : List Entry) (t : ℕ) : Type 0 where
   pub counts : p t ≡ true
-  pub stored : touches past t k Store ≡ true
+  pub stored : has_conflicting past t k Store ≡ true
 
 -- what an entry does to a chain
 pub record Written (p : ℕ → Bool) (k : Key) (e : Entry) (past : List Entry) : Type 0 where
@@ -116,7 +116,7 @@ chain-case p k e past = go (stores p k (access_of e)) refl
 
 pub chain-wrote : (p : ℕ → Bool) (k : Key) (past : List Entry) (t : ℕ) → writes_in t (chain_of p k past) ≡ true → Wrote p k past t
 chain-wrote p k [] t h = absurd (cc)
-chain-wrote p k (e ∷ past) t h = elim (chain-case p k e past) [ inl same ↦ later (chain-wrote p k past t (ap (writes_in t) (sym same) ∙ h)) | inr w ↦ elim (written-cases t w.access.by _ _ (ap (writes_in t) (sym w.is) ∙ h)) [ inl before ↦ later (chain-wrote p k past t before) | inr e' ↦ subst (λ u. Wrote p k (e ∷ past) u) e' (record { counts = w.stored.is_counted; stored = stored-touches (e ∷ past) w.access.by k Store (or_left _ _ (stored-conflicts p k (access_of e) w.access w.stored)) }) ] ]
+chain-wrote p k (e ∷ past) t h = elim (chain-case p k e past) [ inl same ↦ later (chain-wrote p k past t (ap (writes_in t) (sym same) ∙ h)) | inr w ↦ elim (written-cases t w.access.by _ _ (ap (writes_in t) (sym w.is) ∙ h)) [ inl before ↦ later (chain-wrote p k past t before) | inr e' ↦ subst (λ u. Wrote p k (e ∷ past) u) e' (record { counts = w.stored.is_counted; stored = stored-has_conflicting (e ∷ past) w.access.by k Store (or_left _ _ (stored-conflicts p k (access_of e) w.access w.stored)) }) ] ]
   where
     later : Wrote p k past t → Wrote p k (e ∷ past) t
     later w = record { counts = w.counts; stored = or_right _ _ w.stored }
@@ -134,9 +134,9 @@ chain-ordered p k (e ∷ past) = go (in_order-map (Before past) (Before (e ∷ p
     go ih (inr w) = subst (λ c. InOrder (Before (e ∷ past)) c) (sym w.is) (in_order-add (Before (e ∷ past)) w.access.by (unwrap_or w.access.value (pos 0)) (without w.access.by (chain_of p k past)) (in_order-filter (Before (e ∷ past)) _ _ ih) (λ t m. (without-apart t w.access.by (chain_of p k past) m, inl (follows t (chain-wrote p k past t (any-filter t (λ x. not (nat_eq x.0 w.access.by)) (chain_of p k past) m))))))
       where
         follows : (t : ℕ) → Wrote p k past t → FollowsIn past (access_of e) t w.access.by
-        follows t x = subst (λ o. FollowsIn past o t w.access.by) (sym w.stored.is) (refl, subst (λ j. touches past t j w.access.kind ≡ true) (sym (key_eq-true w.access.key k w.stored.same_key)) (at w.access.kind w.stored.stores))
+        follows t x = subst (λ o. FollowsIn past o t w.access.by) (sym w.stored.is) (refl, subst (λ j. has_conflicting past t j w.access.kind ≡ true) (sym (key_eq-true w.access.key k w.stored.same_key)) (at w.access.kind w.stored.stores))
           where
-            at : (kind : Kind) → is_store kind ≡ true → touches past t k kind ≡ true
+            at : (kind : Kind) → is_store kind ≡ true → has_conflicting past t k kind ≡ true
             at Look z = absurd (cc)
             at Store z = x.stored
 

@@ -14,7 +14,7 @@ use Rattle.sgt_model.specs.declared.kind.Kind.TheVariants.{Look, Store}
 use Rattle.sgt_model.specs.Contents.{Key, key_eq}
 use Rattle.sgt_model.specs.Accesses.{Access, access_in, access_of, is_store}
 use Rattle.sgt_model.specs.Values.{newest_store, stores}
-use Rattle.sgt_model.specs.Pairs.{FollowsIn, Precedes, touches}
+use Rattle.sgt_model.specs.Pairs.{FollowsIn, Precedes, has_conflicting}
 use Rattle.sgt_model.specs.Chains.{chain_of, store_into, value_in, without, write_last}
 use Rattle.sgt_model.proofs.Facts.{none_unless, option_or-cases, some_is}
 use Rattle.sgt_model.proofs.Stores.{key_eq-true, Stored, stores-some, newest-counts, found}
@@ -33,14 +33,14 @@ split-step p q k (Some a) nr np nq h first = go (is_store a.kind) (key_eq a.key 
 
 pub newest-split : (p q : ℕ → Bool) (k : Key) (past : List Entry) → ((t u : ℕ) → p t ≡ true → q u ≡ true → Precedes past t u → ⊥) → newest_store (λ t. p t || q t) k past ≡ option_or (newest_store p k past) (newest_store q k past)
 newest-split p q k [] h = refl
-newest-split p q k (e ∷ past) h = split-step p q k (access_of e) _ _ _ (newest-split p q k past (λ t u x y z. h t u x y (inr z))) (λ a now. none_unless (newest_store p k past) (λ g before. let st = stores-some q k (access_of e) a now in h g.by a.by (newest-counts p k past g before).0 st.is_counted (inl (follows g a st ((found p k past g before).touched Store)))))
+newest-split p q k (e ∷ past) h = split-step p q k (access_of e) _ _ _ (newest-split p q k past (λ t u x y z. h t u x y (inr z))) (λ a now. none_unless (newest_store p k past) (λ g before. let st = stores-some q k (access_of e) a now in h g.by a.by (newest-counts p k past g before).0 st.is_counted (inl (follows g a st ((found p k past g before).access_list Store)))))
   where
-    follows : (g a : Access) → Stored q k (access_of e) a → touches past g.by k Store ≡ true → FollowsIn past (access_of e) g.by a.by
-    follows g a st touched = subst (λ o. FollowsIn past o g.by a.by) (sym st.is) (refl, subst (λ j. touches past g.by j a.kind ≡ true) (sym (key_eq-true a.key k st.same_key)) (at_kind a.kind st.stores))
+    follows : (g a : Access) → Stored q k (access_of e) a → has_conflicting past g.by k Store ≡ true → FollowsIn past (access_of e) g.by a.by
+    follows g a st access_list = subst (λ o. FollowsIn past o g.by a.by) (sym st.is) (refl, subst (λ j. has_conflicting past g.by j a.kind ≡ true) (sym (key_eq-true a.key k st.same_key)) (at_kind a.kind st.stores))
       where
-        at_kind : (kind : Kind) → is_store kind ≡ true → touches past g.by k kind ≡ true
+        at_kind : (kind : Kind) → is_store kind ≡ true → has_conflicting past g.by k kind ≡ true
         at_kind Look z = absurd (cc)
-        at_kind Store z = touched
+        at_kind Store z = access_list
 
 -- the last of a chain is the newest store
 

@@ -18,7 +18,7 @@ use Rattle.sgt_model.specs.Fates.{aborted, live}
 use Rattle.sgt_model.specs.Values.{newest_store}
 use Rattle.sgt_model.specs.ReadFrom.{IsBy, LooksFrom, ReadFrom}
 use Rattle.sgt_model.specs.Falls.{Feeds, Falls}
-use Rattle.sgt_model.specs.Pairs.{touches, FollowsIn, Precedes, Pair}
+use Rattle.sgt_model.specs.Pairs.{has_conflicting, FollowsIn, Precedes, Pair}
 use Rattle.sgt_model.specs.Closes.{Closes}
 use Rattle.sgt_model.specs.Legality.{Aborts, Refuses, Makes, NoneLive, MustWait, MayCommit}
 use Rattle.sgt_model.proofs.Paths.{last_is_member}
@@ -68,16 +68,16 @@ actor-later : (o : Option Access) (rest : List ℕ) (t : ℕ) → Member t rest 
 actor-later None rest t m = m
 actor-later (Some b) rest t m = inr m
 
-touches-actor : (past : List Entry) (t : ℕ) (k : Key) (kind : Kind) → touches past t k kind ≡ true → Member t (actors past)
-touches-actor [] t k kind h = absurd (cc)
-touches-actor (e ∷ past) t k kind h = elim (or_cases _ _ h) [ inl now ↦ let c = conflicts-access _ t k kind now in subst (λ u. Member u (actor_in (access_of e) (actors past))) c.by (actor-first (access_of e) (actors past) c.access c.is) | inr before ↦ actor-later (access_of e) (actors past) t (touches-actor past t k kind before) ]
+has_conflicting-actor : (past : List Entry) (t : ℕ) (k : Key) (kind : Kind) → has_conflicting past t k kind ≡ true → Member t (actors past)
+has_conflicting-actor [] t k kind h = absurd (cc)
+has_conflicting-actor (e ∷ past) t k kind h = elim (or_cases _ _ h) [ inl now ↦ let c = conflicts-access _ t k kind now in subst (λ u. Member u (actor_in (access_of e) (actors past))) c.by (actor-first (access_of e) (actors past) c.access c.is) | inr before ↦ actor-later (access_of e) (actors past) t (has_conflicting-actor past t k kind before) ]
 
 -- pairs
 
 -- the pairs, as tests: FollowsIn, Precedes and Pair
 abbrev pub follows : List Entry → Option Access → ℕ → ℕ → Bool
 follows past None t u = false
-follows past (Some a) t u = nat_eq a.by u && touches past t a.key a.kind
+follows past (Some a) t u = nat_eq a.by u && has_conflicting past t a.key a.kind
 
 abbrev pub precedes : List Entry → ℕ → ℕ → Bool
 precedes [] t u = false
@@ -102,7 +102,7 @@ so-precedes (e ∷ past) t u (inr before) = or_right _ _ (so-precedes past t u b
 
 precedes-actors : (past : List Entry) (t u : ℕ) → Precedes past t u → Member t (actors past) × Member u (actors past)
 precedes-actors [] t u h = absurd h
-precedes-actors (e ∷ past) t u (inl now) = let f = follows-access past (access_of e) t u now in (actor-later (access_of e) (actors past) t (touches-actor past t f.access.key f.access.kind f.touched), subst (λ v. Member v (actor_in (access_of e) (actors past))) f.by (actor-first (access_of e) (actors past) f.access f.is))
+precedes-actors (e ∷ past) t u (inl now) = let f = follows-access past (access_of e) t u now in (actor-later (access_of e) (actors past) t (has_conflicting-actor past t f.access.key f.access.kind f.access_list), subst (λ v. Member v (actor_in (access_of e) (actors past))) f.by (actor-first (access_of e) (actors past) f.access f.is))
 precedes-actors (e ∷ past) t u (inr before) = let p = precedes-actors past t u before in (actor-later (access_of e) (actors past) t p.0, actor-later (access_of e) (actors past) u p.1)
 
 abbrev pub pair : List Entry → ℕ → ℕ → Bool
@@ -125,7 +125,7 @@ abbrev pub free_test : List Entry → ℕ → Key → Kind → List ℕ → Bool
 free_test past t k kind set =
     has set t
     && (list_all (λ a. list_all (λ b. implies (pair past a b) (has set b)) (actors past)) set
-    && list_all (λ a. nat_eq a t || not (touches past a k kind)) set)
+    && list_all (λ a. nat_eq a t || not (has_conflicting past a k kind)) set)
 
 stays_in : (step : ℕ → ℕ → Type 0) (set : List ℕ) → ((a b : ℕ) → Member a set → step a b → Member b set) → (t : ℕ) (path : List ℕ) → Member t set → PathOf step t path → Member (last_of t path) set
 stays_in step set closed t [] m p = m
@@ -167,7 +167,7 @@ distinct-so (t ∷ l) h = let p = and_parts _ _ h in ((λ m. both_ways _ (not-tr
 
 -- Closes
 abbrev pub closes_test : List Entry → ℕ → Key → Kind → List ℕ → Bool
-closes_test past t k kind rest = distinct (t ∷ rest) && (nat_lt 0 (length rest) && (is_path (pair past) t rest && touches past (last_of t rest) k kind))
+closes_test past t k kind rest = distinct (t ∷ rest) && (nat_lt 0 (length rest) && (is_path (pair past) t rest && has_conflicting past (last_of t rest) k kind))
 
 pub closes-so : (past : List Entry) (t : ℕ) (k : Key) (kind : Kind) (rest : List ℕ) → closes_test past t k kind rest ≡ true → Closes past t k kind rest
 closes-so past t k kind rest h =

@@ -8,15 +8,15 @@ use Rattle.sgt_model.specs.Contents.{Key}
 use Rattle.sgt_model.specs.Walks.{Member}
 use Rattle.sgt_model.specs.Chains.{writes_in}
 use Rattle.sgt_model.specs.ChainOrder.{EachAfter, InOrder, IsFirstIn, IsLastIn}
-use Rattle.sgt_model.specs.Held.{Held, PairIn}
-use Rattle.sgt_model.specs.Verdicts.{Blocks, IsRival}
+use Rattle.sgt_model.specs.State.{State, PairIn}
+use Rattle.sgt_model.specs.Blocks.{Blocks, IsRival}
 use Rattle.sgt_model.specs.Soundness.{Sound}
 use Rattle.sgt_model.proofs.ChainOrder.{is_first, is_last}
 
-module _ (most : ℕ) (c : Held) (sound : Sound most c) where
+module _ (most : ℕ) (c : State) (sound : Sound most c) where
   -- of `write`: after an accepted verdict t's value, if there, is the last of its chain
   pub may_write : (t : ℕ) (k : Key) → c.nodes t ≡ true → ((rest : List ℕ) → Blocks c t k Store rest → ⊥) → IsLastIn t (c.chain k)
-  may_write t k node free = is_last (PairIn c) t (c.chain k) (sound.order k) (λ u n m p. free (u ∷ []) (record { distinct = ((λ q. elim q [ inl e ↦ n (sym e) | inr z ↦ z ]), ((λ z. z), tt)); pairs = (p, tt); rival = record { apart = n; touches = sound.writers k u m } }))
+  may_write t k node free = is_last (PairIn c) t (c.chain k) (sound.order k) (λ u n m p. free (u ∷ []) (record { distinct = ((λ q. elim q [ inl e ↦ n (sym e) | inr z ↦ z ]), ((λ z. z), tt)); pairs = (p, tt); rival = record { apart = n; has_conflicting = sound.writers k u m } }))
 
   -- of `settle`: with no live predecessor each value of t is the first of its chain
   pub may_settle : (t : ℕ) → ((u : ℕ) → c.pairs u t ≡ true → ⊥) → (k : Key) → IsFirstIn t (c.chain k)
@@ -24,7 +24,7 @@ module _ (most : ℕ) (c : Held) (sound : Sound most c) where
 
   -- of `test` and `insert`: rivals are nodes
   pub rival_node : (t : ℕ) (k : Key) (kind : Kind) (u : ℕ) → IsRival c t k kind u → c.nodes u ≡ true
-  rival_node t k kind u r = sound.access_nodes u k kind r.touches
+  rival_node t k kind u r = sound.access_nodes u k kind r.has_conflicting
 
   -- of `add`: the next number is no node
   pub next_no_node : c.nodes c.starts ≡ true → ⊥
@@ -49,7 +49,7 @@ chain_fits R apart (x ∷ c) ys h w =
     after [] h t m = absurd (cc)
     after (y ∷ d) h t m = elim (or_cases (nat_eq y.0 t) (writes_in t d) m) [ inl now ↦ (λ z. apart x.0 y.0 h.0 (sym (eqb-true y.0 t now ∙ z))) | inr later ↦ after d h.1 t later ]
 
-module _ (most : ℕ) (c : Held) (sound : Sound most c) where
+module _ (most : ℕ) (c : State) (sound : Sound most c) where
   -- of `write`: a chain without t's value has room
   pub chain_room : (t : ℕ) (k : Key) → c.nodes t ≡ true → writes_in t (c.chain k) ≡ false → length (c.chain k) < most
   chain_room t k node out =

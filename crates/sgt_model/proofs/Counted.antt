@@ -15,10 +15,10 @@ use Rattle.sgt_model.specs.Walks.{Member}
 use Rattle.sgt_model.specs.Accesses.{Access, access_of, is_store}
 use Rattle.sgt_model.specs.Fates.{starts}
 use Rattle.sgt_model.specs.Values.{stores}
-use Rattle.sgt_model.specs.Pairs.{conflicts, one_stores, touches}
+use Rattle.sgt_model.specs.Pairs.{conflicts, one_stores, has_conflicting}
 use Rattle.sgt_model.specs.Settings.{Setting}
 use Rattle.sgt_model.specs.Legality.{Legal}
-use Rattle.sgt_model.specs.Touches.{Touch, meets, touch_in, touched, touches_in}
+use Rattle.sgt_model.specs.AccessList.{ListedAccess, is_conflicting, listed_in, access_list, lists_conflicting}
 use Rattle.sgt_model.specs.Chains.{chain_of, store_into, without, write_last}
 use Rattle.sgt_model.proofs.Facts.{access-live, live-started, starts-grow}
 
@@ -60,17 +60,17 @@ pub legal-agree : (s : Setting) (past : List Entry) → Legal s past → (p q : 
 legal-agree s [] h p q same = tt
 legal-agree s (e ∷ past) h p q same = ((λ a is. same a.by (lt_of_lt_of_le (live-started past a.by (access-live s past e.event e.reply h.1 a is)) (starts-grow e past))), legal-agree s past h.0 p q (λ t started. same t (lt_of_lt_of_le started (starts-grow e past))))
 
-touch_in-agree : (p q : ℕ → Bool) (o : Option Access) → ((a : Access) → o ≡ Some a → p a.by ≡ q a.by) → touch_in p o ≡ touch_in q o
-touch_in-agree p q None h = refl
-touch_in-agree p q (Some a) h = ap (λ b. cond b (record { by = a.by; key = a.key; kind = a.kind } ∷ []) []) (h a refl)
+listed_in-agree : (p q : ℕ → Bool) (o : Option Access) → ((a : Access) → o ≡ Some a → p a.by ≡ q a.by) → listed_in p o ≡ listed_in q o
+listed_in-agree p q None h = refl
+listed_in-agree p q (Some a) h = ap (λ b. cond b (record { by = a.by; key = a.key; kind = a.kind } ∷ []) []) (h a refl)
 
 stores-agree : (p q : ℕ → Bool) (k : Key) (o : Option Access) → ((a : Access) → o ≡ Some a → p a.by ≡ q a.by) → stores p k o ≡ stores q k o
 stores-agree p q k None h = refl
 stores-agree p q k (Some a) h = ap (λ b. cond (is_store a.kind && (key_eq a.key k && b)) (Some a) None) (h a refl)
 
-pub touched-agree : (p q : ℕ → Bool) (past : List Entry) → AgreeOn p q past → touched p past ≡ touched q past
-touched-agree p q [] h = refl
-touched-agree p q (e ∷ past) h = ap₂ (λ l m. l ++ m) (touched-agree p q past h.1) (touch_in-agree p q (access_of e) h.0)
+pub access_list-agree : (p q : ℕ → Bool) (past : List Entry) → AgreeOn p q past → access_list p past ≡ access_list q past
+access_list-agree p q [] h = refl
+access_list-agree p q (e ∷ past) h = ap₂ (λ l m. l ++ m) (access_list-agree p q past h.1) (listed_in-agree p q (access_of e) h.0)
 
 pub chain-agree : (p q : ℕ → Bool) (k : Key) (past : List Entry) → AgreeOn p q past → chain_of p k past ≡ chain_of q k past
 chain-agree p q k [] h = refl
@@ -82,13 +82,13 @@ kept_one : {X : Type 0} (f : X → Bool) (x : X) (b : Bool) → cond (b && f x) 
 kept_one f x true = refl
 kept_one f x false = refl
 
-touch_in-removed : (p gone : ℕ → Bool) (o : Option Access) → touch_in (λ t. p t && not (gone t)) o ≡ filter (λ a. not (gone a.by)) (touch_in p o)
-touch_in-removed p gone None = refl
-touch_in-removed p gone (Some a) = kept_one (λ (x : Touch). not (gone x.by)) (record { by = a.by; key = a.key; kind = a.kind }) (p a.by)
+listed_in-removed : (p gone : ℕ → Bool) (o : Option Access) → listed_in (λ t. p t && not (gone t)) o ≡ filter (λ a. not (gone a.by)) (listed_in p o)
+listed_in-removed p gone None = refl
+listed_in-removed p gone (Some a) = kept_one (λ (x : ListedAccess). not (gone x.by)) (record { by = a.by; key = a.key; kind = a.kind }) (p a.by)
 
-pub touched-removed : (p gone : ℕ → Bool) (past : List Entry) → touched (λ t. p t && not (gone t)) past ≡ filter (λ a. not (gone a.by)) (touched p past)
-touched-removed p gone [] = refl
-touched-removed p gone (e ∷ past) = ap₂ (λ l m. l ++ m) (touched-removed p gone past) (touch_in-removed p gone (access_of e)) ∙ sym (filter-append (λ a. not (gone a.by)) (touched p past) (touch_in p (access_of e)))
+pub access_list-removed : (p gone : ℕ → Bool) (past : List Entry) → access_list (λ t. p t && not (gone t)) past ≡ filter (λ a. not (gone a.by)) (access_list p past)
+access_list-removed p gone [] = refl
+access_list-removed p gone (e ∷ past) = ap₂ (λ l m. l ++ m) (access_list-removed p gone past) (listed_in-removed p gone (access_of e)) ∙ sym (filter-append (λ a. not (gone a.by)) (access_list p past) (listed_in p (access_of e)))
 
 module _ (gone : ℕ → Bool) where
   -- the value is not of one that is gone
@@ -131,39 +131,39 @@ or_swap true false = refl
 or_swap false true = refl
 or_swap false false = refl
 
-meets-one : (b : Bool) (t : ℕ) (k : Key) (kind : Kind) (x : Touch) → list_any (meets t k kind) (cond b (x ∷ []) []) ≡ (b && meets t k kind x)
-meets-one true t k kind x = go (meets t k kind x)
+is_conflicting-one : (b : Bool) (t : ℕ) (k : Key) (kind : Kind) (x : ListedAccess) → list_any (is_conflicting t k kind) (cond b (x ∷ []) []) ≡ (b && is_conflicting t k kind x)
+is_conflicting-one true t k kind x = go (is_conflicting t k kind x)
   where
     go : (m : Bool) → (m || false) ≡ m
     go true = refl
     go false = refl
-meets-one false t k kind x = refl
+is_conflicting-one false t k kind x = refl
 
-meets-counted : (p : ℕ → Bool) (t : ℕ) (k : Key) (kind : Kind) (x : Touch) → p t ≡ true → (p x.by && meets t k kind x) ≡ meets t k kind x
-meets-counted p t k kind x h = go (cases_eq x.by t)
+is_conflicting-counted : (p : ℕ → Bool) (t : ℕ) (k : Key) (kind : Kind) (x : ListedAccess) → p t ≡ true → (p x.by && is_conflicting t k kind x) ≡ is_conflicting t k kind x
+is_conflicting-counted p t k kind x h = go (cases_eq x.by t)
   where
-    go : (x.by ≡ t) ⊎ (x.by ≢ t) → (p x.by && meets t k kind x) ≡ meets t k kind x
-    go (inl e) = ap (λ b. b && meets t k kind x) (ap p e ∙ h)
+    go : (x.by ≡ t) ⊎ (x.by ≢ t) → (p x.by && is_conflicting t k kind x) ≡ is_conflicting t k kind x
+    go (inl e) = ap (λ b. b && is_conflicting t k kind x) (ap p e ∙ h)
     go (inr n) = let e = ne_eqb x.by t n in both (p x.by) (nat_eq x.by t) (key_eq x.key k && one_stores x.kind kind) e
       where
         both : (b c d : Bool) → c ≡ false → (b && (c && d)) ≡ (c && d)
         both true c d e = refl
         both false c d e = sym (ap (λ z. z && d) e)
 
-conflicts-touch : (p : ℕ → Bool) (t : ℕ) (k : Key) (kind : Kind) (o : Option Access) → p t ≡ true → touches_in (touch_in p o) t k kind ≡ conflicts o t k kind
-conflicts-touch p t k kind None h = refl
-conflicts-touch p t k kind (Some a) h = let x : Touch = record { by = a.by; key = a.key; kind = a.kind } in meets-one (p a.by) t k kind x ∙ meets-counted p t k kind x h
+conflicts-listed : (p : ℕ → Bool) (t : ℕ) (k : Key) (kind : Kind) (o : Option Access) → p t ≡ true → lists_conflicting (listed_in p o) t k kind ≡ conflicts o t k kind
+conflicts-listed p t k kind None h = refl
+conflicts-listed p t k kind (Some a) h = let x : ListedAccess = record { by = a.by; key = a.key; kind = a.kind } in is_conflicting-one (p a.by) t k kind x ∙ is_conflicting-counted p t k kind x h
 
 -- of one that counts the list has each conflict
-pub touches_in-touched : (p : ℕ → Bool) (t : ℕ) (k : Key) (kind : Kind) (past : List Entry) → p t ≡ true → touches_in (touched p past) t k kind ≡ touches past t k kind
-touches_in-touched p t k kind [] h = refl
-touches_in-touched p t k kind (e ∷ past) h = list_any-append (meets t k kind) (touched p past) (touch_in p (access_of e)) ∙ (ap₂ (λ x y. x || y) (touches_in-touched p t k kind past h) (conflicts-touch p t k kind (access_of e) h) ∙ or_swap (touches past t k kind) (conflicts (access_of e) t k kind))
+pub lists_conflicting-access_list : (p : ℕ → Bool) (t : ℕ) (k : Key) (kind : Kind) (past : List Entry) → p t ≡ true → lists_conflicting (access_list p past) t k kind ≡ has_conflicting past t k kind
+lists_conflicting-access_list p t k kind [] h = refl
+lists_conflicting-access_list p t k kind (e ∷ past) h = list_any-append (is_conflicting t k kind) (access_list p past) (listed_in p (access_of e)) ∙ (ap₂ (λ x y. x || y) (lists_conflicting-access_list p t k kind past h) (conflicts-listed p t k kind (access_of e) h) ∙ or_swap (has_conflicting past t k kind) (conflicts (access_of e) t k kind))
 
-counts-one : (p : ℕ → Bool) (t : ℕ) (k : Key) (kind : Kind) (o : Option Access) → touches_in (touch_in p o) t k kind ≡ true → p t ≡ true
+counts-one : (p : ℕ → Bool) (t : ℕ) (k : Key) (kind : Kind) (o : Option Access) → lists_conflicting (listed_in p o) t k kind ≡ true → p t ≡ true
 counts-one p t k kind None h = absurd (cc)
-counts-one p t k kind (Some a) h = let x : Touch = record { by = a.by; key = a.key; kind = a.kind } in let q = and_parts _ _ (sym (meets-one (p a.by) t k kind x) ∙ h) in ap p (sym (eqb-true a.by t (and_parts _ _ q.1).0)) ∙ q.0
+counts-one p t k kind (Some a) h = let x : ListedAccess = record { by = a.by; key = a.key; kind = a.kind } in let q = and_parts _ _ (sym (is_conflicting-one (p a.by) t k kind x) ∙ h) in ap p (sym (eqb-true a.by t (and_parts _ _ q.1).0)) ∙ q.0
 
 -- who has a listed access counts
-pub touches_in-counts : (p : ℕ → Bool) (t : ℕ) (k : Key) (kind : Kind) (past : List Entry) → touches_in (touched p past) t k kind ≡ true → p t ≡ true
-touches_in-counts p t k kind [] h = absurd (cc)
-touches_in-counts p t k kind (e ∷ past) h = elim (or_cases _ _ (sym (list_any-append (meets t k kind) (touched p past) (touch_in p (access_of e))) ∙ h)) [ inl before ↦ touches_in-counts p t k kind past before | inr now ↦ counts-one p t k kind (access_of e) now ]
+pub lists_conflicting-counts : (p : ℕ → Bool) (t : ℕ) (k : Key) (kind : Kind) (past : List Entry) → lists_conflicting (access_list p past) t k kind ≡ true → p t ≡ true
+lists_conflicting-counts p t k kind [] h = absurd (cc)
+lists_conflicting-counts p t k kind (e ∷ past) h = elim (or_cases _ _ (sym (list_any-append (is_conflicting t k kind) (access_list p past) (listed_in p (access_of e))) ∙ h)) [ inl before ↦ lists_conflicting-counts p t k kind past before | inr now ↦ counts-one p t k kind (access_of e) now ]

@@ -24,7 +24,7 @@ use Rattle.sgt_model.specs.Closes.{Closes}
 use Rattle.sgt_model.specs.Settings.{Setting}
 use Rattle.sgt_model.specs.Progress.{call_in, next_of}
 use Rattle.sgt_model.specs.Legality.{args_fit, called_reply, Aborts, Refuses, StepReply, NoneLive, CommitReply, OfStarted, OfLive, LegalReply}
-use Rattle.sgt_model.specs.Replay.{told_in}
+use Rattle.sgt_model.specs.Replay.{committed_run_in}
 use Rattle.sgt_model.specs.Aborts.{Wants, HasCause, AbortIsDue}
 use Rattle.sgt_model.specs.Laws.{CommitAgrees}
 use Rattle.sgt_model.proofs.NoOrder.{refused_has_no_order}
@@ -39,9 +39,9 @@ ends_none-no_end event (reply.Committed answers) h u = absurd h
 ends_none-no_end event (reply.Aborted why fell) h u = absurd h
 ends_none-no_end event _ h u = refl
 
-pub ends_none-not_told : (past : List Entry) (event : Event) (r : Reply) → EndsNone r → told_in past event r ≡ []
-ends_none-not_told past event (reply.Committed answers) h = absurd h
-ends_none-not_told past event _ h = refl
+pub ends_none-not_committed_run : (past : List Entry) (event : Event) (r : Reply) → EndsNone r → committed_run_in past event r ≡ []
+ends_none-not_committed_run past event (reply.Committed answers) h = absurd h
+ends_none-not_committed_run past event _ h = refl
 
 pub ends_none-agrees : (s : Setting) (past : List Entry) (event : Event) (r : Reply) → EndsNone r → CommitAgrees s past event r
 ends_none-agrees s past event (reply.Committed answers) h = absurd h

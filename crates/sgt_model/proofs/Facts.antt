@@ -17,14 +17,14 @@ use Rattle.sgt_model.specs.Accesses.{Access, access_in, access_of}
 use Rattle.sgt_model.specs.Fates.{is_start, starts, ending_in, fate_of, is_commit, is_abort, aborted, committed, live}
 use Rattle.sgt_model.specs.Values.{visible}
 use Rattle.sgt_model.specs.Falls.{Falls}
-use Rattle.sgt_model.specs.Pairs.{one_stores, conflicts, touches, FollowsIn, Precedes}
+use Rattle.sgt_model.specs.Pairs.{one_stores, conflicts, has_conflicting, FollowsIn, Precedes}
 use Rattle.sgt_model.specs.Closes.{Closes}
 use Rattle.sgt_model.specs.Settings.{Setting}
 use Rattle.sgt_model.specs.Progress.{call_at, call_in, call_of, next_of}
 use Rattle.sgt_model.specs.Legality.{NoneLive, LegalReply, Legal}
-use Rattle.sgt_model.specs.Replay.{told_in}
+use Rattle.sgt_model.specs.Replay.{committed_run_in}
 use Rattle.sgt_model.specs.Laws.{CommitAgrees}
-use Rattle.sgt_model.proofs.Effects.{EndsNone, ends_none-no_end, ends_none-not_told, ends_none-agrees, no_start-no_call, Begins, Fits, Accesses, Commits, Undoing, Undoes, Effect, idle, begins, accesses, commits, undoes, none_from, effect}
+use Rattle.sgt_model.proofs.Effects.{EndsNone, ends_none-no_end, ends_none-not_committed_run, ends_none-agrees, no_start-no_call, Begins, Fits, Accesses, Commits, Undoing, Undoes, Effect, idle, begins, accesses, commits, undoes, none_from, effect}
 
 -- on options
 
@@ -278,20 +278,20 @@ pub record Follows (past : List Entry) (o : Option Access) (t u : ℕ) : Type 0 
   pub access : Access
   pub is : o ≡ Some access
   pub by : access.by ≡ u
-  pub touched : touches past t access.key access.kind ≡ true
+  pub access_list : has_conflicting past t access.key access.kind ≡ true
 
 pub follows-access : (past : List Entry) (o : Option Access) (t u : ℕ) → FollowsIn past o t u → Follows past o t u
 follows-access past None t u h = absurd h
-follows-access past (Some a) t u h = record { access = a; is = refl; by = h.0; touched = h.1 }
+follows-access past (Some a) t u h = record { access = a; is = refl; by = h.0; access_list = h.1 }
 
 -- who has an access was started, and so unstarted transactions have none
-pub touches-started : (s : Setting) (past : List Entry) → Legal s past → (t : ℕ) (k : Key) (kind : Kind) → touches past t k kind ≡ true → t < starts past
-touches-started s [] h t k kind q = absurd (cc)
-touches-started s (e ∷ past) h t k kind q = elim (or_cases _ _ q) [ inl now ↦ let c = conflicts-access _ t k kind now in started-stays e past t (subst (λ u. u < starts past) c.by (live-started past _ (access-live s past e.event e.reply h.1 c.access c.is))) | inr before ↦ started-stays e past t (touches-started s past h.0 t k kind before) ]
+pub has_conflicting-started : (s : Setting) (past : List Entry) → Legal s past → (t : ℕ) (k : Key) (kind : Kind) → has_conflicting past t k kind ≡ true → t < starts past
+has_conflicting-started s [] h t k kind q = absurd (cc)
+has_conflicting-started s (e ∷ past) h t k kind q = elim (or_cases _ _ q) [ inl now ↦ let c = conflicts-access _ t k kind now in started-stays e past t (subst (λ u. u < starts past) c.by (live-started past _ (access-live s past e.event e.reply h.1 c.access c.is))) | inr before ↦ started-stays e past t (has_conflicting-started s past h.0 t k kind before) ]
 
 pub precedes-started : (s : Setting) (past : List Entry) → Legal s past → (t u : ℕ) → Precedes past t u → (t < starts past) × (u < starts past)
 precedes-started s [] h t u p = absurd p
-precedes-started s (e ∷ past) h t u (inl now) = let f = follows-access past (access_of e) t u now in (started-stays e past t (touches-started s past h.0 t _ _ f.touched), started-stays e past u (subst (λ v. v < starts past) f.by (live-started past _ (access-live s past e.event e.reply h.1 f.access f.is))))
+precedes-started s (e ∷ past) h t u (inl now) = let f = follows-access past (access_of e) t u now in (started-stays e past t (has_conflicting-started s past h.0 t _ _ f.access_list), started-stays e past u (subst (λ v. v < starts past) f.by (live-started past _ (access-live s past e.event e.reply h.1 f.access f.is))))
 precedes-started s (e ∷ past) h t u (inr before) = let p = precedes-started s past h.0 t u before in (started-stays e past t p.0, started-stays e past u p.1)
 
 -- accesses of a transaction that has ended never come later
@@ -304,15 +304,15 @@ fell-no_fate past t fell h u m = live-no_fate past u (h.each u m).0
 
 -- an entry at which nothing commits
 pub record Uncommitted (s : Setting) (past : List Entry) (event : Event) (r : Reply) : Type 0 where
-  pub not_told : told_in past event r ≡ []
+  pub not_committed_run : committed_run_in past event r ≡ []
   pub no_commit : (u : ℕ) → ending_in event r u ≡ Some fate.Committed → ⊥
   pub agrees : CommitAgrees s past event r
 
 uncommitted : (s : Setting) (past : List Entry) (event : Event) (r : Reply) → EndsNone r → Uncommitted s past event r
-uncommitted s past event r h = record { not_told = ends_none-not_told past event r h; no_commit = λ u e. cc (sym (ends_none-no_end event r h u) ∙ e); agrees = ends_none-agrees s past event r h }
+uncommitted s past event r h = record { not_committed_run = ends_none-not_committed_run past event r h; no_commit = λ u e. cc (sym (ends_none-no_end event r h u) ∙ e); agrees = ends_none-agrees s past event r h }
 
 undone_uncommitted : (s : Setting) (past : List Entry) (event : Event) (r : Reply) → Undoes s past event r → Uncommitted s past event r
-undone_uncommitted s past event r x = record { not_told = ap (λ y. told_in past event y) x.reply_is; no_commit = λ u e. no_commit u (end_case (undoes x) u fate.Committed e); agrees = subst (λ y. CommitAgrees s past event y) (sym x.reply_is) tt }
+undone_uncommitted s past event r x = record { not_committed_run = ap (λ y. committed_run_in past event y) x.reply_is; no_commit = λ u e. no_commit u (end_case (undoes x) u fate.Committed e); agrees = subst (λ y. CommitAgrees s past event y) (sym x.reply_is) tt }
   where
     no_commit : (u : ℕ) → Ended s past event r u fate.Committed ⊎ Undone past event r u fate.Committed → ⊥
     no_commit u (inl c) = cc (sym x.reply_is ∙ c.commit.reply_is)

@@ -7,7 +7,7 @@ use Rattle.sgt_model.specs.Contents.{Key}
 use Rattle.sgt_model.specs.Walks.{PathOf, last_of, Member, Reaches, Acyclic}
 use Rattle.sgt_model.specs.Accesses.{Access, access_of}
 use Rattle.sgt_model.specs.Fates.{aborted}
-use Rattle.sgt_model.specs.Pairs.{touches, FollowsIn, Precedes, Pair}
+use Rattle.sgt_model.specs.Pairs.{has_conflicting, FollowsIn, Precedes, Pair}
 use Rattle.sgt_model.specs.Closes.{Closes}
 use Rattle.sgt_model.specs.Settings.{Setting}
 use Rattle.sgt_model.specs.Legality.{LegalReply, Legal}
@@ -15,7 +15,7 @@ use Rattle.sgt_model.proofs.Paths.{last_is_member, Simple, simple, simple_some, 
 use Rattle.sgt_model.proofs.Facts.{access-free, stood-before}
 
 -- where t reaches another transaction that the access conflicts with, there is a walk that it closes
-pub closes_from_reach : (past : List Entry) (t : ℕ) (k : Key) (kind : Kind) (y : ℕ) → Reaches (Pair past) t y → y ≢ t → touches past y k kind ≡ true
+pub closes_from_reach : (past : List Entry) (t : ℕ) (k : Key) (kind : Kind) (y : ℕ) → Reaches (Pair past) t y → y ≢ t → has_conflicting past y k kind ≡ true
     → (rest : List ℕ) × Closes past t k kind rest
 closes_from_reach past t k kind y (path, goes, ends) apart conflict =
     let s : Simple (Pair past) t path = simple (Pair past) t path goes in (
@@ -30,7 +30,7 @@ closes_from_reach past t k kind y (path, goes, ends) apart conflict =
 
 -- and the other way round
 pub reach_from_closes : (past : List Entry) (t : ℕ) (k : Key) (kind : Kind) (rest : List ℕ) → Closes past t k kind rest
-    → (y : ℕ) × Reaches (Pair past) t y × (y ≢ t) × (touches past y k kind ≡ true)
+    → (y : ℕ) × Reaches (Pair past) t y × (y ≢ t) × (has_conflicting past y k kind ≡ true)
 reach_from_closes past t k kind [] c = absurd (omega (arith, c.at_least_two))
 reach_from_closes past t k kind (u ∷ rest) c =
     (last_of u rest, (u ∷ rest, c.pairs, refl), (λ e. c.distinct.0 (subst (λ x. Member x (u ∷ rest)) e (last_is_member t u rest))), c.conflict)
@@ -53,7 +53,7 @@ earlier s e past l a b p = (p.apart, stood-before s e past l a p.first_stands, s
 
 -- another transaction has an access that this one conflicts with
 abbrev pub Before : List Entry → Access → ℕ → Type 0
-Before past x a = (a ≢ x.by) × (touches past a x.key x.kind ≡ true)
+Before past x a = (a ≢ x.by) × (has_conflicting past a x.key x.kind ≡ true)
 
 pub no_cycle_grows : (past : List Entry) (access : Option Access) (later : ℕ → ℕ → Type 0)
     → Granted past access → ((a b : ℕ) → later a b → Earlier past access a b) → Acyclic (Pair past) → Acyclic later
@@ -67,7 +67,7 @@ no_cycle_grows past (Some x) later free before acyclic =
     (λ y r f. let (rest, closes) = closes_from_reach past x.by x.key x.kind y r f.0 f.1 in free rest closes)
   where
     go : (a b : ℕ) → Earlier past (Some x) a b → Pair past a b ⊎ (Before past x a × (b ≡ x.by))
-    go a b (apart, first, second, inl (by, touched)) = inr (((λ e. apart (e ∙ by)), touched), sym by)
+    go a b (apart, first, second, inl (by, access_list)) = inr (((λ e. apart (e ∙ by)), access_list), sym by)
     go a b (apart, first, second, inr old) = inl (record { apart = apart; first_stands = first; second_stands = second; precedes = old })
 
 -- the pairs of a legal history have no cycle

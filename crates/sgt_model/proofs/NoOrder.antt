@@ -13,21 +13,21 @@ use Rattle.sgt_model.specs.Contents.{Key}
 use Rattle.sgt_model.specs.Walks.{PathOf, last_of, Member, Distinct, StandsBefore, Orders}
 use Rattle.sgt_model.specs.Accesses.{Access, access_in, access_of}
 use Rattle.sgt_model.specs.Fates.{ending_in, fate_of, is_abort, aborted}
-use Rattle.sgt_model.specs.Pairs.{touches, FollowsIn, Pair}
+use Rattle.sgt_model.specs.Pairs.{has_conflicting, FollowsIn, Pair}
 use Rattle.sgt_model.specs.Closes.{Closes}
-use Rattle.sgt_model.specs.Aborts.{IsAccess}
+use Rattle.sgt_model.specs.Aborts.{IsAccessBy}
 use Rattle.sgt_model.proofs.Paths.{Within, last_is_member}
 
-access_ends : (event : Event) (r : Reply) (t : ℕ) (k : Key) (kind : Kind) → IsAccess (access_in event r) t k kind → (u : ℕ) → ending_in event r u ≡ None
+access_ends : (event : Event) (r : Reply) (t : ℕ) (k : Key) (kind : Kind) → IsAccessBy (access_in event r) t k kind → (u : ℕ) → ending_in event r u ≡ None
 access_ends event (reply.Committed answers) t k kind is u = absurd is
 access_ends event (reply.Aborted why fell) t k kind is u = absurd is
 access_ends event _ t k kind is u = refl
 
-access_aborts : (e : Entry) (past : List Entry) (t : ℕ) (k : Key) (kind : Kind) → IsAccess (access_of e) t k kind → (u : ℕ) → aborted (e ∷ past) u ≡ aborted past u
+access_aborts : (e : Entry) (past : List Entry) (t : ℕ) (k : Key) (kind : Kind) → IsAccessBy (access_of e) t k kind → (u : ℕ) → aborted (e ∷ past) u ≡ aborted past u
 access_aborts e past t k kind is u = ap (λ ending. is_abort (option_or ending (fate_of past u))) (access_ends e.event e.reply t k kind is u)
 
 -- what stood, stands after an access
-pub pair_stays : (e : Entry) (past : List Entry) (t : ℕ) (k : Key) (kind : Kind) → IsAccess (access_of e) t k kind
+pub pair_stays : (e : Entry) (past : List Entry) (t : ℕ) (k : Key) (kind : Kind) → IsAccessBy (access_of e) t k kind
     → (a b : ℕ) → Pair past a b → Pair (e ∷ past) a b
 pair_stays e past t k kind is a b p = record {
   apart = p.apart;
@@ -37,18 +37,18 @@ pair_stays e past t k kind is a b p = record {
 }
 
 -- the pair that the access makes with an earlier one
-pub pair_made : (e : Entry) (past : List Entry) (t : ℕ) (k : Key) (kind : Kind) → IsAccess (access_of e) t k kind
-    → (a : ℕ) → a ≢ t → aborted past a ≡ false → aborted past t ≡ false → touches past a k kind ≡ true → Pair (e ∷ past) a t
-pair_made e past t k kind is a apart first second touched = record {
+pub pair_made : (e : Entry) (past : List Entry) (t : ℕ) (k : Key) (kind : Kind) → IsAccessBy (access_of e) t k kind
+    → (a : ℕ) → a ≢ t → aborted past a ≡ false → aborted past t ≡ false → has_conflicting past a k kind ≡ true → Pair (e ∷ past) a t
+pair_made e past t k kind is a apart first second access_list = record {
   apart = apart;
   first_stands = access_aborts e past t k kind is a ∙ first;
   second_stands = access_aborts e past t k kind is t ∙ second;
   precedes = inl (go (access_of e) is);
 }
   where
-    go : (x : Option Access) → IsAccess x t k kind → FollowsIn past x a t
+    go : (x : Option Access) → IsAccessBy x t k kind → FollowsIn past x a t
     go None h = absurd h
-    go (Some x) (by, key, same_kind) = (by, rw (key, same_kind) touched)
+    go (Some x) (by, key, same_kind) = (by, rw (key, same_kind) access_list)
 
 -- along a path whose members are ranked, the rank rises
 pub rank_rises : (step : ℕ → ℕ → Type 0) (rank : ℕ → ℕ) (members : List ℕ)
@@ -67,7 +67,7 @@ last_stands past t u (v ∷ rest) p = last_stands past u v rest p.1
 
 -- with the refused access added no numbers for the walk's members rise along each pair among them
 pub refused_has_no_rank : (past : List Entry) (t : ℕ) (k : Key) (kind : Kind) (rest : List ℕ) → Closes past t k kind rest
-    → (e : Entry) → IsAccess (access_of e) t k kind
+    → (e : Entry) → IsAccessBy (access_of e) t k kind
     → (rank : ℕ → ℕ) → ((a b : ℕ) → Member a (t ∷ rest) → Member b (t ∷ rest) → Pair (e ∷ past) a b → rank a < rank b) → ⊥
 refused_has_no_rank past t k kind [] c e is rank up = omega (arith, c.at_least_two)
 refused_has_no_rank past t k kind (u ∷ rest) c e is rank up =
@@ -107,6 +107,6 @@ place_rises a b (c ∷ rest) d (inr s) =
 -- with the refused access added as an entry, the members of its walk have no order in which the first of each pair
 -- among them comes first
 pub refused_has_no_order : (past : List Entry) (t : ℕ) (k : Key) (kind : Kind) (rest : List ℕ) → Closes past t k kind rest
-    → (e : Entry) → IsAccess (access_of e) t k kind → (order : List ℕ) → Orders (Pair (e ∷ past)) (t ∷ rest) order → ⊥
+    → (e : Entry) → IsAccessBy (access_of e) t k kind → (order : List ℕ) → Orders (Pair (e ∷ past)) (t ∷ rest) order → ⊥
 refused_has_no_order past t k kind rest c e is order o =
     refused_has_no_rank past t k kind rest c e is (place order) (λ a b ma mb p. place_rises a b order o.once (o.first_first a b ma mb p))

@@ -42,7 +42,7 @@ acts_unstarted s (e ∷ past) t h unstarted =
 
 -- these accesses are what the call's run asks for
 abbrev pub PlaysCall : Setting → Call → List Access → Type 0
-PlaysCall s c all = AsAsked (asks_of (run_of s c)) all
+PlaysCall s c all = AsAsked (asks_of (run_of s.rules c)) all
 
 plays_on : (s : Setting) (past : List Entry) (e : Entry) (t : ℕ) → LegalReply s past e.event e.reply → PlaysCall s (call_of past t) (acts past t) → PlaysCall s (call_of past t) (acts (e ∷ past) t)
 plays_on s past e t h ih = by_access (access_of e) refl

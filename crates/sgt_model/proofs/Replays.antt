@@ -18,7 +18,7 @@ use Rattle.sgt_model.specs.Pairs.{Precedes}
 use Rattle.sgt_model.specs.Settings.{Setting}
 use Rattle.sgt_model.specs.Progress.{call_of, run_of}
 use Rattle.sgt_model.specs.Legality.{Legal}
-use Rattle.sgt_model.specs.Replay.{told, replayed, AsTold, IsSerial}
+use Rattle.sgt_model.specs.Replay.{committed_runs, replayed, AnswersAgree, IsSerial}
 use Rattle.sgt_model.specs.Laws.{LooksAgree, CommitAgrees, CommitsAgree}
 use Rattle.sgt_model.proofs.Effects.{Commits, effect}
 use Rattle.sgt_model.proofs.Facts.{access-live, committed-stays, live-stands, live-not_committed, committed-stands, commit-case, Uncommitted, commits_or_not}
@@ -66,9 +66,9 @@ settled_quiet s past e k h no_commit = ap (λ x. value_or x (s.opening k)) (newe
     skipped (inr none) = none (committed (e ∷ past))
 
 -- after t's commit the contents of its run are the committed ones
-same_after : (s : Setting) (past : List Entry) (t : ℕ) (answers : List ℤ) → Legal s past → live past t ≡ true → IsSerial s past → (k : Key) → over (replayed s (told past)) (acts past t) k ≡ settled s.opening (commit_entry t answers ∷ past) k
+same_after : (s : Setting) (past : List Entry) (t : ℕ) (answers : List ℤ) → Legal s past → live past t ≡ true → IsSerial s past → (k : Key) → over (replayed s (committed_runs past)) (acts past t) k ≡ settled s.opening (commit_entry t answers ∷ past) k
 same_after s past t answers h is_live ih k =
-    over-acts (replayed s (told past)) past t k
+    over-acts (replayed s (committed_runs past)) past t k
     ∙ (ap (λ v. value_or (newest_store (λ u. nat_eq u t) k past) v) (ih.same k)
     ∙ sym (settled_commit s past t answers k h is_live))
 
@@ -85,26 +85,26 @@ commits_agree s (e ∷ past) h = (commits_agree s past h.0, now (commits_or_not 
     now (inr quiet) = quiet.agrees
 
 -- the run of a transaction that commits, on the contents so far
-run_done : (s : Setting) (past : List Entry) (event : Event) (r : Reply) → Legal s past → (c : Commits s past event r) → IsSerial s past → DoneWith (serial (run_of s (call_of past c.t)) (replayed s (told past))) c.answers (over (replayed s (told past)) (acts past c.t))
+run_done : (s : Setting) (past : List Entry) (event : Event) (r : Reply) → Legal s past → (c : Commits s past event r) → IsSerial s past → DoneWith (serial (run_of s.rules (call_of past c.t)) (replayed s (committed_runs past))) c.answers (over (replayed s (committed_runs past)) (acts past c.t))
 run_done s past event r h c ih =
-    let run : Run = run_of s (call_of past c.t) in
-    (law_over_acts run (run_is_trace run)).done (replayed s (told past)) (acts past c.t) c.answers (plays s past c.t h) (finds_in (replayed s (told past)) (settled s.opening past) past c.t ih.same (commit_agrees s past event r h c)) c.next
+    let run : Run = run_of s.rules (call_of past c.t) in
+    (law_over_acts run (run_is_trace run)).done (replayed s (committed_runs past)) (acts past c.t) c.answers (plays s past c.t h) (finds_in (replayed s (committed_runs past)) (settled s.opening past) past c.t ih.same (commit_agrees s past event r h c)) c.next
 
-at_commit : (s : Setting) (past : List Entry) (t : ℕ) (answers : List ℤ) → Legal s past → live past t ≡ true → DoneWith (serial (run_of s (call_of past t)) (replayed s (told past))) answers (over (replayed s (told past)) (acts past t)) → IsSerial s past → IsSerial s (commit_entry t answers ∷ past)
+at_commit : (s : Setting) (past : List Entry) (t : ℕ) (answers : List ℤ) → Legal s past → live past t ≡ true → DoneWith (serial (run_of s.rules (call_of past t)) (replayed s (committed_runs past))) answers (over (replayed s (committed_runs past)) (acts past t)) → IsSerial s past → IsSerial s (commit_entry t answers ∷ past)
 at_commit s past t answers h is_live d ih = record {
-  as_told = (ih.as_told, (d.0, d.1));
-  same = λ k. ap (λ o. contents_after o (replayed s (told past)) k) d.1 ∙ (d.2 k ∙ same_after s past t answers h is_live ih k);
+  answers = (ih.answers, (d.0, d.1));
+  same = λ k. ap (λ o. contents_after o (replayed s (committed_runs past)) k) d.1 ∙ (d.2 k ∙ same_after s past t answers h is_live ih k);
 }
 
 at_quiet : (s : Setting) (e : Entry) (past : List Entry) → Legal s (e ∷ past) → Uncommitted s past e.event e.reply → IsSerial s past → IsSerial s (e ∷ past)
 at_quiet s e past h quiet ih = record {
-  as_told = subst (λ l. AsTold s (l ++ told past)) (sym quiet.not_told) ih.as_told;
-  same = λ k. ap (λ l. replayed s (l ++ told past) k) quiet.not_told ∙ (ih.same k ∙ sym (settled_quiet s past e k h quiet.no_commit));
+  answers = subst (λ l. AnswersAgree s (l ++ committed_runs past)) (sym quiet.not_committed_run) ih.answers;
+  same = λ k. ap (λ l. replayed s (l ++ committed_runs past) k) quiet.not_committed_run ∙ (ih.same k ∙ sym (settled_quiet s past e k h quiet.no_commit));
 }
 
 -- commit order is serial
 pub is_serial : (s : Setting) (past : List Entry) → Legal s past → IsSerial s past
-is_serial s [] h = record { as_told = tt; same = λ k. refl }
+is_serial s [] h = record { answers = tt; same = λ k. refl }
 is_serial s (e ∷ past) h = now (is_serial s past h.0) (commits_or_not (effect s past e.event e.reply h.1))
   where
     now : IsSerial s past → Commits s past e.event e.reply ⊎ Uncommitted s past e.event e.reply → IsSerial s (e ∷ past)

@@ -16,7 +16,7 @@ use Rattle.sgt_model.specs.Fates.{ending_in, is_abort, aborted, committed, live}
 use Rattle.sgt_model.specs.Values.{newest_store}
 use Rattle.sgt_model.specs.ReadFrom.{IsBy, LooksFrom, ReadFrom}
 use Rattle.sgt_model.specs.Falls.{Feeds}
-use Rattle.sgt_model.specs.Pairs.{touches, Precedes}
+use Rattle.sgt_model.specs.Pairs.{has_conflicting, Precedes}
 use Rattle.sgt_model.specs.Settings.{Setting}
 use Rattle.sgt_model.specs.Progress.{reads}
 use Rattle.sgt_model.specs.Legality.{Legal}
@@ -47,7 +47,7 @@ read-apart (e ∷ past) t u (inr h) = read-apart past t u h
 -- a store precedes the look that found it
 pub read-precedes : (past : List Entry) (t u : ℕ) → ReadFrom past t u → Precedes past u t
 read-precedes [] t u h = absurd h
-read-precedes (e ∷ past) t u (inl h) = let l = looks-access past _ t u h.1 in inl (follows_from past _ l.access u t l.is l.by (subst (λ kind. touches past u l.access.key kind ≡ true) (sym l.looks) (newest-by _ l.access.key past u l.source).1))
+read-precedes (e ∷ past) t u (inl h) = let l = looks-access past _ t u h.1 in inl (follows_from past _ l.access u t l.is l.by (subst (λ kind. has_conflicting past u l.access.key kind ≡ true) (sym l.looks) (newest-by _ l.access.key past u l.source).1))
 read-precedes (e ∷ past) t u (inr h) = inr (read-precedes past t u h)
 
 -- on paths

@@ -9,23 +9,23 @@ use Rattle.sgt_model.specs.Walks.{Member}
 use Rattle.sgt_model.specs.Fates.{is_start, starts, live, begun}
 use Rattle.sgt_model.specs.Settings.{Setting}
 use Rattle.sgt_model.specs.Legality.{Legal}
-use Rattle.sgt_model.specs.Touches.{touches_in}
+use Rattle.sgt_model.specs.AccessList.{lists_conflicting}
 use Rattle.sgt_model.specs.Chains.{chain_of, writes_in}
 use Rattle.sgt_model.specs.ChainOrder.{InOrder}
-use Rattle.sgt_model.specs.Held.{Held, PairIn}
-use Rattle.sgt_model.specs.States.{IsState}
+use Rattle.sgt_model.specs.State.{State, PairIn}
+use Rattle.sgt_model.specs.StateAfter.{IsStateAfter}
 use Rattle.sgt_model.specs.Soundness.{Sound}
 use Rattle.sgt_model.proofs.Facts.{live-started, live-stands}
 use Rattle.sgt_model.proofs.ChainOrder.{Before, chain-ordered, chain-wrote, in_order-among}
 use Rattle.sgt_model.proofs.Room.{limits_are_kept}
 use Rattle.sgt_model.proofs.Listed.{member_added, kept_member, member_kept}
-use Rattle.sgt_model.proofs.Verdict.{touch_in-state, touch_live}
+use Rattle.sgt_model.proofs.Verdict.{listed_in-state, listed_live}
 
-pub order_from_state : (s : Setting) (past : List Entry) → Legal s past → (c : Held) → IsState s past c → (k : Key) → InOrder (PairIn c) (c.chain k)
+pub order_from_state : (s : Setting) (past : List Entry) → Legal s past → (c : State) → IsStateAfter s past c → (k : Key) → InOrder (PairIn c) (c.chain k)
 order_from_state s past h c i k = subst (λ l. InOrder (PairIn c) l) (sym (i.chain k)) (in_order-among (Before past) (PairIn c) (chain_of (live past) k past) (λ a b ma mb r. (i.pairs a b).1 (record { first_live = (chain-wrote (live past) k past a ma).counts; second_live = (chain-wrote (live past) k past b mb).counts; pair = record { apart = r.0; first_stands = live-stands past a (chain-wrote (live past) k past a ma).counts; second_stands = live-stands past b (chain-wrote (live past) k past b mb).counts; precedes = r.1 } })) (chain-ordered (live past) k past))
 
-pub writers_from_state : (s : Setting) (past : List Entry) (h : Legal s past) (c : Held) (i : IsState s past c) (k : Key) (t : ℕ) → writes_in t (c.chain k) ≡ true → touches_in c.accesses t k Store ≡ true
-writers_from_state s past h c i k t m = let w = chain-wrote (live past) k past t (ap (writes_in t) (sym (i.chain k)) ∙ m) in touch_in-state s past h c i t k Store w.counts ∙ w.stored
+pub writers_from_state : (s : Setting) (past : List Entry) (h : Legal s past) (c : State) (i : IsStateAfter s past c) (k : Key) (t : ℕ) → writes_in t (c.chain k) ≡ true → lists_conflicting c.accesses t k Store ≡ true
+writers_from_state s past h c i k t m = let w = chain-wrote (live past) k past t (ap (writes_in t) (sym (i.chain k)) ∙ m) in listed_in-state s past h c i t k Store w.counts ∙ w.stored
 
 -- the list of the live ones has each that is live, and no other
 
@@ -40,14 +40,14 @@ begun_has (e ∷ past) t lt = go (is_start e.reply) (begun_has past t) lt
     go true before lt = member_added t (begun past) (starts past) (now_or lt before)
     go false before lt = before lt
 
-pub state_is_sound : (s : Setting) (past : List Entry) → Legal s past → (c : Held) → IsState s past c → Sound s.limits.live c
+pub state_is_sound : (s : Setting) (past : List Entry) → Legal s past → (c : State) → IsStateAfter s past c → Sound s.limits.live c
 state_is_sound s past h c i = record {
   begun = λ t q. subst (λ n. t < n) (sym i.starts) (live-started past t (sym (i.nodes t) ∙ q));
   listed = λ t. ((λ q. subst (λ l. Member t l) (sym i.lives) (kept_member (live past) t (begun past) (sym (i.nodes t) ∙ q) (begun_has past t (live-started past t (sym (i.nodes t) ∙ q))))), (λ m. i.nodes t ∙ (member_kept (live past) t (begun past) (subst (λ l. Member t l) i.lives m)).0));
   few = subst (λ l. length l ≤ s.limits.live) (sym i.lives) (limits_are_kept s past h).1;
   pair_nodes = λ t u q. let p = (i.pairs t u).0 q in (i.nodes t ∙ p.first_live, i.nodes u ∙ p.second_live);
   pair_apart = λ t u q. ((i.pairs t u).0 q).pair.apart;
-  access_nodes = λ t k kind q. i.nodes t ∙ touch_live s past h c i t k kind q;
+  access_nodes = λ t k kind q. i.nodes t ∙ listed_live s past h c i t k kind q;
   read_nodes = λ u t q. let p = (i.read_from u t).0 q in (i.nodes u ∙ p.source_live, i.nodes t ∙ p.reader_live);
   writers = λ k t m. writers_from_state s past h c i k t m;
   order = λ k. order_from_state s past h c i k;

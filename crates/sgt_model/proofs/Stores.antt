@@ -13,7 +13,7 @@ use Rattle.sgt_model.specs.Contents.{Key, key_eq}
 use Rattle.sgt_model.specs.Accesses.{Access, is_store, access_of}
 use Rattle.sgt_model.specs.Values.{stores, newest_store, value_or}
 use Rattle.sgt_model.specs.ReadFrom.{IsBy}
-use Rattle.sgt_model.specs.Pairs.{one_stores, conflicts, touches, FollowsIn, Precedes}
+use Rattle.sgt_model.specs.Pairs.{one_stores, conflicts, has_conflicting, FollowsIn, Precedes}
 use Rattle.sgt_model.proofs.Facts.{some_is, option_or-cases, conflicts-access}
 
 -- on keys
@@ -44,12 +44,12 @@ stores-some counts k (Some b) a e = go (is_store b.kind && (key_eq b.key k && co
     go true h e = let p = and_parts _ _ h in let q = and_parts _ _ p.1 in subst (λ x. Stored counts k (Some b) x) (some_is b a e) (record { is = refl; stores = p.0; same_key = q.0; is_counted = q.1 })
     go false h e = absurd (cc)
 
-store_touches : (kind : Kind) → is_store kind ≡ true → one_stores kind Look ≡ true
-store_touches Look h = h
-store_touches Store h = refl
+store_conflicting : (kind : Kind) → is_store kind ≡ true → one_stores kind Look ≡ true
+store_conflicting Look h = h
+store_conflicting Store h = refl
 
 pub stored-conflicts : (counts : ℕ → Bool) (k : Key) (o : Option Access) (a : Access) → Stored counts k o a → conflicts o a.by k Look ≡ true
-stored-conflicts counts k o a h = ap (λ x. conflicts x a.by k Look) h.is ∙ and_from _ _ (eq-eqb a.by a.by refl) (and_from _ _ h.same_key (store_touches a.kind h.stores))
+stored-conflicts counts k o a h = ap (λ x. conflicts x a.by k Look) h.is ∙ and_from _ _ (eq-eqb a.by a.by refl) (and_from _ _ h.same_key (store_conflicting a.kind h.stores))
 
 stores_from : (counts : ℕ → Bool) (k : Key) (o : Option Access) (a : Access) → Stored counts k o a → stores counts k o ≡ Some a
 stores_from counts k o a st = ap (λ x. stores counts k x) st.is ∙ cond-true _ (Some a) None (and_from _ _ st.stores (and_from _ _ st.same_key st.is_counted))
@@ -67,17 +67,17 @@ conflicts_any None t k kind h = absurd (cc)
 conflicts_any (Some a) t k kind h = let p = and_parts _ _ h in let q = and_parts _ _ p.1 in and_from _ _ p.0 (and_from _ _ q.0 (one_stores_any a.kind kind q.1))
 
 -- who has stored the key has an access that conflicts with any of it
-pub stored-touches : (past : List Entry) (t : ℕ) (k : Key) (kind : Kind) → touches past t k Look ≡ true → touches past t k kind ≡ true
-stored-touches [] t k kind h = absurd (cc)
-stored-touches (e ∷ past) t k kind h = elim (or_cases _ _ h) [ inl now ↦ or_left _ _ (conflicts_any (access_of e) t k kind now) | inr before ↦ or_right _ _ (stored-touches past t k kind before) ]
+pub stored-has_conflicting : (past : List Entry) (t : ℕ) (k : Key) (kind : Kind) → has_conflicting past t k Look ≡ true → has_conflicting past t k kind ≡ true
+stored-has_conflicting [] t k kind h = absurd (cc)
+stored-has_conflicting (e ∷ past) t k kind h = elim (or_cases _ _ h) [ inl now ↦ or_left _ _ (conflicts_any (access_of e) t k kind now) | inr before ↦ or_right _ _ (stored-has_conflicting past t k kind before) ]
 
-pub follows_from : (past : List Entry) (o : Option Access) (a : Access) (t u : ℕ) → o ≡ Some a → a.by ≡ u → touches past t a.key a.kind ≡ true → FollowsIn past o t u
-follows_from past o a t u is by touched = subst (λ x. FollowsIn past x t u) (sym is) (by, touched)
+pub follows_from : (past : List Entry) (o : Option Access) (a : Access) (t u : ℕ) → o ≡ Some a → a.by ≡ u → has_conflicting past t a.key a.kind ≡ true → FollowsIn past o t u
+follows_from past o a t u is by access_list = subst (λ x. FollowsIn past x t u) (sym is) (by, access_list)
 
 -- on the newest store that counts
 
 -- the newest store that counts is one that counts, and its transaction stored the key
-pub newest-counts : (counts : ℕ → Bool) (k : Key) (past : List Entry) (a : Access) → newest_store counts k past ≡ Some a → (counts a.by ≡ true) × (touches past a.by k Look ≡ true)
+pub newest-counts : (counts : ℕ → Bool) (k : Key) (past : List Entry) (a : Access) → newest_store counts k past ≡ Some a → (counts a.by ≡ true) × (has_conflicting past a.by k Look ≡ true)
 newest-counts counts k [] a e = absurd (cc)
 newest-counts counts k (e ∷ past) a h = elim (option_or-cases (stores counts k (access_of e)) (newest_store counts k past) a h) [ inl now ↦ let st = stores-some counts k _ a now in (st.is_counted, or_left _ _ (stored-conflicts counts k _ a st)) | inr before ↦ let p = newest-counts counts k past a before.1 in (p.0, or_right _ _ p.1) ]
 
@@ -85,31 +85,31 @@ pub is_by : (o : Option Access) (u : ℕ) → IsBy o u → (a : Access) × (o �
 is_by None u h = absurd h
 is_by (Some a) u h = (a, refl, h)
 
-pub newest-by : (counts : ℕ → Bool) (k : Key) (past : List Entry) (u : ℕ) → IsBy (newest_store counts k past) u → (counts u ≡ true) × (touches past u k Look ≡ true)
-newest-by counts k past u h = let b = is_by _ u h in let p = newest-counts counts k past b.0 b.1 in (subst (λ v. counts v ≡ true) b.2 p.0, subst (λ v. touches past v k Look ≡ true) b.2 p.1)
+pub newest-by : (counts : ℕ → Bool) (k : Key) (past : List Entry) (u : ℕ) → IsBy (newest_store counts k past) u → (counts u ≡ true) × (has_conflicting past u k Look ≡ true)
+newest-by counts k past u h = let b = is_by _ u h in let p = newest-counts counts k past b.0 b.1 in (subst (λ v. counts v ≡ true) b.2 p.0, subst (λ v. has_conflicting past v k Look ≡ true) b.2 p.1)
 
 -- a store follows the earlier stores of its key
-pub store_follows : (counts : ℕ → Bool) (past : List Entry) (k : Key) (o : Option Access) (a : Access) (t u : ℕ) → Stored counts k o a → a.by ≡ u → touches past t k Look ≡ true → FollowsIn past o t u
-store_follows counts past k o a t u st by h = follows_from past o a t u st.is by (subst (λ (x : Key). touches past t x a.kind ≡ true) (sym (key_eq-true a.key k st.same_key)) (stored-touches past t k a.kind h))
+pub store_follows : (counts : ℕ → Bool) (past : List Entry) (k : Key) (o : Option Access) (a : Access) (t u : ℕ) → Stored counts k o a → a.by ≡ u → has_conflicting past t k Look ≡ true → FollowsIn past o t u
+store_follows counts past k o a t u st by h = follows_from past o a t u st.is by (subst (λ (x : Key). has_conflicting past t x a.kind ≡ true) (sym (key_eq-true a.key k st.same_key)) (stored-has_conflicting past t k a.kind h))
 
 -- the newest store that counts comes after those of the others that count
-pub newest-precedes : (counts : ℕ → Bool) (k : Key) (past : List Entry) (t u : ℕ) → t ≢ u → counts t ≡ true → touches past t k Look ≡ true → IsBy (newest_store counts k past) u → Precedes past t u
+pub newest-precedes : (counts : ℕ → Bool) (k : Key) (past : List Entry) (t u : ℕ) → t ≢ u → counts t ≡ true → has_conflicting past t k Look ≡ true → IsBy (newest_store counts k past) u → Precedes past t u
 newest-precedes counts k [] t u apart counted h newest = newest
 newest-precedes counts k (e ∷ past) t u apart counted h newest = go (is_by _ u newest) (or_cases _ _ h) (λ h' newest'. newest-precedes counts k past t u apart counted h' newest')
   where
     now_store : conflicts (access_of e) t k Look ≡ true → (c : Access) × Stored counts k (access_of e) c × (c.by ≡ t)
     now_store now = let c = conflicts-access _ t k Look now in (c.access, record { is = c.is; stores = is_store_from _ c.one_stores; same_key = c.same_key; is_counted = subst (λ v. counts v ≡ true) (sym c.by) counted }, c.by)
 
-    go : (a : Access) × (option_or (stores counts k (access_of e)) (newest_store counts k past) ≡ Some a) × (a.by ≡ u) → (conflicts (access_of e) t k Look ≡ true) ⊎ (touches past t k Look ≡ true) → (touches past t k Look ≡ true → IsBy (newest_store counts k past) u → Precedes past t u) → FollowsIn past (access_of e) t u ⊎ Precedes past t u
-    go (a, is, by) touched rest = elim (option_or-cases (stores counts k (access_of e)) (newest_store counts k past) a is) [ inl a_now ↦ elim touched [ inl now ↦ let c = now_store now in absurd (apart (sym c.2 ∙ (ap (λ (x : Access). x.by) (some_is c.0 a (sym (stores_from counts k _ c.0 c.1) ∙ a_now)) ∙ by))) | inr before ↦ inl (store_follows counts past k _ a t u (stores-some counts k _ a a_now) by before) ] | inr a_before ↦ elim touched [ inl now ↦ let c = now_store now in absurd (cc (sym (stores_from counts k _ c.0 c.1) ∙ a_before.0)) | inr before ↦ inr (rest before (subst (λ o. IsBy o u) (sym a_before.1) by)) ] ]
+    go : (a : Access) × (option_or (stores counts k (access_of e)) (newest_store counts k past) ≡ Some a) × (a.by ≡ u) → (conflicts (access_of e) t k Look ≡ true) ⊎ (has_conflicting past t k Look ≡ true) → (has_conflicting past t k Look ≡ true → IsBy (newest_store counts k past) u → Precedes past t u) → FollowsIn past (access_of e) t u ⊎ Precedes past t u
+    go (a, is, by) access_list rest = elim (option_or-cases (stores counts k (access_of e)) (newest_store counts k past) a is) [ inl a_now ↦ elim access_list [ inl now ↦ let c = now_store now in absurd (apart (sym c.2 ∙ (ap (λ (x : Access). x.by) (some_is c.0 a (sym (stores_from counts k _ c.0 c.1) ∙ a_now)) ∙ by))) | inr before ↦ inl (store_follows counts past k _ a t u (stores-some counts k _ a a_now) by before) ] | inr a_before ↦ elim access_list [ inl now ↦ let c = now_store now in absurd (cc (sym (stores_from counts k _ c.0 c.1) ∙ a_before.0)) | inr before ↦ inr (rest before (subst (λ o. IsBy o u) (sym a_before.1) by)) ] ]
 
 -- the newest store that counts is by one that counts, and conflicts with each access of its key
 pub record Found (q : ℕ → Bool) (k : Key) (l : List Entry) (a : Access) : Type 0 where
   pub counts : q a.by ≡ true
-  pub touched : (kind : Kind) → touches l a.by k kind ≡ true
+  pub access_list : (kind : Kind) → has_conflicting l a.by k kind ≡ true
 
 pub found : (q : ℕ → Bool) (k : Key) (l : List Entry) (a : Access) → newest_store q k l ≡ Some a → Found q k l a
-found q k l a h = let p = newest-counts q k l a h in record { counts = p.0; touched = λ kind. stored-touches l a.by k kind p.1 }
+found q k l a h = let p = newest-counts q k l a h in record { counts = p.0; access_list = λ kind. stored-has_conflicting l a.by k kind p.1 }
 
 -- whether an access is a store does not depend on who counts
 
@@ -187,29 +187,29 @@ one_stores_with Store = refl
 pub conflicts_store : (x : Option Access) (a : Access) (k : Key) → x ≡ Some a → a.key ≡ k → conflicts x a.by k Store ≡ true
 conflicts_store x a k h g = subst (λ y. conflicts y a.by k Store ≡ true) (sym h) (subst (λ z. conflicts (Some a) a.by z Store ≡ true) g (and_from (nat_eq a.by a.by) (key_eq a.key a.key && one_stores a.kind Store) (eq-eqb a.by a.by refl) (and_from (key_eq a.key a.key) (one_stores a.kind Store) (key_eq-refl a.key) (one_stores_with a.kind))))
 
-pub touches_append : (newer older : List Entry) (t : ℕ) (k : Key) (kind : Kind) → touches older t k kind ≡ true → touches (newer ++ older) t k kind ≡ true
-touches_append [] older t k kind h = h
-touches_append (e ∷ newer) older t k kind h = or_right (conflicts (access_of e) t k kind) (touches (newer ++ older) t k kind) (touches_append newer older t k kind h)
+pub lists_conflicting_append : (newer older : List Entry) (t : ℕ) (k : Key) (kind : Kind) → has_conflicting older t k kind ≡ true → has_conflicting (newer ++ older) t k kind ≡ true
+lists_conflicting_append [] older t k kind h = h
+lists_conflicting_append (e ∷ newer) older t k kind h = or_right (conflicts (access_of e) t k kind) (has_conflicting (newer ++ older) t k kind) (lists_conflicting_append newer older t k kind h)
 
 -- a store follows each access of its key
-pub access_follows : (past : List Entry) (k : Key) (x : Option Access) (v : StoreOf k x) (t : ℕ) → touches past t k Store ≡ true → FollowsIn past x t v.a.by
-access_follows past k x v t h = subst (λ y. FollowsIn past y t v.a.by) (sym v.is) (refl, subst₂ (λ z kind. touches past t z kind ≡ true) (sym v.key) (sym v.kind) h)
+pub access_follows : (past : List Entry) (k : Key) (x : Option Access) (v : StoreOf k x) (t : ℕ) → has_conflicting past t k Store ≡ true → FollowsIn past x t v.a.by
+access_follows past k x v t h = subst (λ y. FollowsIn past y t v.a.by) (sym v.is) (refl, subst₂ (λ z kind. has_conflicting past t z kind ≡ true) (sym v.key) (sym v.kind) h)
 
 -- a store that counts, in the newer part, follows each access of its key in the older part
-pub precedes_newest : (q : ℕ → Bool) (k : Key) (newer older : List Entry) (a : Access) (t : ℕ) → newest_store q k newer ≡ Some a → touches older t k Store ≡ true → Precedes (newer ++ older) t a.by
+pub precedes_newest : (q : ℕ → Bool) (k : Key) (newer older : List Entry) (a : Access) (t : ℕ) → newest_store q k newer ≡ Some a → has_conflicting older t k Store ≡ true → Precedes (newer ++ older) t a.by
 precedes_newest q k [] older a t h g = absurd (none-some a h)
 precedes_newest q k (e ∷ newer) older a t h g = at_entry (precedes_newest q k newer older a t) (store_or_not k (access_of e))
   where
-    at_entry : (newest_store q k newer ≡ Some a → touches older t k Store ≡ true → Precedes (newer ++ older) t a.by) → StoreOf k (access_of e) ⊎ ((q : ℕ → Bool) → stores q k (access_of e) ≡ None) → Precedes (e ∷ newer ++ older) t a.by
-    at_entry ih (inl v) = ⊎_elim (λ yes_q. subst (λ b. Precedes (e ∷ newer ++ older) t b.by) (same_Some v.a a (sym (newest_here q k e newer v.a (counted q k (access_of e) v yes_q)) ∙ h)) (inl (access_follows (newer ++ older) k (access_of e) v t (touches_append newer older t k Store g)))) (λ no_q. inr (ih (sym (newest_skip q k e newer (not_counted q k (access_of e) v no_q)) ∙ h) g)) (cases_Bool (q v.a.by))
+    at_entry : (newest_store q k newer ≡ Some a → has_conflicting older t k Store ≡ true → Precedes (newer ++ older) t a.by) → StoreOf k (access_of e) ⊎ ((q : ℕ → Bool) → stores q k (access_of e) ≡ None) → Precedes (e ∷ newer ++ older) t a.by
+    at_entry ih (inl v) = ⊎_elim (λ yes_q. subst (λ b. Precedes (e ∷ newer ++ older) t b.by) (same_Some v.a a (sym (newest_here q k e newer v.a (counted q k (access_of e) v yes_q)) ∙ h)) (inl (access_follows (newer ++ older) k (access_of e) v t (lists_conflicting_append newer older t k Store g)))) (λ no_q. inr (ih (sym (newest_skip q k e newer (not_counted q k (access_of e) v no_q)) ∙ h) g)) (cases_Bool (q v.a.by))
     at_entry ih (inr none) = inr (ih (sym (newest_skip q k e newer (none q)) ∙ h) g)
 
 -- t has a store of the key, and the newest one that counts is another's: t's precedes it
 precedes_behind : (q : ℕ → Bool) (k : Key) (l : List Entry) (t : ℕ) (a b : Access) → newest_store q k l ≡ Some a → newest_store (λ u. nat_eq u t) k l ≡ Some b → q t ≡ true → a.by ≢ t → Precedes l t a.by
 precedes_behind q k l t a b h g mine other =
     let own = newest-counts (λ u. nat_eq u t) k l b g in
-    let touched : touches l t k Look ≡ true = subst (λ u. touches l u k Look ≡ true) (eqb-true b.by t own.0) own.1 in
-    newest-precedes q k l t a.by (λ z. other (sym z)) mine touched (subst (λ x. IsBy x a.by) (sym h) refl)
+    let access_list : has_conflicting l t k Look ≡ true = subst (λ u. has_conflicting l u k Look ≡ true) (eqb-true b.by t own.0) own.1 in
+    newest-precedes q k l t a.by (λ z. other (sym z)) mine access_list (subst (λ x. IsBy x a.by) (sym h) refl)
 
 -- the value of the newest store that counts is t's own newest store's, or where t has none, the value under a test
 -- that agrees but for t

@@ -14,23 +14,23 @@ use Rattle.sgt_model.specs.Fates.{aborted, committed, live}
 use Rattle.sgt_model.specs.Values.{newest_store, settled, value_or, visible}
 use Rattle.sgt_model.specs.ReadFrom.{IsBy, ReadFrom}
 use Rattle.sgt_model.specs.Falls.{Feeds, Falls}
-use Rattle.sgt_model.specs.Pairs.{Pair, Precedes, touches}
+use Rattle.sgt_model.specs.Pairs.{Pair, Precedes, has_conflicting}
 use Rattle.sgt_model.specs.Closes.{Closes}
 use Rattle.sgt_model.specs.Settings.{Setting}
 use Rattle.sgt_model.specs.Legality.{IsLeastLive, Legal, NoneLive}
-use Rattle.sgt_model.specs.Touches.{touches_in}
-use Rattle.sgt_model.specs.Held.{Has, Held, PairIn}
-use Rattle.sgt_model.specs.States.{IsState}
-use Rattle.sgt_model.specs.Verdicts.{Blocks}
-use Rattle.sgt_model.specs.Tops.{SourceIs, found, top, top_value}
-use Rattle.sgt_model.specs.Fallers.{FallsIn}
+use Rattle.sgt_model.specs.AccessList.{lists_conflicting}
+use Rattle.sgt_model.specs.State.{Has, State, PairIn}
+use Rattle.sgt_model.specs.StateAfter.{IsStateAfter}
+use Rattle.sgt_model.specs.Blocks.{Blocks}
+use Rattle.sgt_model.specs.Found.{SourceIs, found, top, top_value}
+use Rattle.sgt_model.specs.FallsIn.{FallsIn}
 use Rattle.sgt_model.specs.CallEffects.{IsLeastIn}
 use Rattle.sgt_model.proofs.Paths.{last_is_member, path_map}
-use Rattle.sgt_model.proofs.Facts.{live-stands, live-not_committed, committed-stands, status, touches-started, precedes-started}
+use Rattle.sgt_model.proofs.Facts.{live-stands, live-not_committed, committed-stands, status, has_conflicting-started, precedes-started}
 use Rattle.sgt_model.proofs.PairOrder.{no_pair_from_live}
 use Rattle.sgt_model.proofs.Stores.{is_by, newest-counts, newest_agree}
 use Rattle.sgt_model.proofs.Sources.{read-precedes, source_commits_before, source_of_standing_stands}
-use Rattle.sgt_model.proofs.Counted.{touches_in-counts, touches_in-touched}
+use Rattle.sgt_model.proofs.Counted.{lists_conflicting-counts, lists_conflicting-access_list}
 use Rattle.sgt_model.proofs.Chains.{chain-last, entry_of, newest-split, newest-value}
 
 module _ (s : Setting) (past : List Entry) (h : Legal s past) where
@@ -49,20 +49,20 @@ module _ (s : Setting) (past : List Entry) (h : Legal s past) where
       stand u q = elim (or_cases (live past u) (committed past u) q) [ inl l ↦ ap not (live-stands past u l) | inr c ↦ ap not (committed-stands past u c) ]
 
       counts : (a : Access) → newest_store (λ t. not (aborted past t)) k past ≡ Some a → (live past a.by || committed past a.by) ≡ true
-      counts a q = let by = newest-counts (λ t. not (aborted past t)) k past a q in elim (status past a.by (touches-started s past h a.by k Look by.1)) [ inl l ↦ or_left (live past a.by) (committed past a.by) l | inr (inl c) ↦ or_right (live past a.by) (committed past a.by) c | inr (inr x) ↦ absurd (both_ways (aborted past a.by) (not-true (aborted past a.by) by.0) x) ]
+      counts a q = let by = newest-counts (λ t. not (aborted past t)) k past a q in elim (status past a.by (has_conflicting-started s past h a.by k Look by.1)) [ inl l ↦ or_left (live past a.by) (committed past a.by) l | inr (inl c) ↦ or_right (live past a.by) (committed past a.by) c | inr (inr x) ↦ absurd (both_ways (aborted past a.by) (not-true (aborted past a.by) by.0) x) ]
 
-  module _ (c : Held) (i : IsState s past c) where
+  module _ (c : State) (i : IsStateAfter s past c) where
     -- the verdict
 
     path_in : (t : ℕ) (rest : List ℕ) → live past t ≡ true → PathOf (Pair past) t rest → PathOf (PairIn c) t rest × (live past (last_of t rest) ≡ true)
     path_in t [] alive p = (tt, alive)
     path_in t (u ∷ rest) alive p = let next = pair_live t u alive p.0 in let r = path_in u rest next p.1 in (((i.pairs t u).1 (record { first_live = alive; second_live = next; pair = p.0 }), r.0), r.1)
 
-    pub touch_in-state : (u : ℕ) (k : Key) (kind : Kind) → live past u ≡ true → touches_in c.accesses u k kind ≡ touches past u k kind
-    touch_in-state u k kind alive = ap (λ l. touches_in l u k kind) i.accesses ∙ touches_in-touched (live past) u k kind past alive
+    pub listed_in-state : (u : ℕ) (k : Key) (kind : Kind) → live past u ≡ true → lists_conflicting c.accesses u k kind ≡ has_conflicting past u k kind
+    listed_in-state u k kind alive = ap (λ l. lists_conflicting l u k kind) i.accesses ∙ lists_conflicting-access_list (live past) u k kind past alive
 
-    pub touch_live : (u : ℕ) (k : Key) (kind : Kind) → touches_in c.accesses u k kind ≡ true → live past u ≡ true
-    touch_live u k kind q = touches_in-counts (live past) u k kind past (ap (λ l. touches_in l u k kind) (sym i.accesses) ∙ q)
+    pub listed_live : (u : ℕ) (k : Key) (kind : Kind) → lists_conflicting c.accesses u k kind ≡ true → live past u ≡ true
+    listed_live u k kind q = lists_conflicting-counts (live past) u k kind past (ap (λ l. lists_conflicting l u k kind) (sym i.accesses) ∙ q)
 
     pub blocks_from_closes : (t : ℕ) (k : Key) (kind : Kind) (rest : List ℕ) → live past t ≡ true → Closes past t k kind rest → Blocks c t k kind rest
     blocks_from_closes t k kind [] alive x = absurd (omega (arith, x.at_least_two))
@@ -73,7 +73,7 @@ module _ (s : Setting) (past : List Entry) (h : Legal s past) where
           pairs = p.0;
           rival = record {
             apart = λ e. x.distinct.0 (subst (λ v. Member v (u ∷ rest)) e (last_is_member t u rest));
-            touches = touch_in-state (last_of u rest) k kind p.1 ∙ x.conflict;
+            has_conflicting = listed_in-state (last_of u rest) k kind p.1 ∙ x.conflict;
           };
         }
 
@@ -82,7 +82,7 @@ module _ (s : Setting) (past : List Entry) (h : Legal s past) where
       distinct = b.distinct;
       at_least_two = some rest b.rival.apart;
       pairs = path_map (λ a d p. ((i.pairs a d).0 p).pair) t rest b.pairs;
-      conflict = sym (touch_in-state (last_of t rest) k kind (touch_live (last_of t rest) k kind b.rival.touches)) ∙ b.rival.touches;
+      conflict = sym (listed_in-state (last_of t rest) k kind (listed_live (last_of t rest) k kind b.rival.has_conflicting)) ∙ b.rival.has_conflicting;
     }
       where
         some : (rest : List ℕ) → last_of t rest ≢ t → 0 < length rest

@@ -9,7 +9,7 @@ use Rattle.sgt_model.specs.Accesses.{Access, access_of}
 use Rattle.sgt_model.specs.Fates.{committed}
 use Rattle.sgt_model.specs.Values.{newest_store}
 use Rattle.sgt_model.specs.ReadFrom.{IsBy}
-use Rattle.sgt_model.specs.Pairs.{conflicts, touches, Precedes}
+use Rattle.sgt_model.specs.Pairs.{conflicts, has_conflicting, Precedes}
 use Rattle.sgt_model.specs.Settings.{Setting}
 use Rattle.sgt_model.specs.Legality.{Legal}
 use Rattle.sgt_model.specs.CommitOrder.{CommitsBefore, last_store}
@@ -18,7 +18,7 @@ use Rattle.sgt_model.proofs.PairOrder.{pair_commits_before}
 use Rattle.sgt_model.proofs.Stores.{Stored, stores-some, stored-conflicts, newest-by, store_follows, newest-precedes}
 
 -- the settled value of a key is by the one of its committed writers that committed last
-pub settled_by_last : (s : Setting) (past : List Entry) → Legal s past → (k : Key) (t u : ℕ) → t ≢ u → committed past t ≡ true → touches past t k Look ≡ true → IsBy (newest_store (committed past) k past) u → CommitsBefore past t u
+pub settled_by_last : (s : Setting) (past : List Entry) → Legal s past → (k : Key) (t u : ℕ) → t ≢ u → committed past t ≡ true → has_conflicting past t k Look ≡ true → IsBy (newest_store (committed past) k past) u → CommitsBefore past t u
 settled_by_last s past h k t u apart ct stored newest =
     let cu = (newest-by (committed past) k past u newest).0 in
     pair_commits_before s past h t u ct cu (record { apart = apart; first_stands = committed-stands past t ct; second_stands = committed-stands past u cu; precedes = newest-precedes (committed past) k past t u apart ct stored newest })
@@ -34,13 +34,13 @@ last_below : (past : List Entry) (k : Key) (t p : ℕ) → last_store past k t �
 last_below [] k t p h = absurd (cc)
 last_below (e ∷ past) k t p h = elim (last_case e past k t p h) [ inl now ↦ let q : length past ≡ p = now.2 in omega arith | inr before ↦ let q = last_below past k t p before in omega arith ]
 
-pub last-touches : (past : List Entry) (k : Key) (t p : ℕ) → last_store past k t ≡ Some p → touches past t k Look ≡ true
-last-touches [] k t p h = absurd (cc)
-last-touches (e ∷ past) k t p h = elim (last_case e past k t p h) [ inl now ↦ or_left _ _ (subst (λ u. conflicts (access_of e) u k Look ≡ true) (eqb-true now.0.by t now.1.is_counted) (stored-conflicts _ k _ now.0 now.1)) | inr before ↦ or_right _ _ (last-touches past k t p before) ]
+pub last-has_conflicting : (past : List Entry) (k : Key) (t p : ℕ) → last_store past k t ≡ Some p → has_conflicting past t k Look ≡ true
+last-has_conflicting [] k t p h = absurd (cc)
+last-has_conflicting (e ∷ past) k t p h = elim (last_case e past k t p h) [ inl now ↦ or_left _ _ (subst (λ u. conflicts (access_of e) u k Look ≡ true) (eqb-true now.0.by t now.1.is_counted) (stored-conflicts _ k _ now.0 now.1)) | inr before ↦ or_right _ _ (last-has_conflicting past k t p before) ]
 
 pub last-precedes : (past : List Entry) (k : Key) (t u p q : ℕ) → last_store past k t ≡ Some p → last_store past k u ≡ Some q → p < q → Precedes past t u
 last-precedes [] k t u p q ht hu less = absurd (cc)
-last-precedes (e ∷ past) k t u p q ht hu less = elim (last_case e past k t p ht) [ inl t_now ↦ elim (last_case e past k u q hu) [ inl u_now ↦ absurd (let x : length past ≡ p = t_now.2 in let y : length past ≡ q = u_now.2 in omega arith) | inr u_before ↦ absurd (let x : length past ≡ p = t_now.2 in let y = last_below past k u q u_before in omega arith) ] | inr t_before ↦ elim (last_case e past k u q hu) [ inl u_now ↦ inl (store_follows _ past k _ u_now.0 t u u_now.1 (eqb-true u_now.0.by u u_now.1.is_counted) (last-touches past k t p t_before)) | inr u_before ↦ inr (last-precedes past k t u p q t_before u_before less) ] ]
+last-precedes (e ∷ past) k t u p q ht hu less = elim (last_case e past k t p ht) [ inl t_now ↦ elim (last_case e past k u q hu) [ inl u_now ↦ absurd (let x : length past ≡ p = t_now.2 in let y : length past ≡ q = u_now.2 in omega arith) | inr u_before ↦ absurd (let x : length past ≡ p = t_now.2 in let y = last_below past k u q u_before in omega arith) ] | inr t_before ↦ elim (last_case e past k u q hu) [ inl u_now ↦ inl (store_follows _ past k _ u_now.0 t u u_now.1 (eqb-true u_now.0.by u u_now.1.is_counted) (last-has_conflicting past k t p t_before)) | inr u_before ↦ inr (last-precedes past k t u p q t_before u_before less) ] ]
 
 -- of two committed writers of a key, the one whose last store of it came first committed first
 pub last_store_commits_before : (s : Setting) (past : List Entry) → Legal s past → (k : Key) (t u p q : ℕ) → committed past t ≡ true → committed past u ≡ true → last_store past k t ≡ Some p → last_store past k u ≡ Some q → p < q → CommitsBefore past t u

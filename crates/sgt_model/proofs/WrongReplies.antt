@@ -24,7 +24,7 @@ not_refused {past} {t} {k} {kind} given set free apart (inl h) = free-so past t 
 not_refused {past} {t} {k} {kind} given set free apart (inr h) = apart (sym h.is)
 
 -- where a live transaction has a pair into it, a transaction does not commit
-not_committed : {past : List Entry} {t : ℕ} {answers told : List ℤ} (u : ℕ) → (live past u && pair past u t) ≡ true → MustWait past t (reply.Committed told) ⊎ MayCommit past t answers (reply.Committed told) → ⊥
+not_committed : {past : List Entry} {t : ℕ} {answers committed_runs : List ℤ} (u : ℕ) → (live past u && pair past u t) ≡ true → MustWait past t (reply.Committed committed_runs) ⊎ MayCommit past t answers (reply.Committed committed_runs) → ⊥
 not_committed u h (inl w) = cc w.is
 not_committed {past} {t} u h (inr c) = let p = and_parts _ _ h in c.none_live u p.0 (pair-so past u t p.1)
 

@@ -28,9 +28,9 @@ Wants (Ends answers) k kind = ⊥
 Wants (Asks code) k kind = ⊥
 
 -- an access is t's, of that kind of the key, whatever the value
-abbrev pub IsAccess : Option Access → ℕ → Key → Kind → Type 0
-IsAccess None t k kind = ⊥
-IsAccess (Some a) t k kind = (a.by ≡ t) × (a.key ≡ k) × (a.kind ≡ kind)
+abbrev pub IsAccessBy : Option Access → ℕ → Key → Kind → Type 0
+IsAccessBy None t k kind = ⊥
+IsAccessBy (Some a) t k kind = (a.by ≡ t) × (a.key ≡ k) × (a.kind ≡ kind)
 
 -- t's next access would close this walk; and with that access added as an entry, the members of the walk have no order in
 -- which the first of each pair among them comes first
@@ -41,7 +41,7 @@ pub record ClosesCycle (s : Setting) (past : List Entry) (t : ℕ) (walk : List 
   pub kind : Kind
   pub wants : Wants (next_of s past t) key kind
   pub closes : Closes past t key kind rest
-  pub no_order : (e : Entry) → IsAccess (access_of e) t key kind → (order : List ℕ) → Orders (Pair (e ∷ past)) walk order → ⊥
+  pub no_order : (e : Entry) → IsAccessBy (access_of e) t key kind → (order : List ℕ) → Orders (Pair (e ∷ past)) walk order → ⊥
 
 -- the cause that a reply names is so: the step would close that walk, the procedure asks that code, or the caller quits
 abbrev pub HasCause : Setting → List Entry → Event → Cause → Type 0

@@ -14,20 +14,20 @@ use Rattle.sgt_model.specs.Contents.{Key}
 use Rattle.sgt_model.specs.Traces.{Next, Looks, Puts, Ends, Asks}
 use Rattle.sgt_model.specs.Settings.{Setting}
 use Rattle.sgt_model.specs.Legality.{args_fit}
-use Rattle.sgt_model.specs.Courses.{next_in}
-use Rattle.sgt_model.specs.Held.{Held}
-use Rattle.sgt_model.specs.Verdicts.{Blocks}
-use Rattle.sgt_model.specs.Tops.{found}
-use Rattle.sgt_model.specs.Fallers.{FallsIn}
+use Rattle.sgt_model.specs.LiveProgress.{next_in}
+use Rattle.sgt_model.specs.State.{State}
+use Rattle.sgt_model.specs.Blocks.{Blocks}
+use Rattle.sgt_model.specs.Found.{found}
+use Rattle.sgt_model.specs.FallsIn.{FallsIn}
 use Rattle.sgt_model.specs.Changes.{LooksAt, StoresInto, Starts, Settles, Drops}
 
 -- nothing but the reply
-pub record Stays (answer : Reply) (before : Held) (r : Reply) (after : Held) : Type 0 where
+pub record Stays (answer : Reply) (before : State) (r : Reply) (after : State) : Type 0 where
   pub reply : r ≡ answer
   pub same : after ≡ before
 
 -- what the calls on a transaction share: nothing where it was not started or has ended, or else what is done to a live one
-abbrev pub IfOpen : Bool → Option Fate → Held → Reply → Held → Type 0 → Type 0
+abbrev pub IfOpen : Bool → Option Fate → State → Reply → State → Type 0 → Type 0
 IfOpen false ended before r after if_live = Stays reply.Unknown before r after
 IfOpen true (Some f) before r after if_live = Stays (reply.Over f) before r after
 IfOpen true None before r after if_live = if_live
@@ -35,75 +35,75 @@ IfOpen true None before r after if_live = if_live
 -- a step
 
 -- t is aborted, with those that fall
-pub record AbortsIn (t : ℕ) (why : Cause) (before : Held) (r : Reply) (after : Held) : Type 0 where
+pub record AbortsIn (t : ℕ) (why : Cause) (before : State) (r : Reply) (after : State) : Type 0 where
   pub fell : List ℕ
   pub falls : FallsIn before t fell
   pub reply : r ≡ reply.Aborted why fell
   pub drops : Drops t why fell before after
 
 -- an access that is blocked is refused: t is aborted, and the reply names the walk
-pub record RefusesIn (t : ℕ) (k : Key) (kind : Kind) (before : Held) (r : Reply) (after : Held) : Type 0 where
+pub record RefusesIn (t : ℕ) (k : Key) (kind : Kind) (before : State) (r : Reply) (after : State) : Type 0 where
   pub rest : List ℕ
   pub blocks : Blocks before t k kind rest
   pub aborts : AbortsIn t (cause.Cycle (t ∷ rest)) before r after
 
 -- a look that nothing blocks is made
-pub record MakesLook (t : ℕ) (k : Key) (before : Held) (r : Reply) (after : Held) : Type 0 where
+pub record MakesLook (t : ℕ) (k : Key) (before : State) (r : Reply) (after : State) : Type 0 where
   pub free : (rest : List ℕ) → Blocks before t k Look rest → ⊥
   pub reply : r ≡ reply.Looked k (found before k)
   pub looks : LooksAt t k before after
 
 -- a store that nothing blocks is made
-pub record MakesStore (t : ℕ) (k : Key) (v : ℤ) (before : Held) (r : Reply) (after : Held) : Type 0 where
+pub record MakesStore (t : ℕ) (k : Key) (v : ℤ) (before : State) (r : Reply) (after : State) : Type 0 where
   pub free : (rest : List ℕ) → Blocks before t k Store rest → ⊥
   pub reply : r ≡ reply.Wrote k v
   pub stores : StoresInto t k v before after
 
 -- a step of a live transaction, by what its procedure does next
-abbrev pub StepOn : ℕ → Next → Held → Reply → Held → Type 0
+abbrev pub StepOn : ℕ → Next → State → Reply → State → Type 0
 StepOn t (Looks k) before r after = RefusesIn t k Look before r after ⊎ MakesLook t k before r after
 StepOn t (Puts k v) before r after = RefusesIn t k Store before r after ⊎ MakesStore t k v before r after
 StepOn t (Ends answers) before r after = Stays reply.Ended before r after
 StepOn t (Asks code) before r after = AbortsIn t (cause.Asked code) before r after
 
 -- a step of any transaction
-abbrev pub StepEffect : Setting → ℕ → Held → Reply → Held → Type 0
-StepEffect s t before r after = IfOpen (nat_lt t before.starts) (before.fates t) before r after (StepOn t (next_in s (before.courses t)) before r after)
+abbrev pub StepEffect : Setting → ℕ → State → Reply → State → Type 0
+StepEffect s t before r after = IfOpen (nat_lt t before.starts) (before.fates t) before r after (StepOn t (next_in s (before.progress t)) before r after)
 
 -- a commit
 
 -- u is the least with a pair into t
-pub record IsLeastIn (c : Held) (t u : ℕ) : Type 0 where
+pub record IsLeastIn (c : State) (t u : ℕ) : Type 0 where
   pub pair : c.pairs u t ≡ true
   pub least : (v : ℕ) → c.pairs v t ≡ true → u ≤ v
 
 -- t has to wait for a predecessor
-pub record WaitsOn (t : ℕ) (before : Held) (r : Reply) (after : Held) : Type 0 where
+pub record WaitsOn (t : ℕ) (before : State) (r : Reply) (after : State) : Type 0 where
   pub on : ℕ
   pub least : IsLeastIn before t on
   pub stays : Stays (reply.Waits on) before r after
 
 -- t has no predecessor, and commits with its answers
-pub record CommitsIn (t : ℕ) (answers : List ℤ) (before : Held) (r : Reply) (after : Held) : Type 0 where
+pub record CommitsIn (t : ℕ) (answers : List ℤ) (before : State) (r : Reply) (after : State) : Type 0 where
   pub first : (u : ℕ) → before.pairs u t ≡ true → ⊥
   pub reply : r ≡ reply.Committed answers
   pub settles : Settles t before after
 
 -- a commit of a live transaction, by what its procedure does next
-abbrev pub CommitOn : ℕ → Next → Held → Reply → Held → Type 0
+abbrev pub CommitOn : ℕ → Next → State → Reply → State → Type 0
 CommitOn t (Ends answers) before r after = WaitsOn t before r after ⊎ CommitsIn t answers before r after
 CommitOn t (Looks k) before r after = Stays reply.NotEnded before r after
 CommitOn t (Puts k v) before r after = Stays reply.NotEnded before r after
 CommitOn t (Asks code) before r after = Stays reply.NotEnded before r after
 
 -- a commit of any transaction
-abbrev pub CommitEffect : Setting → ℕ → Held → Reply → Held → Type 0
-CommitEffect s t before r after = IfOpen (nat_lt t before.starts) (before.fates t) before r after (CommitOn t (next_in s (before.courses t)) before r after)
+abbrev pub CommitEffect : Setting → ℕ → State → Reply → State → Type 0
+CommitEffect s t before r after = IfOpen (nat_lt t before.starts) (before.fates t) before r after (CommitOn t (next_in s (before.progress t)) before r after)
 
 -- a quit
 
 -- a quit of any transaction
-abbrev pub QuitEffect : ℕ → Held → Reply → Held → Type 0
+abbrev pub QuitEffect : ℕ → State → Reply → State → Type 0
 QuitEffect t before r after = IfOpen (nat_lt t before.starts) (before.fates t) before r after (AbortsIn t cause.Quit before r after)
 
 -- a start
@@ -118,21 +118,21 @@ taken_reply limits begun living None args = reply.NoProcedure
 taken_reply limits begun living (Some count) args = cond (args_fit count args) (room_reply limits begun living) reply.BadArgs
 
 -- the one reply to a start, from what is held: the tests of `start_reply`, in the same order
-abbrev pub start_answer : Setting → Held → ℕ → List ℤ → Reply
+abbrev pub start_answer : Setting → State → ℕ → List ℤ → Reply
 start_answer s c p args = taken_reply s.limits c.starts (length c.live) (s.procedures p) args
 
 -- what a start with this reply does
-abbrev pub StartOn : ℕ → List ℤ → Held → Reply → Held → Type 0
+abbrev pub StartOn : ℕ → List ℤ → State → Reply → State → Type 0
 StartOn p args before (reply.Started t) after = Starts (record { procedure = p; args = args }) before after
 StartOn p args before _ after = after ≡ before
 
 -- any start
-pub record StartEffect (s : Setting) (p : ℕ) (args : List ℤ) (before : Held) (r : Reply) (after : Held) : Type 0 where
+pub record StartEffect (s : Setting) (p : ℕ) (args : List ℤ) (before : State) (r : Reply) (after : State) : Type 0 where
   pub reply : r ≡ start_answer s before p args
   pub does : StartOn p args before r after
 
 -- what the call of an event answers and does
-abbrev pub CallEffect : Setting → Event → Held → Reply → Held → Type 0
+abbrev pub CallEffect : Setting → Event → State → Reply → State → Type 0
 CallEffect s (Start p args) before r after = StartEffect s p args before r after
 CallEffect s (Step t) before r after = StepEffect s t before r after
 CallEffect s (Commit t) before r after = CommitEffect s t before r after

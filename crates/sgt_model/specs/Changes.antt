@@ -9,12 +9,12 @@ use Rattle.sgt_model.specs.declared.kind.Kind.TheVariants.{Look, Store}
 use Rattle.sgt_model.specs.Contents.{Key, key_eq}
 use Rattle.sgt_model.specs.Progress.{Call}
 use Rattle.sgt_model.specs.Chains.{write_last, value_in}
-use Rattle.sgt_model.specs.Held.{Held, Has}
-use Rattle.sgt_model.specs.Verdicts.{IsRival}
-use Rattle.sgt_model.specs.Tops.{SourceIs, top, found}
+use Rattle.sgt_model.specs.State.{State, Has}
+use Rattle.sgt_model.specs.Blocks.{IsRival}
+use Rattle.sgt_model.specs.Found.{SourceIs, top, found}
 
 -- an access of t is noted, which its procedure wanted and the verdict allowed
-pub record Notes (t : ℕ) (k : Key) (kind : Kind) (before after : Held) : Type 0 where
+pub record Notes (t : ℕ) (k : Key) (kind : Kind) (before after : State) : Type 0 where
   pub live : after.live ≡ before.live
   pub nodes : (u : ℕ) → after.nodes u ≡ before.nodes u
   pub pairs : (u v : ℕ) → (after.pairs u v ≡ true) ↔ ((before.pairs u v ≡ true) ⊎ ((v ≡ t) × IsRival before t k kind u))
@@ -22,24 +22,24 @@ pub record Notes (t : ℕ) (k : Key) (kind : Kind) (before after : Held) : Type 
   pub settled : (j : Key) → after.settled j ≡ before.settled j
   pub fates : (u : ℕ) → after.fates u ≡ before.fates u
   pub starts : after.starts ≡ before.starts
-  pub courses : (u : ℕ) → u ≢ t → after.courses u ≡ before.courses u
+  pub progress : (u : ℕ) → u ≢ t → after.progress u ≡ before.progress u
 
 -- t looks at the key
-pub record LooksAt (t : ℕ) (k : Key) (before after : Held) : Type 0 where
+pub record LooksAt (t : ℕ) (k : Key) (before after : State) : Type 0 where
   pub notes : Notes t k Look before after
   pub chain : (j : Key) → after.chain j ≡ before.chain j
   pub read_from : (u v : ℕ) → Has after.read_from u v ↔ (Has before.read_from u v ⊎ ((v ≡ t) × (u ≢ t) × SourceIs (top before k) u))
-  pub course : after.courses t ≡ record (before.courses t) { read = (before.courses t).read ++ found before k ∷ []; made = (before.courses t).made + 1 }
+  pub own_progress : after.progress t ≡ record (before.progress t) { read = (before.progress t).read ++ found before k ∷ []; made = (before.progress t).made + 1 }
 
 -- t stores a value
-pub record StoresInto (t : ℕ) (k : Key) (v : ℤ) (before after : Held) : Type 0 where
+pub record StoresInto (t : ℕ) (k : Key) (v : ℤ) (before after : State) : Type 0 where
   pub notes : Notes t k Store before after
   pub chain : (j : Key) → after.chain j ≡ cond (key_eq k j) (write_last t v (before.chain j)) (before.chain j)
   pub read_from : (u w : ℕ) → Has after.read_from u w ↔ Has before.read_from u w
-  pub course : after.courses t ≡ record (before.courses t) { made = (before.courses t).made + 1 }
+  pub own_progress : after.progress t ≡ record (before.progress t) { made = (before.progress t).made + 1 }
 
 -- a transaction is started, with the next number
-pub record Starts (call : Call) (before after : Held) : Type 0 where
+pub record Starts (call : Call) (before after : State) : Type 0 where
   pub live : after.live ≡ before.live ++ before.starts ∷ []
   pub nodes : (u : ℕ) → after.nodes u ≡ (before.nodes u || nat_eq u before.starts)
   pub pairs : (u v : ℕ) → after.pairs u v ≡ before.pairs u v
@@ -49,11 +49,11 @@ pub record Starts (call : Call) (before after : Held) : Type 0 where
   pub read_from : (u v : ℕ) → Has after.read_from u v ↔ Has before.read_from u v
   pub fates : (u : ℕ) → after.fates u ≡ before.fates u
   pub starts : after.starts ≡ before.starts + 1
-  pub courses : (u : ℕ) → u ≢ before.starts → after.courses u ≡ before.courses u
-  pub course : after.courses before.starts ≡ record { call = call; read = []; made = 0 }
+  pub progress : (u : ℕ) → u ≢ before.starts → after.progress u ≡ before.progress u
+  pub own_progress : after.progress before.starts ≡ record { call = call; read = []; made = 0 }
 
 -- some transactions leave each layer
-pub record Removes (gone : ℕ → Bool) (before after : Held) : Type 0 where
+pub record Removes (gone : ℕ → Bool) (before after : State) : Type 0 where
   pub live : after.live ≡ filter (λ u. not (gone u)) before.live
   pub nodes : (u : ℕ) → after.nodes u ≡ (before.nodes u && not (gone u))
   pub pairs : (u v : ℕ) → after.pairs u v ≡ (before.pairs u v && (not (gone u) && not (gone v)))
@@ -61,16 +61,16 @@ pub record Removes (gone : ℕ → Bool) (before after : Held) : Type 0 where
   pub chain : (k : Key) → after.chain k ≡ filter (λ w. not (gone w.0)) (before.chain k)
   pub read_from : (u v : ℕ) → Has after.read_from u v ↔ (Has before.read_from u v × (gone u ≡ false) × (gone v ≡ false))
   pub starts : after.starts ≡ before.starts
-  pub courses : (u : ℕ) → gone u ≡ false → after.courses u ≡ before.courses u
+  pub progress : (u : ℕ) → gone u ≡ false → after.progress u ≡ before.progress u
 
 -- t commits: its values become the committed ones
-pub record Settles (t : ℕ) (before after : Held) : Type 0 where
+pub record Settles (t : ℕ) (before after : State) : Type 0 where
   pub removes : Removes (λ u. nat_eq t u) before after
   pub settled : (k : Key) → after.settled k ≡ option_or (value_in t (before.chain k)) (before.settled k)
   pub fates : (u : ℕ) → after.fates u ≡ cond (nat_eq t u) (Some fate.Committed) (before.fates u)
 
 -- t is aborted, with those that fall: their values are dropped
-pub record Drops (t : ℕ) (why : Cause) (fell : List ℕ) (before after : Held) : Type 0 where
+pub record Drops (t : ℕ) (why : Cause) (fell : List ℕ) (before after : State) : Type 0 where
   pub removes : Removes (λ u. nat_eq t u || list_any (λ v. nat_eq v u) fell) before after
   pub settled : (k : Key) → after.settled k ≡ before.settled k
   pub fates : (u : ℕ) → after.fates u ≡ cond (nat_eq t u) (Some (fate.Aborted why)) (cond (list_any (λ v. nat_eq v u) fell) (Some (fate.Fell t)) (before.fates u))

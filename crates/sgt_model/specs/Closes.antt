@@ -5,7 +5,7 @@ use Rattle.sgt_model.specs.declared.entry.Entry.{Entry}
 use Rattle.sgt_model.specs.declared.kind.Kind.{Kind}
 use Rattle.sgt_model.specs.Contents.{Key}
 use Rattle.sgt_model.specs.Walks.{PathOf, last_of, Distinct}
-use Rattle.sgt_model.specs.Pairs.{touches, Pair}
+use Rattle.sgt_model.specs.Pairs.{has_conflicting, Pair}
 
 -- a walk that begins with t and goes on with `rest`, which an access by t of that kind of the key would close: at least two
 -- transactions, none twice, neighbours are conflict pairs, and the last has an earlier access that conflicts
@@ -13,4 +13,4 @@ pub record Closes (past : List Entry) (t : ℕ) (k : Key) (kind : Kind) (rest : 
   pub distinct : Distinct (t ∷ rest)
   pub at_least_two : 0 < length rest
   pub pairs : PathOf (Pair past) t rest
-  pub conflict : touches past (last_of t rest) k kind ≡ true
+  pub conflict : has_conflicting past (last_of t rest) k kind ≡ true

@@ -31,20 +31,20 @@ pub mod Aborts
 pub mod Headline
 pub mod Laws
 -- what a scheduler holds after a history
-pub mod Touches
+pub mod AccessList
 pub mod Chains
 pub mod ChainOrder
-pub mod Courses
-pub mod Held
-pub mod States
+pub mod LiveProgress
+pub mod State
+pub mod StateAfter
 -- what a scheduler decides and does, from what it holds
-pub mod Verdicts
-pub mod Tops
-pub mod Fallers
+pub mod Blocks
+pub mod Found
+pub mod FallsIn
 pub mod Changes
 pub mod CallEffects
 -- why that is legal
 pub mod Soundness
-pub mod NewHeld
+pub mod NewState
 pub mod Sameness
 pub mod Refinement

@@ -21,14 +21,14 @@ conflicts None t k kind = false
 conflicts (Some a) t k kind = nat_eq a.by t && (key_eq a.key k && one_stores a.kind kind)
 
 -- t has an access that conflicts with one of that kind of the key
-abbrev pub touches : List Entry → ℕ → Key → Kind → Bool
-touches [] t k kind = false
-touches (e ∷ past) t k kind = conflicts (access_of e) t k kind || touches past t k kind
+abbrev pub has_conflicting : List Entry → ℕ → Key → Kind → Bool
+has_conflicting [] t k kind = false
+has_conflicting (e ∷ past) t k kind = conflicts (access_of e) t k kind || has_conflicting past t k kind
 
 -- an access is by u, and t has an earlier one that conflicts with it
 abbrev pub FollowsIn : List Entry → Option Access → ℕ → ℕ → Type 0
 FollowsIn past None t u = ⊥
-FollowsIn past (Some a) t u = (a.by ≡ u) × (touches past t a.key a.kind ≡ true)
+FollowsIn past (Some a) t u = (a.by ≡ u) × (has_conflicting past t a.key a.kind ≡ true)
 
 -- an access of t comes before one of u that conflicts with it
 abbrev pub Precedes : List Entry → ℕ → ℕ → Type 0

@@ -35,7 +35,7 @@ call_of (e ∷ past) t = unwrap_or (call_in e.event e.reply t) (call_of past t)
 
 -- what that call does
 abbrev pub run_of : Setting → Call → Run
-run_of s c = s.runs c.procedure c.args
+run_of s.rules c = s.runs c.procedure c.args
 
 -- a look's value, and nothing of a store
 abbrev pub if_look : Kind → Option ℤ → List (Option ℤ)
@@ -57,4 +57,4 @@ made past t = length (acts past t)
 
 -- what t's procedure does next: access number `made` of its trace over the values read, or how that trace ends
 abbrev pub next_of : Setting → List Entry → ℕ → Next
-next_of s past t = next_at (trace (run_of s (call_of past t)) (reads past t)) (made past t)
+next_of s past t = next_at (trace (run_of s.rules (call_of past t)) (reads past t)) (made past t)

@@ -11,29 +11,29 @@ use Rattle.sgt_model.specs.Closes.{Closes}
 use Rattle.sgt_model.specs.Settings.{Setting}
 use Rattle.sgt_model.specs.Legality.{LegalReply}
 use Rattle.sgt_model.specs.Laws.{InEach}
-use Rattle.sgt_model.specs.Held.{Held}
-use Rattle.sgt_model.specs.States.{IsState}
-use Rattle.sgt_model.specs.Verdicts.{Blocks}
-use Rattle.sgt_model.specs.Tops.{found}
+use Rattle.sgt_model.specs.State.{State}
+use Rattle.sgt_model.specs.StateAfter.{IsStateAfter}
+use Rattle.sgt_model.specs.Blocks.{Blocks}
+use Rattle.sgt_model.specs.Found.{found}
 use Rattle.sgt_model.specs.CallEffects.{CallEffect}
 use Rattle.sgt_model.specs.Soundness.{Sound}
-use Rattle.sgt_model.specs.NewHeld.{IsNew}
+use Rattle.sgt_model.specs.NewState.{IsNew}
 
 -- what holds of every legal history with what is held after it
-abbrev pub InEachState : (Setting → List Entry → Held → Type 0) → Type 0
-InEachState P = InEach (λ s past. (c : Held) → IsState s past c → P s past c)
+abbrev pub InEachState : (Setting → List Entry → State → Type 0) → Type 0
+InEachState P = InEach (λ s past. (c : State) → IsStateAfter s past c → P s past c)
 
 -- the reply is legal, and this is held after the longer history
-abbrev pub Continues : Setting → List Entry → Event → Reply → Held → Type 0
-Continues s past event r after = LegalReply s past event r × IsState s (record { event = event; reply = r } ∷ past) after
+abbrev pub Continues : Setting → List Entry → Event → Reply → State → Type 0
+Continues s past event r after = LegalReply s past event r × IsStateAfter s (record { event = event; reply = r } ∷ past) after
 
 -- a call that does what its contract says answers legally, and leaves what is held after the longer history
 abbrev pub CallsSimulate : Type 0
-CallsSimulate = InEachState (λ s past before. (event : Event) (r : Reply) (after : Held) → CallEffect s event before r after → Continues s past event r after)
+CallsSimulate = InEachState (λ s past before. (event : Event) (r : Reply) (after : State) → CallEffect s event before r after → Continues s past event r after)
 
 -- a new scheduler holds what is held after the empty history
 abbrev pub NewIsEmpty : Type 0
-NewIsEmpty = (s : Setting) (c : Held) → IsNew s c → IsState s [] c
+NewIsEmpty = (s : Setting) (c : State) → IsNew s c → IsStateAfter s [] c
 
 -- the verdict on an access of a live transaction is the closing walk's: the same lists
 abbrev pub VerdictsAgree : Type 0

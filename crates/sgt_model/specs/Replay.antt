@@ -14,24 +14,24 @@ use Rattle.sgt_model.specs.Settings.{Setting}
 use Rattle.sgt_model.specs.Progress.{Call, call_of, run_of}
 
 -- a transaction that was told its answers: what it was started with, and the reply to its commit
-pub record Told : Type 0 where
+pub record CommittedRun : Type 0 where
   pub call : Call
   pub reply : Reply
 
 -- the transaction that an entry commits, if it does
-abbrev pub told_in : List Entry → Event → Reply → List Told
-told_in past event (reply.Committed answers) = record { call = call_of past (subject event); reply = reply.Committed answers } ∷ []
-told_in past event _ = []
+abbrev pub committed_run_in : List Entry → Event → Reply → List CommittedRun
+committed_run_in past event (reply.Committed answers) = record { call = call_of past (subject event); reply = reply.Committed answers } ∷ []
+committed_run_in past event _ = []
 
 -- the transactions of the Committed entries, newest first
-abbrev pub told : List Entry → List Told
-told [] = []
-told (e ∷ past) = told_in past e.event e.reply ++ told past
+abbrev pub committed_runs : List Entry → List CommittedRun
+committed_runs [] = []
+committed_runs (e ∷ past) = committed_run_in past e.event e.reply ++ committed_runs past
 
 -- the contents after they ran one after another on the opening. Only their calls are looked at
-abbrev pub replayed : Setting → List Told → Contents
+abbrev pub replayed : Setting → List CommittedRun → Contents
 replayed s [] = s.opening
-replayed s (c ∷ before) = contents_after (serial (run_of s c.call) (replayed s before)) (replayed s before)
+replayed s (c ∷ before) = contents_after (serial (run_of s.rules c.call) (replayed s before)) (replayed s before)
 
 -- what the run gives where this is the reply
 abbrev pub Gives : Outcome → Reply → Type 0
@@ -39,12 +39,12 @@ Gives o (reply.Committed answers) = (last : Contents) × (o ≡ Done answers las
 Gives o _ = ⊥
 
 -- each run gives what its transaction was told
-abbrev pub AsTold : Setting → List Told → Type 0
-AsTold s [] = Unit {0}
-AsTold s (c ∷ before) = AsTold s before × Gives (serial (run_of s c.call) (replayed s before)) c.reply
+abbrev pub AnswersAgree : Setting → List CommittedRun → Type 0
+AnswersAgree s [] = Unit {0}
+AnswersAgree s (c ∷ before) = AnswersAgree s before × Gives (serial (run_of s.rules c.call) (replayed s before)) c.reply
 
 -- the committed transactions' procedures, run one after another in commit order on the opening, give each the answers
 -- that it was told, and end in the committed values
 pub record IsSerial (s : Setting) (past : List Entry) : Type 0 where
-  pub as_told : AsTold s (told past)
-  pub same : (k : Key) → replayed s (told past) k ≡ settled s.opening past k
+  pub answers : AnswersAgree s (committed_runs past)
+  pub same : (k : Key) → replayed s (committed_runs past) k ≡ settled s.opening past k

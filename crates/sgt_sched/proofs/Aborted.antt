@@ -6,17 +6,17 @@ use Rattle.sgt_model.specs.declared.reply.Fate.TheVariants as fate
 use Rattle.sgt_model.specs.declared.reply.Reply.{Reply}
 use Rattle.sgt_model.specs.declared.reply.Reply.TheVariants as reply
 use Rattle.sgt_model.specs.Contents.{Key}
-use Rattle.sgt_model.specs.Held.{Held}
+use Rattle.sgt_model.specs.State.{State}
 use Rattle.sgt_model.specs.Changes.{Removes}
 use Rattle.sgt_model.specs.declared.kind.Kind.{Kind}
 use Rattle.sgt_model.specs.declared.reply.Cause.TheVariants as cause
-use Rattle.sgt_model.specs.Verdicts.{Blocks}
+use Rattle.sgt_model.specs.Blocks.{Blocks}
 use Rattle.sgt_model.specs.CallEffects.{AbortsIn, RefusesIn}
 use Rattle.sgt_model.specs.Soundness.{Sound}
 use Rattle.sgt_model.proofs.Alone.{none_fall}
 
 -- what is sound for few is sound for more
-pub sound_for : (few most : ℕ) (c : Held) → few ≤ most → Sound few c → Sound most c
+pub sound_for : (few most : ℕ) (c : State) → few ≤ most → Sound few c → Sound most c
 sound_for few most c h s = record {
   begun = s.begun;
   listed = s.listed;
@@ -34,7 +34,7 @@ or_false true = refl
 or_false false = refl
 
 -- with one live at a time, taking t out of all layers is an abort with its cascade
-pub aborts_alone : (most : ℕ) (before after : Held) (t : ℕ) (why : Cause) (fell : List ℕ) → most ≤ 1 → Sound most before → before.nodes t ≡ true → fell ≡ [] → Removes (λ u. nat_eq t u) before after → ((k : Key) → after.settled k ≡ before.settled k) → ((u : ℕ) → after.fates u ≡ cond (nat_eq t u) (Some (fate.Aborted why)) (before.fates u)) → AbortsIn t why before (reply.Aborted why fell) after
+pub aborts_alone : (most : ℕ) (before after : State) (t : ℕ) (why : Cause) (fell : List ℕ) → most ≤ 1 → Sound most before → before.nodes t ≡ true → fell ≡ [] → Removes (λ u. nat_eq t u) before after → ((k : Key) → after.settled k ≡ before.settled k) → ((u : ℕ) → after.fates u ≡ cond (nat_eq t u) (Some (fate.Aborted why)) (before.fates u)) → AbortsIn t why before (reply.Aborted why fell) after
 aborts_alone most before after t why fell one sound node none removes settled fates = record {
   fell = [];
   falls = none_fall before (sound_for most 1 before one sound) t node;
@@ -47,7 +47,7 @@ aborts_alone most before after t why fell one sound node none removes settled fa
 }
 
 -- an access that is blocked is refused, by an abort with that walk
-pub refuses_seen : {P : Type 0} (held : P → Held) (before now : P) → before ≡ now → (t : ℕ) (k : Key) (kind : Kind) (rest walk : List ℕ) (r : Reply) (after : Held) → walk ≡ t ∷ rest → Blocks (held before) t k kind rest → AbortsIn t (cause.Cycle walk) (held now) r after → RefusesIn t k kind (held now) r after
+pub refuses_seen : {P : Type 0} (held : P → State) (before now : P) → before ≡ now → (t : ℕ) (k : Key) (kind : Kind) (rest walk : List ℕ) (r : Reply) (after : State) → walk ≡ t ∷ rest → Blocks (held before) t k kind rest → AbortsIn t (cause.Cycle walk) (held now) r after → RefusesIn t k kind (held now) r after
 refuses_seen held before now same t k kind rest walk r after is blocks aborts = record {
   rest = rest;
   blocks = subst (λ p. Blocks (held p) t k kind rest) same blocks;

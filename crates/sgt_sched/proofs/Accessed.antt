@@ -7,31 +7,31 @@ use Rattle.sgt_model.specs.declared.kind.Kind.TheVariants.{Look, Store}
 use Rattle.sgt_model.specs.Contents.{Key, key_eq}
 use Rattle.sgt_model.specs.Walks.{Member, AtMost, last_of}
 use Rattle.sgt_model.specs.Pairs.{one_stores}
-use Rattle.sgt_model.specs.Touches.{Touch, meets, touches_in, is_listed}
-use Rattle.sgt_model.specs.Courses.{Course}
+use Rattle.sgt_model.specs.AccessList.{ListedAccess, is_conflicting, lists_conflicting, is_listed}
+use Rattle.sgt_model.specs.LiveProgress.{Progress}
 use Rattle.sgt_model.specs.Traces.{Used}
 use Rattle.sgt_model.specs.Settings.{runs_in}
-use Rattle.sgt_model.specs.Held.{Has}
-use Rattle.sgt_model.specs.Tops.{top_value, SourceIs}
-use Rattle.sgt_model.specs.Verdicts.{Blocks}
+use Rattle.sgt_model.specs.State.{Has}
+use Rattle.sgt_model.specs.Found.{top_value, SourceIs}
+use Rattle.sgt_model.specs.Blocks.{Blocks}
 use Rattle.sgt_model.specs.Soundness.{Sound}
 use Rattle.sgt_model.specs.Changes.{Notes}
 use Rattle.sgt_model.proofs.Stores.{key_eq-refl}
 use Rattle.sgt_cycle.specs.Walk.{Walk, NoWalk}
 use Rattle.sgt_records.specs.Tops.{top_from, value_of}
-use Rattle.sgt_sched.specs.Courses.{numbers, course_at, changed}
-use Rattle.sgt_sched.specs.Parts.{Parts, held_of, IsKept}
+use Rattle.sgt_sched.specs.LiveList.{numbers, progress_at, changed}
+use Rattle.sgt_sched.specs.SchedulerView.{SchedulerView, state_of, IsKept}
 use Rattle.sgt_sched.specs.Steps.{with_source}
-use Rattle.sgt_sched.proofs.Lists.{numbers-changed, course_at-changed, course_at-own}
+use Rattle.sgt_sched.proofs.Lists.{numbers-changed, progress_at-changed, progress_at-own}
 
 -- who is listed touches some key
 store_conflicts : (kind : Kind) → one_stores kind Store ≡ true
 store_conflicts Look = refl
 store_conflicts Store = refl
 
-listed_touches : (list : List Touch) (t : ℕ) → is_listed list t ≡ true → (k : Key) × (touches_in list t k Store ≡ true)
-listed_touches [] t h = absurd (cc)
-listed_touches (a ∷ rest) t h = elim (or_cases (nat_eq a.by t) (is_listed rest t) h) [ inl here ↦ (a.key, or_left (meets t a.key Store a) _ (and_from (nat_eq a.by t) (key_eq a.key a.key && one_stores a.kind Store) here (and_from (key_eq a.key a.key) (one_stores a.kind Store) (key_eq-refl a.key) (store_conflicts a.kind)))) | inr there ↦ (let r = listed_touches rest t there in (r.0, or_right (meets t r.0 Store a) _ r.1)) ]
+listed_conflicting : (list : List ListedAccess) (t : ℕ) → is_listed list t ≡ true → (k : Key) × (lists_conflicting list t k Store ≡ true)
+listed_conflicting [] t h = absurd (cc)
+listed_conflicting (a ∷ rest) t h = elim (or_cases (nat_eq a.by t) (is_listed rest t) h) [ inl here ↦ (a.key, or_left (is_conflicting t a.key Store a) _ (and_from (nat_eq a.by t) (key_eq a.key a.key && one_stores a.kind Store) here (and_from (key_eq a.key a.key) (one_stores a.kind Store) (key_eq-refl a.key) (store_conflicts a.kind)))) | inr there ↦ (let r = listed_conflicting rest t there in (r.0, or_right (is_conflicting t r.0 Store a) _ r.1)) ]
 
 -- a look's source, as what is held tells it
 pub read_added : (o : Option (ℕ × ℤ)) (s : Option ℤ) (t : ℕ) (reads : List (ℕ × ℕ)) (u v : ℕ) → Has (with_source (top_from o s) t reads) u v ↔ (Has reads u v ⊎ ((v ≡ t) × (u ≢ t) × SourceIs o u))
@@ -63,32 +63,32 @@ value_of-from None None = refl
 value_of-from None (Some v) = refl
 value_of-from (Some w) s = refl
 
-module _ {R A G : Type 0} {chain : R → Key → List (ℕ × ℤ)} {settled : R → Key → Option ℤ} {list : A → List Touch} {nodes : G → ℕ → Bool} {pairs : G → ℕ → ℕ → Bool} {before : Parts R A G} (kept : IsKept chain settled list nodes pairs before) where
+module _ {R A G : Type 0} {chain : R → Key → List (ℕ × ℤ)} {settled : R → Key → Option ℤ} {list : A → List ListedAccess} {nodes : G → ℕ → Bool} {pairs : G → ℕ → ℕ → Bool} {before : SchedulerView R A G} (kept : IsKept chain settled list nodes pairs before) where
   -- few have accesses
   pub rivals_few : AtMost 32 (is_listed (list before.accesses))
   rivals_few = record {
     among = numbers before.live;
     few = omega (arith, kept.sound.few, kept.in_range.few_live);
-    all = λ u h. (kept.sound.listed u).0 (let r = listed_touches (list before.accesses) u h in kept.sound.access_nodes u r.0 Store r.1);
+    all = λ u h. (kept.sound.listed u).0 (let r = listed_conflicting (list before.accesses) u h in kept.sound.access_nodes u r.0 Store r.1);
   }
 
-  module _ (t : ℕ) (live_t : nodes before.graph t ≡ true) (k : Key) (kind : Kind) (rivals : List ℕ) (exact : (u : ℕ) → Member u rivals ↔ ((u ≢ t) × (touches_in (list before.accesses) u k kind ≡ true))) where
+  module _ (t : ℕ) (live_t : nodes before.graph t ≡ true) (k : Key) (kind : Kind) (rivals : List ℕ) (exact : (u : ℕ) → Member u rivals ↔ ((u ≢ t) × (lists_conflicting (list before.accesses) u k kind ≡ true))) where
     -- the rivals are nodes, and others
     pub rivals_are_nodes : (u : ℕ) → Member u rivals → (nodes before.graph u ≡ true) × (u ≢ t)
     rivals_are_nodes u m = let r = (exact u).0 m in (kept.sound.access_nodes u k kind r.1, r.0)
 
     -- a walk to a rival blocks the access, and nothing else does
-    pub blocks_from_walk : (rest : List ℕ) → Walk (pairs before.graph) t rivals rest → Blocks (held_of chain settled list nodes pairs before) t k kind rest
-    blocks_from_walk rest w = let r = (exact (last_of t rest)).0 w.ends in record { distinct = w.distinct; pairs = w.goes; rival = record { apart = r.0; touches = r.1 } }
+    pub blocks_from_walk : (rest : List ℕ) → Walk (pairs before.graph) t rivals rest → Blocks (state_of chain settled list nodes pairs before) t k kind rest
+    blocks_from_walk rest w = let r = (exact (last_of t rest)).0 w.ends in record { distinct = w.distinct; pairs = w.goes; rival = record { apart = r.0; has_conflicting = r.1 } }
 
     -- without a walk to a rival nothing blocks
-    pub not_blocked : NoWalk (pairs before.graph) t rivals → (rest : List ℕ) → Blocks (held_of chain settled list nodes pairs before) t k kind rest → ⊥
-    not_blocked free rest b = free rest (record { distinct = b.distinct; goes = b.pairs; ends = (exact (last_of t rest)).1 (b.rival.apart, b.rival.touches) })
+    pub not_blocked : NoWalk (pairs before.graph) t rivals → (rest : List ℕ) → Blocks (state_of chain settled list nodes pairs before) t k kind rest → ⊥
+    not_blocked free rest b = free rest (record { distinct = b.distinct; goes = b.pairs; ends = (exact (last_of t rest)).1 (b.rival.apart, b.rival.has_conflicting) })
 
     -- the parts after an access that was noted
-    module _ (records : R) (accesses : A) (graph : G) (change : Course → Course) (read_from : List (ℕ × ℕ)) (settled_is : (j : Key) → settled records j ≡ settled before.records j) (list_is : list accesses ≡ list before.accesses ++ record { by = t; key = k; kind = kind } ∷ []) (nodes_are : (u : ℕ) → nodes graph u ≡ nodes before.graph u) (pairs_are : (u v : ℕ) → (pairs graph u v ≡ true) ↔ ((pairs before.graph u v ≡ true) ⊎ ((v ≡ t) × Member u rivals))) where
+    module _ (records : R) (accesses : A) (graph : G) (change : Progress → Progress) (read_from : List (ℕ × ℕ)) (settled_is : (j : Key) → settled records j ≡ settled before.records j) (list_is : list accesses ≡ list before.accesses ++ record { by = t; key = k; kind = kind } ∷ []) (nodes_are : (u : ℕ) → nodes graph u ≡ nodes before.graph u) (pairs_are : (u v : ℕ) → (pairs graph u v ≡ true) ↔ ((pairs before.graph u v ≡ true) ⊎ ((v ≡ t) × Member u rivals))) where
       -- the parts after the access
-      abbrev pub after_access : Parts R A G
+      abbrev pub after_access : SchedulerView R A G
       after_access = record {
         procedures = before.procedures;
         limits = before.limits;
@@ -101,27 +101,27 @@ module _ {R A G : Type 0} {chain : R → Key → List (ℕ × ℤ)} {settled : R
       }
 
       -- what is held notes the access
-      pub notes : Notes t k kind (held_of chain settled list nodes pairs before) (held_of chain settled list nodes pairs after_access)
+      pub notes : Notes t k kind (state_of chain settled list nodes pairs before) (state_of chain settled list nodes pairs after_access)
       notes = record {
         live = numbers-changed t change before.live;
         nodes = nodes_are;
-        pairs = λ u v. ((λ q. elim ((pairs_are u v).0 q) [ inl old ↦ inl old | inr new ↦ (let r = (exact u).0 new.1 in inr (new.0, record { apart = r.0; touches = r.1 })) ]), (λ q. (pairs_are u v).1 (elim q [ inl old ↦ inl old | inr new ↦ inr (new.0, (exact u).1 (new.1.apart, new.1.touches)) ])));
+        pairs = λ u v. ((λ q. elim ((pairs_are u v).0 q) [ inl old ↦ inl old | inr new ↦ (let r = (exact u).0 new.1 in inr (new.0, record { apart = r.0; has_conflicting = r.1 })) ]), (λ q. (pairs_are u v).1 (elim q [ inl old ↦ inl old | inr new ↦ inr (new.0, (exact u).1 (new.1.apart, new.1.has_conflicting)) ])));
         accesses = list_is;
         settled = settled_is;
         fates = λ u. refl;
         starts = refl;
-        courses = λ u h. course_at-changed t u change before.live h;
+        progress = λ u h. progress_at-changed t u change before.live h;
       }
 
       -- t's course is the changed one
-      pub own_course : course_at (changed t change before.live) t ≡ change (course_at before.live t)
-      own_course = course_at-own t change before.live ((kept.sound.listed t).0 live_t)
+      pub own_progress_is : progress_at (changed t change before.live) t ≡ change (progress_at before.live t)
+      own_progress_is = progress_at-own t change before.live ((kept.sound.listed t).0 live_t)
 
-      abbrev UsedBy : Course → Type 0
+      abbrev UsedBy : Progress → Type 0
       UsedBy c = Used (runs_in before.procedures c.call.procedure c.call.args) c.read c.made
 
       -- what holds at every moment holds afterwards, where it does of what is held and of t's course
-      pub kept_access : UsedBy (change (course_at before.live t)) → Sound before.limits.live (held_of chain settled list nodes pairs after_access) → IsKept chain settled list nodes pairs after_access
+      pub kept_access : UsedBy (change (progress_at before.live t)) → Sound before.limits.live (state_of chain settled list nodes pairs after_access) → IsKept chain settled list nodes pairs after_access
       kept_access used sound = record {
         in_range = kept.in_range;
         begun = kept.begun;
@@ -129,6 +129,6 @@ module _ {R A G : Type 0} {chain : R → Key → List (ℕ × ℤ)} {settled : R
         unended = λ u. ((λ h. (kept.unended u).0 (sym (nodes_are u) ∙ h)), (λ h. nodes_are u ∙ (kept.unended u).1 h));
         used = λ u h. both u (nat_eq u t) refl (sym (nodes_are u) ∙ h);
       } where
-        both : (u : ℕ) (b : Bool) → nat_eq u t ≡ b → nodes before.graph u ≡ true → UsedBy (course_at (changed t change before.live) u)
-        both u true e h = subst UsedBy (sym (ap (course_at (changed t change before.live)) (eqb-true u t e) ∙ own_course)) used
-        both u false e h = subst UsedBy (sym (course_at-changed t u change before.live (eqb-false u t e))) (kept.used u h)
+        both : (u : ℕ) (b : Bool) → nat_eq u t ≡ b → nodes before.graph u ≡ true → UsedBy (progress_at (changed t change before.live) u)
+        both u true e h = subst UsedBy (sym (ap (progress_at (changed t change before.live)) (eqb-true u t e) ∙ own_progress_is)) used
+        both u false e h = subst UsedBy (sym (progress_at-changed t u change before.live (eqb-false u t e))) (kept.used u h)

@@ -5,18 +5,18 @@ use Rattle.std.proofs.lemmas.Bool.{and_parts, and_from, true≢false}
 use Rattle.sgt_model.specs.declared.reply.Fate.{Fate}
 use Rattle.sgt_model.specs.Contents.{Key}
 use Rattle.sgt_model.specs.Chains as chains
-use Rattle.sgt_model.specs.Touches.{Touch, forgotten}
-use Rattle.sgt_model.specs.Courses.{Course}
+use Rattle.sgt_model.specs.AccessList.{ListedAccess, forgotten}
+use Rattle.sgt_model.specs.LiveProgress.{Progress}
 use Rattle.sgt_model.specs.Traces.{Used}
 use Rattle.sgt_model.specs.Settings.{runs_in}
-use Rattle.sgt_model.specs.Held.{Has}
+use Rattle.sgt_model.specs.State.{Has}
 use Rattle.sgt_model.specs.Changes.{Removes}
 use Rattle.sgt_model.proofs.Counted.{filter-same}
 use Rattle.sgt_model.proofs.SoundCalls.{sound_removes}
-use Rattle.sgt_sched.specs.Courses.{without}
-use Rattle.sgt_sched.specs.Parts.{Parts, fate_at, held_of, IsKept}
+use Rattle.sgt_sched.specs.LiveList.{without}
+use Rattle.sgt_sched.specs.SchedulerView.{SchedulerView, fate_at, state_of, IsKept}
 use Rattle.sgt_sched.specs.Steps.{unread}
-use Rattle.sgt_sched.proofs.Lists.{nat_eq-swap, numbers-without, course_at-without, fate_at-set}
+use Rattle.sgt_sched.proofs.Lists.{nat_eq-swap, numbers-without, progress_at-without, fate_at-set}
 
 not-true : (b : Bool) → not b ≡ true → b ≡ false
 not-true false h = refl
@@ -47,9 +47,9 @@ unread-kept t (p ∷ rest) u v h f g = both (not (nat_eq p.0 t) && not (nat_eq p
   both false e (inl here) rec = absurd (true≢false (sym (and_from (not (nat_eq p.0 t)) (not (nat_eq p.1 t)) (apart p.0 u here.0 f) (apart p.1 v here.1 g)) ∙ e))
   both false e (inr there) rec = rec there f g
 
-module _ {R A G : Type 0} {chain : R → Key → List (ℕ × ℤ)} {settled : R → Key → Option ℤ} {list : A → List Touch} {nodes : G → ℕ → Bool} {pairs : G → ℕ → ℕ → Bool} {before : Parts R A G} (kept : IsKept chain settled list nodes pairs before) (t : ℕ) (live_t : nodes before.graph t ≡ true) (f : Fate) (records : R) (accesses : A) (graph : G) (chain_is : (k : Key) → chain records k ≡ chains.without t (chain before.records k)) (list_is : list accesses ≡ forgotten t (list before.accesses)) (nodes_are : (u : ℕ) → nodes graph u ≡ (nodes before.graph u && not (nat_eq t u))) (pairs_are : (u v : ℕ) → pairs graph u v ≡ (pairs before.graph u v && (not (nat_eq t u) && not (nat_eq t v)))) where
+module _ {R A G : Type 0} {chain : R → Key → List (ℕ × ℤ)} {settled : R → Key → Option ℤ} {list : A → List ListedAccess} {nodes : G → ℕ → Bool} {pairs : G → ℕ → ℕ → Bool} {before : SchedulerView R A G} (kept : IsKept chain settled list nodes pairs before) (t : ℕ) (live_t : nodes before.graph t ≡ true) (f : Fate) (records : R) (accesses : A) (graph : G) (chain_is : (k : Key) → chain records k ≡ chains.without t (chain before.records k)) (list_is : list accesses ≡ forgotten t (list before.accesses)) (nodes_are : (u : ℕ) → nodes graph u ≡ (nodes before.graph u && not (nat_eq t u))) (pairs_are : (u v : ℕ) → pairs graph u v ≡ (pairs before.graph u v && (not (nat_eq t u) && not (nat_eq t v)))) where
   -- the parts afterwards
-  abbrev pub after_end : Parts R A G
+  abbrev pub after_end : SchedulerView R A G
   after_end = record {
     procedures = before.procedures;
     limits = before.limits;
@@ -70,16 +70,16 @@ module _ {R A G : Type 0} {chain : R → Key → List (ℕ × ℤ)} {settled : R
   fates_end u = fate_at-set before.fates t u f begun
 
   -- what is held loses t
-  pub removes : Removes (λ u. nat_eq t u) (held_of chain settled list nodes pairs before) (held_of chain settled list nodes pairs after_end)
+  pub removes : Removes (λ u. nat_eq t u) (state_of chain settled list nodes pairs before) (state_of chain settled list nodes pairs after_end)
   removes = record {
     live = numbers-without t before.live;
     nodes = nodes_are;
     pairs = pairs_are;
-    accesses = list_is ∙ filter-same _ _ (list before.accesses) (λ (a : Touch). ap not (nat_eq-swap a.by t));
+    accesses = list_is ∙ filter-same _ _ (list before.accesses) (λ (a : ListedAccess). ap not (nat_eq-swap a.by t));
     chain = λ k. chain_is k ∙ filter-same _ _ (chain before.records k) (λ (w : ℕ × ℤ). ap not (nat_eq-swap w.0 t));
     read_from = λ u v. (unread-left t before.read_from u v, λ h. unread-kept t before.read_from u v h.0 h.1 h.2);
     starts = length-set before.fates t (Some f);
-    courses = λ u g. course_at-without t u before.live g;
+    progress = λ u g. progress_at-without t u before.live g;
   }
 
   -- what holds at every moment holds afterwards
@@ -89,9 +89,9 @@ module _ {R A G : Type 0} {chain : R → Key → List (ℕ × ℤ)} {settled : R
     begun = subst (λ n. n ≤ before.limits.begins) (sym (length-set before.fates t (Some f))) kept.begun;
     sound = sound_removes before.limits.live _ _ kept.sound (λ u. nat_eq t u) removes;
     unended = λ u. ((λ h. still u (parts u h)), (λ h. nodes_are u ∙ back u h.0 h.1));
-    used = λ u h. subst (UsedBy u) (sym (removes.courses u (not-true (nat_eq t u) (parts u h).1))) (kept.used u (parts u h).0);
+    used = λ u h. subst (UsedBy u) (sym (removes.progress u (not-true (nat_eq t u) (parts u h).1))) (kept.used u (parts u h).0);
   } where
-    UsedBy : ℕ → Course → Type 0
+    UsedBy : ℕ → Progress → Type 0
     UsedBy u c = Used (runs_in before.procedures c.call.procedure c.call.args) c.read c.made
 
     parts : (u : ℕ) → nodes graph u ≡ true → (nodes before.graph u ≡ true) × (not (nat_eq t u) ≡ true)
@@ -109,9 +109,9 @@ module _ {R A G : Type 0} {chain : R → Key → List (ℕ × ℤ)} {settled : R
       both false e = and_from (nodes before.graph u) (not (nat_eq t u)) ((kept.unended u).1 (subst (λ n. u < n) (length-set before.fates t (Some f)) h, sym (ap (λ b. cond b (Some f) (fate_at before.fates u)) e) ∙ (sym (fates_end u) ∙ none))) (ap not e)
 
   -- the same, of parts that were seen as others, before and after
-  module _ (now : Parts R A G) (seen : before ≡ now) (live : List (ℕ × Course)) (read_from : List (ℕ × ℕ)) (fates : List (Option Fate)) (live_is : live ≡ without t before.live) (reads_are : read_from ≡ unread t before.read_from) (fates_are : fates ≡ slice_set before.fates t (Some f)) where
+  module _ (now : SchedulerView R A G) (seen : before ≡ now) (live : List (ℕ × Progress)) (read_from : List (ℕ × ℕ)) (fates : List (Option Fate)) (live_is : live ≡ without t before.live) (reads_are : read_from ≡ unread t before.read_from) (fates_are : fates ≡ slice_set before.fates t (Some f)) where
     -- the parts after the end, as they were computed
-    abbrev pub after_parts : Parts R A G
+    abbrev pub after_parts : SchedulerView R A G
     after_parts = record {
       procedures = before.procedures;
       limits = before.limits;
@@ -140,11 +140,11 @@ module _ {R A G : Type 0} {chain : R → Key → List (ℕ × ℤ)} {settled : R
     kept_after = subst (IsKept chain settled list nodes pairs) is_after kept_end
 
     -- what is held loses t, from what callers saw
-    pub removes_seen : Removes (λ u. nat_eq t u) (held_of chain settled list nodes pairs now) (held_of chain settled list nodes pairs after_parts)
+    pub removes_seen : Removes (λ u. nat_eq t u) (state_of chain settled list nodes pairs now) (state_of chain settled list nodes pairs after_parts)
     removes_seen =
-        subst (λ (p : Parts R A G). Removes (λ u. nat_eq t u) (held_of chain settled list nodes pairs p) (held_of chain settled list nodes pairs after_parts)) seen
-        (subst (λ (p : Parts R A G). Removes (λ u. nat_eq t u) (held_of chain settled list nodes pairs before) (held_of chain settled list nodes pairs p)) is_after removes)
+        subst (λ (p : SchedulerView R A G). Removes (λ u. nat_eq t u) (state_of chain settled list nodes pairs p) (state_of chain settled list nodes pairs after_parts)) seen
+        (subst (λ (p : SchedulerView R A G). Removes (λ u. nat_eq t u) (state_of chain settled list nodes pairs before) (state_of chain settled list nodes pairs p)) is_after removes)
 
     -- t has its fate, from what callers saw
     pub fates_seen : (u : ℕ) → fate_at fates u ≡ cond (nat_eq t u) (Some f) (fate_at now.fates u)
-    fates_seen u = ap (λ l. fate_at l u) fates_are ∙ (fates_end u ∙ ap (λ (p : Parts R A G). cond (nat_eq t u) (Some f) (fate_at p.fates u)) seen)
+    fates_seen u = ap (λ l. fate_at l u) fates_are ∙ (fates_end u ∙ ap (λ (p : SchedulerView R A G). cond (nat_eq t u) (Some f) (fate_at p.fates u)) seen)

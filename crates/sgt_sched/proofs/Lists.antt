@@ -3,9 +3,9 @@ use Rattle.std.proofs.Common.{◌≡◌, ◌≢◌, ℕ, zero, suc, ◌<◌, ◌
 use Rattle.std.proofs.lemmas.Bool.{false_from_ne_true, eqb-true, eqb-false, eq-eqb}
 use Rattle.sgt_model.specs.declared.reply.Fate.{Fate}
 use Rattle.sgt_model.specs.Walks.{Member}
-use Rattle.sgt_model.specs.Courses.{Course}
-use Rattle.sgt_sched.specs.Courses.{numbers, course_at, changed, without}
-use Rattle.sgt_sched.specs.Parts.{fate_at}
+use Rattle.sgt_model.specs.LiveProgress.{Progress}
+use Rattle.sgt_sched.specs.LiveList.{numbers, progress_at, changed, without}
+use Rattle.sgt_sched.specs.SchedulerView.{fate_at}
 
 -- numbers
 
@@ -23,24 +23,24 @@ nat_eq-swap t u = both (nat_eq t u) refl where
 -- a course that is added, as the last
 
 -- one more at the end
-pub numbers-added : (live : List (ℕ × Course)) (t : ℕ) (c : Course) → numbers (live ++ (t, c) ∷ []) ≡ numbers live ++ t ∷ []
+pub numbers-added : (live : List (ℕ × Progress)) (t : ℕ) (c : Progress) → numbers (live ++ (t, c) ∷ []) ≡ numbers live ++ t ∷ []
 numbers-added [] t c = refl
 numbers-added (r ∷ rest) t c = ap (λ l. r.0 ∷ l) (numbers-added rest t c)
 
 -- the others keep their courses
-pub course_at-added : (live : List (ℕ × Course)) (t u : ℕ) (c : Course) → u ≢ t → course_at (live ++ (t, c) ∷ []) u ≡ course_at live u
-course_at-added [] t u c h = ap (λ b. cond b c (course_at [] u)) (other t u (λ e. h (sym e)))
-course_at-added (r ∷ rest) t u c h = ap (λ d. cond (nat_eq r.0 u) r.1 d) (course_at-added rest t u c h)
+pub progress_at-added : (live : List (ℕ × Progress)) (t u : ℕ) (c : Progress) → u ≢ t → progress_at (live ++ (t, c) ∷ []) u ≡ progress_at live u
+progress_at-added [] t u c h = ap (λ b. cond b c (progress_at [] u)) (other t u (λ e. h (sym e)))
+progress_at-added (r ∷ rest) t u c h = ap (λ d. cond (nat_eq r.0 u) r.1 d) (progress_at-added rest t u c h)
 
 -- the added one has its own
-pub course_at-new : (live : List (ℕ × Course)) (t : ℕ) (c : Course) → (Member t (numbers live) → ⊥) → course_at (live ++ (t, c) ∷ []) t ≡ c
-course_at-new [] t c h = ap (λ b. cond b c (course_at [] t)) (eq-eqb t t refl)
-course_at-new (r ∷ rest) t c h = ap (λ b. cond b r.1 (course_at (rest ++ (t, c) ∷ []) t)) (other r.0 t (λ e. h (inl (sym e)))) ∙ course_at-new rest t c (λ m. h (inr m))
+pub progress_at-new : (live : List (ℕ × Progress)) (t : ℕ) (c : Progress) → (Member t (numbers live) → ⊥) → progress_at (live ++ (t, c) ∷ []) t ≡ c
+progress_at-new [] t c h = ap (λ b. cond b c (progress_at [] t)) (eq-eqb t t refl)
+progress_at-new (r ∷ rest) t c h = ap (λ b. cond b r.1 (progress_at (rest ++ (t, c) ∷ []) t)) (other r.0 t (λ e. h (inl (sym e)))) ∙ progress_at-new rest t c (λ m. h (inr m))
 
 -- a course that is changed
 
 -- a change keeps the numbers
-pub numbers-changed : (t : ℕ) (f : Course → Course) (live : List (ℕ × Course)) → numbers (changed t f live) ≡ numbers live
+pub numbers-changed : (t : ℕ) (f : Progress → Progress) (live : List (ℕ × Progress)) → numbers (changed t f live) ≡ numbers live
 numbers-changed t f [] = refl
 numbers-changed t f (r ∷ rest) = both (nat_eq r.0 t) refl (numbers-changed t f rest) where
   both : (b : Bool) → nat_eq r.0 t ≡ b → numbers (changed t f rest) ≡ numbers rest → numbers (changed t f (r ∷ rest)) ≡ r.0 ∷ numbers rest
@@ -48,22 +48,22 @@ numbers-changed t f (r ∷ rest) = both (nat_eq r.0 t) refl (numbers-changed t f
   both false e h = rw e (ap (λ l. r.0 ∷ l) h)
 
 -- and the courses of the others
-pub course_at-changed : (t u : ℕ) (f : Course → Course) (live : List (ℕ × Course)) → u ≢ t → course_at (changed t f live) u ≡ course_at live u
-course_at-changed t u f [] h = refl
-course_at-changed t u f (r ∷ rest) h = both (nat_eq r.0 t) refl (course_at-changed t u f rest h) where
-  both : (b : Bool) → nat_eq r.0 t ≡ b → course_at (changed t f rest) u ≡ course_at rest u → course_at (changed t f (r ∷ rest)) u ≡ course_at (r ∷ rest) u
+pub progress_at-changed : (t u : ℕ) (f : Progress → Progress) (live : List (ℕ × Progress)) → u ≢ t → progress_at (changed t f live) u ≡ progress_at live u
+progress_at-changed t u f [] h = refl
+progress_at-changed t u f (r ∷ rest) h = both (nat_eq r.0 t) refl (progress_at-changed t u f rest h) where
+  both : (b : Bool) → nat_eq r.0 t ≡ b → progress_at (changed t f rest) u ≡ progress_at rest u → progress_at (changed t f (r ∷ rest)) u ≡ progress_at (r ∷ rest) u
   both true e rec =
       let no : nat_eq r.0 u ≡ false = other r.0 u (λ i. h (sym i ∙ eqb-true r.0 t e)) in
-      ap (λ b. course_at (cond b ((r.0, f r.1) ∷ rest) (r ∷ changed t f rest)) u) e ∙ (ap (λ b. cond b (f r.1) (course_at rest u)) no ∙ sym (ap (λ b. cond b r.1 (course_at rest u)) no))
-  both false e rec = ap (λ b. course_at (cond b ((r.0, f r.1) ∷ rest) (r ∷ changed t f rest)) u) e ∙ ap (λ c. cond (nat_eq r.0 u) r.1 c) rec
+      ap (λ b. progress_at (cond b ((r.0, f r.1) ∷ rest) (r ∷ changed t f rest)) u) e ∙ (ap (λ b. cond b (f r.1) (progress_at rest u)) no ∙ sym (ap (λ b. cond b r.1 (progress_at rest u)) no))
+  both false e rec = ap (λ b. progress_at (cond b ((r.0, f r.1) ∷ rest) (r ∷ changed t f rest)) u) e ∙ ap (λ c. cond (nat_eq r.0 u) r.1 c) rec
 
 -- the changed one has the changed course
-pub course_at-own : (t : ℕ) (f : Course → Course) (live : List (ℕ × Course)) → Member t (numbers live) → course_at (changed t f live) t ≡ f (course_at live t)
-course_at-own t f [] m = absurd m
-course_at-own t f (r ∷ rest) m = both (nat_eq r.0 t) refl (course_at-own t f rest) where
-  both : (b : Bool) → nat_eq r.0 t ≡ b → (Member t (numbers rest) → course_at (changed t f rest) t ≡ f (course_at rest t)) → course_at (changed t f (r ∷ rest)) t ≡ f (course_at (r ∷ rest) t)
+pub progress_at-own : (t : ℕ) (f : Progress → Progress) (live : List (ℕ × Progress)) → Member t (numbers live) → progress_at (changed t f live) t ≡ f (progress_at live t)
+progress_at-own t f [] m = absurd m
+progress_at-own t f (r ∷ rest) m = both (nat_eq r.0 t) refl (progress_at-own t f rest) where
+  both : (b : Bool) → nat_eq r.0 t ≡ b → (Member t (numbers rest) → progress_at (changed t f rest) t ≡ f (progress_at rest t)) → progress_at (changed t f (r ∷ rest)) t ≡ f (progress_at (r ∷ rest) t)
   both true e rec = rw (e, e) refl
-  both false e rec = ap (λ b. course_at (cond b ((r.0, f r.1) ∷ rest) (r ∷ changed t f rest)) t) e ∙ (ap (λ b. cond b r.1 (course_at (changed t f rest) t)) e ∙ (rec (later m) ∙ sym (ap (λ b. f (cond b r.1 (course_at rest t))) e))) where
+  both false e rec = ap (λ b. progress_at (cond b ((r.0, f r.1) ∷ rest) (r ∷ changed t f rest)) t) e ∙ (ap (λ b. cond b r.1 (progress_at (changed t f rest) t)) e ∙ (rec (later m) ∙ sym (ap (λ b. f (cond b r.1 (progress_at rest t))) e))) where
     later : (t ≡ r.0) ⊎ Member t (numbers rest) → Member t (numbers rest)
     later (inl h) = absurd (eqb-false r.0 t e (sym h))
     later (inr h) = h
@@ -71,7 +71,7 @@ course_at-own t f (r ∷ rest) m = both (nat_eq r.0 t) refl (course_at-own t f r
 -- a course that is dropped
 
 -- dropping one drops its number
-pub numbers-without : (t : ℕ) (live : List (ℕ × Course)) → numbers (without t live) ≡ filter (λ u. not (nat_eq t u)) (numbers live)
+pub numbers-without : (t : ℕ) (live : List (ℕ × Progress)) → numbers (without t live) ≡ filter (λ u. not (nat_eq t u)) (numbers live)
 numbers-without t [] = refl
 numbers-without t (r ∷ rest) = ap (λ b. numbers (cond (not b) (r ∷ without t rest) (without t rest))) (nat_eq-swap r.0 t) ∙ both (nat_eq t r.0) (numbers-without t rest) where
   both : (b : Bool) → numbers (without t rest) ≡ filter (λ u. not (nat_eq t u)) (numbers rest) → numbers (cond (not b) (r ∷ without t rest) (without t rest)) ≡ cond (not b) (r.0 ∷ filter (λ u. not (nat_eq t u)) (numbers rest)) (filter (λ u. not (nat_eq t u)) (numbers rest))
@@ -79,14 +79,14 @@ numbers-without t (r ∷ rest) = ap (λ b. numbers (cond (not b) (r ∷ without 
   both false h = ap (λ l. r.0 ∷ l) h
 
 -- and keeps the courses of the others
-pub course_at-without : (t u : ℕ) (live : List (ℕ × Course)) → nat_eq t u ≡ false → course_at (without t live) u ≡ course_at live u
-course_at-without t u [] h = refl
-course_at-without t u (r ∷ rest) h = both (nat_eq r.0 t) refl (course_at-without t u rest h) where
-  both : (b : Bool) → nat_eq r.0 t ≡ b → course_at (without t rest) u ≡ course_at rest u → course_at (without t (r ∷ rest)) u ≡ course_at (r ∷ rest) u
+pub progress_at-without : (t u : ℕ) (live : List (ℕ × Progress)) → nat_eq t u ≡ false → progress_at (without t live) u ≡ progress_at live u
+progress_at-without t u [] h = refl
+progress_at-without t u (r ∷ rest) h = both (nat_eq r.0 t) refl (progress_at-without t u rest h) where
+  both : (b : Bool) → nat_eq r.0 t ≡ b → progress_at (without t rest) u ≡ progress_at rest u → progress_at (without t (r ∷ rest)) u ≡ progress_at (r ∷ rest) u
   both true e rec =
       let no : nat_eq r.0 u ≡ false = ap (λ x. nat_eq x u) (eqb-true r.0 t e) ∙ h in
-      ap (λ b. course_at (cond (not b) (r ∷ without t rest) (without t rest)) u) e ∙ (rec ∙ sym (ap (λ b. cond b r.1 (course_at rest u)) no))
-  both false e rec = ap (λ b. course_at (cond (not b) (r ∷ without t rest) (without t rest)) u) e ∙ ap (λ c. cond (nat_eq r.0 u) r.1 c) rec
+      ap (λ b. progress_at (cond (not b) (r ∷ without t rest) (without t rest)) u) e ∙ (rec ∙ sym (ap (λ b. cond b r.1 (progress_at rest u)) no))
+  both false e rec = ap (λ b. progress_at (cond (not b) (r ∷ without t rest) (without t rest)) u) e ∙ ap (λ c. cond (nat_eq r.0 u) r.1 c) rec
 
 -- fates
 

@@ -3,8 +3,8 @@ use Rattle.std.proofs.Common.{◌≡◌, ℕ, zero, suc, ◌<◌, ◌≤◌, ◌
 use Rattle.std.specs.List.{position_or_len}
 use Rattle.std.proofs.lemmas.Bool.{ltb-true, ltb-false}
 use Rattle.std.proofs.lemmas.Option.{same_Some, slice_get_read}
-use Rattle.sgt_model.specs.Courses.{Course}
-use Rattle.sgt_sched.specs.Courses.{has_number, course_at, changed}
+use Rattle.sgt_model.specs.LiveProgress.{Progress}
+use Rattle.sgt_sched.specs.LiveList.{has_number, progress_at, changed}
 
 first_true : (b : Bool) (n : ℕ) → cond (not b) (1 + n) 0 ≡ 0 → b ≡ true
 first_true true n e = refl
@@ -15,30 +15,30 @@ later_false true n i e = absurd (omega arith)
 later_false false n i e = (refl, omega arith)
 
 -- what the first of that number says
-pub record IsFirst (t : ℕ) (live : List (ℕ × Course)) (i : ℕ) (r : ℕ × Course) : Type 0 where
-  pub course : course_at live t ≡ r.1
-  pub change : (f : Course → Course) → slice_set live i (r.0, f r.1) ≡ changed t f live
+pub record IsFirst (t : ℕ) (live : List (ℕ × Progress)) (i : ℕ) (r : ℕ × Progress) : Type 0 where
+  pub own_progress : progress_at live t ≡ r.1
+  pub change : (f : Progress → Progress) → slice_set live i (r.0, f r.1) ≡ changed t f live
 
 -- what stands at the first place of t
-pub first_at : (t : ℕ) (live : List (ℕ × Course)) (i : ℕ) (r : ℕ × Course) → position_or_len (has_number t) live ≡ i → slice_get live i ≡ Some r → IsFirst t live i r
+pub first_at : (t : ℕ) (live : List (ℕ × Progress)) (i : ℕ) (r : ℕ × Progress) → position_or_len (has_number t) live ≡ i → slice_get live i ≡ Some r → IsFirst t live i r
 first_at t [] i r e at = absurd (cc)
 first_at t (q ∷ rest) zero r e at =
     let b = first_true (nat_eq q.0 t) (position_or_len (has_number t) rest) e in
     let same : q ≡ r = same_Some _ _ at in
     record {
-      course = ap (λ c. cond c q.1 (course_at rest t)) b ∙ ap (λ (x : ℕ × Course). x.1) same;
-      change = λ f. ap (λ (x : ℕ × Course). (x.0, f x.1) ∷ rest) (sym same) ∙ sym (ap (λ c. cond c ((q.0, f q.1) ∷ rest) (q ∷ changed t f rest)) b);
+      own_progress = ap (λ c. cond c q.1 (progress_at rest t)) b ∙ ap (λ (x : ℕ × Progress). x.1) same;
+      change = λ f. ap (λ (x : ℕ × Progress). (x.0, f x.1) ∷ rest) (sym same) ∙ sym (ap (λ c. cond c ((q.0, f q.1) ∷ rest) (q ∷ changed t f rest)) b);
     }
 first_at t (q ∷ rest) (suc i) r e at =
     let b = later_false (nat_eq q.0 t) (position_or_len (has_number t) rest) i e in
     let rec = first_at t rest i r b.1 at in
     record {
-      course = ap (λ c. cond c q.1 (course_at rest t)) b.0 ∙ rec.course;
+      own_progress = ap (λ c. cond c q.1 (progress_at rest t)) b.0 ∙ rec.own_progress;
       change = λ f. ap (λ l. q ∷ l) (rec.change f) ∙ sym (ap (λ c. cond c ((q.0, f q.1) ∷ rest) (q ∷ changed t f rest)) b.0);
     }
 
 -- none has that number: nothing changes
-pub unchanged : (t : ℕ) (live : List (ℕ × Course)) (f : Course → Course) → length live ≤ position_or_len (has_number t) live → changed t f live ≡ live
+pub unchanged : (t : ℕ) (live : List (ℕ × Progress)) (f : Progress → Progress) → length live ≤ position_or_len (has_number t) live → changed t f live ≡ live
 unchanged t [] f e = refl
 unchanged t (q ∷ rest) f e = both (nat_eq q.0 t) refl (unchanged t rest f) where
   both : (b : Bool) → nat_eq q.0 t ≡ b → (length rest ≤ position_or_len (has_number t) rest → changed t f rest ≡ rest) → changed t f (q ∷ rest) ≡ q ∷ rest
@@ -65,15 +65,15 @@ missed n len e = both (nat_lt n len) refl where
   both false h = ltb-false n len h
 
 -- the same of a list that was seen as another
-pub found_at : (t : ℕ) (rows seen : List (ℕ × Course)) (i : ℕ) (r : ℕ × Course) → rows ≡ seen → Some i ≡ position (has_number t) seen → r ≡ get_or rows i r → IsFirst t seen i r
+pub found_at : (t : ℕ) (rows seen : List (ℕ × Progress)) (i : ℕ) (r : ℕ × Progress) → rows ≡ seen → Some i ≡ position (has_number t) seen → r ≡ get_or rows i r → IsFirst t seen i r
 found_at t rows seen i r same found read =
     let at : position_or_len (has_number t) seen ≡ i = placed _ (length seen) i (sym found) in
     first_at t seen i r at (slice_get_read seen (length seen) i r refl (within (position_or_len (has_number t) seen) (length seen) i (sym found)) (subst (λ l. r ≡ get_or l i r) same read))
 
 -- where t has no place, a change does nothing
-pub none_found : (t : ℕ) (live : List (ℕ × Course)) (f : Course → Course) → None ≡ position (has_number t) live → live ≡ changed t f live
+pub none_found : (t : ℕ) (live : List (ℕ × Progress)) (f : Progress → Progress) → None ≡ position (has_number t) live → live ≡ changed t f live
 none_found t live f missing = sym (unchanged t live f (missed _ (length live) (sym missing)))
 
 -- the change at that place, of a list that was seen as another
-pub changed_at : (t : ℕ) (rows seen : List (ℕ × Course)) (i : ℕ) (r s : ℕ × Course) (f : Course → Course) → rows ≡ seen → s ≡ (r.0, f r.1) → IsFirst t seen i r → slice_set rows i s ≡ changed t f seen
+pub changed_at : (t : ℕ) (rows seen : List (ℕ × Progress)) (i : ℕ) (r s : ℕ × Progress) (f : Progress → Progress) → rows ≡ seen → s ≡ (r.0, f r.1) → IsFirst t seen i r → slice_set rows i s ≡ changed t f seen
 changed_at t rows seen i r s f same is first = ap (λ l. slice_set l i s) same ∙ (ap (slice_set seen i) is ∙ first.change f)

@@ -5,23 +5,23 @@ use Rattle.std.proofs.lemmas.Bool.{false_from_ne_true, or_cases, or_left, or_rig
 use Rattle.sgt_model.specs.declared.reply.Fate.{Fate}
 use Rattle.sgt_model.specs.Contents.{Key}
 use Rattle.sgt_model.specs.Walks.{Member, AtMost}
-use Rattle.sgt_model.specs.Touches.{Touch}
-use Rattle.sgt_model.specs.Courses.{Course}
+use Rattle.sgt_model.specs.AccessList.{ListedAccess}
+use Rattle.sgt_model.specs.LiveProgress.{Progress}
 use Rattle.sgt_model.specs.Traces.{Used}
 use Rattle.sgt_model.specs.Settings.{Setting, runs_in}
 use Rattle.sgt_model.specs.declared.reply.Reply.{Reply}
 use Rattle.sgt_model.specs.CallEffects.{start_answer, StartOn, StartEffect}
-use Rattle.sgt_model.specs.Held.{Held}
+use Rattle.sgt_model.specs.State.{State}
 use Rattle.sgt_model.specs.Changes.{Starts}
 use Rattle.sgt_model.proofs.Conditions.{next_no_node}
 use Rattle.sgt_model.proofs.SoundCalls.{sound_starts}
-use Rattle.sgt_sched.specs.Courses.{numbers, course_at, started}
-use Rattle.sgt_sched.specs.Parts.{Parts, fate_at, held_of, IsKept}
-use Rattle.sgt_sched.proofs.Lists.{numbers-added, course_at-added, course_at-new, fate_at-added, fate_at-past}
+use Rattle.sgt_sched.specs.LiveList.{numbers, progress_at, started}
+use Rattle.sgt_sched.specs.SchedulerView.{SchedulerView, fate_at, state_of, IsKept}
+use Rattle.sgt_sched.proofs.Lists.{numbers-added, progress_at-added, progress_at-new, fate_at-added, fate_at-past}
 
-module _ {R A G : Type 0} {chain : R → Key → List (ℕ × ℤ)} {settled : R → Key → Option ℤ} {list : A → List Touch} {nodes : G → ℕ → Bool} {pairs : G → ℕ → ℕ → Bool} {before : Parts R A G} (kept : IsKept chain settled list nodes pairs before) (procedure : ℕ) (args : List ℤ) (graph : G) (nodes_are : (u : ℕ) → nodes graph u ≡ (nodes before.graph u || nat_eq u (length before.fates))) (pairs_are : (u v : ℕ) → pairs graph u v ≡ pairs before.graph u v) where
+module _ {R A G : Type 0} {chain : R → Key → List (ℕ × ℤ)} {settled : R → Key → Option ℤ} {list : A → List ListedAccess} {nodes : G → ℕ → Bool} {pairs : G → ℕ → ℕ → Bool} {before : SchedulerView R A G} (kept : IsKept chain settled list nodes pairs before) (procedure : ℕ) (args : List ℤ) (graph : G) (nodes_are : (u : ℕ) → nodes graph u ≡ (nodes before.graph u || nat_eq u (length before.fates))) (pairs_are : (u v : ℕ) → pairs graph u v ≡ pairs before.graph u v) where
   -- the parts afterwards
-  abbrev pub after_start : Parts R A G
+  abbrev pub after_start : SchedulerView R A G
   after_start = record {
     procedures = before.procedures;
     limits = before.limits;
@@ -35,10 +35,10 @@ module _ {R A G : Type 0} {chain : R → Key → List (ℕ × ℤ)} {settled : R
 
   -- the next number is no live one's
   not_live : Member (length before.fates) (numbers before.live) → ⊥
-  not_live m = next_no_node before.limits.live (held_of chain settled list nodes pairs before) kept.sound ((kept.sound.listed (length before.fates)).1 m)
+  not_live m = next_no_node before.limits.live (state_of chain settled list nodes pairs before) kept.sound ((kept.sound.listed (length before.fates)).1 m)
 
   -- what is held starts it
-  pub starts : Starts (record { procedure = procedure; args = args }) (held_of chain settled list nodes pairs before) (held_of chain settled list nodes pairs after_start)
+  pub starts : Starts (record { procedure = procedure; args = args }) (state_of chain settled list nodes pairs before) (state_of chain settled list nodes pairs after_start)
   starts = record {
     live = numbers-added before.live (length before.fates) (started procedure args);
     nodes = nodes_are;
@@ -49,8 +49,8 @@ module _ {R A G : Type 0} {chain : R → Key → List (ℕ × ℤ)} {settled : R
     read_from = λ u v. ((λ h. h), (λ h. h));
     fates = fate_at-added before.fates;
     starts = length-append before.fates (None ∷ []);
-    courses = λ u h. course_at-added before.live (length before.fates) u (started procedure args) h;
-    course = course_at-new before.live (length before.fates) (started procedure args) not_live;
+    progress = λ u h. progress_at-added before.live (length before.fates) u (started procedure args) h;
+    own_progress = progress_at-new before.live (length before.fates) (started procedure args) not_live;
   }
 
   -- what holds at every moment holds afterwards
@@ -65,10 +65,10 @@ module _ {R A G : Type 0} {chain : R → Key → List (ℕ × ℤ)} {settled : R
     Open : ℕ → Type 0
     Open u = (u < length (before.fates ++ None ∷ [])) × (fate_at (before.fates ++ None ∷ []) u ≡ None)
 
-    UsedBy : ℕ → Course → Type 0
+    UsedBy : ℕ → Progress → Type 0
     UsedBy u c = Used (runs_in before.procedures c.call.procedure c.call.args) c.read c.made
 
-    few : (l : List (ℕ × Course)) → length l < before.limits.live → length (numbers l) < before.limits.live
+    few : (l : List (ℕ × Progress)) → length l < before.limits.live → length (numbers l) < before.limits.live
     few l h = subst (λ n. n < before.limits.live) (sym (length-map l _)) h
 
     was : (u : ℕ) → nodes before.graph u ≡ true → Open u
@@ -83,16 +83,16 @@ module _ {R A G : Type 0} {chain : R → Key → List (ℕ × ℤ)} {settled : R
       both true e = or_right (nodes before.graph u) _ e
       both false e = or_left _ (nat_eq u (length before.fates)) ((kept.unended u).1 (omega (arith, h, length-append before.fates (None ∷ []), eqb-false u (length before.fates) e), sym (fate_at-added before.fates u) ∙ f))
 
-    used_before : (u : ℕ) → nodes before.graph u ≡ true → UsedBy u (course_at (before.live ++ (length before.fates, started procedure args) ∷ []) u)
-    used_before u h = subst (UsedBy u) (sym (starts.courses u (λ e. next_no_node before.limits.live (held_of chain settled list nodes pairs before) kept.sound (subst (λ x. nodes before.graph x ≡ true) e h)))) (kept.used u h)
+    used_before : (u : ℕ) → nodes before.graph u ≡ true → UsedBy u (progress_at (before.live ++ (length before.fates, started procedure args) ∷ []) u)
+    used_before u h = subst (UsedBy u) (sym (starts.progress u (λ e. next_no_node before.limits.live (state_of chain settled list nodes pairs before) kept.sound (subst (λ x. nodes before.graph x ≡ true) e h)))) (kept.used u h)
 
-    used_now : (u : ℕ) → u ≡ length before.fates → UsedBy u (course_at (before.live ++ (length before.fates, started procedure args) ∷ []) u)
-    used_now u e = subst (UsedBy u) (sym (ap (course_at after_start.live) e ∙ starts.course)) tt
+    used_now : (u : ℕ) → u ≡ length before.fates → UsedBy u (progress_at (before.live ++ (length before.fates, started procedure args) ∷ []) u)
+    used_now u e = subst (UsedBy u) (sym (ap (progress_at after_start.live) e ∙ starts.own_progress)) tt
 
-module _ {R A G : Type 0} {chain : R → Key → List (ℕ × ℤ)} {settled : R → Key → Option ℤ} {list : A → List Touch} {nodes : G → ℕ → Bool} {pairs : G → ℕ → ℕ → Bool} {before : Parts R A G} (kept : IsKept chain settled list nodes pairs before) (procedure : ℕ) (args : List ℤ) (t : ℕ) (next : t ≡ length before.fates) where
+module _ {R A G : Type 0} {chain : R → Key → List (ℕ × ℤ)} {settled : R → Key → Option ℤ} {list : A → List ListedAccess} {nodes : G → ℕ → Bool} {pairs : G → ℕ → ℕ → Bool} {before : SchedulerView R A G} (kept : IsKept chain settled list nodes pairs before) (procedure : ℕ) (args : List ℤ) (t : ℕ) (next : t ≡ length before.fates) where
   -- the next number is no node
   pub start_new : nodes before.graph t ≡ false
-  start_new = false_from_ne_true (nodes before.graph t) (λ h. next_no_node before.limits.live (held_of chain settled list nodes pairs before) kept.sound (subst (λ n. nodes before.graph n ≡ true) next h))
+  start_new = false_from_ne_true (nodes before.graph t) (λ h. next_no_node before.limits.live (state_of chain settled list nodes pairs before) kept.sound (subst (λ n. nodes before.graph n ≡ true) next h))
 
   -- there is room for one more node
   pub start_room : length (numbers before.live) < before.limits.live → AtMost 31 (nodes before.graph)
@@ -103,9 +103,9 @@ module _ {R A G : Type 0} {chain : R → Key → List (ℕ × ℤ)} {settled : R
   }
 
   -- the parts after a start, with its effect
-  pub start_done : (graph : G) (live : List (ℕ × Course)) (fates : List (Option Fate)) → ((u : ℕ) → nodes graph u ≡ (nodes before.graph u || nat_eq u t)) → ((u v : ℕ) → pairs graph u v ≡ pairs before.graph u v) → live ≡ before.live ++ (t, started procedure args) ∷ [] → fates ≡ before.fates ++ None ∷ [] → length (numbers before.live) < before.limits.live → length before.fates < before.limits.begins → IsKept chain settled list nodes pairs (record { procedures = before.procedures; limits = before.limits; records = before.records; accesses = before.accesses; graph = graph; live = live; read_from = before.read_from; fates = fates }) × Starts (record { procedure = procedure; args = args }) (held_of chain settled list nodes pairs before) (held_of chain settled list nodes pairs (record { procedures = before.procedures; limits = before.limits; records = before.records; accesses = before.accesses; graph = graph; live = live; read_from = before.read_from; fates = fates }))
+  pub start_done : (graph : G) (live : List (ℕ × Progress)) (fates : List (Option Fate)) → ((u : ℕ) → nodes graph u ≡ (nodes before.graph u || nat_eq u t)) → ((u v : ℕ) → pairs graph u v ≡ pairs before.graph u v) → live ≡ before.live ++ (t, started procedure args) ∷ [] → fates ≡ before.fates ++ None ∷ [] → length (numbers before.live) < before.limits.live → length before.fates < before.limits.begins → IsKept chain settled list nodes pairs (record { procedures = before.procedures; limits = before.limits; records = before.records; accesses = before.accesses; graph = graph; live = live; read_from = before.read_from; fates = fates }) × Starts (record { procedure = procedure; args = args }) (state_of chain settled list nodes pairs before) (state_of chain settled list nodes pairs (record { procedures = before.procedures; limits = before.limits; records = before.records; accesses = before.accesses; graph = graph; live = live; read_from = before.read_from; fates = fates }))
   start_done graph live fates nodes_are pairs_are live_is fates_is room more =
-      subst (λ (p : Parts R A G). IsKept chain settled list nodes pairs p × Starts (record { procedure = procedure; args = args }) (held_of chain settled list nodes pairs before) (held_of chain settled list nodes pairs p)) same
+      subst (λ (p : SchedulerView R A G). IsKept chain settled list nodes pairs p × Starts (record { procedure = procedure; args = args }) (state_of chain settled list nodes pairs before) (state_of chain settled list nodes pairs p)) same
       (kept_start kept procedure args graph nodes_now pairs_are (subst (λ n. n < before.limits.live) (length-map before.live _) room) more, starts kept procedure args graph nodes_now pairs_are) where
         nodes_now : (u : ℕ) → nodes graph u ≡ (nodes before.graph u || nat_eq u (length before.fates))
         nodes_now u = nodes_are u ∙ ap (λ n. nodes before.graph u || nat_eq u n) next
@@ -120,7 +120,7 @@ module _ {R A G : Type 0} {chain : R → Key → List (ℕ × ℤ)} {settled : R
         same = λ i. record { procedures = before.procedures; limits = before.limits; records = before.records; accesses = before.accesses; graph = graph; live = live_now i; read_from = before.read_from; fates = fates_now i }
 
 -- the effect of a start, where the parts before it were seen as others
-pub start_effect : {P : Type 0} (held : P → Held) (s : Setting) (procedure : ℕ) (args : List ℤ) (before now after : P) (r : Reply) → before ≡ now → r ≡ start_answer s (held now) procedure args → StartOn procedure args (held before) r (held after) → StartEffect s procedure args (held now) r (held after)
+pub start_effect : {P : Type 0} (held : P → State) (s : Setting) (procedure : ℕ) (args : List ℤ) (before now after : P) (r : Reply) → before ≡ now → r ≡ start_answer s (held now) procedure args → StartOn procedure args (held before) r (held after) → StartEffect s procedure args (held now) r (held after)
 start_effect held s procedure args before now after r same reply does = record {
   reply = reply;
   does = subst (λ p. StartOn procedure args (held p) r (held after)) same does;

@@ -5,19 +5,19 @@ use Rattle.sgt_model.specs.declared.reply.Fate.{Fate}
 use Rattle.sgt_model.specs.declared.reply.Reply.{Reply}
 use Rattle.sgt_model.specs.Traces.{Next}
 use Rattle.sgt_model.specs.Settings.{Setting}
-use Rattle.sgt_model.specs.Courses.{next_in}
-use Rattle.sgt_model.specs.Held.{Held}
+use Rattle.sgt_model.specs.LiveProgress.{next_in}
+use Rattle.sgt_model.specs.State.{State}
 use Rattle.sgt_model.specs.CallEffects.{IfOpen, StepOn, StepEffect, CallEffect}
 
 -- what is done to one that was started and has not ended
-pub if_unended : (b : Bool) (ended : Option Fate) (before : Held) (r : Reply) (after : Held) (X : Type 0) → b ≡ true → ended ≡ None → X → IfOpen b ended before r after X
+pub if_unended : (b : Bool) (ended : Option Fate) (before : State) (r : Reply) (after : State) (X : Type 0) → b ≡ true → ended ≡ None → X → IfOpen b ended before r after X
 if_unended b ended before r after X begun none x =
     subst (λ c. IfOpen c ended before r after X) (sym begun) (subst (λ o. IfOpen true o before r after X) (sym none) x)
 
 -- a step, by what comes next
-pub steps_on : (s : Setting) (t : ℕ) (before : Held) (r : Reply) (after : Held) (n : Next) → nat_lt t before.starts ≡ true → before.fates t ≡ None → n ≡ next_in s (before.courses t) → StepOn t n before r after → StepEffect s t before r after
+pub steps_on : (s : Setting) (t : ℕ) (before : State) (r : Reply) (after : State) (n : Next) → nat_lt t before.starts ≡ true → before.fates t ≡ None → n ≡ next_in s (before.progress t) → StepOn t n before r after → StepEffect s t before r after
 steps_on s t before r after n begun none next done = if_unended _ _ before r after _ begun none (subst (λ m. StepOn t m before r after) next done)
 
 -- a call on an event, which is this one
-pub called : (s : Setting) (before : Held) (r : Reply) (after : Held) (event is : Event) → event ≡ is → CallEffect s is before r after → CallEffect s event before r after
+pub called : (s : Setting) (before : State) (r : Reply) (after : State) (event is : Event) → event ≡ is → CallEffect s is before r after → CallEffect s event before r after
 called s before r after event is same done = subst (λ e. CallEffect s e before r after) (sym same) done

@@ -3,17 +3,17 @@ use Rattle.std.specs.Prelude.{◌≡◌, ◌<◌, ℕ, ℤ, List, length, Result
 use Rattle.sgt_model.specs.declared.limits.Limits.{Limits}
 use Rattle.sgt_model.specs.declared.reply.Reply.{Reply}
 use Rattle.sgt_model.specs.declared.reply.Reply.TheVariants as reply
-use Rattle.sgt_model.specs.Held.{Held}
+use Rattle.sgt_model.specs.State.{State}
 use Rattle.sgt_model.specs.Settings.{Setting}
 use Rattle.sgt_model.specs.CallEffects.{start_answer, StartOn}
 
 -- t is the next number, and the limits have room for it
-pub record HasRoom (limits : Limits) (c : Held) (t : ℕ) : Type 0 where
+pub record HasRoom (limits : Limits) (c : State) (t : ℕ) : Type 0 where
   pub next : t ≡ c.starts
   pub begins : c.starts < limits.begins
   pub live : length c.live < limits.live
 
 -- with this number, for which there is room; or the start is answered so, and does nothing
-abbrev pub Admits : Setting → Held → ℕ → List ℤ → Result ℕ Reply → Type 0
+abbrev pub Admits : Setting → State → ℕ → List ℤ → Result ℕ Reply → Type 0
 Admits s c procedure args (Ok t) = (reply.Started t ≡ start_answer s c procedure args) × HasRoom s.limits c t
 Admits s c procedure args (Err r) = (r ≡ start_answer s c procedure args) × StartOn procedure args c r c

@@ -1,4 +1,4 @@
-pub mod Courses
-pub mod Parts
+pub mod LiveList
+pub mod SchedulerView
 pub mod Admission
 pub mod Steps

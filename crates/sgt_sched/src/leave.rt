@@ -1,6 +1,6 @@
 ghost use Rattle.std.specs.Prelude.{◌≡◌, ℕ, ◌&&◌, not, nat_eq};
-ghost use Rattle.sgt_model.specs.Touches.{forgotten};
-ghost use Rattle.sgt_sched.specs.Courses.{without};
+ghost use Rattle.sgt_model.specs.AccessList.{forgotten};
+ghost use Rattle.sgt_sched.specs.LiveList.{without};
 ghost use Rattle.sgt_sched.specs.Steps.{unread};
 
 use crate::live::Live;

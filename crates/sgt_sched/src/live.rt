@@ -1,6 +1,6 @@
 ghost use Rattle.std.specs.Prelude.{◌≡◌, ◌<◌, [], ◌∷◌, ◌++◌, length, OnOk, OnErr, position, find};
 ghost use Rattle.std.specs.Option.{option_copied};
-ghost use Rattle.sgt_sched.specs.Courses.{has_number, course_at, started, looked, stored, changed, without};
+ghost use Rattle.sgt_sched.specs.LiveList.{has_number, progress_at, started, looked, stored, changed, without};
 
 use crate::running::Running;
 use sgt_model::{Args, NoMemory, Tid};
@@ -16,9 +16,9 @@ pub struct Live {
 
 impl Model for Live {
     ghost use Rattle.std.specs.Prelude.{ℕ, List};
-    ghost use Rattle.sgt_model.specs.Courses.{Course};
+    ghost use Rattle.sgt_model.specs.LiveProgress.{Progress};
 
-    ghost Value = { List (ℕ × Course) };
+    ghost Value = { List (ℕ × Progress) };
 
     ghost view = { λ l. l.running.items };
 }
@@ -66,7 +66,7 @@ impl Live {
 
     /// Notes that a look of t found this. `NoMemory` where a growth was refused; then nothing has changed.
     pub fn look(&mut self, t: Tid, value: Option<i64>) -> Result<(), NoMemory>
-        requires few { (course_at self.old t).made < 64 }
+        requires few { (progress_at self.old t).made < 64 }
         ensures ok { OnOk result (self.new ≡ changed t (looked value) self.old) }
         ensures err { OnErr result (self.new ≡ self.old) }
     {
@@ -78,7 +78,7 @@ impl Live {
 
     /// Notes that t stored a value. This takes no memory.
     pub fn store(&mut self, t: Tid)
-        requires few { (course_at self.old t).made < 64 }
+        requires few { (progress_at self.old t).made < 64 }
         ensures { self.new ≡ changed t stored self.old }
     {
         if let Some(place) = self.place(t) {

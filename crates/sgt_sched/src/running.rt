@@ -1,7 +1,7 @@
 ghost use Rattle.std.specs.Prelude.{◌≡◌, ◌<◌, OnOk, OnErr};
 ghost use Rattle.sgt_proc.specs.Nexts.{seen, IsAccess, StoresValue};
-ghost use Rattle.sgt_sched.specs.Courses.{looked, stored};
-ghost use Rattle.sgt_sched.specs.Parts.{HasUsed};
+ghost use Rattle.sgt_sched.specs.LiveList.{looked, stored};
+ghost use Rattle.sgt_sched.specs.SchedulerView.{HasUsed};
 ghost use Rattle.sgt_sched.specs.Steps.{next_along};
 
 use sgt_model::{Args, NoMemory, Tid};
@@ -22,9 +22,9 @@ pub struct Running {
 
 impl Model for Running {
     ghost use Rattle.std.specs.Prelude.{ℕ};
-    ghost use Rattle.sgt_model.specs.Courses.{Course};
+    ghost use Rattle.sgt_model.specs.LiveProgress.{Progress};
 
-    ghost Value = { ℕ × Course };
+    ghost Value = { ℕ × Progress };
 
     ghost view = { λ r. (
       r.tid,

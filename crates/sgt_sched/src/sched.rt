@@ -5,15 +5,15 @@ ghost use Rattle.sgt_model.specs.Bounds.{AreInRange};
 ghost use Rattle.sgt_model.specs.CallEffects.{AbortsIn, CallEffect, CommitEffect, CommitsIn, MakesLook, MakesStore, QuitEffect, RefusesIn, StartEffect, StepEffect};
 ghost use Rattle.sgt_model.specs.Contents.{Contents};
 ghost use Rattle.sgt_model.specs.Databases.{contents_of};
-ghost use Rattle.sgt_model.specs.NewHeld.{IsNew};
+ghost use Rattle.sgt_model.specs.NewState.{IsNew};
 ghost use Rattle.sgt_model.specs.Numbers.{IsValue};
 ghost use Rattle.sgt_model.specs.Sameness.{Same};
 ghost use Rattle.sgt_model.specs.Settings.{setting};
 ghost use Rattle.sgt_model.specs.Traces.{Looks, Puts};
 ghost use Rattle.sgt_proc.specs.Nexts.{seen, IsAccess, StoresValue};
 ghost use Rattle.sgt_sched.specs.Admission.{Admits};
-ghost use Rattle.sgt_sched.specs.Courses.{course_at};
-ghost use Rattle.sgt_sched.specs.Parts.{fate_at, held_of};
+ghost use Rattle.sgt_sched.specs.LiveList.{progress_at};
+ghost use Rattle.sgt_sched.specs.SchedulerView.{fate_at, state_of};
 ghost use Rattle.sgt_sched.specs.Steps.{IsClosed, IsUnended, next_along};
 
 use crate::arguments::args_fit;
@@ -60,9 +60,9 @@ pub struct Sched<R: Records, A: Accesses, G: Graph> {
 impl<R: Records, A: Accesses, G: Graph> Model for Sched<R, A, G> {
     ghost use Rattle.std.specs.Coded.{codes};
     ghost use Rattle.sgt_model.specs.Codes.{coded_program};
-    ghost use Rattle.sgt_sched.specs.Parts.{Parts, IsKept};
+    ghost use Rattle.sgt_sched.specs.SchedulerView.{SchedulerView, IsKept};
 
-    ghost Value = { Parts R A G };
+    ghost Value = { SchedulerView R A G };
 
     ghost coded = { Prim.hlevel (codes, coded_program) };
 
@@ -102,7 +102,7 @@ impl<R: Records, A: Accesses, G: Graph> Sched<R, A, G> {
     ) -> Result<Self, MakeError>
         ensures new { IfOk result (λ s.
             IsNew (setting (contents_of opening.now) procedures.items limits)
-            (held_of R.chain R.settled A.list G.nodes G.pairs s)) }
+            (state_of R.chain R.settled A.list G.nodes G.pairs s)) }
         ensures procedures { IfOk result (λ s. s.procedures ≡ procedures.items) }
         ensures limits { IfOk result (λ s. s.limits ≡ limits) }
         ensures refused { (result ≡ Err MakeError.BadLimits) ↔ (¬ AreInRange limits) }
@@ -128,13 +128,13 @@ impl<R: Records, A: Accesses, G: Graph> Sched<R, A, G> {
     pub fn call(&mut self, event: &Event) -> Result<Reply, NoMemory>
         ensures done { IfOk result (λ r. (opening : Contents) →
             CallEffect (setting opening self.old.procedures self.old.limits) event.now
-            (held_of R.chain R.settled A.list G.nodes G.pairs self.old) r
-            (held_of R.chain R.settled A.list G.nodes G.pairs self.new)) }
+            (state_of R.chain R.settled A.list G.nodes G.pairs self.old) r
+            (state_of R.chain R.settled A.list G.nodes G.pairs self.new)) }
         ensures procedures { self.new.procedures ≡ self.old.procedures }
         ensures limits { self.new.limits ≡ self.old.limits }
         ensures refused { OnErr result (Same
-            (held_of R.chain R.settled A.list G.nodes G.pairs self.old)
-            (held_of R.chain R.settled A.list G.nodes G.pairs self.new)) }
+            (state_of R.chain R.settled A.list G.nodes G.pairs self.old)
+            (state_of R.chain R.settled A.list G.nodes G.pairs self.new)) }
     {
         match event {
             Event::Start { procedure, args } => self.start(*procedure, args),
@@ -153,13 +153,13 @@ impl<R: Records, A: Accesses, G: Graph> Sched<R, A, G> {
     pub fn start(&mut self, procedure: u16, args: &Args) -> Result<Reply, NoMemory>
         ensures done { IfOk result (λ r. (opening : Contents) →
             StartEffect (setting opening self.old.procedures self.old.limits) procedure args.now
-            (held_of R.chain R.settled A.list G.nodes G.pairs self.old) r
-            (held_of R.chain R.settled A.list G.nodes G.pairs self.new)) }
+            (state_of R.chain R.settled A.list G.nodes G.pairs self.old) r
+            (state_of R.chain R.settled A.list G.nodes G.pairs self.new)) }
         ensures procedures { self.new.procedures ≡ self.old.procedures }
         ensures limits { self.new.limits ≡ self.old.limits }
         ensures refused { OnErr result (Same
-            (held_of R.chain R.settled A.list G.nodes G.pairs self.old)
-            (held_of R.chain R.settled A.list G.nodes G.pairs self.new)) }
+            (state_of R.chain R.settled A.list G.nodes G.pairs self.old)
+            (state_of R.chain R.settled A.list G.nodes G.pairs self.new)) }
     {
         let t = match self.admit(procedure, args) {
             Ok(t) => t,
@@ -176,7 +176,7 @@ impl<R: Records, A: Accesses, G: Graph> Sched<R, A, G> {
     fn admit(&self, procedure: u16, args: &Args) -> Result<Tid, Reply>
         ensures { (opening : Contents) →
             Admits (setting opening self.now.procedures self.now.limits)
-            (held_of R.chain R.settled A.list G.nodes G.pairs self.now)
+            (state_of R.chain R.settled A.list G.nodes G.pairs self.now)
             procedure args.now result }
     {
         let count = match self.procedures.get(usize::from(procedure)) {
@@ -206,13 +206,13 @@ impl<R: Records, A: Accesses, G: Graph> Sched<R, A, G> {
     pub fn step(&mut self, t: Tid) -> Result<Reply, NoMemory>
         ensures done { IfOk result (λ r. (opening : Contents) →
             StepEffect (setting opening self.old.procedures self.old.limits) t
-            (held_of R.chain R.settled A.list G.nodes G.pairs self.old) r
-            (held_of R.chain R.settled A.list G.nodes G.pairs self.new)) }
+            (state_of R.chain R.settled A.list G.nodes G.pairs self.old) r
+            (state_of R.chain R.settled A.list G.nodes G.pairs self.new)) }
         ensures procedures { self.new.procedures ≡ self.old.procedures }
         ensures limits { self.new.limits ≡ self.old.limits }
         ensures refused { OnErr result (Same
-            (held_of R.chain R.settled A.list G.nodes G.pairs self.old)
-            (held_of R.chain R.settled A.list G.nodes G.pairs self.new)) }
+            (state_of R.chain R.settled A.list G.nodes G.pairs self.old)
+            (state_of R.chain R.settled A.list G.nodes G.pairs self.new)) }
     {
         let next = match self.next(t) {
             Ok(next) => next,
@@ -233,8 +233,8 @@ impl<R: Records, A: Accesses, G: Graph> Sched<R, A, G> {
     pub fn commit(&mut self, t: Tid) -> Reply
         ensures done { (opening : Contents) →
             CommitEffect (setting opening self.old.procedures self.old.limits) t
-            (held_of R.chain R.settled A.list G.nodes G.pairs self.old) result
-            (held_of R.chain R.settled A.list G.nodes G.pairs self.new) }
+            (state_of R.chain R.settled A.list G.nodes G.pairs self.old) result
+            (state_of R.chain R.settled A.list G.nodes G.pairs self.new) }
         ensures procedures { self.new.procedures ≡ self.old.procedures }
         ensures limits { self.new.limits ≡ self.old.limits }
     {
@@ -253,8 +253,8 @@ impl<R: Records, A: Accesses, G: Graph> Sched<R, A, G> {
     /// Answers: `Unknown` where it was never started; `Over` where it has ended; else `Aborted`.
     pub fn quit(&mut self, t: Tid) -> Reply
         ensures done { QuitEffect t
-            (held_of R.chain R.settled A.list G.nodes G.pairs self.old) result
-            (held_of R.chain R.settled A.list G.nodes G.pairs self.new) }
+            (state_of R.chain R.settled A.list G.nodes G.pairs self.old) result
+            (state_of R.chain R.settled A.list G.nodes G.pairs self.new) }
         ensures procedures { self.new.procedures ≡ self.old.procedures }
         ensures limits { self.new.limits ≡ self.old.limits }
     {
@@ -268,7 +268,7 @@ impl<R: Records, A: Accesses, G: Graph> Sched<R, A, G> {
     fn running(&self, t: Tid) -> Result<&Running, Reply>
         ensures live { OnOk result (G.nodes self.now.graph t ≡ true) }
         ensures unended { OnOk result (IsUnended self.now.fates t) }
-        ensures course { IfOk result (λ running. running.now ≡ (t, course_at self.now.live t)) }
+        ensures own_progress { IfOk result (λ running. running.now ≡ (t, progress_at self.now.live t)) }
         ensures closed { IfErr result
             (IsClosed (nat_lt t (length self.now.fates)) (fate_at self.now.fates t)) }
     {
@@ -287,10 +287,10 @@ impl<R: Records, A: Accesses, G: Graph> Sched<R, A, G> {
         ensures live { OnOk result (G.nodes self.now.graph t ≡ true) }
         ensures unended { OnOk result (IsUnended self.now.fates t) }
         ensures next { IfOk result (λ next.
-            seen next ≡ next_along self.now.procedures (course_at self.now.live t)) }
+            seen next ≡ next_along self.now.procedures (progress_at self.now.live t)) }
         ensures in_range { IfOk result StoresValue }
         ensures few { IfOk result (λ next.
-            IsAccess next → (course_at self.now.live t).made < 64) }
+            IsAccess next → (progress_at self.now.live t).made < 64) }
         ensures closed { IfErr result
             (IsClosed (nat_lt t (length self.now.fates)) (fate_at self.now.fates t)) }
     {
@@ -305,8 +305,8 @@ impl<R: Records, A: Accesses, G: Graph> Sched<R, A, G> {
     fn abort(&mut self, t: Tid, cause: Cause) -> Reply
         requires live { G.nodes self.old.graph t ≡ true }
         ensures aborts { AbortsIn t cause
-            (held_of R.chain R.settled A.list G.nodes G.pairs self.old) result
-            (held_of R.chain R.settled A.list G.nodes G.pairs self.new) }
+            (state_of R.chain R.settled A.list G.nodes G.pairs self.old) result
+            (state_of R.chain R.settled A.list G.nodes G.pairs self.new) }
         ensures procedures { self.new.procedures ≡ self.old.procedures }
         ensures limits { self.new.limits ≡ self.old.limits }
     {
@@ -329,21 +329,21 @@ impl<R: Records, A: Accesses, G: Graph> Sched<R, A, G> {
     // Makes a look of a live transaction, or aborts it where the look would close a cycle.
     fn look(&mut self, t: Tid, key: Key) -> Result<Reply, NoMemory>
         requires live { G.nodes self.old.graph t ≡ true }
-        requires next { next_along self.old.procedures (course_at self.old.live t)
+        requires next { next_along self.old.procedures (progress_at self.old.live t)
             ≡ Looks key }
-        requires few { (course_at self.old.live t).made < 64 }
+        requires few { (progress_at self.old.live t).made < 64 }
         ensures done { IfOk result (λ r.
             RefusesIn t key Look
-            (held_of R.chain R.settled A.list G.nodes G.pairs self.old) r
-            (held_of R.chain R.settled A.list G.nodes G.pairs self.new)
+            (state_of R.chain R.settled A.list G.nodes G.pairs self.old) r
+            (state_of R.chain R.settled A.list G.nodes G.pairs self.new)
             ⊎ MakesLook t key
-            (held_of R.chain R.settled A.list G.nodes G.pairs self.old) r
-            (held_of R.chain R.settled A.list G.nodes G.pairs self.new)) }
+            (state_of R.chain R.settled A.list G.nodes G.pairs self.old) r
+            (state_of R.chain R.settled A.list G.nodes G.pairs self.new)) }
         ensures procedures { self.new.procedures ≡ self.old.procedures }
         ensures limits { self.new.limits ≡ self.old.limits }
         ensures refused { OnErr result (Same
-            (held_of R.chain R.settled A.list G.nodes G.pairs self.old)
-            (held_of R.chain R.settled A.list G.nodes G.pairs self.new)) }
+            (state_of R.chain R.settled A.list G.nodes G.pairs self.old)
+            (state_of R.chain R.settled A.list G.nodes G.pairs self.new)) }
     {
         let rivals = self.accesses.rivals(t, key, Kind::Look);
         match self.graph.test(t, &rivals) {
@@ -365,22 +365,22 @@ impl<R: Records, A: Accesses, G: Graph> Sched<R, A, G> {
     // Makes a store of a live transaction, or aborts it where the store would close a cycle.
     fn store(&mut self, t: Tid, key: Key, value: i64) -> Result<Reply, NoMemory>
         requires live { G.nodes self.old.graph t ≡ true }
-        requires next { next_along self.old.procedures (course_at self.old.live t)
+        requires next { next_along self.old.procedures (progress_at self.old.live t)
             ≡ Puts key value }
-        requires few { (course_at self.old.live t).made < 64 }
+        requires few { (progress_at self.old.live t).made < 64 }
         requires in_range { IsValue value }
         ensures done { IfOk result (λ r.
             RefusesIn t key Store
-            (held_of R.chain R.settled A.list G.nodes G.pairs self.old) r
-            (held_of R.chain R.settled A.list G.nodes G.pairs self.new)
+            (state_of R.chain R.settled A.list G.nodes G.pairs self.old) r
+            (state_of R.chain R.settled A.list G.nodes G.pairs self.new)
             ⊎ MakesStore t key value
-            (held_of R.chain R.settled A.list G.nodes G.pairs self.old) r
-            (held_of R.chain R.settled A.list G.nodes G.pairs self.new)) }
+            (state_of R.chain R.settled A.list G.nodes G.pairs self.old) r
+            (state_of R.chain R.settled A.list G.nodes G.pairs self.new)) }
         ensures procedures { self.new.procedures ≡ self.old.procedures }
         ensures limits { self.new.limits ≡ self.old.limits }
         ensures refused { OnErr result (Same
-            (held_of R.chain R.settled A.list G.nodes G.pairs self.old)
-            (held_of R.chain R.settled A.list G.nodes G.pairs self.new)) }
+            (state_of R.chain R.settled A.list G.nodes G.pairs self.old)
+            (state_of R.chain R.settled A.list G.nodes G.pairs self.new)) }
     {
         let rivals = self.accesses.rivals(t, key, Kind::Store);
         match self.graph.test(t, &rivals) {
@@ -402,8 +402,8 @@ impl<R: Records, A: Accesses, G: Graph> Sched<R, A, G> {
         requires live { G.nodes self.old.graph t ≡ true }
         requires first { (u : ℕ) → G.pairs self.old.graph u t ≡ false }
         ensures commits { CommitsIn t answers
-            (held_of R.chain R.settled A.list G.nodes G.pairs self.old) result
-            (held_of R.chain R.settled A.list G.nodes G.pairs self.new) }
+            (state_of R.chain R.settled A.list G.nodes G.pairs self.old) result
+            (state_of R.chain R.settled A.list G.nodes G.pairs self.new) }
         ensures procedures { self.new.procedures ≡ self.old.procedures }
         ensures limits { self.new.limits ≡ self.old.limits }
     {

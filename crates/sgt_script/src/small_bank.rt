@@ -15,7 +15,7 @@ pub(crate) struct SmallBankEngine {
 }
 
 impl Machine for SmallBankEngine {
-    ghost use Rattle.sgt_engine.specs.Parts as parts;
+    ghost use Rattle.sgt_engine.specs.EngineView as parts;
     ghost use Rattle.sgt_smallbank.specs.Texts as smallbank;
 
     ghost programs = { smallbank.procedures };

@@ -1,6 +1,6 @@
 use Rattle.std.proofs.Common.{rules, refl, ap, ◌∙◌, ◌+◌}
 use Rattle.sgt_model.proofs.Headline.{headline}
-use Rattle.sgt_engine.specs.Parts.{Parts, setting_of, events_of}
+use Rattle.sgt_engine.specs.EngineView.{EngineView, setting_of, events_of}
 use Rattle.sgt_engine.proofs.Entries.{legal_new, events_taken}
 use Rattle.sgt_engine.proofs.run.run_list.Goals as goal
 
@@ -19,7 +19,7 @@ pub loop-event-preserved : goal.loop-event-preserved
 loop-event-preserved g c = record {
   done = ap (λ n. n + 1) c.loop-event.invariant.done;
   setting = ap setting_of c.in-Ok.ensures.adds ∙ c.loop-event.invariant.setting;
-  events = ap (λ (e : Parts). events_of e.past) c.in-Ok.ensures.adds ∙ events_taken _ c.loop-event.engine.past c.args.events.now c.loop-event.done c.loop-event.event-index c.event-item.result c.loop-event.invariant.done (search rules) c.loop-event.invariant.events c.event-item.is c.copied.ensures;
+  events = ap (λ (e : EngineView). events_of e.past) c.in-Ok.ensures.adds ∙ events_taken _ c.loop-event.engine.past c.args.events.now c.loop-event.done c.loop-event.event-index c.event-item.result c.loop-event.invariant.done (search rules) c.loop-event.invariant.events c.event-item.is c.copied.ensures;
   legal = c.in-Ok.ensures.legal;
   headline = c.in-Ok.ensures.headline;
 }

@@ -1,12 +1,12 @@
 use Rattle.std.proofs.Common.{subst, ◌<◌}
-use Rattle.sgt_model.specs.Courses.{Course}
-use Rattle.sgt_sched.specs.Courses.{looked}
+use Rattle.sgt_model.specs.LiveProgress.{Progress}
+use Rattle.sgt_sched.specs.LiveList.{looked}
 use Rattle.sgt_sched.proofs.Lives.{found_at, none_found, changed_at}
 use Rattle.sgt_sched.proofs.live.Live.look.Goals as goal
 
 pub look-requires : goal.look-requires
 look-requires c = record {
-  few = subst (λ (x : Course). x.made < 64) (found_at c.args.t c.self.inside.running.items c.args.self.now c.in-Some.place c.index_mut.result.now c.self.view_is c.in-Some.ensures c.index_mut.ensures.value).course c.requires.few;
+  few = subst (λ (x : Progress). x.made < 64) (found_at c.args.t c.self.inside.running.items c.args.self.now c.in-Some.place c.index_mut.result.now c.self.view_is c.in-Some.ensures c.index_mut.ensures.value).own_progress c.requires.few;
 }
 
 pub returns-in_ok-look-clause-ok : goal.returns-in_ok-look-clause-ok

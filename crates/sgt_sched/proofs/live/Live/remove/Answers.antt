@@ -1,8 +1,8 @@
 use Rattle.std.proofs.Common.{rules, ℕ, nat_eq, not, ap, ◌∙◌}
 use Rattle.std.proofs.lemmas.Fn.{filter_same}
-use Rattle.sgt_model.specs.Courses.{Course}
-use Rattle.sgt_sched.specs.Courses.{without}
+use Rattle.sgt_model.specs.LiveProgress.{Progress}
+use Rattle.sgt_sched.specs.LiveList.{without}
 use Rattle.sgt_sched.proofs.live.Live.remove.Goals as goal
 
 pub returns : goal.returns
-returns c = filter_same _ (λ (r : ℕ × Course). not (nat_eq r.0 c.args.t)) _ (λ x b f call. search rules) _ _ c.retain.ensures.filtered ∙ ap (without c.args.t) c.self.view_is
+returns c = filter_same _ (λ (r : ℕ × Progress). not (nat_eq r.0 c.args.t)) _ (λ x b f call. search rules) _ _ c.retain.ensures.filtered ∙ ap (without c.args.t) c.self.view_is

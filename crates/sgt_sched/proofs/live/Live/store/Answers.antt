@@ -1,12 +1,12 @@
 use Rattle.std.proofs.Common.{subst, ◌<◌}
-use Rattle.sgt_model.specs.Courses.{Course}
-use Rattle.sgt_sched.specs.Courses.{stored}
+use Rattle.sgt_model.specs.LiveProgress.{Progress}
+use Rattle.sgt_sched.specs.LiveList.{stored}
 use Rattle.sgt_sched.proofs.Lives.{found_at, none_found, changed_at}
 use Rattle.sgt_sched.proofs.live.Live.store.Goals as goal
 
 pub store-requires : goal.store-requires
 store-requires c = record {
-  few = subst (λ (x : Course). x.made < 64) (found_at c.args.t c.self.inside.running.items c.args.self.now c.in-Some.place c.index_mut.result.now c.self.view_is c.in-Some.ensures c.index_mut.ensures.value).course c.requires.few;
+  few = subst (λ (x : Progress). x.made < 64) (found_at c.args.t c.self.inside.running.items c.args.self.now c.in-Some.place c.index_mut.result.now c.self.view_is c.in-Some.ensures c.index_mut.ensures.value).own_progress c.requires.few;
 }
 
 pub returns-in-Some : goal.returns-in-Some

@@ -4,8 +4,8 @@ use Rattle.sgt_model.specs.declared.kind.Kind.TheVariants.{Store}
 use Rattle.sgt_model.specs.Contents.{key_eq}
 use Rattle.sgt_model.specs.Chains.{write_last, writes_in}
 use Rattle.sgt_model.specs.ChainOrder.{IsLastIn}
-use Rattle.sgt_sched.specs.Courses.{course_at}
-use Rattle.sgt_sched.specs.Parts.{held_of}
+use Rattle.sgt_sched.specs.LiveList.{progress_at}
+use Rattle.sgt_sched.specs.SchedulerView.{state_of}
 use Rattle.sgt_sched.specs.Steps.{next_along}
 use Rattle.sgt_sched.proofs.Accessed.{rivals_few, rivals_are_nodes, blocks_from_walk}
 use Rattle.sgt_sched.proofs.Aborted.{refuses_seen}
@@ -30,7 +30,7 @@ write-requires-clause-room g c = subst (λ l. writes_in c.args.t l ≡ false →
 pub invariant_of-self-in-Accepted : goal.invariant_of-self-in-Accepted
 invariant_of-self-in-Accepted g c =
     kept_store c.self.view_is c.self.invariant c.args.t (ap (λ p. g.G.Graph.nodes p.graph c.args.t) c.self.view_is ∙ c.requires.live) c.args.key c.rivals-rivals.result c.in-Accepted.ensures.verdict c.rivals-rivals.ensures.exact c.args.value
-    (ap (λ p. next_along p.procedures (course_at p.live c.args.t)) c.self.view_is ∙ c.requires.next) c.write.new.self c.note.new.self c.insert.new.self c.store.new.self
+    (ap (λ p. next_along p.procedures (progress_at p.live c.args.t)) c.self.view_is ∙ c.requires.next) c.write.new.self c.note.new.self c.insert.new.self c.store.new.self
     (λ j. c.write.ensures.chain j ∙ (ap (λ z. cond (key_eq c.args.key j) (write_last c.args.t z (g.R.Records.chain c.reserve.new.self j)) (g.R.Records.chain c.reserve.new.self j)) (to_z-of_z w64 c.args.value c.ranges.value) ∙ ap (λ l. cond (key_eq c.args.key j) (write_last c.args.t c.args.value l) l) (c.reserve.ensures.chain j)))
     (λ j. c.write.ensures.settled j ∙ c.reserve.ensures.settled j)
     (c.note.ensures.noted ∙ ap (λ l. l ++ record { by = c.args.t; key = c.args.key; kind = Store } ∷ []) c.reserve-in-Accepted.ensures.same) c.insert.ensures.nodes
@@ -40,12 +40,12 @@ invariant_of-self-in-Accepted g c =
 pub returns-in-Closes-clause-done : goal.returns-in-Closes-clause-done
 returns-in-Closes-clause-done g c =
     let closes = c.in-Closes.ensures.verdict in
-    inl (refuses_seen (held_of g.R.Records.chain g.R.Records.settled g.A.Accesses.list g.G.Graph.nodes g.G.Graph.pairs) _ c.args.self.now c.self.view_is c.args.t c.args.key Store closes.0 c.in-Closes.walk _ _ closes.1 (blocks_from_walk c.self.invariant c.args.t (ap (λ p. g.G.Graph.nodes p.graph c.args.t) c.self.view_is ∙ c.requires.live) c.args.key Store c.rivals-rivals.result c.rivals-rivals.ensures.exact closes.0 closes.2) c.abort.ensures.aborts)
+    inl (refuses_seen (state_of g.R.Records.chain g.R.Records.settled g.A.Accesses.list g.G.Graph.nodes g.G.Graph.pairs) _ c.args.self.now c.self.view_is c.args.t c.args.key Store closes.0 c.in-Closes.walk _ _ closes.1 (blocks_from_walk c.self.invariant c.args.t (ap (λ p. g.G.Graph.nodes p.graph c.args.t) c.self.view_is ∙ c.requires.live) c.args.key Store c.rivals-rivals.result c.rivals-rivals.ensures.exact closes.0 closes.2) c.abort.ensures.aborts)
 
 pub returns-in_ok-reserve-in-Accepted-2-clause-done : goal.returns-in_ok-reserve-in-Accepted-2-clause-done
 returns-in_ok-reserve-in-Accepted-2-clause-done g c =
     inr (makes_store c.self.view_is c.self.invariant c.args.t (ap (λ p. g.G.Graph.nodes p.graph c.args.t) c.self.view_is ∙ c.requires.live) c.args.key c.rivals-rivals.result c.in-Accepted.ensures.verdict c.rivals-rivals.ensures.exact c.args.value
-    (ap (λ p. next_along p.procedures (course_at p.live c.args.t)) c.self.view_is ∙ c.requires.next) c.write.new.self c.note.new.self c.insert.new.self c.store.new.self
+    (ap (λ p. next_along p.procedures (progress_at p.live c.args.t)) c.self.view_is ∙ c.requires.next) c.write.new.self c.note.new.self c.insert.new.self c.store.new.self
     (λ j. c.write.ensures.chain j ∙ (ap (λ z. cond (key_eq c.args.key j) (write_last c.args.t z (g.R.Records.chain c.reserve.new.self j)) (g.R.Records.chain c.reserve.new.self j)) (to_z-of_z w64 c.args.value c.ranges.value) ∙ ap (λ l. cond (key_eq c.args.key j) (write_last c.args.t c.args.value l) l) (c.reserve.ensures.chain j)))
     (λ j. c.write.ensures.settled j ∙ c.reserve.ensures.settled j)
     (c.note.ensures.noted ∙ ap (λ l. l ++ record { by = c.args.t; key = c.args.key; kind = Store } ∷ []) c.reserve-in-Accepted.ensures.same) c.insert.ensures.nodes

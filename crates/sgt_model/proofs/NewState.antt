@@ -7,34 +7,34 @@ use Rattle.sgt_model.specs.Contents.{Key}
 use Rattle.sgt_model.specs.Walks.{Member}
 use Rattle.sgt_model.specs.Fates.{live}
 use Rattle.sgt_model.specs.Settings.{Setting}
-use Rattle.sgt_model.specs.Touches.{touches_in}
+use Rattle.sgt_model.specs.AccessList.{lists_conflicting}
 use Rattle.sgt_model.specs.Chains.{writes_in}
 use Rattle.sgt_model.specs.ChainOrder.{InOrder}
-use Rattle.sgt_model.specs.Held.{Has, Held, PairIn}
-use Rattle.sgt_model.specs.States.{IsState}
+use Rattle.sgt_model.specs.State.{Has, State, PairIn}
+use Rattle.sgt_model.specs.StateAfter.{IsStateAfter}
 use Rattle.sgt_model.specs.Soundness.{Sound}
-use Rattle.sgt_model.specs.NewHeld.{IsNew}
+use Rattle.sgt_model.specs.NewState.{IsNew}
 
-pub sound_new : (most : ℕ) (s : Setting) (c : Held) → IsNew s c → Sound most c
+pub sound_new : (most : ℕ) (s : Setting) (c : State) → IsNew s c → Sound most c
 sound_new most s c n = record {
   begun = λ t q. absurd (both_ways (c.nodes t) (n.nodes t) q);
   listed = λ t. ((λ q. absurd (both_ways (c.nodes t) (n.nodes t) q)), (λ m. absurd (subst (λ l. Member t l) n.live m)));
   few = subst (λ l. length l ≤ most) (sym n.live) (omega arith);
   pair_nodes = λ t u q. absurd (both_ways (c.pairs t u) (n.pairs t u) q);
   pair_apart = λ t u q. absurd (both_ways (c.pairs t u) (n.pairs t u) q);
-  access_nodes = λ t k kind q. absurd (none t k kind (ap (λ l. touches_in l t k kind) (sym n.accesses) ∙ q));
+  access_nodes = λ t k kind q. absurd (none t k kind (ap (λ l. lists_conflicting l t k kind) (sym n.accesses) ∙ q));
   read_nodes = λ u t q. absurd (subst (λ l. Has l u t) n.read_from q);
   writers = λ k t m. absurd (no_writer t (ap (writes_in t) (sym (n.chain k)) ∙ m));
   order = λ k. subst (λ l. InOrder (PairIn c) l) (sym (n.chain k)) tt;
 }
   where
-    none : (t : ℕ) (k : Key) (kind : Kind) → touches_in [] t k kind ≡ true → ⊥
+    none : (t : ℕ) (k : Key) (kind : Kind) → lists_conflicting [] t k kind ≡ true → ⊥
     none t k kind q = cc
 
     no_writer : (t : ℕ) → writes_in t [] ≡ true → ⊥
     no_writer t q = cc
 
-pub state_new : (s : Setting) (c : Held) → IsNew s c → IsState s [] c
+pub state_new : (s : Setting) (c : State) → IsNew s c → IsStateAfter s [] c
 state_new s c n = record {
   lives = n.live;
   nodes = λ t. n.nodes t ∙ sym (none t);
@@ -45,7 +45,7 @@ state_new s c n = record {
   read_from = λ u t. ((λ q. absurd (subst (λ l. Has l u t) n.read_from q)), (λ p. absurd p.read));
   fates = n.fates;
   starts = n.starts;
-  courses = λ t l. absurd (both_ways (live [] t) (none t) l);
+  progress = λ t l. absurd (both_ways (live [] t) (none t) l);
 }
   where
     none : (t : ℕ) → live [] t ≡ false

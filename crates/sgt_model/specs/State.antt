@@ -2,22 +2,22 @@
 use Rattle.std.specs.Prelude.{◌≡◌, ℕ, ℤ, Bool, true, ◌⊎◌, List, [], ◌∷◌, Option}
 use Rattle.sgt_model.specs.declared.reply.Fate.{Fate}
 use Rattle.sgt_model.specs.Contents.{Key}
-use Rattle.sgt_model.specs.Touches.{Touch}
-use Rattle.sgt_model.specs.Courses.{Course}
+use Rattle.sgt_model.specs.AccessList.{ListedAccess}
+use Rattle.sgt_model.specs.LiveProgress.{Progress}
 
 -- the live ones, the graph's nodes and pairs, the access list, the chain and the committed value of each key, who read
 -- from whom (source and reader), the fates, how many were started, and how far each has come
-pub record Held : Type 0 where
+pub record State : Type 0 where
   pub live : List ℕ
   pub nodes : ℕ → Bool
   pub pairs : ℕ → ℕ → Bool
-  pub accesses : List Touch
+  pub accesses : List ListedAccess
   pub chain : Key → List (ℕ × ℤ)
   pub settled : Key → Option ℤ
   pub read_from : List (ℕ × ℕ)
   pub fates : ℕ → Option Fate
   pub starts : ℕ
-  pub courses : ℕ → Course
+  pub progress : ℕ → Progress
 
 -- the two numbers are a member of the list
 abbrev pub Has : List (ℕ × ℕ) → ℕ → ℕ → Type 0
@@ -25,5 +25,5 @@ Has [] a b = ⊥
 Has (p ∷ rest) a b = ((p.0 ≡ a) × (p.1 ≡ b)) ⊎ Has rest a b
 
 -- the graph has a pair from t to u
-abbrev pub PairIn : Held → ℕ → ℕ → Type 0
+abbrev pub PairIn : State → ℕ → ℕ → Type 0
 PairIn c t u = c.pairs t u ≡ true

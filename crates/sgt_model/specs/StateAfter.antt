@@ -7,10 +7,10 @@ use Rattle.sgt_model.specs.Values.{settled}
 use Rattle.sgt_model.specs.ReadFrom.{ReadFrom}
 use Rattle.sgt_model.specs.Pairs.{Pair}
 use Rattle.sgt_model.specs.Settings.{Setting}
-use Rattle.sgt_model.specs.Touches.{touched}
+use Rattle.sgt_model.specs.AccessList.{access_list}
 use Rattle.sgt_model.specs.Chains.{chain_of}
-use Rattle.sgt_model.specs.Courses.{course_of}
-use Rattle.sgt_model.specs.Held.{Held, Has}
+use Rattle.sgt_model.specs.LiveProgress.{progress_of}
+use Rattle.sgt_model.specs.State.{State, Has}
 
 -- a conflict pair of two live transactions
 pub record LivePair (past : List Entry) (t u : ℕ) : Type 0 where
@@ -25,14 +25,14 @@ pub record LiveRead (past : List Entry) (t u : ℕ) : Type 0 where
   pub read : ReadFrom past t u
 
 -- this is held after the history
-pub record IsState (s : Setting) (past : List Entry) (c : Held) : Type 0 where
+pub record IsStateAfter (s : Setting) (past : List Entry) (c : State) : Type 0 where
   pub lives : c.live ≡ live_ones past
   pub nodes : (t : ℕ) → c.nodes t ≡ live past t
   pub pairs : (t u : ℕ) → (c.pairs t u ≡ true) ↔ LivePair past t u
-  pub accesses : c.accesses ≡ touched (live past) past
+  pub accesses : c.accesses ≡ access_list (live past) past
   pub chain : (k : Key) → c.chain k ≡ chain_of (live past) k past
   pub settled : (k : Key) → c.settled k ≡ settled s.opening past k
   pub read_from : (u t : ℕ) → Has c.read_from u t ↔ LiveRead past t u
   pub fates : (t : ℕ) → c.fates t ≡ fate_of past t
   pub starts : c.starts ≡ starts past
-  pub courses : (t : ℕ) → live past t ≡ true → c.courses t ≡ course_of past t
+  pub progress : (t : ℕ) → live past t ≡ true → c.progress t ≡ progress_of past t

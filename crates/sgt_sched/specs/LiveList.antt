@@ -1,37 +1,37 @@
 -- The live transactions with how far each has come, as a list.
 use Rattle.std.specs.Prelude.{ℕ, ℤ, Bool, ◌+◌, not, cond, nat_eq, List, [], ◌∷◌, ◌++◌, map, filter, Option}
-use Rattle.sgt_model.specs.Courses.{Course}
+use Rattle.sgt_model.specs.LiveProgress.{Progress}
 
 -- their numbers
-abbrev pub numbers : List (ℕ × Course) → List ℕ
-numbers live = map (λ (r : ℕ × Course). r.0) live
+abbrev pub numbers : List (ℕ × Progress) → List ℕ
+numbers live = map (λ (r : ℕ × Progress). r.0) live
 
 -- it is number t
-abbrev pub has_number : ℕ → ℕ × Course → Bool
+abbrev pub has_number : ℕ → ℕ × Progress → Bool
 has_number t r = nat_eq r.0 t
 
 -- the course of a procedure that was just started
-abbrev pub started : ℕ → List ℤ → Course
+abbrev pub started : ℕ → List ℤ → Progress
 started procedure args = record { call = record { procedure = procedure; args = args }; read = []; made = 0 }
 
 -- how far t has come
-abbrev pub course_at : List (ℕ × Course) → ℕ → Course
-course_at [] t = started 0 []
-course_at (r ∷ rest) t = cond (nat_eq r.0 t) r.1 (course_at rest t)
+abbrev pub progress_at : List (ℕ × Progress) → ℕ → Progress
+progress_at [] t = started 0 []
+progress_at (r ∷ rest) t = cond (nat_eq r.0 t) r.1 (progress_at rest t)
 
 -- a look found this
-abbrev pub looked : Option ℤ → Course → Course
+abbrev pub looked : Option ℤ → Progress → Progress
 looked value c = record { call = c.call; read = c.read ++ value ∷ []; made = c.made + 1 }
 
 -- a store was made
-abbrev pub stored : Course → Course
+abbrev pub stored : Progress → Progress
 stored c = record { call = c.call; read = c.read; made = c.made + 1 }
 
 -- t's course is changed
-abbrev pub changed : ℕ → (Course → Course) → List (ℕ × Course) → List (ℕ × Course)
+abbrev pub changed : ℕ → (Progress → Progress) → List (ℕ × Progress) → List (ℕ × Progress)
 changed t change [] = []
 changed t change (r ∷ rest) = cond (nat_eq r.0 t) ((r.0, change r.1) ∷ rest) (r ∷ changed t change rest)
 
 -- the others
-abbrev pub without : ℕ → List (ℕ × Course) → List (ℕ × Course)
-without t live = filter (λ (r : ℕ × Course). not (has_number t r)) live
+abbrev pub without : ℕ → List (ℕ × Progress) → List (ℕ × Progress)
+without t live = filter (λ (r : ℕ × Progress). not (has_number t r)) live

@@ -7,21 +7,21 @@ use Rattle.sgt_model.specs.Contents.{Key}
 use Rattle.sgt_model.specs.Syntax.{Program}
 use Rattle.sgt_model.specs.Traces.{Used}
 use Rattle.sgt_model.specs.Settings.{runs_in}
-use Rattle.sgt_model.specs.Touches.{Touch}
-use Rattle.sgt_model.specs.Courses.{Course}
-use Rattle.sgt_model.specs.Held.{Held}
+use Rattle.sgt_model.specs.AccessList.{ListedAccess}
+use Rattle.sgt_model.specs.LiveProgress.{Progress}
+use Rattle.sgt_model.specs.State.{State}
 use Rattle.sgt_model.specs.Soundness.{Sound}
-use Rattle.sgt_sched.specs.Courses.{numbers, course_at}
+use Rattle.sgt_sched.specs.LiveList.{numbers, progress_at}
 
 -- the procedures and limits, the three layers, the live transactions with their courses, who read from whom (source and
 -- reader), and of each started transaction how it ended, if it did
-pub record Parts (R A G : Type 0) : Type 0 where
+pub record SchedulerView (R A G : Type 0) : Type 0 where
   pub procedures : List Program
   pub limits : Limits
   pub records : R
   pub accesses : A
   pub graph : G
-  pub live : List (ℕ × Course)
+  pub live : List (ℕ × Progress)
   pub read_from : List (ℕ × ℕ)
   pub fates : List (Option Fate)
 
@@ -30,15 +30,15 @@ abbrev pub fate_at : List (Option Fate) → ℕ → Option Fate
 fate_at fates t = slice_index_or fates t None
 
 -- the values that a course's looks found are those that its procedure has used
-abbrev pub HasUsed : List Program → Course → Type 0
+abbrev pub HasUsed : List Program → Progress → Type 0
 HasUsed programs c = Used (runs_in programs c.call.procedure c.call.args) c.read c.made
 
 -- by what the layers tell: of records the chain and the committed value of each key, of accesses their list, of a graph its
 -- nodes and pairs
-module _ {R A G : Type 0} (chain : R → Key → List (ℕ × ℤ)) (settled : R → Key → Option ℤ) (list : A → List Touch) (nodes : G → ℕ → Bool) (pairs : G → ℕ → ℕ → Bool) where
+module _ {R A G : Type 0} (chain : R → Key → List (ℕ × ℤ)) (settled : R → Key → Option ℤ) (list : A → List ListedAccess) (nodes : G → ℕ → Bool) (pairs : G → ℕ → ℕ → Bool) where
   -- what is held
-  abbrev pub held_of : Parts R A G → Held
-  held_of p = record {
+  abbrev pub state_of : SchedulerView R A G → State
+  state_of p = record {
     live = numbers p.live;
     nodes = nodes p.graph;
     pairs = pairs p.graph;
@@ -48,14 +48,14 @@ module _ {R A G : Type 0} (chain : R → Key → List (ℕ × ℤ)) (settled : R
     read_from = p.read_from;
     fates = fate_at p.fates;
     starts = length p.fates;
-    courses = course_at p.live;
+    progress = progress_at p.live;
   }
 
   -- what holds at every moment: the limits are in their ranges and kept; what is held is sound; the graph's nodes are those
   -- that were started and have not ended; and the values looked at are those that the procedures have used
-  pub record IsKept (p : Parts R A G) : Type 0 where
+  pub record IsKept (p : SchedulerView R A G) : Type 0 where
     pub in_range : AreInRange p.limits
     pub begun : length p.fates ≤ p.limits.begins
-    pub sound : Sound p.limits.live (held_of p)
+    pub sound : Sound p.limits.live (state_of p)
     pub unended : (t : ℕ) → (nodes p.graph t ≡ true) ↔ ((t < length p.fates) × (fate_at p.fates t ≡ None))
-    pub used : (t : ℕ) → nodes p.graph t ≡ true → HasUsed p.procedures (course_at p.live t)
+    pub used : (t : ℕ) → nodes p.graph t ≡ true → HasUsed p.procedures (progress_at p.live t)

@@ -3,16 +3,16 @@ use Rattle.std.specs.Prelude.{◌≡◌, ◌≢◌, ℕ, true, List, ◌∷◌}
 use Rattle.sgt_model.specs.declared.kind.Kind.{Kind}
 use Rattle.sgt_model.specs.Contents.{Key}
 use Rattle.sgt_model.specs.Walks.{PathOf, last_of, Distinct}
-use Rattle.sgt_model.specs.Touches.{touches_in}
-use Rattle.sgt_model.specs.Held.{Held, PairIn}
+use Rattle.sgt_model.specs.AccessList.{lists_conflicting}
+use Rattle.sgt_model.specs.State.{State, PairIn}
 
 -- u is a rival: another with a listed access that conflicts
-pub record IsRival (c : Held) (t : ℕ) (k : Key) (kind : Kind) (u : ℕ) : Type 0 where
+pub record IsRival (c : State) (t : ℕ) (k : Key) (kind : Kind) (u : ℕ) : Type 0 where
   pub apart : u ≢ t
-  pub touches : touches_in c.accesses u k kind ≡ true
+  pub has_conflicting : lists_conflicting c.accesses u k kind ≡ true
 
 -- the access is refused: a walk along the graph leads from t to a rival, none twice
-pub record Blocks (c : Held) (t : ℕ) (k : Key) (kind : Kind) (rest : List ℕ) : Type 0 where
+pub record Blocks (c : State) (t : ℕ) (k : Key) (kind : Kind) (rest : List ℕ) : Type 0 where
   pub distinct : Distinct (t ∷ rest)
   pub pairs : PathOf (PairIn c) t rest
   pub rival : IsRival c t k kind (last_of t rest)

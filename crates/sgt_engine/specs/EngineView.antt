@@ -9,22 +9,22 @@ use Rattle.sgt_model.specs.Syntax.{Program}
 use Rattle.sgt_model.specs.Settings.{Setting, setting}
 
 -- the opening database, the procedures, the limits, and the history, newest entry first
-pub record Parts : Type 0 where
+pub record EngineView : Type 0 where
   pub opening : List Row
   pub procedures : List Program
   pub limits : Limits
   pub past : List Entry
 
 -- what it was made of, as the definitions of histories have it
-abbrev pub setting_of : Parts → Setting
+abbrev pub setting_of : EngineView → Setting
 setting_of e = setting (contents_of e.opening) e.procedures e.limits
 
 -- a new engine
-abbrev pub made_of : List Row → List Program → Limits → Parts
+abbrev pub made_of : List Row → List Program → Limits → EngineView
 made_of opening procedures limits = record { opening = opening; procedures = procedures; limits = limits; past = [] }
 
 -- the engine with one entry more
-abbrev pub with_entry : Event → Reply → Parts → Parts
+abbrev pub with_entry : Event → Reply → EngineView → EngineView
 with_entry event reply e = record {
   opening = e.opening;
   procedures = e.procedures;

@@ -6,15 +6,15 @@ use Rattle.sgt_model.specs.Settings.{Setting}
 use Rattle.sgt_model.specs.Progress.{Call, call_of, run_of, reads, made}
 
 -- the call, the values looked at, oldest first, and how many accesses were made
-pub record Course : Type 0 where
+pub record Progress : Type 0 where
   pub call : Call
   pub read : List (Option ℤ)
   pub made : ℕ
 
 -- how far t has come in a history
-abbrev pub course_of : List Entry → ℕ → Course
-course_of past t = record { call = call_of past t; read = reads past t; made = made past t }
+abbrev pub progress_of : List Entry → ℕ → Progress
+progress_of past t = record { call = call_of past t; read = reads past t; made = made past t }
 
 -- what the procedure does next
-abbrev pub next_in : Setting → Course → Next
-next_in s c = next_at (trace (run_of s c.call) c.read) c.made
+abbrev pub next_in : Setting → Progress → Next
+next_in s c = next_at (trace (run_of s.rules c.call) c.read) c.made
