@@ -1,4 +1,4 @@
--- What is held after an entry that ends some transactions, or nothing, is what is held after the longer history.
+-- The state after an entry that ends some transactions, or nothing, is the state after the longer history.
 use Rattle.std.proofs.Common.{◌≡◌, ℕ, ◌+◌, ℤ, Bool, true, false, cond, not, ◌&&◌, ◌||◌, List, [], ◌∷◌, ◌++◌, length, Option, Some, None, is_none, nat_eq, nat_lt, refl, sym, ap, ap₂, subst, inl, inr, ◌∙◌}
 use Rattle.std.proofs.Math.Path.{fun_ext}
 use Rattle.std.proofs.lemmas.Bool.{and_from, and_parts, eqb-true, not-true}

@@ -108,11 +108,11 @@ none_such args = asks 1
 
 -- the bank with these limits and no other procedures
 abbrev pub bank : ℕ → ℕ → Setting
-bank most_live most_started = record { opening = opening; procedures = takes None None; runs = runs_with none_such none_such; limits = record { live = most_live; begins = most_started } }
+bank most_live most_started = record { opening = opening; rules = record { procedures = takes None None; runs = runs_with none_such none_such; limits = record { live = most_live; begins = most_started } } }
 
 -- the bank with a procedure 5 and a procedure 6
 abbrev pub bank_with : Contents → Option ℕ → (List ℤ → Run) → Option ℕ → (List ℤ → Run) → Setting
-bank_with m five run_five six run_six = record { opening = m; procedures = takes five six; runs = runs_with run_five run_six; limits = record { live = 8; begins = 100 } }
+bank_with m five run_five six run_six = record { opening = m; rules = record { procedures = takes five six; runs = runs_with run_five run_six; limits = record { live = 8; begins = 100 } } }
 
 abbrev pub entry : Event → Reply → Entry
 entry event r = record { event = event; reply = r }

@@ -1,4 +1,4 @@
--- The conditions of the layers' calls, from what holds of what is held at every moment.
+-- The conditions of the layers' calls, from what holds of the state at every moment.
 use Rattle.std.proofs.Common.{◌≡◌, ◌≢◌, ℕ, suc, ◌<◌, ◌≤◌, ℤ, true, false, List, [], ◌∷◌, nat_eq, refl, sym, ap, inl, inr, ◌∙◌, arith}
 use Rattle.std.specs.Prelude.{length}
 use Rattle.std.proofs.lemmas.Bool.{or_cases, eqb-true, eq-eqb, both_ways, or_left, or_right}

@@ -1,9 +1,9 @@
--- A new scheduler holds what is held after the empty history, and that is sound.
+-- The state of a new scheduler is the state after the empty history, and it is sound.
 use Rattle.std.proofs.Common.{◌≡◌, ℕ, ◌≤◌, true, false, ◌&&◌, [], sym, ap, subst, ◌∙◌, arith}
 use Rattle.std.specs.Prelude.{length}
 use Rattle.std.proofs.lemmas.Bool.{both_ways, le-ltb}
 use Rattle.sgt_model.specs.declared.kind.Kind.{Kind}
-use Rattle.sgt_model.specs.Contents.{Key}
+use Rattle.sgt_model.specs.Contents.{Key, Contents}
 use Rattle.sgt_model.specs.Walks.{Member}
 use Rattle.sgt_model.specs.Fates.{live}
 use Rattle.sgt_model.specs.Settings.{Setting}
@@ -15,8 +15,8 @@ use Rattle.sgt_model.specs.StateAfter.{IsStateAfter}
 use Rattle.sgt_model.specs.Soundness.{Sound}
 use Rattle.sgt_model.specs.NewState.{IsNew}
 
-pub sound_new : (most : ℕ) (s : Setting) (c : State) → IsNew s c → Sound most c
-sound_new most s c n = record {
+pub sound_new : (most : ℕ) (opening : Contents) (c : State) → IsNew opening c → Sound most c
+sound_new most opening c n = record {
   begun = λ t q. absurd (both_ways (c.nodes t) (n.nodes t) q);
   listed = λ t. ((λ q. absurd (both_ways (c.nodes t) (n.nodes t) q)), (λ m. absurd (subst (λ l. Member t l) n.live m)));
   few = subst (λ l. length l ≤ most) (sym n.live) (omega arith);
@@ -34,7 +34,7 @@ sound_new most s c n = record {
     no_writer : (t : ℕ) → writes_in t [] ≡ true → ⊥
     no_writer t q = cc
 
-pub state_new : (s : Setting) (c : State) → IsNew s c → IsStateAfter s [] c
+pub state_new : (s : Setting) (c : State) → IsNew s.opening c → IsStateAfter s [] c
 state_new s c n = record {
   lives = n.live;
   nodes = λ t. n.nodes t ∙ sym (none t);

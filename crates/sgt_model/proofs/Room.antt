@@ -60,16 +60,16 @@ live_fewer e past = filter_fewer (live (e ∷ past)) (live past) (begun past) (�
 not_equal : (a b : ℕ) → nat_eq a b ≡ false → a ≢ b
 not_equal a b h e = true≢false (sym (eq-eqb a b e) ∙ h)
 
-pub limits_are_kept : (s : Setting) (past : List Entry) → Legal s past → (starts past ≤ s.limits.begins) × (length (live_ones past) ≤ s.limits.live)
+pub limits_are_kept : (s : Setting) (past : List Entry) → Legal s past → (starts past ≤ s.rules.limits.begins) × (length (live_ones past) ≤ s.rules.limits.live)
 limits_are_kept s [] h = (omega arith, omega arith)
 limits_are_kept s (e ∷ past) h = now (limits_are_kept s past h.0) (live_fewer e past) (starts_or_not (effect s past e.event e.reply h.1))
   where
-    now : (starts past ≤ s.limits.begins) × (length (live_ones past) ≤ s.limits.live) → length (filter (live (e ∷ past)) (begun past)) ≤ length (live_ones past) → Begins s past e.event e.reply ⊎ (is_start e.reply ≡ false) → (cond (is_start e.reply) (starts past + 1) (starts past) ≤ s.limits.begins) × (length (filter (live (e ∷ past)) (cond (is_start e.reply) (begun past ++ starts past ∷ []) (begun past))) ≤ s.limits.live)
-    now (few, kept) fewer (inr none) = subst (λ b. (cond b (starts past + 1) (starts past) ≤ s.limits.begins) × (length (filter (live (e ∷ past)) (cond b (begun past ++ starts past ∷ []) (begun past))) ≤ s.limits.live)) (sym none) (few, omega arith)
+    now : (starts past ≤ s.rules.limits.begins) × (length (live_ones past) ≤ s.rules.limits.live) → length (filter (live (e ∷ past)) (begun past)) ≤ length (live_ones past) → Begins s past e.event e.reply ⊎ (is_start e.reply ≡ false) → (cond (is_start e.reply) (starts past + 1) (starts past) ≤ s.rules.limits.begins) × (length (filter (live (e ∷ past)) (cond (is_start e.reply) (begun past ++ starts past ∷ []) (begun past))) ≤ s.rules.limits.live)
+    now (few, kept) fewer (inr none) = subst (λ b. (cond b (starts past + 1) (starts past) ≤ s.rules.limits.begins) × (length (filter (live (e ∷ past)) (cond b (begun past ++ starts past ∷ []) (begun past))) ≤ s.rules.limits.live)) (sym none) (few, omega arith)
     now (few, kept) fewer (inl b) =
-        let spent = not_equal (starts past) s.limits.begins b.not_spent in
-        let full = not_equal (length (live_ones past)) s.limits.live b.not_full in
+        let spent = not_equal (starts past) s.rules.limits.begins b.not_spent in
+        let full = not_equal (length (live_ones past)) s.rules.limits.live b.not_full in
         let one : length (filter (live (e ∷ past)) (starts past ∷ [])) ≤ 1 = filter_one (live (e ∷ past)) (starts past) in
         let sum : length (filter (live (e ∷ past)) (begun past ++ starts past ∷ [])) ≡ length (filter (live (e ∷ past)) (begun past)) + length (filter (live (e ∷ past)) (starts past ∷ [])) = ap length (filter-append (live (e ∷ past)) (begun past) (starts past ∷ [])) ∙ length-append (filter (live (e ∷ past)) (begun past)) (filter (live (e ∷ past)) (starts past ∷ [])) in
         let started : is_start e.reply ≡ true = ap is_start b.reply_is in
-        subst (λ c. (cond c (starts past + 1) (starts past) ≤ s.limits.begins) × (length (filter (live (e ∷ past)) (cond c (begun past ++ starts past ∷ []) (begun past))) ≤ s.limits.live)) (sym started) (omega arith, omega arith)
+        subst (λ c. (cond c (starts past + 1) (starts past) ≤ s.rules.limits.begins) × (length (filter (live (e ∷ past)) (cond c (begun past ++ starts past ∷ []) (begun past))) ≤ s.rules.limits.live)) (sym started) (omega arith, omega arith)

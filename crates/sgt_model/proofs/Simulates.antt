@@ -1,4 +1,4 @@
--- A call that does to what is held what its contract says answers legally, and leaves what is held after the longer history.
+-- A call that changes the state as its contract says answers legally, and leaves the state after the longer history.
 use Rattle.std.proofs.Common.{◌≡◌, ℕ, ℤ, Bool, true, false, cond, ◌⊎◌, List, ◌∷◌, Option, Some, None, nat_eq, nat_lt, refl, sym, ap, ap₂, subst, inl, inr, ◌∙◌}
 use Rattle.std.specs.Prelude.{length}
 use Rattle.std.proofs.lemmas.Bool.{or_cases, eqb-true, ltb-true}
@@ -101,14 +101,14 @@ module _ (s : Setting) (past : List Entry) (h : Legal s past) (before after : St
   opened : (event : Event) (r : Reply) (OnContents OnPast : Type 0) → (live past t ≡ true → OnContents → OnPast × IsStateAfter s (entry event r ∷ past) after) → IfOpen (nat_lt t before.starts) (before.fates t) before r after OnContents → OfStarted (nat_lt t (starts past)) (fate_of past t) r OnPast × IsStateAfter s (entry event r ∷ past) after
   opened event r A B go x = if_open event r A B go (nat_lt t (starts past)) (fate_of past t) refl refl (subst (λ n. IfOpen (nat_lt t n) (fate_of past t) before r after A) i.starts (subst (λ o. IfOpen (nat_lt t before.starts) o before r after A) (i.fates t) x))
 
-  next_same : live past t ≡ true → next_in s (before.progress t) ≡ next_of s past t
-  next_same alive = ap (next_in s) (i.progress t alive)
+  next_same : live past t ≡ true → next_in s.rules (before.progress t) ≡ next_of s past t
+  next_same alive = ap (next_in s.rules) (i.progress t alive)
 
-  pub step_simulates : (r : Reply) → StepEffect s t before r after → LegalReply s past (Step t) r × IsStateAfter s (entry (Step t) r ∷ past) after
-  step_simulates r x = opened (Step t) r (StepOn t (next_in s (before.progress t)) before r after) (StepReply s past t (next_of s past t) r) (λ alive y. step_on (next_of s past t) r alive (subst (λ n. StepOn t n before r after) (next_same alive) y)) x
+  pub step_simulates : (r : Reply) → StepEffect s.rules t before r after → LegalReply s past (Step t) r × IsStateAfter s (entry (Step t) r ∷ past) after
+  step_simulates r x = opened (Step t) r (StepOn t (next_in s.rules (before.progress t)) before r after) (StepReply s past t (next_of s past t) r) (λ alive y. step_on (next_of s past t) r alive (subst (λ n. StepOn t n before r after) (next_same alive) y)) x
 
-  pub commit_simulates : (r : Reply) → CommitEffect s t before r after → LegalReply s past (Commit t) r × IsStateAfter s (entry (Commit t) r ∷ past) after
-  commit_simulates r x = opened (Commit t) r (CommitOn t (next_in s (before.progress t)) before r after) (CommitReply past t (next_of s past t) r) (λ alive y. commit_on (next_of s past t) r alive (subst (λ n. CommitOn t n before r after) (next_same alive) y)) x
+  pub commit_simulates : (r : Reply) → CommitEffect s.rules t before r after → LegalReply s past (Commit t) r × IsStateAfter s (entry (Commit t) r ∷ past) after
+  commit_simulates r x = opened (Commit t) r (CommitOn t (next_in s.rules (before.progress t)) before r after) (CommitReply past t (next_of s past t) r) (λ alive y. commit_on (next_of s past t) r alive (subst (λ n. CommitOn t n before r after) (next_same alive) y)) x
 
   pub quit_simulates : (r : Reply) → QuitEffect t before r after → LegalReply s past (Quit t) r × IsStateAfter s (entry (Quit t) r ∷ past) after
   quit_simulates r x = opened (Quit t) r (AbortsIn t cause.Quit before r after) (Aborts past t cause.Quit r) (λ alive y. aborted_in (Quit t) cause.Quit r (of_quit t) alive y) x
@@ -116,9 +116,9 @@ module _ (s : Setting) (past : List Entry) (h : Legal s past) (before after : St
 -- a start
 
 module _ (s : Setting) (past : List Entry) (h : Legal s past) (before after : State) (i : IsStateAfter s past before) (p : ℕ) (args : List ℤ) where
-  start_cases : (begun living : ℕ) (o : Option ℕ) → (taken_reply s.limits begun living o args ≡ reply.Started begun) ⊎ (quiet (taken_reply s.limits begun living o args) ≡ true)
+  start_cases : (begun living : ℕ) (o : Option ℕ) → (taken_reply s.rules.limits begun living o args ≡ reply.Started begun) ⊎ (quiet (taken_reply s.rules.limits begun living o args) ≡ true)
   start_cases begun living None = inr refl
-  start_cases begun living (Some count) = tests (args_fit count args) (nat_eq begun s.limits.begins) (nat_eq living s.limits.live)
+  start_cases begun living (Some count) = tests (args_fit count args) (nat_eq begun s.rules.limits.begins) (nat_eq living s.rules.limits.live)
     where
       tests : (a b d : Bool) → let r : Reply = cond a (cond b reply.Spent (cond d reply.Full (reply.Started begun))) reply.BadArgs in (r ≡ reply.Started begun) ⊎ (quiet r ≡ true)
       tests false b d = inr refl
@@ -126,15 +126,15 @@ module _ (s : Setting) (past : List Entry) (h : Legal s past) (before after : St
       tests true false true = inr refl
       tests true false false = inl refl
 
-  called : (o : Option ℕ) → taken_reply s.limits (starts past) (length (live_ones past)) o args ≡ called_reply s past o args
+  called : (o : Option ℕ) → taken_reply s.rules.limits (starts past) (length (live_ones past)) o args ≡ called_reply s past o args
   called None = refl
   called (Some count) = refl
 
-  pub start_simulates : (r : Reply) → StartEffect s p args before r after → LegalReply s past (Start p args) r × IsStateAfter s (entry (Start p args) r ∷ past) after
-  start_simulates r x = (answer ∙ called (s.procedures p), elim (start_cases (starts past) (length (live_ones past)) (s.procedures p)) [ inl e ↦ begins (answer ∙ e) | inr q ↦ idle r (ap quiet answer ∙ q) x.does ])
+  pub start_simulates : (r : Reply) → StartEffect s.rules p args before r after → LegalReply s past (Start p args) r × IsStateAfter s (entry (Start p args) r ∷ past) after
+  start_simulates r x = (answer ∙ called (s.rules.procedures p), elim (start_cases (starts past) (length (live_ones past)) (s.rules.procedures p)) [ inl e ↦ begins (answer ∙ e) | inr q ↦ idle r (ap quiet answer ∙ q) x.does ])
     where
-      answer : r ≡ taken_reply s.limits (starts past) (length (live_ones past)) (s.procedures p) args
-      answer = x.reply ∙ ap₂ (λ n l. taken_reply s.limits n (length l) (s.procedures p) args) i.starts i.lives
+      answer : r ≡ taken_reply s.rules.limits (starts past) (length (live_ones past)) (s.rules.procedures p) args
+      answer = x.reply ∙ ap₂ (λ n l. taken_reply s.rules.limits n (length l) (s.rules.procedures p) args) i.starts i.lives
 
       begins : r ≡ reply.Started (starts past) → IsStateAfter s (entry (Start p args) r ∷ past) after
       begins e = subst (λ z. IsStateAfter s (entry (Start p args) z ∷ past) after) (sym e) (after_start s past h p args before after i (subst (λ z. StartOn p args before z after) e x.does))

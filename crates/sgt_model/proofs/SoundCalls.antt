@@ -1,4 +1,4 @@
--- Every change keeps what is held sound.
+-- Every change keeps the state sound.
 use Rattle.std.proofs.Common.{◌≡◌, ◌≢◌, ℕ, suc, ◌<◌, ◌≤◌, ℤ, Bool, true, false, cond, not, ◌&&◌, ◌⊎◌, List, [], ◌∷◌, Option, Some, None, nat_eq, refl, sym, ap, subst, inl, inr, ◌∙◌, arith, length-append}
 use Rattle.std.specs.Prelude.{◌↔◌, length}
 use Rattle.std.proofs.lemmas.Bool.{and_from, and_parts, or_cases, eqb-true, eq-eqb, both_ways, or_left, or_right}

@@ -1,4 +1,4 @@
--- What is held after a legal history is sound.
+-- The state after a legal history is sound.
 use Rattle.std.proofs.Common.{◌≡◌, ℕ, ◌+◌, ◌<◌, ◌≤◌, Bool, true, false, cond, ◌⊎◌, List, [], ◌∷◌, ◌++◌, sym, ap, subst, inl, inr, ◌∙◌, arith}
 use Rattle.std.specs.Prelude.{length}
 use Rattle.std.proofs.lemmas.Bool.{cases_lt}
@@ -40,11 +40,11 @@ begun_has (e ∷ past) t lt = go (is_start e.reply) (begun_has past t) lt
     go true before lt = member_added t (begun past) (starts past) (now_or lt before)
     go false before lt = before lt
 
-pub state_is_sound : (s : Setting) (past : List Entry) → Legal s past → (c : State) → IsStateAfter s past c → Sound s.limits.live c
+pub state_is_sound : (s : Setting) (past : List Entry) → Legal s past → (c : State) → IsStateAfter s past c → Sound s.rules.limits.live c
 state_is_sound s past h c i = record {
   begun = λ t q. subst (λ n. t < n) (sym i.starts) (live-started past t (sym (i.nodes t) ∙ q));
   listed = λ t. ((λ q. subst (λ l. Member t l) (sym i.lives) (kept_member (live past) t (begun past) (sym (i.nodes t) ∙ q) (begun_has past t (live-started past t (sym (i.nodes t) ∙ q))))), (λ m. i.nodes t ∙ (member_kept (live past) t (begun past) (subst (λ l. Member t l) i.lives m)).0));
-  few = subst (λ l. length l ≤ s.limits.live) (sym i.lives) (limits_are_kept s past h).1;
+  few = subst (λ l. length l ≤ s.rules.limits.live) (sym i.lives) (limits_are_kept s past h).1;
   pair_nodes = λ t u q. let p = (i.pairs t u).0 q in (i.nodes t ∙ p.first_live, i.nodes u ∙ p.second_live);
   pair_apart = λ t u q. ((i.pairs t u).0 q).pair.apart;
   access_nodes = λ t k kind q. i.nodes t ∙ listed_live s past h c i t k kind q;

@@ -1,4 +1,4 @@
--- What is held tells what the definitions say: the verdict, the value found and its writer, who falls.
+-- The state tells what the definitions say: the verdict, the value found and its writer, who falls.
 use Rattle.std.proofs.Common.{◌≡◌, ◌≢◌, ℕ, ◌<◌, true, false, not, ◌||◌, List, [], ◌∷◌, Option, Some, None, refl, sym, ap, ap₂, subst, inl, inr, ◌∙◌, arith}
 use Rattle.std.specs.Prelude.{length}
 use Rattle.std.proofs.lemmas.Bool.{both_ways, or_cases, or_left, or_right, not-true}

@@ -1,4 +1,4 @@
--- The verdict on an access, from what is held alone.
+-- The verdict on an access, from the state alone.
 use Rattle.std.specs.Prelude.{◌≡◌, ◌≢◌, ℕ, true, List, ◌∷◌}
 use Rattle.sgt_model.specs.declared.kind.Kind.{Kind}
 use Rattle.sgt_model.specs.Contents.{Key}

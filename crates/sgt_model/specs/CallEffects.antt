@@ -1,4 +1,4 @@
--- What a call answers and does, as a relation of what is held before and after.
+-- What a call answers and does, as a relation of the states before and after.
 use Rattle.std.specs.Prelude.{◌≡◌, ℕ, ◌≤◌, ℤ, Bool, true, false, cond, ◌⊎◌, nat_eq, nat_lt, List, ◌∷◌, length, Option, Some, None}
 use Rattle.sgt_model.specs.declared.event.Event.{Event}
 use Rattle.sgt_model.specs.declared.event.Event.TheVariants.{Start, Step, Commit, Quit}
@@ -12,7 +12,7 @@ use Rattle.sgt_model.specs.declared.kind.Kind.{Kind}
 use Rattle.sgt_model.specs.declared.kind.Kind.TheVariants.{Look, Store}
 use Rattle.sgt_model.specs.Contents.{Key}
 use Rattle.sgt_model.specs.Traces.{Next, Looks, Puts, Ends, Asks}
-use Rattle.sgt_model.specs.Settings.{Setting}
+use Rattle.sgt_model.specs.Settings.{Rules}
 use Rattle.sgt_model.specs.Legality.{args_fit}
 use Rattle.sgt_model.specs.LiveProgress.{next_in}
 use Rattle.sgt_model.specs.State.{State}
@@ -67,8 +67,8 @@ StepOn t (Ends answers) before r after = Stays reply.Ended before r after
 StepOn t (Asks code) before r after = AbortsIn t (cause.Asked code) before r after
 
 -- a step of any transaction
-abbrev pub StepEffect : Setting → ℕ → State → Reply → State → Type 0
-StepEffect s t before r after = IfOpen (nat_lt t before.starts) (before.fates t) before r after (StepOn t (next_in s (before.progress t)) before r after)
+abbrev pub StepEffect : Rules → ℕ → State → Reply → State → Type 0
+StepEffect rules t before r after = IfOpen (nat_lt t before.starts) (before.fates t) before r after (StepOn t (next_in rules (before.progress t)) before r after)
 
 -- a commit
 
@@ -97,8 +97,8 @@ CommitOn t (Puts k v) before r after = Stays reply.NotEnded before r after
 CommitOn t (Asks code) before r after = Stays reply.NotEnded before r after
 
 -- a commit of any transaction
-abbrev pub CommitEffect : Setting → ℕ → State → Reply → State → Type 0
-CommitEffect s t before r after = IfOpen (nat_lt t before.starts) (before.fates t) before r after (CommitOn t (next_in s (before.progress t)) before r after)
+abbrev pub CommitEffect : Rules → ℕ → State → Reply → State → Type 0
+CommitEffect rules t before r after = IfOpen (nat_lt t before.starts) (before.fates t) before r after (CommitOn t (next_in rules (before.progress t)) before r after)
 
 -- a quit
 
@@ -117,9 +117,9 @@ abbrev pub taken_reply : Limits → ℕ → ℕ → Option ℕ → List ℤ → 
 taken_reply limits begun living None args = reply.NoProcedure
 taken_reply limits begun living (Some count) args = cond (args_fit count args) (room_reply limits begun living) reply.BadArgs
 
--- the one reply to a start, from what is held: the tests of `start_reply`, in the same order
-abbrev pub start_answer : Setting → State → ℕ → List ℤ → Reply
-start_answer s c p args = taken_reply s.limits c.starts (length c.live) (s.procedures p) args
+-- the one reply to a start, from the state: the tests of `start_reply`, in the same order
+abbrev pub start_answer : Rules → State → ℕ → List ℤ → Reply
+start_answer rules c p args = taken_reply rules.limits c.starts (length c.live) (rules.procedures p) args
 
 -- what a start with this reply does
 abbrev pub StartOn : ℕ → List ℤ → State → Reply → State → Type 0
@@ -127,13 +127,13 @@ StartOn p args before (reply.Started t) after = Starts (record { procedure = p; 
 StartOn p args before _ after = after ≡ before
 
 -- any start
-pub record StartEffect (s : Setting) (p : ℕ) (args : List ℤ) (before : State) (r : Reply) (after : State) : Type 0 where
-  pub reply : r ≡ start_answer s before p args
+pub record StartEffect (rules : Rules) (p : ℕ) (args : List ℤ) (before : State) (r : Reply) (after : State) : Type 0 where
+  pub reply : r ≡ start_answer rules before p args
   pub does : StartOn p args before r after
 
 -- what the call of an event answers and does
-abbrev pub CallEffect : Setting → Event → State → Reply → State → Type 0
-CallEffect s (Start p args) before r after = StartEffect s p args before r after
-CallEffect s (Step t) before r after = StepEffect s t before r after
-CallEffect s (Commit t) before r after = CommitEffect s t before r after
-CallEffect s (Quit t) before r after = QuitEffect t before r after
+abbrev pub CallEffect : Rules → Event → State → Reply → State → Type 0
+CallEffect rules (Start p args) before r after = StartEffect rules p args before r after
+CallEffect rules (Step t) before r after = StepEffect rules t before r after
+CallEffect rules (Commit t) before r after = CommitEffect rules t before r after
+CallEffect rules (Quit t) before r after = QuitEffect t before r after

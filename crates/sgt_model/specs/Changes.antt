@@ -1,4 +1,4 @@
--- What an event does to what is held.
+-- What an event does to the state.
 use Rattle.std.specs.Prelude.{◌≡◌, ◌≢◌, ℕ, ◌+◌, ℤ, Bool, true, false, not, ◌&&◌, ◌||◌, cond, ◌⊎◌, ◌↔◌, nat_eq, List, [], ◌∷◌, ◌++◌, Some}
 use Rattle.std.specs.List.{list_any, filter}
 use Rattle.std.specs.Option.{option_or}

@@ -84,7 +84,7 @@ CommitsAlwaysInOrder = InEach (λ s past. CommitsInOrder past)
 
 -- never are more transactions started, or live at once, than the limits say
 abbrev pub LimitsAreKept : Type 0
-LimitsAreKept = InEach (λ s past. (starts past ≤ s.limits.begins) × (length (live_ones past) ≤ s.limits.live))
+LimitsAreKept = InEach (λ s past. (starts past ≤ s.rules.limits.begins) × (length (live_ones past) ≤ s.rules.limits.live))
 
 -- the headline holds of every legal history
 abbrev pub HeadlineHolds : Type 0

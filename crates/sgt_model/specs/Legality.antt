@@ -32,7 +32,7 @@ args_fit count args = nat_eq (length args) count && list_all is_value args
 
 -- where the limits allow one more
 abbrev pub started_reply : Setting → List Entry → Reply
-started_reply s past = cond (nat_eq (starts past) s.limits.begins) reply.Spent (cond (nat_eq (length (live_ones past)) s.limits.live) reply.Full (reply.Started (starts past)))
+started_reply s past = cond (nat_eq (starts past) s.rules.limits.begins) reply.Spent (cond (nat_eq (length (live_ones past)) s.rules.limits.live) reply.Full (reply.Started (starts past)))
 
 -- where the procedure takes so many arguments
 abbrev pub called_reply : Setting → List Entry → Option ℕ → List ℤ → Reply
@@ -41,7 +41,7 @@ called_reply s past (Some count) args = cond (args_fit count args) (started_repl
 
 -- the one reply to a start: no such procedure, bad arguments, all numbers spent, full, or started with the next number
 abbrev pub start_reply : Setting → List Entry → ℕ → List ℤ → Reply
-start_reply s past p args = called_reply s past (s.procedures p) args
+start_reply s past p args = called_reply s past (s.rules.procedures p) args
 
 -- a step
 

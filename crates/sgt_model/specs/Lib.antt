@@ -12,6 +12,7 @@ pub mod Meaning
 pub mod Codes
 -- histories: accesses, fates, values, who read from whom, conflicts
 pub mod Walks
+pub mod Histories
 pub mod Accesses
 pub mod Fates
 pub mod Values
@@ -30,14 +31,14 @@ pub mod CommitOrder
 pub mod Aborts
 pub mod Headline
 pub mod Laws
--- what a scheduler holds after a history
+-- the state of a scheduler, and the one that belongs to a history
 pub mod AccessList
 pub mod Chains
 pub mod ChainOrder
 pub mod LiveProgress
 pub mod State
 pub mod StateAfter
--- what a scheduler decides and does, from what it holds
+-- what a scheduler decides and does, from its state
 pub mod Blocks
 pub mod Found
 pub mod FallsIn

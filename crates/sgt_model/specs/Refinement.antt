@@ -1,4 +1,4 @@
--- The laws of what is held, each by name: an engine's proof rests on these.
+-- The laws of the state, each by name: an engine's proof rests on these.
 use Rattle.std.specs.Prelude.{◌≡◌, ℕ, true, ◌↔◌, List, [], ◌∷◌}
 use Rattle.sgt_model.specs.declared.event.Event.{Event}
 use Rattle.sgt_model.specs.declared.reply.Reply.{Reply}
@@ -19,21 +19,21 @@ use Rattle.sgt_model.specs.CallEffects.{CallEffect}
 use Rattle.sgt_model.specs.Soundness.{Sound}
 use Rattle.sgt_model.specs.NewState.{IsNew}
 
--- what holds of every legal history with what is held after it
+-- what holds of every legal history with the state after it
 abbrev pub InEachState : (Setting → List Entry → State → Type 0) → Type 0
 InEachState P = InEach (λ s past. (c : State) → IsStateAfter s past c → P s past c)
 
--- the reply is legal, and this is held after the longer history
+-- the reply is legal, and this is the state after the longer history
 abbrev pub Continues : Setting → List Entry → Event → Reply → State → Type 0
 Continues s past event r after = LegalReply s past event r × IsStateAfter s (record { event = event; reply = r } ∷ past) after
 
--- a call that does what its contract says answers legally, and leaves what is held after the longer history
+-- a call that does what its contract says answers legally, and leaves the state after the longer history
 abbrev pub CallsSimulate : Type 0
-CallsSimulate = InEachState (λ s past before. (event : Event) (r : Reply) (after : State) → CallEffect s event before r after → Continues s past event r after)
+CallsSimulate = InEachState (λ s past before. (event : Event) (r : Reply) (after : State) → CallEffect s.rules event before r after → Continues s past event r after)
 
--- a new scheduler holds what is held after the empty history
+-- the state of a new scheduler is the state after the empty history
 abbrev pub NewIsEmpty : Type 0
-NewIsEmpty = (s : Setting) (c : State) → IsNew s c → IsStateAfter s [] c
+NewIsEmpty = (s : Setting) (c : State) → IsNew s.opening c → IsStateAfter s [] c
 
 -- the verdict on an access of a live transaction is the closing walk's: the same lists
 abbrev pub VerdictsAgree : Type 0
@@ -43,6 +43,6 @@ VerdictsAgree = InEachState (λ s past c. (t : ℕ) (k : Key) (kind : Kind) (res
 abbrev pub FoundIsVisible : Type 0
 FoundIsVisible = InEachState (λ s past c. (k : Key) → found c k ≡ visible s.opening past k)
 
--- what is held after a legal history is sound
+-- the state after a legal history is sound
 abbrev pub StatesAreSound : Type 0
-StatesAreSound = InEachState (λ s past c. Sound s.limits.live c)
+StatesAreSound = InEachState (λ s past c. Sound s.rules.limits.live c)

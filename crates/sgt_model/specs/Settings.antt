@@ -7,13 +7,17 @@ use Rattle.sgt_model.specs.Syntax.{Program}
 use Rattle.sgt_model.specs.Runs.{Run}
 use Rattle.sgt_model.specs.Meaning.{wrong, run_with}
 
--- the opening contents, the procedures and the limits. Of a procedure it says by its number how many arguments it takes, or
--- that there is none, and what it does with given arguments
-pub record Setting : Type 0 where
-  pub opening : Contents
+-- the rules by which events are answered: the procedures and the limits. Of a procedure they say by its number how many
+-- arguments it takes, or that there is none, and what it does with given arguments
+pub record Rules : Type 0 where
   pub procedures : ℕ → Option ℕ
   pub runs : ℕ → List ℤ → Run
   pub limits : Limits
+
+-- the opening contents, and the rules
+pub record Setting : Type 0 where
+  pub opening : Contents
+  pub rules : Rules
 
 -- how many arguments procedure n takes, if there is one
 abbrev pub args_in : List Program → ℕ → Option ℕ
@@ -28,11 +32,10 @@ run_if (Some p) args = run_with p args
 abbrev pub runs_in : List Program → ℕ → List ℤ → Run
 runs_in programs n = run_if (slice_get programs n)
 
+-- the rules of these procedures and limits
+abbrev pub rules_from : List Program → Limits → Rules
+rules_from programs limits = record { procedures = args_in programs; runs = runs_in programs; limits = limits }
+
 -- the setting of these opening contents, procedures and limits
 abbrev pub setting : Contents → List Program → Limits → Setting
-setting opening programs limits = record {
-  opening = opening;
-  procedures = args_in programs;
-  runs = runs_in programs;
-  limits = limits;
-}
+setting opening programs limits = record { opening = opening; rules = rules_from programs limits }

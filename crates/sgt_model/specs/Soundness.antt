@@ -1,4 +1,4 @@
--- What holds of what is held at every moment, whatever the history: the layers' calls ask for it.
+-- What holds of a state at every moment, whatever the history: the layers' calls ask for it.
 use Rattle.std.specs.Prelude.{◌≡◌, ◌≢◌, ℕ, ◌<◌, ◌≤◌, true, ◌↔◌, length}
 use Rattle.sgt_model.specs.declared.kind.Kind.{Kind}
 use Rattle.sgt_model.specs.declared.kind.Kind.TheVariants.{Store}

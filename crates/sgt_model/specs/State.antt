@@ -1,4 +1,4 @@
--- What the scheduler and its layers hold, as functions and lists.
+-- The state of a scheduler: what it and its layers hold, as functions and lists.
 use Rattle.std.specs.Prelude.{◌≡◌, ℕ, ℤ, Bool, true, ◌⊎◌, List, [], ◌∷◌, Option}
 use Rattle.sgt_model.specs.declared.reply.Fate.{Fate}
 use Rattle.sgt_model.specs.Contents.{Key}

@@ -1,4 +1,4 @@
--- What is held after a history: the relation between the two that every call keeps.
+-- The state after a history: the relation between the two that every call keeps.
 use Rattle.std.specs.Prelude.{◌≡◌, ℕ, true, ◌↔◌, List}
 use Rattle.sgt_model.specs.declared.entry.Entry.{Entry}
 use Rattle.sgt_model.specs.Contents.{Key}
@@ -24,7 +24,7 @@ pub record LiveRead (past : List Entry) (t u : ℕ) : Type 0 where
   pub source_live : live past u ≡ true
   pub read : ReadFrom past t u
 
--- this is held after the history
+-- this is the state after the history
 pub record IsStateAfter (s : Setting) (past : List Entry) (c : State) : Type 0 where
   pub lives : c.live ≡ live_ones past
   pub nodes : (t : ℕ) → c.nodes t ≡ live past t

@@ -7,7 +7,7 @@ use Rattle.sgt_model.specs.Walks.{Member}
 use Rattle.sgt_model.specs.AccessList.{ListedAccess}
 use Rattle.sgt_model.specs.LiveProgress.{Progress}
 use Rattle.sgt_sched.specs.LiveList.{numbers, has_number, progress_at}
-use Rattle.sgt_sched.specs.SchedulerView.{SchedulerView, fate_at, IsKept}
+use Rattle.sgt_sched.specs.SchedulerView.{SchedulerView, fate_at, IsKept, state_of}
 use Rattle.sgt_sched.specs.Steps.{IsUnended}
 
 -- one that is found has that number, and its course
@@ -42,5 +42,5 @@ module _ {R A G : Type 0} {chain : R → Key → List (ℕ × ℤ)} {settled : R
   not_found e begun none = none_member p.live t e ((kept.sound.listed t).0 ((kept.unended t).1 (begun, none)))
 
   -- a node was started, and has not ended
-  pub unended : nodes p.graph t ≡ true → IsUnended p.fates t
+  pub unended : nodes p.graph t ≡ true → IsUnended (state_of chain settled list nodes pairs p) t
   unended node = let u = (kept.unended t).0 node in record { begun = lt-ltb t (length p.fates) u.0; unended = u.1 }

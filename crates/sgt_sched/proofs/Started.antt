@@ -8,7 +8,7 @@ use Rattle.sgt_model.specs.Walks.{Member, AtMost}
 use Rattle.sgt_model.specs.AccessList.{ListedAccess}
 use Rattle.sgt_model.specs.LiveProgress.{Progress}
 use Rattle.sgt_model.specs.Traces.{Used}
-use Rattle.sgt_model.specs.Settings.{Setting, runs_in}
+use Rattle.sgt_model.specs.Settings.{Rules, runs_in}
 use Rattle.sgt_model.specs.declared.reply.Reply.{Reply}
 use Rattle.sgt_model.specs.CallEffects.{start_answer, StartOn, StartEffect}
 use Rattle.sgt_model.specs.State.{State}
@@ -120,8 +120,8 @@ module _ {R A G : Type 0} {chain : R → Key → List (ℕ × ℤ)} {settled : R
         same = λ i. record { procedures = before.procedures; limits = before.limits; records = before.records; accesses = before.accesses; graph = graph; live = live_now i; read_from = before.read_from; fates = fates_now i }
 
 -- the effect of a start, where the parts before it were seen as others
-pub start_effect : {P : Type 0} (held : P → State) (s : Setting) (procedure : ℕ) (args : List ℤ) (before now after : P) (r : Reply) → before ≡ now → r ≡ start_answer s (held now) procedure args → StartOn procedure args (held before) r (held after) → StartEffect s procedure args (held now) r (held after)
-start_effect held s procedure args before now after r same reply does = record {
+pub start_effect : {P : Type 0} (held : P → State) (rules : Rules) (procedure : ℕ) (args : List ℤ) (before now after : P) (r : Reply) → before ≡ now → r ≡ start_answer rules (held now) procedure args → StartOn procedure args (held before) r (held after) → StartEffect rules procedure args (held now) r (held after)
+start_effect held rules procedure args before now after r same reply does = record {
   reply = reply;
   does = subst (λ p. StartOn procedure args (held p) r (held after)) same does;
 }

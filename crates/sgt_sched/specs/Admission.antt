@@ -4,7 +4,7 @@ use Rattle.sgt_model.specs.declared.limits.Limits.{Limits}
 use Rattle.sgt_model.specs.declared.reply.Reply.{Reply}
 use Rattle.sgt_model.specs.declared.reply.Reply.TheVariants as reply
 use Rattle.sgt_model.specs.State.{State}
-use Rattle.sgt_model.specs.Settings.{Setting}
+use Rattle.sgt_model.specs.Settings.{Rules}
 use Rattle.sgt_model.specs.CallEffects.{start_answer, StartOn}
 
 -- t is the next number, and the limits have room for it
@@ -14,6 +14,6 @@ pub record HasRoom (limits : Limits) (c : State) (t : ℕ) : Type 0 where
   pub live : length c.live < limits.live
 
 -- with this number, for which there is room; or the start is answered so, and does nothing
-abbrev pub Admits : Setting → State → ℕ → List ℤ → Result ℕ Reply → Type 0
-Admits s c procedure args (Ok t) = (reply.Started t ≡ start_answer s c procedure args) × HasRoom s.limits c t
-Admits s c procedure args (Err r) = (r ≡ start_answer s c procedure args) × StartOn procedure args c r c
+abbrev pub Admits : Rules → State → ℕ → List ℤ → Result ℕ Reply → Type 0
+Admits rules c procedure args (Ok t) = (reply.Started t ≡ start_answer rules c procedure args) × HasRoom rules.limits c t
+Admits rules c procedure args (Err r) = (r ≡ start_answer rules c procedure args) × StartOn procedure args c r c

@@ -6,14 +6,14 @@ use Rattle.sgt_model.specs.Bounds.{AreInRange}
 use Rattle.sgt_model.specs.Contents.{Key}
 use Rattle.sgt_model.specs.Syntax.{Program}
 use Rattle.sgt_model.specs.Traces.{Used}
-use Rattle.sgt_model.specs.Settings.{runs_in}
+use Rattle.sgt_model.specs.Settings.{Rules, rules_from, runs_in}
 use Rattle.sgt_model.specs.AccessList.{ListedAccess}
 use Rattle.sgt_model.specs.LiveProgress.{Progress}
 use Rattle.sgt_model.specs.State.{State}
 use Rattle.sgt_model.specs.Soundness.{Sound}
 use Rattle.sgt_sched.specs.LiveList.{numbers, progress_at}
 
--- the procedures and limits, the three layers, the live transactions with their courses, who read from whom (source and
+-- the procedures and limits, the three layers, the live transactions with their progress, who read from whom (source and
 -- reader), and of each started transaction how it ended, if it did
 pub record SchedulerView (R A G : Type 0) : Type 0 where
   pub procedures : List Program
@@ -25,18 +25,22 @@ pub record SchedulerView (R A G : Type 0) : Type 0 where
   pub read_from : List (ℕ × ℕ)
   pub fates : List (Option Fate)
 
+-- the rules that it goes by
+abbrev pub rules_of : {R A G : Type 0} → SchedulerView R A G → Rules
+rules_of p = rules_from p.procedures p.limits
+
 -- how t ended, if it did
 abbrev pub fate_at : List (Option Fate) → ℕ → Option Fate
 fate_at fates t = slice_index_or fates t None
 
--- the values that a course's looks found are those that its procedure has used
+-- the values that a transaction's looks found are those that its procedure has used
 abbrev pub HasUsed : List Program → Progress → Type 0
 HasUsed programs c = Used (runs_in programs c.call.procedure c.call.args) c.read c.made
 
 -- by what the layers tell: of records the chain and the committed value of each key, of accesses their list, of a graph its
 -- nodes and pairs
 module _ {R A G : Type 0} (chain : R → Key → List (ℕ × ℤ)) (settled : R → Key → Option ℤ) (list : A → List ListedAccess) (nodes : G → ℕ → Bool) (pairs : G → ℕ → ℕ → Bool) where
-  -- what is held
+  -- the state
   abbrev pub state_of : SchedulerView R A G → State
   state_of p = record {
     live = numbers p.live;
@@ -51,7 +55,7 @@ module _ {R A G : Type 0} (chain : R → Key → List (ℕ × ℤ)) (settled : R
     progress = progress_at p.live;
   }
 
-  -- what holds at every moment: the limits are in their ranges and kept; what is held is sound; the graph's nodes are those
+  -- what holds at every moment: the limits are in their ranges and kept; the state is sound; the graph's nodes are those
   -- that were started and have not ended; and the values looked at are those that the procedures have used
   pub record IsKept (p : SchedulerView R A G) : Type 0 where
     pub in_range : AreInRange p.limits

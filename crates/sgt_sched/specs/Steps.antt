@@ -1,5 +1,5 @@
 -- What a scheduler's calls ask of each other.
-use Rattle.std.specs.Prelude.{◌≡◌, ℕ, Bool, true, false, not, ◌&&◌, cond, nat_eq, nat_lt, length, List, [], ◌∷◌, ◌++◌, filter, Option, Some, None}
+use Rattle.std.specs.Prelude.{◌≡◌, ℕ, Bool, true, false, not, ◌&&◌, cond, nat_eq, nat_lt, List, [], ◌∷◌, ◌++◌, filter, Option, Some, None}
 use Rattle.sgt_model.specs.declared.reply.Fate.{Fate}
 use Rattle.sgt_model.specs.declared.reply.Reply.{Reply}
 use Rattle.sgt_model.specs.declared.reply.Reply.TheVariants as reply
@@ -7,24 +7,28 @@ use Rattle.sgt_model.specs.Syntax.{Program}
 use Rattle.sgt_model.specs.Traces.{Next, trace, next_at}
 use Rattle.sgt_model.specs.Settings.{runs_in}
 use Rattle.sgt_model.specs.LiveProgress.{Progress}
-use Rattle.sgt_sched.specs.SchedulerView.{fate_at}
+use Rattle.sgt_model.specs.State.{State}
 use Rattle.sgt_records.specs.declared.top.Top.{Top}
 use Rattle.sgt_records.specs.declared.top.Top.TheVariants as top
 
--- what comes next on a course
+-- what comes next, by the procedures
 abbrev pub next_along : List Program → Progress → Next
 next_along programs c = next_at (trace (runs_in programs c.call.procedure c.call.args) c.read) c.made
 
 -- the reply to an event of a transaction that is not live: by whether it was started, and how it ended
-abbrev pub IsClosed : Bool → Option Fate → Reply → Type 0
-IsClosed false ended r = r ≡ reply.Unknown
-IsClosed true (Some f) r = r ≡ reply.Over f
-IsClosed true None r = ⊥
+abbrev pub IsClosedBy : Bool → Option Fate → Reply → Type 0
+IsClosedBy false ended r = r ≡ reply.Unknown
+IsClosedBy true (Some f) r = r ≡ reply.Over f
+IsClosedBy true None r = ⊥
+
+-- t is not live in the state, and an event of it is answered so
+abbrev pub IsClosed : State → ℕ → Reply → Type 0
+IsClosed c t r = IsClosedBy (nat_lt t c.starts) (c.fates t) r
 
 -- t was started, and has not ended
-pub record IsUnended (fates : List (Option Fate)) (t : ℕ) : Type 0 where
-  pub begun : nat_lt t (length fates) ≡ true
-  pub unended : fate_at fates t ≡ None
+pub record IsUnended (c : State) (t : ℕ) : Type 0 where
+  pub begun : nat_lt t c.starts ≡ true
+  pub unended : c.fates t ≡ None
 
 -- the reads, source and reader, without those from t or by t
 abbrev pub unread : ℕ → List (ℕ × ℕ) → List (ℕ × ℕ)

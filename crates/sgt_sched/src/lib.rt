@@ -21,5 +21,7 @@ mod live;
 mod reads;
 mod running;
 mod sched;
+mod scheduler;
 
 pub use sched::Sched;
+pub use scheduler::Scheduler;

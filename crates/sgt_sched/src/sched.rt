@@ -3,24 +3,23 @@ ghost use Rattle.std.specs.Result.{IfErr};
 ghost use Rattle.sgt_model.specs.declared.kind.Kind.TheVariants.{Look, Store};
 ghost use Rattle.sgt_model.specs.Bounds.{AreInRange};
 ghost use Rattle.sgt_model.specs.CallEffects.{AbortsIn, CallEffect, CommitEffect, CommitsIn, MakesLook, MakesStore, QuitEffect, RefusesIn, StartEffect, StepEffect};
-ghost use Rattle.sgt_model.specs.Contents.{Contents};
 ghost use Rattle.sgt_model.specs.Databases.{contents_of};
+ghost use Rattle.sgt_model.specs.LiveProgress.{next_in};
 ghost use Rattle.sgt_model.specs.NewState.{IsNew};
 ghost use Rattle.sgt_model.specs.Numbers.{IsValue};
 ghost use Rattle.sgt_model.specs.Sameness.{Same};
-ghost use Rattle.sgt_model.specs.Settings.{setting};
 ghost use Rattle.sgt_model.specs.Traces.{Looks, Puts};
 ghost use Rattle.sgt_proc.specs.Nexts.{seen, IsAccess, StoresValue};
 ghost use Rattle.sgt_sched.specs.Admission.{Admits};
-ghost use Rattle.sgt_sched.specs.LiveList.{progress_at};
-ghost use Rattle.sgt_sched.specs.SchedulerView.{fate_at, state_of};
-ghost use Rattle.sgt_sched.specs.Steps.{IsClosed, IsUnended, next_along};
+ghost use Rattle.sgt_sched.specs.SchedulerView.{rules_of};
+ghost use Rattle.sgt_sched.specs.Steps.{IsClosed, IsUnended};
 
 use crate::arguments::args_fit;
 use crate::leave::leave;
 use crate::live::Live;
 use crate::reads::note_read;
 use crate::running::{Running, next_of};
+use crate::scheduler::Scheduler;
 use sgt_access::Accesses;
 use sgt_graph::{Graph, Verdict};
 use sgt_model::{
@@ -89,6 +88,12 @@ impl<R: Records, A: Accesses, G: Graph> Model for Sched<R, A, G> {
     }) };
 }
 
+impl<R: Records, A: Accesses, G: Graph> Scheduler for Sched<R, A, G> {
+    ghost use Rattle.sgt_sched.specs.SchedulerView.{state_of};
+
+    ghost state = { state_of R.chain R.settled A.list G.nodes G.pairs };
+}
+
 impl<R: Records, A: Accesses, G: Graph> Sched<R, A, G> {
     /// A scheduler over an opening database, with nothing started. It copies the opening. The procedures are numbered from
     /// 0 in their order.
@@ -100,9 +105,7 @@ impl<R: Records, A: Accesses, G: Graph> Sched<R, A, G> {
         procedures: Vec<Checked>,
         limits: Limits,
     ) -> Result<Self, MakeError>
-        ensures new { IfOk result (λ s.
-            IsNew (setting (contents_of opening.now) procedures.items limits)
-            (state_of R.chain R.settled A.list G.nodes G.pairs s)) }
+        ensures new { IfOk result (λ s. IsNew (contents_of opening.now) (⟦<Self as Scheduler>⟧.state s)) }
         ensures procedures { IfOk result (λ s. s.procedures ≡ procedures.items) }
         ensures limits { IfOk result (λ s. s.limits ≡ limits) }
         ensures refused { (result ≡ Err MakeError.BadLimits) ↔ (¬ AreInRange limits) }
@@ -126,15 +129,10 @@ impl<R: Records, A: Accesses, G: Graph> Sched<R, A, G> {
     ///
     /// `NoMemory` where a growth was refused; then nothing has changed.
     pub fn call(&mut self, event: &Event) -> Result<Reply, NoMemory>
-        ensures done { IfOk result (λ r. (opening : Contents) →
-            CallEffect (setting opening self.old.procedures self.old.limits) event.now
-            (state_of R.chain R.settled A.list G.nodes G.pairs self.old) r
-            (state_of R.chain R.settled A.list G.nodes G.pairs self.new)) }
+        ensures done { IfOk result (λ r. CallEffect (rules_of self.old) event.now (⟦<Self as Scheduler>⟧.state self.old) r (⟦<Self as Scheduler>⟧.state self.new)) }
         ensures procedures { self.new.procedures ≡ self.old.procedures }
         ensures limits { self.new.limits ≡ self.old.limits }
-        ensures refused { OnErr result (Same
-            (state_of R.chain R.settled A.list G.nodes G.pairs self.old)
-            (state_of R.chain R.settled A.list G.nodes G.pairs self.new)) }
+        ensures refused { OnErr result (Same (⟦<Self as Scheduler>⟧.state self.old) (⟦<Self as Scheduler>⟧.state self.new)) }
     {
         match event {
             Event::Start { procedure, args } => self.start(*procedure, args),
@@ -151,15 +149,10 @@ impl<R: Records, A: Accesses, G: Graph> Sched<R, A, G> {
     /// where as many are live; else `Started` with the next number. `NoMemory` where a growth was refused; then nothing has
     /// changed.
     pub fn start(&mut self, procedure: u16, args: &Args) -> Result<Reply, NoMemory>
-        ensures done { IfOk result (λ r. (opening : Contents) →
-            StartEffect (setting opening self.old.procedures self.old.limits) procedure args.now
-            (state_of R.chain R.settled A.list G.nodes G.pairs self.old) r
-            (state_of R.chain R.settled A.list G.nodes G.pairs self.new)) }
+        ensures done { IfOk result (λ r. StartEffect (rules_of self.old) procedure args.now (⟦<Self as Scheduler>⟧.state self.old) r (⟦<Self as Scheduler>⟧.state self.new)) }
         ensures procedures { self.new.procedures ≡ self.old.procedures }
         ensures limits { self.new.limits ≡ self.old.limits }
-        ensures refused { OnErr result (Same
-            (state_of R.chain R.settled A.list G.nodes G.pairs self.old)
-            (state_of R.chain R.settled A.list G.nodes G.pairs self.new)) }
+        ensures refused { OnErr result (Same (⟦<Self as Scheduler>⟧.state self.old) (⟦<Self as Scheduler>⟧.state self.new)) }
     {
         let t = match self.admit(procedure, args) {
             Ok(t) => t,
@@ -174,10 +167,7 @@ impl<R: Records, A: Accesses, G: Graph> Sched<R, A, G> {
 
     // The number of a transaction that may start, or why it may not.
     fn admit(&self, procedure: u16, args: &Args) -> Result<Tid, Reply>
-        ensures { (opening : Contents) →
-            Admits (setting opening self.now.procedures self.now.limits)
-            (state_of R.chain R.settled A.list G.nodes G.pairs self.now)
-            procedure args.now result }
+        ensures { Admits (rules_of self.now) (⟦<Self as Scheduler>⟧.state self.now) procedure args.now result }
     {
         let count = match self.procedures.get(usize::from(procedure)) {
             Some(checked) => checked.args(),
@@ -204,15 +194,10 @@ impl<R: Records, A: Accesses, G: Graph> Sched<R, A, G> {
     ///
     /// The procedure is run again over what its looks found, at most 64 accesses.
     pub fn step(&mut self, t: Tid) -> Result<Reply, NoMemory>
-        ensures done { IfOk result (λ r. (opening : Contents) →
-            StepEffect (setting opening self.old.procedures self.old.limits) t
-            (state_of R.chain R.settled A.list G.nodes G.pairs self.old) r
-            (state_of R.chain R.settled A.list G.nodes G.pairs self.new)) }
+        ensures done { IfOk result (λ r. StepEffect (rules_of self.old) t (⟦<Self as Scheduler>⟧.state self.old) r (⟦<Self as Scheduler>⟧.state self.new)) }
         ensures procedures { self.new.procedures ≡ self.old.procedures }
         ensures limits { self.new.limits ≡ self.old.limits }
-        ensures refused { OnErr result (Same
-            (state_of R.chain R.settled A.list G.nodes G.pairs self.old)
-            (state_of R.chain R.settled A.list G.nodes G.pairs self.new)) }
+        ensures refused { OnErr result (Same (⟦<Self as Scheduler>⟧.state self.old) (⟦<Self as Scheduler>⟧.state self.new)) }
     {
         let next = match self.next(t) {
             Ok(next) => next,
@@ -231,10 +216,7 @@ impl<R: Records, A: Accesses, G: Graph> Sched<R, A, G> {
     /// Answers: `Unknown` where it was never started; `Over` where it has ended; `NotEnded` where its procedure is not at its
     /// end; `Waits` with the least live predecessor, where there is one; else `Committed` with the procedure's answers.
     pub fn commit(&mut self, t: Tid) -> Reply
-        ensures done { (opening : Contents) →
-            CommitEffect (setting opening self.old.procedures self.old.limits) t
-            (state_of R.chain R.settled A.list G.nodes G.pairs self.old) result
-            (state_of R.chain R.settled A.list G.nodes G.pairs self.new) }
+        ensures done { CommitEffect (rules_of self.old) t (⟦<Self as Scheduler>⟧.state self.old) result (⟦<Self as Scheduler>⟧.state self.new) }
         ensures procedures { self.new.procedures ≡ self.old.procedures }
         ensures limits { self.new.limits ≡ self.old.limits }
     {
@@ -252,9 +234,7 @@ impl<R: Records, A: Accesses, G: Graph> Sched<R, A, G> {
     ///
     /// Answers: `Unknown` where it was never started; `Over` where it has ended; else `Aborted`.
     pub fn quit(&mut self, t: Tid) -> Reply
-        ensures done { QuitEffect t
-            (state_of R.chain R.settled A.list G.nodes G.pairs self.old) result
-            (state_of R.chain R.settled A.list G.nodes G.pairs self.new) }
+        ensures done { QuitEffect t (⟦<Self as Scheduler>⟧.state self.old) result (⟦<Self as Scheduler>⟧.state self.new) }
         ensures procedures { self.new.procedures ≡ self.old.procedures }
         ensures limits { self.new.limits ≡ self.old.limits }
     {
@@ -266,11 +246,10 @@ impl<R: Records, A: Accesses, G: Graph> Sched<R, A, G> {
 
     // A live transaction, or what an event of another is answered.
     fn running(&self, t: Tid) -> Result<&Running, Reply>
-        ensures live { OnOk result (G.nodes self.now.graph t ≡ true) }
-        ensures unended { OnOk result (IsUnended self.now.fates t) }
-        ensures own_progress { IfOk result (λ running. running.now ≡ (t, progress_at self.now.live t)) }
-        ensures closed { IfErr result
-            (IsClosed (nat_lt t (length self.now.fates)) (fate_at self.now.fates t)) }
+        ensures live { OnOk result ((⟦<Self as Scheduler>⟧.state self.now).nodes t ≡ true) }
+        ensures unended { OnOk result (IsUnended (⟦<Self as Scheduler>⟧.state self.now) t) }
+        ensures progress { IfOk result (λ running. running.now ≡ (t, (⟦<Self as Scheduler>⟧.state self.now).progress t)) }
+        ensures closed { IfErr result (IsClosed (⟦<Self as Scheduler>⟧.state self.now) t) }
     {
         if let Some(running) = self.live.get(t) {
             return Ok(running);
@@ -284,15 +263,14 @@ impl<R: Records, A: Accesses, G: Graph> Sched<R, A, G> {
 
     // What the procedure of a live transaction does next, or what an event of another is answered.
     fn next(&self, t: Tid) -> Result<Next, Reply>
-        ensures live { OnOk result (G.nodes self.now.graph t ≡ true) }
-        ensures unended { OnOk result (IsUnended self.now.fates t) }
+        ensures live { OnOk result ((⟦<Self as Scheduler>⟧.state self.now).nodes t ≡ true) }
+        ensures unended { OnOk result (IsUnended (⟦<Self as Scheduler>⟧.state self.now) t) }
         ensures next { IfOk result (λ next.
-            seen next ≡ next_along self.now.procedures (progress_at self.now.live t)) }
+            seen next ≡ next_in (rules_of self.now) ((⟦<Self as Scheduler>⟧.state self.now).progress t)) }
         ensures in_range { IfOk result StoresValue }
         ensures few { IfOk result (λ next.
-            IsAccess next → (progress_at self.now.live t).made < 64) }
-        ensures closed { IfErr result
-            (IsClosed (nat_lt t (length self.now.fates)) (fate_at self.now.fates t)) }
+            IsAccess next → ((⟦<Self as Scheduler>⟧.state self.now).progress t).made < 64) }
+        ensures closed { IfErr result (IsClosed (⟦<Self as Scheduler>⟧.state self.now) t) }
     {
         match self.running(t) {
             Ok(running) => Ok(next_of(self.procedures.as_slice(), running)),
@@ -303,10 +281,8 @@ impl<R: Records, A: Accesses, G: Graph> Sched<R, A, G> {
     // Aborts a live transaction. Those that have read from it would fall with it: as long as at most one transaction is live,
     // `MOST_LIVE` of sgt_model, there are none. Nothing else in this crate rests on that limit.
     fn abort(&mut self, t: Tid, cause: Cause) -> Reply
-        requires live { G.nodes self.old.graph t ≡ true }
-        ensures aborts { AbortsIn t cause
-            (state_of R.chain R.settled A.list G.nodes G.pairs self.old) result
-            (state_of R.chain R.settled A.list G.nodes G.pairs self.new) }
+        requires live { (⟦<Self as Scheduler>⟧.state self.old).nodes t ≡ true }
+        ensures aborts { AbortsIn t cause (⟦<Self as Scheduler>⟧.state self.old) result (⟦<Self as Scheduler>⟧.state self.new) }
         ensures procedures { self.new.procedures ≡ self.old.procedures }
         ensures limits { self.new.limits ≡ self.old.limits }
     {
@@ -328,22 +304,13 @@ impl<R: Records, A: Accesses, G: Graph> Sched<R, A, G> {
 
     // Makes a look of a live transaction, or aborts it where the look would close a cycle.
     fn look(&mut self, t: Tid, key: Key) -> Result<Reply, NoMemory>
-        requires live { G.nodes self.old.graph t ≡ true }
-        requires next { next_along self.old.procedures (progress_at self.old.live t)
-            ≡ Looks key }
-        requires few { (progress_at self.old.live t).made < 64 }
-        ensures done { IfOk result (λ r.
-            RefusesIn t key Look
-            (state_of R.chain R.settled A.list G.nodes G.pairs self.old) r
-            (state_of R.chain R.settled A.list G.nodes G.pairs self.new)
-            ⊎ MakesLook t key
-            (state_of R.chain R.settled A.list G.nodes G.pairs self.old) r
-            (state_of R.chain R.settled A.list G.nodes G.pairs self.new)) }
+        requires live { (⟦<Self as Scheduler>⟧.state self.old).nodes t ≡ true }
+        requires next { next_in (rules_of self.old) ((⟦<Self as Scheduler>⟧.state self.old).progress t) ≡ Looks key }
+        requires few { ((⟦<Self as Scheduler>⟧.state self.old).progress t).made < 64 }
+        ensures done { IfOk result (λ r. RefusesIn t key Look (⟦<Self as Scheduler>⟧.state self.old) r (⟦<Self as Scheduler>⟧.state self.new) ⊎ MakesLook t key (⟦<Self as Scheduler>⟧.state self.old) r (⟦<Self as Scheduler>⟧.state self.new)) }
         ensures procedures { self.new.procedures ≡ self.old.procedures }
         ensures limits { self.new.limits ≡ self.old.limits }
-        ensures refused { OnErr result (Same
-            (state_of R.chain R.settled A.list G.nodes G.pairs self.old)
-            (state_of R.chain R.settled A.list G.nodes G.pairs self.new)) }
+        ensures refused { OnErr result (Same (⟦<Self as Scheduler>⟧.state self.old) (⟦<Self as Scheduler>⟧.state self.new)) }
     {
         let rivals = self.accesses.rivals(t, key, Kind::Look);
         match self.graph.test(t, &rivals) {
@@ -364,23 +331,14 @@ impl<R: Records, A: Accesses, G: Graph> Sched<R, A, G> {
 
     // Makes a store of a live transaction, or aborts it where the store would close a cycle.
     fn store(&mut self, t: Tid, key: Key, value: i64) -> Result<Reply, NoMemory>
-        requires live { G.nodes self.old.graph t ≡ true }
-        requires next { next_along self.old.procedures (progress_at self.old.live t)
-            ≡ Puts key value }
-        requires few { (progress_at self.old.live t).made < 64 }
+        requires live { (⟦<Self as Scheduler>⟧.state self.old).nodes t ≡ true }
+        requires next { next_in (rules_of self.old) ((⟦<Self as Scheduler>⟧.state self.old).progress t) ≡ Puts key value }
+        requires few { ((⟦<Self as Scheduler>⟧.state self.old).progress t).made < 64 }
         requires in_range { IsValue value }
-        ensures done { IfOk result (λ r.
-            RefusesIn t key Store
-            (state_of R.chain R.settled A.list G.nodes G.pairs self.old) r
-            (state_of R.chain R.settled A.list G.nodes G.pairs self.new)
-            ⊎ MakesStore t key value
-            (state_of R.chain R.settled A.list G.nodes G.pairs self.old) r
-            (state_of R.chain R.settled A.list G.nodes G.pairs self.new)) }
+        ensures done { IfOk result (λ r. RefusesIn t key Store (⟦<Self as Scheduler>⟧.state self.old) r (⟦<Self as Scheduler>⟧.state self.new) ⊎ MakesStore t key value (⟦<Self as Scheduler>⟧.state self.old) r (⟦<Self as Scheduler>⟧.state self.new)) }
         ensures procedures { self.new.procedures ≡ self.old.procedures }
         ensures limits { self.new.limits ≡ self.old.limits }
-        ensures refused { OnErr result (Same
-            (state_of R.chain R.settled A.list G.nodes G.pairs self.old)
-            (state_of R.chain R.settled A.list G.nodes G.pairs self.new)) }
+        ensures refused { OnErr result (Same (⟦<Self as Scheduler>⟧.state self.old) (⟦<Self as Scheduler>⟧.state self.new)) }
     {
         let rivals = self.accesses.rivals(t, key, Kind::Store);
         match self.graph.test(t, &rivals) {
@@ -399,11 +357,9 @@ impl<R: Records, A: Accesses, G: Graph> Sched<R, A, G> {
 
     // Commits a live transaction that has no predecessor.
     fn settle(&mut self, t: Tid, answers: Answers) -> Reply
-        requires live { G.nodes self.old.graph t ≡ true }
-        requires first { (u : ℕ) → G.pairs self.old.graph u t ≡ false }
-        ensures commits { CommitsIn t answers
-            (state_of R.chain R.settled A.list G.nodes G.pairs self.old) result
-            (state_of R.chain R.settled A.list G.nodes G.pairs self.new) }
+        requires live { (⟦<Self as Scheduler>⟧.state self.old).nodes t ≡ true }
+        requires first { (u : ℕ) → (⟦<Self as Scheduler>⟧.state self.old).pairs u t ≡ false }
+        ensures commits { CommitsIn t answers (⟦<Self as Scheduler>⟧.state self.old) result (⟦<Self as Scheduler>⟧.state self.new) }
         ensures procedures { self.new.procedures ≡ self.old.procedures }
         ensures limits { self.new.limits ≡ self.old.limits }
     {

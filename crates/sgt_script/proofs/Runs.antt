@@ -63,25 +63,25 @@ wrote-opened programs i s (Some bytes) held held' line (Some c) o r start gives 
 
 -- line 1 is too long, or the input is
 wrote-fault : (programs : List Program) (i : Intake) (rest held : Option (List ℕ)) (f : Fault) → i ≡ before_input → Explains f i.number (cut_left i rest) → IsExact (Err f) → Wrote programs rest held held (Err f)
-wrote-fault programs i rest held (fault.LongLine n) start committed_runs exact =
-    let one : n ≡ 1 = committed_runs.0 ∙ ap (λ (j : Intake). j.number + 1) start in
-    wrote-nothing programs i rest held AtLongLine (Err (fault.LongLine n)) start committed_runs.1 (ap (λ k. Err (fault.LongLine k)) one)
-wrote-fault programs i rest held fault.TooLong start committed_runs exact = wrote-nothing programs i rest held AtLimit (Err fault.TooLong) start committed_runs refl
-wrote-fault programs i rest held fault.Reading start committed_runs exact = absurd exact
-wrote-fault programs i rest held fault.Writing start committed_runs exact = absurd exact
-wrote-fault programs i rest held fault.NoMemory start committed_runs exact = absurd exact
-wrote-fault programs i rest held fault.NoOpening start committed_runs exact = absurd committed_runs
-wrote-fault programs i rest held (fault.NotJson n) start committed_runs exact = absurd committed_runs
-wrote-fault programs i rest held (fault.BadLine n) start committed_runs exact = absurd committed_runs
-wrote-fault programs i rest held fault.BadLimits start committed_runs exact = absurd committed_runs
-wrote-fault programs i rest held (fault.BadOpening k) start committed_runs exact = absurd committed_runs
-wrote-fault programs i rest held (fault.ProcShape n place) start committed_runs exact = absurd committed_runs
-wrote-fault programs i rest held (fault.ProcFlaw n k) start committed_runs exact = absurd committed_runs
+wrote-fault programs i rest held (fault.LongLine n) start explained exact =
+    let one : n ≡ 1 = explained.0 ∙ ap (λ (j : Intake). j.number + 1) start in
+    wrote-nothing programs i rest held AtLongLine (Err (fault.LongLine n)) start explained.1 (ap (λ k. Err (fault.LongLine k)) one)
+wrote-fault programs i rest held fault.TooLong start explained exact = wrote-nothing programs i rest held AtLimit (Err fault.TooLong) start explained refl
+wrote-fault programs i rest held fault.Reading start explained exact = absurd exact
+wrote-fault programs i rest held fault.Writing start explained exact = absurd exact
+wrote-fault programs i rest held fault.NoMemory start explained exact = absurd exact
+wrote-fault programs i rest held fault.NoOpening start explained exact = absurd explained
+wrote-fault programs i rest held (fault.NotJson n) start explained exact = absurd explained
+wrote-fault programs i rest held (fault.BadLine n) start explained exact = absurd explained
+wrote-fault programs i rest held fault.BadLimits start explained exact = absurd explained
+wrote-fault programs i rest held (fault.BadOpening k) start explained exact = absurd explained
+wrote-fault programs i rest held (fault.ProcShape n place) start explained exact = absurd explained
+wrote-fault programs i rest held (fault.ProcFlaw n k) start explained exact = absurd explained
 
 -- where the first line was not given
 pub wrote-no-line : (programs : List Program) (i : Intake) (rest held : Option (List ℕ)) (f : Fault) (r : End) → i ≡ before_input → r ≡ Err f → Explains f i.number (cut_left i rest) → IsExact r → Wrote programs rest held held r
-wrote-no-line programs i rest held f r start is committed_runs exact =
-    subst (Wrote programs rest held held) (sym is) (wrote-fault programs i rest held f start committed_runs (subst IsExact is exact))
+wrote-no-line programs i rest held f r start is explained exact =
+    subst (Wrote programs rest held held) (sym is) (wrote-fault programs i rest held f start explained (subst IsExact is exact))
 
 -- of every execution of a script the headline holds
 headline-of : ((s : Setting) (past : List Entry) → Legal s past → Headline s past) → (programs : List Program) (ls : List (List ℕ)) (ending : Ending) (run : Option Execution) (out : List ℕ) (r : End) → ScriptOf programs ls ending run out r → HeadlineOf run

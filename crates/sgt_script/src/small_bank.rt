@@ -15,12 +15,12 @@ pub(crate) struct SmallBankEngine {
 }
 
 impl Machine for SmallBankEngine {
-    ghost use Rattle.sgt_engine.specs.EngineView as parts;
+    ghost use Rattle.sgt_engine.specs.EngineView as engine_view;
     ghost use Rattle.sgt_smallbank.specs.Texts as smallbank;
 
     ghost programs = { smallbank.procedures };
 
-    ghost setting = { λ b. parts.setting_of b.engine };
+    ghost setting = { λ b. engine_view.setting_of b.engine };
 
     ghost past = { λ b. b.engine.past };
 
