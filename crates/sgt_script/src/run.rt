@@ -15,6 +15,8 @@ use std::alloc::Global;
 /// database comes last. Of the history of the events answered the headline holds: run one after another in commit order, the
 /// committed transactions' procedures give the answers that were told, and end in the database that is written.
 ///
+/// It reads at most 16,777,217 bytes, one more than an input may have, however long its reader goes on.
+///
 /// # Errors
 ///
 /// The first fault of the script; and `Reading`, `Writing` and `NoMemory`. The replies to the lines before it are written
