@@ -17,7 +17,7 @@ use Rattle.sgt_format.specs.ReplyText.{text}
 use Rattle.sgt_script.specs.Lines.{Cut}
 use Rattle.sgt_script.specs.Scripts.{Execution, RunOutput, events, replies, End, end_of, Closing, IsExact, IsOfScript}
 use Rattle.sgt_script.specs.Answering.{Answered, AllAnswered}
-use Rattle.sgt_engine.specs.EngineView.{events_of}
+use Rattle.sgt_model.specs.Histories.{events_of}
 
 -- the events of a history with one entry more
 pub events_of-entry : (e : Entry) (past : List Entry) → events_of (e ∷ past) ≡ events_of past ++ e.event ∷ []

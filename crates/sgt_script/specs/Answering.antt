@@ -1,7 +1,7 @@
 -- How far the lines of a script are answered.
 use Rattle.std.specs.Prelude.{◌≡◌, ℕ, ⊤, List, [], ◌++◌, Option, None, Some}
 use Rattle.sgt_model.specs.declared.entry.Entry.{Entry}
-use Rattle.sgt_engine.specs.EngineView.{events_of}
+use Rattle.sgt_model.specs.Histories.{events_of}
 use Rattle.sgt_script.specs.Lines.{Cut}
 use Rattle.sgt_script.specs.Scripts.{End, events, end_of}
 

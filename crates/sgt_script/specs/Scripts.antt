@@ -9,7 +9,7 @@ use Rattle.sgt_model.specs.Settings.{Setting, setting}
 use Rattle.sgt_model.specs.Headline.{Headline}
 use Rattle.sgt_model.specs.Legality.{Legal}
 use Rattle.sgt_model.specs.Values.{settled}
-use Rattle.sgt_engine.specs.EngineView.{events_of}
+use Rattle.sgt_model.specs.Histories.{events_of}
 use Rattle.sgt_format.specs.EventLines.{event_of}
 use Rattle.sgt_format.specs.Openings.{Opens, Refuses}
 use Rattle.sgt_proc.specs.Flaws.{number}
