@@ -1,11 +1,12 @@
-//! Tests of the crates below the scheduler, in a crate of their own: a crate with tests is proved twice, and these would be
-//! proved again for nothing.
+//! Tests of the other crates, in a crate of their own: a crate with tests is proved twice, and these would be proved again
+//! for nothing.
 //!
 //! It has no function for others to call. What a test shows is in its name.
 #![tactic(auto)]
 
 #[cfg(test)]
 mod accesses;
+mod engine;
 #[cfg(test)]
 mod formats;
 #[cfg(test)]
@@ -17,6 +18,14 @@ mod procedures_as_trees;
 #[cfg(test)]
 mod records;
 #[cfg(test)]
+#[cfg(test)]
+mod scheduler;
+#[cfg(test)]
+mod scripts;
+#[cfg(test)]
 mod smallbank;
+#[cfg(test)]
+#[cfg(test)]
+mod streams;
 #[cfg(test)]
 mod walks;

@@ -1,4 +1,5 @@
-use crate::Sched;
+//! The scheduler's calls over bodies of its three layers, one after another.
+
 use sgt_access::{Accesses, OneList};
 use sgt_graph::{Graph, PairGraph};
 use sgt_model::{
@@ -7,6 +8,7 @@ use sgt_model::{
 };
 use sgt_proc::check;
 use sgt_records::{ListRecords, Records};
+use sgt_sched::Sched;
 use std::alloc::Global;
 use std::process::Abort;
 use std::test::Fail;

@@ -1,8 +1,10 @@
-use crate::{Engine, Ran, run_list};
+//! The engine's history and database after lists of events.
+
 use sgt_access::OneList;
+use sgt_engine::{Engine, Ran, run_list};
 use sgt_graph::PairGraph;
 use sgt_model::{
-    Answers, Args, Cause, Database, Event, Expr, Key, Limits, MakeError, NoMemory, Procedure,
+    Answers, Args, Cause, Database, Event, Expr, Fate, Key, Limits, MakeError, NoMemory, Procedure,
     Reply, Statement, Tid, Tids,
 };
 use sgt_proc::{Checked, check};
@@ -80,16 +82,54 @@ fn own_write_read_back(rt: HostRuntime) -> Result<(), Fail> {
     Ok(())
 }
 
+/// A quit after a store, with refusals round it, and then a transaction that goes the whole way: each event has its entry.
 #[test]
-fn an_abort_leaves_nothing(rt: HostRuntime) -> Result<(), Fail> {
+fn an_abort_and_refusals_in_the_middle(rt: HostRuntime) -> Result<(), Fail> {
     let a = rt.alloc();
-    let ran = run(a, &[start(), Event::Step(Tid(0)), Event::Quit(Tid(0))])?;
-    let Some(last) = ran.engine.history().last() else {
-        panic!(rt; "it has three entries");
+    let (Some(key), Some(answers)) = (Key::new(3, 7), Answers::from_slice(&[4])) else {
+        panic!(rt; "table 3 has a record 7");
     };
+    let (first, second) = (Tid(0), Tid(1));
     let (cause, fell) = (Cause::Quit, Tids::new());
-    assert_eq!(rt; last.reply, Reply::Aborted { cause, fell });
-    assert!(rt; ran.engine.database(a)?.rows().is_empty());
+    let looked = Reply::Looked {
+        key,
+        value: Some(4),
+    };
+    let over = Reply::Over(Fate::Aborted(Cause::Quit));
+    let rows = [
+        (Event::Step(first), Reply::Unknown),
+        (start(), Reply::Started(first)),
+        (start(), Reply::Full),
+        (Event::Step(first), Reply::Wrote { key, value: 4 }),
+        (Event::Commit(first), Reply::NotEnded),
+        (Event::Quit(first), Reply::Aborted { cause, fell }),
+        (Event::Quit(first), over),
+        (start(), Reply::Started(second)),
+        (Event::Step(second), Reply::Wrote { key, value: 4 }),
+        (Event::Step(second), looked),
+        (Event::Commit(second), Reply::Committed(answers)),
+        (Event::Commit(second), Reply::Over(Fate::Committed)),
+    ];
+    let mut events: Vec<Event> = Vec::new(a);
+    for (event, _) in &rows {
+        events.push(event.copied())?;
+    }
+    for done in 0..=rows.len() {
+        let ran = run(a, &events.as_slice()[..done])?;
+        assert_eq!(rt; ran.done, done);
+        assert_eq!(rt; ran.engine.history().len(), done);
+        for (entry, (event, reply)) in ran.engine.history().iter().zip(&rows) {
+            assert_eq!(rt; entry.event, *event);
+            assert_eq!(rt; entry.reply, *reply);
+        }
+        let committed = if done < 11 { None } else { Some(4) };
+        assert_eq!(rt; ran.engine.committed(key), committed, "after {done} events");
+        assert_eq!(rt;
+            ran.engine.database(a)?.get(key),
+            committed,
+            "after {done} events"
+        );
+    }
     Ok(())
 }
 
