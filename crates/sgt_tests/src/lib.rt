@@ -6,6 +6,7 @@
 
 #[cfg(test)]
 mod accesses;
+#[cfg(test)]
 mod engine;
 #[cfg(test)]
 mod formats;
@@ -18,13 +19,11 @@ mod procedures_as_trees;
 #[cfg(test)]
 mod records;
 #[cfg(test)]
-#[cfg(test)]
 mod scheduler;
 #[cfg(test)]
 mod scripts;
 #[cfg(test)]
 mod smallbank;
-#[cfg(test)]
 #[cfg(test)]
 mod streams;
 #[cfg(test)]
