@@ -71,6 +71,3 @@ pub use refinement::{
 };
 pub use reply::{Cause, Fate, Reply};
 pub use tid::{Tid, Tids};
-
-#[cfg(test)]
-mod tests;

@@ -27,4 +27,6 @@ mod smallbank;
 #[cfg(test)]
 mod streams;
 #[cfg(test)]
+mod values;
+#[cfg(test)]
 mod walks;

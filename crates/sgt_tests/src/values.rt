@@ -1,4 +1,4 @@
-use crate::{Args, Database, Key, Tid, Tids};
+use sgt_model::{Args, Database, Key, Tid, Tids};
 use std::test::Fail;
 
 #[test]
