@@ -31,6 +31,7 @@ pub mod Replay
 pub mod CommitOrder
 pub mod Aborts
 pub mod Headline
+pub mod StoredValues
 pub mod Laws
 pub mod ReplySizes
 -- the state of a scheduler, and the one that belongs to a history
@@ -51,3 +52,6 @@ pub mod Soundness
 pub mod NewState
 pub mod Sameness
 pub mod Refinement
+-- what the statements of a procedure mean
+pub mod Executions
+pub mod ExecutedReplay

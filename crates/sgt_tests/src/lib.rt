@@ -5,6 +5,16 @@
 #![tactic(auto)]
 
 #[cfg(test)]
+mod accesses;
+#[cfg(test)]
+mod formats;
+#[cfg(test)]
+mod graphs;
+#[cfg(test)]
 mod procedures_as_trees;
 #[cfg(test)]
+mod records;
+#[cfg(test)]
 mod smallbank;
+#[cfg(test)]
+mod walks;
