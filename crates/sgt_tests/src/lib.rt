@@ -7,6 +7,8 @@
 #[cfg(test)]
 mod accesses;
 #[cfg(test)]
+mod cascades;
+#[cfg(test)]
 mod graphs;
 #[cfg(test)]
 mod procedures_as_trees;
