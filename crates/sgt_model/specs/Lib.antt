@@ -25,11 +25,13 @@ pub mod Bounds
 pub mod Settings
 pub mod Progress
 pub mod Legality
+pub mod OneReply
 -- what is true of legal histories
 pub mod Replay
 pub mod CommitOrder
 pub mod Aborts
 pub mod Headline
+pub mod StoredValues
 pub mod Laws
 -- the state of a scheduler, and the one that belongs to a history
 pub mod AccessList
@@ -49,3 +51,6 @@ pub mod Soundness
 pub mod NewState
 pub mod Sameness
 pub mod Refinement
+-- what the statements of a procedure mean
+pub mod Executions
+pub mod ExecutedReplay

@@ -18,7 +18,7 @@
 //! so. The names of the three tables and of the five procedures, and they alone, are those of SmallBank (Alomari, Cahill,
 //! Fekete and Röhm, *The Cost of Serializability on Platforms That Use Snapshot Isolation*, ICDE 2008).
 //!
-//! It is no bank that runs: it keeps no account and makes no access. A procedure is a text that an engine runs for its
+//! It runs nothing: it keeps no account and makes no access. A procedure is a text that an engine runs for its
 //! transactions, and the accounts become the rows that the engine begins with.
 //!
 //! ```
@@ -35,9 +35,9 @@
 mod account;
 mod amalgamate;
 mod balance;
-mod bank;
 mod deposit_checking;
 mod errors;
+mod five_procedures;
 mod laws;
 mod statements;
 mod tables;
@@ -45,6 +45,6 @@ mod transact_saving;
 mod write_check;
 
 pub use account::{Account, opening};
-pub use bank::{PROCEDURES, procedures};
 pub use errors::{BadOpening, OpeningFault};
-pub use laws::serial_is_bank;
+pub use five_procedures::{PROCEDURES, procedures};
+pub use laws::{replays_do_bank, serial_is_bank};

@@ -9,6 +9,8 @@ mod accesses;
 #[cfg(test)]
 mod cascades;
 #[cfg(test)]
+mod formats;
+#[cfg(test)]
 mod graphs;
 #[cfg(test)]
 mod procedures_as_trees;

@@ -12,7 +12,7 @@ use sgt_model::{NoMemory, Procedure};
 use sgt_proc::{Checked, check};
 use std::alloc::Global;
 
-/// How many procedures the bank has. They are numbered from 0, and those of an opening from here.
+/// How many procedures SmallBank has. They are numbered from 0, and those of an opening from here.
 pub const PROCEDURES: u16 = 5;
 
 /// The five procedures, each with the number of its place: Balance, DepositChecking, TransactSaving, Amalgamate and

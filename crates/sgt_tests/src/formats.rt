@@ -1,4 +1,4 @@
-use crate::{
+use sgt_format::{
     LineError, OpeningError, append_database, append_reply, read_event, read_opening, reply_line,
 };
 use sgt_model::{Answers, Args, Cause, Database, Event, Fate, Key, Limits, Reply, Tid, Tids};

@@ -1,7 +1,7 @@
 use Rattle.std.proofs.Common.{rules, subst}
 use Rattle.sgt_proc.specs.Flaws.{IsFlawless}
 use Rattle.sgt_smallbank.proofs.Flawless.{balance_is_flawless, deposit_checking_is_flawless, transact_saving_is_flawless, amalgamate_is_flawless, write_check_is_flawless}
-use Rattle.sgt_smallbank.proofs.bank.procedures.Goals as goal
+use Rattle.sgt_smallbank.proofs.five_procedures.procedures.Goals as goal
 
 pub checked-requires : goal.checked-requires
 checked-requires c = subst IsFlawless (search rules) balance_is_flawless
