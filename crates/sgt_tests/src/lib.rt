@@ -6,6 +6,7 @@
 
 #[cfg(test)]
 mod accesses;
+mod cascades;
 #[cfg(test)]
 mod engine;
 #[cfg(test)]
