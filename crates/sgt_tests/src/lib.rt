@@ -6,6 +6,7 @@
 
 #[cfg(test)]
 mod accesses;
+#[cfg(test)]
 mod cascades;
 #[cfg(test)]
 mod engine;
