@@ -1,40 +1,59 @@
-//! Runs the examples of `data/`, as the gate does: each script `NAME.jsonl` has to write what the file `NAME.out` beside it
-//! holds. It tells of each, by name, whether it does.
+//! Runs the scripts of `data/`, as the gate does: each script `NAME.jsonl` has to write what the file `NAME.out` beside it
+//! holds. The examples stand in `data/` itself, worked rows in `rows/`, and scripts that end in a fault in `faults/`.
 //!
-//! What it has to tell stands in `stdout`, so an example that is new, gone or wrong stops the gate.
+//! It tells of each script whether it does, and the fault that it ends in. What it has to tell stands in `stdout`, so a
+//! script that is new, gone or wrong stops the gate.
 #![tactic(auto)]
 
 use sgt_script::{Reader, Writer, run_script};
 use std::alloc::AllocGlobal;
+use std::io::Print;
 use std::rt::Files;
 use std::{fs, io};
 
-/// What a run of an example shows.
-fn compare<R: Files + AllocGlobal>(rt: &R, name: &str) -> io::Result<&'static str> {
+/// Runs a script, and tells what that shows.
+fn compare<R: Files + AllocGlobal + Print>(rt: &R, path: &str) -> io::Result<()> {
     let alloc = rt.alloc();
-    let script = fs::read(rt, format!(in alloc; "{name}.jsonl")?)?;
-    let wanted = fs::read(rt, format!(in alloc; "{name}.out")?)?;
+    let script = fs::read(rt, format!(in alloc; "{path}.jsonl")?)?;
+    let wanted = fs::read(rt, format!(in alloc; "{path}.out")?)?;
     let mut reader = Reader::new(script.as_slice());
     let mut writer = Writer::new(Vec::new(alloc));
-    Ok(match run_script(alloc, &mut reader, &mut writer) {
-        Ok(()) if writer.inner.as_slice() == wanted.as_slice() => "as written",
-        Ok(()) => "differs",
-        Err(_) => "has a fault",
-    })
+    let ended = run_script(alloc, &mut reader, &mut writer);
+    let is_as_written = writer.inner.as_slice() == wanted.as_slice();
+    let verdict = if is_as_written {
+        "as written"
+    } else {
+        "differs"
+    };
+    match ended {
+        Ok(()) => println!(rt; "{path}: {verdict}"),
+        Err(fault) => println!(rt; "{path}: {verdict}, {fault}"),
+    }
+}
+
+/// The scripts of a folder, by name, each as the folder's words before it and its name.
+fn scripts_of<R: Files + AllocGlobal + Clone + Drop>(
+    rt: &R,
+    folder: &str,
+    before: &str,
+) -> io::Result<Vec<String>> {
+    let alloc = rt.alloc();
+    let mut paths = Vec::new(alloc);
+    for entry in fs::read_dir(rt, folder)? {
+        let entry = entry?;
+        if let Some(name) = entry.file_name().strip_suffix(".jsonl") {
+            paths.push(format!(in alloc; "{before}{name}")?)?;
+        }
+    }
+    paths.sort()?;
+    Ok(paths)
 }
 
 fn main(rt: HostRuntime) -> io::Result<()> {
-    let alloc = rt.alloc();
-    let mut names = Vec::new(alloc);
-    for entry in fs::read_dir(&rt, ".")? {
-        let entry = entry?;
-        if let Some(name) = entry.file_name().strip_suffix(".jsonl") {
-            names.push(String::from_str(alloc, name)?)?;
+    for (folder, before) in [(".", ""), ("faults", "faults/"), ("rows", "rows/")] {
+        for path in &scripts_of(&rt, folder, before)? {
+            compare(&rt, path.as_str())?;
         }
-    }
-    names.sort()?;
-    for name in &names {
-        println!(rt; "{name}: {}", compare(&rt, name.as_str())?)?;
     }
     Ok(())
 }

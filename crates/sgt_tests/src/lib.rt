@@ -11,8 +11,6 @@ mod procedures_as_trees;
 #[cfg(test)]
 mod scheduler;
 #[cfg(test)]
-mod scripts;
-#[cfg(test)]
 mod smallbank;
 #[cfg(test)]
 mod streams;
