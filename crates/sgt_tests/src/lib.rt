@@ -23,8 +23,6 @@ mod records;
 #[cfg(test)]
 mod scheduler;
 #[cfg(test)]
-mod scripts;
-#[cfg(test)]
 mod smallbank;
 #[cfg(test)]
 mod streams;
