@@ -1,7 +1,6 @@
 -- What a value put in a key's record, or an empty record, changes.
 use Rattle.std.proofs.Common.{◌≡◌, ℤ, Bool, true, false, cond, Equal, Option, Some, None, Result, Ok, Err, OnOk, OnErr, IfSome, refl, sym, ap, ◌∙◌, subst}
 use Rattle.std.proofs.lemmas.Bool.{true≢false}
-use Rattle.std.proofs.lemmas.Option.{same_Some}
 use Rattle.std.proofs.lemmas.Cmp.{tied_itself}
 use Rattle.std.specs.Option.{is_some, option_flatten}
 use Rattle.std.specs.Ordering.{is_eq}
