@@ -6,6 +6,7 @@ use Rattle.sgt_model.specs.Contents.{Key}
 use Rattle.sgt_model.specs.Databases.{Row, IsByKey, contents_of}
 use Rattle.sgt_model.specs.Syntax.{Program}
 use Rattle.sgt_model.specs.Settings.{Setting, setting}
+use Rattle.sgt_model.specs.Replay.{committed_runs}
 use Rattle.sgt_model.specs.Headline.{Headline}
 use Rattle.sgt_model.specs.Legality.{Legal}
 use Rattle.sgt_model.specs.Values.{settled}
@@ -14,6 +15,7 @@ use Rattle.sgt_format.specs.EventLines.{event_of}
 use Rattle.sgt_format.specs.Openings.{Opens, Refuses}
 use Rattle.sgt_proc.specs.Flaws.{number}
 use Rattle.sgt_smallbank.specs.Accounts.{number_of}
+use Rattle.sgt_smallbank.specs.Replays.{RunsAgreeWithBank}
 use Rattle.sgt_format.specs.ReplyText.{text}
 use Rattle.sgt_format.specs.DatabaseText.{database_text}
 use Rattle.sgt_format.specs.declared.opening.Opening.{Opening}
@@ -23,7 +25,7 @@ use Rattle.sgt_format.specs.declared.errors.OpeningError.{OpeningError}
 use Rattle.sgt_format.specs.declared.errors.OpeningError.TheVariants as opening_error
 use Rattle.sgt_script.specs.declared.fault.Fault.{Fault}
 use Rattle.sgt_script.specs.declared.fault.Fault.TheVariants as fault
-use Rattle.sgt_script.specs.Lines.{Ending, AtEnd, AtLongLine, AtLimit, Cut, cut}
+use Rattle.sgt_script.specs.Lines.{Ending, AtEnd, AtLongLine, AtLimit, cut}
 
 -- an event in front of the later ones; where a line spells none, no later line counts
 abbrev pub and_later : Result Event LineError → List Event → List Event
@@ -137,6 +139,10 @@ Script programs bytes run out end = ScriptOf programs (cut bytes).given (cut byt
 -- of the execution, if there is one, the headline holds
 abbrev pub HeadlineOf : Option Execution → Type 0
 HeadlineOf run = IfSome run (λ r. Headline r.setting r.past)
+
+-- of the execution, if there is one, the committed transactions agree with the bank
+abbrev pub BankOf : Option Execution → Type 0
+BankOf run = IfSome run (λ r. RunsAgreeWithBank r.setting (committed_runs r.past))
 
 -- a fault of the script itself, and not of its reader, its writer or the memory
 abbrev pub IsOfScript : Fault → Type 0
