@@ -1,7 +1,7 @@
 ghost use Rattle.std.specs.Prelude.{◌≡◌, ◌≢◌, ℕ, List, Option, IfSome, Err, ◌+◌, ◌^◌, ◌<◌, ◌≤◌};
 ghost use Rattle.std.specs.Io.KnownBytes.{Appends};
 ghost use Rattle.sgt_smallbank.specs.Texts.{procedures};
-ghost use Rattle.sgt_script.specs.Scripts.{BankOf, Execution, HeadlineOf, IsExact, Script};
+ghost use Rattle.sgt_script.specs.Scripts.{BankOf, RunHistory, HeadlineOf, IsExact, Script};
 
 use crate::fault::Fault;
 use crate::script::run_with;
@@ -31,7 +31,7 @@ pub fn run_script<S: Source, T: Sink>(
     requires reading { S.failures source.old + 1 < 2 ^ 64 }
     requires writing { T.failures sink.old + 1 < 2 ^ 64 }
     ensures script { IsExact result → IfSome (S.rest source.old) (λ bytes.
-        (run : Option Execution) × (out : List ℕ) × Appends (T.held sink.old) (T.held sink.new) out
+        (run : Option RunHistory) × (out : List ℕ) × Appends (T.held sink.old) (T.held sink.new) out
         × Script procedures bytes run out result × HeadlineOf run × BankOf run) }
     ensures bounded { S.given source.new ≤ S.given source.old + 16777217 }
     ensures read_well { IsExact result → S.failures source.new ≡ S.failures source.old }
