@@ -52,6 +52,7 @@ pub mod Soundness
 pub mod NewState
 pub mod Sameness
 pub mod Refinement
--- what the statements of a procedure mean
+-- what the statements of a procedure mean, and what is left of them
 pub mod Executions
+pub mod Left
 pub mod ExecutedReplay

@@ -45,6 +45,7 @@ mod event;
 mod key;
 mod kind;
 mod laws;
+mod left;
 mod limits;
 mod procedure;
 mod refinement;
@@ -64,6 +65,7 @@ pub use laws::{
     replies_are_unique, replies_name_few, runs_are_traces, serial_is_execution,
     some_reply_is_legal, sources_commit_first, sources_stand, writers_commit_in_order,
 };
+pub use left::{left_goes_on, next_is_of_left};
 pub use limits::{Limits, MOST_BEGINS, MOST_LIVE};
 pub use procedure::{Cond, Expr, Procedure, Statement};
 pub use refinement::{

@@ -15,7 +15,7 @@ use Rattle.sgt_model.specs.declared.entry.Entry.{Entry}
 use Rattle.std.specs.Io.KnownBytes.{Appends}
 use Rattle.sgt_format.specs.ReplyText.{text}
 use Rattle.sgt_script.specs.Lines.{Cut}
-use Rattle.sgt_script.specs.Scripts.{Execution, RunOutput, events, replies, End, end_of, Closing, IsExact, IsOfScript}
+use Rattle.sgt_script.specs.Scripts.{RunHistory, RunOutput, events, replies, End, end_of, Closing, IsExact, IsOfScript}
 use Rattle.sgt_script.specs.Answering.{Answered, AllAnswered}
 use Rattle.sgt_model.specs.Histories.{events_of}
 
@@ -49,7 +49,7 @@ written-next a b c past past' e held held' held'' (xs, first, all) (ys, second, 
 
 -- what a run over known lines writes, with what it started from
 abbrev pub Output : Setting → Option Cut → Option (List ℕ) → Option (List ℕ) → End → Type 0
-Output s known held held' end = IfSome known (λ c. (run : Execution) × (run.setting ≡ s) × (out : List ℕ) × Appends held held' out × RunOutput run c.given c.ending out end)
+Output s known held held' end = IfSome known (λ c. (run : RunHistory) × (run.setting ≡ s) × (out : List ℕ) × Appends held held' out × RunOutput run c.given c.ending out end)
 
 -- a run whose lines are all answered, with what it wrote
 pub output-all : (s : Setting) (n : ℕ) (known : Option Cut) (past : List Entry) (end : End) (last : List ℕ) (held held' : Option (List ℕ)) → n ≡ 2 → Legal s past → AllAnswered n known past end → Closing s past end last → Appends held held' (replies past ++ last) → Output s known held held' end

@@ -6,6 +6,7 @@ use Rattle.sgt_model.specs.Contents.{Key}
 use Rattle.sgt_model.specs.Databases.{Row, IsByKey, contents_of}
 use Rattle.sgt_model.specs.Syntax.{Program}
 use Rattle.sgt_model.specs.Settings.{Setting, setting}
+use Rattle.sgt_model.specs.Replay.{committed_runs}
 use Rattle.sgt_model.specs.Headline.{Headline}
 use Rattle.sgt_model.specs.Legality.{Legal}
 use Rattle.sgt_model.specs.Values.{settled}
@@ -14,6 +15,7 @@ use Rattle.sgt_format.specs.EventLines.{event_of}
 use Rattle.sgt_format.specs.Openings.{Opens, Refuses}
 use Rattle.sgt_proc.specs.Flaws.{number}
 use Rattle.sgt_smallbank.specs.Accounts.{number_of}
+use Rattle.sgt_smallbank.specs.Replays.{RunsAgreeWithBank}
 use Rattle.sgt_format.specs.ReplyText.{text}
 use Rattle.sgt_format.specs.DatabaseText.{database_text}
 use Rattle.sgt_format.specs.declared.opening.Opening.{Opening}
@@ -23,7 +25,7 @@ use Rattle.sgt_format.specs.declared.errors.OpeningError.{OpeningError}
 use Rattle.sgt_format.specs.declared.errors.OpeningError.TheVariants as opening_error
 use Rattle.sgt_script.specs.declared.fault.Fault.{Fault}
 use Rattle.sgt_script.specs.declared.fault.Fault.TheVariants as fault
-use Rattle.sgt_script.specs.Lines.{Ending, AtEnd, AtLongLine, AtLimit, Cut, cut}
+use Rattle.sgt_script.specs.Lines.{Ending, AtEnd, AtLongLine, AtLimit, cut}
 
 -- an event in front of the later ones; where a line spells none, no later line counts
 abbrev pub and_later : Result Event LineError → List Event → List Event
@@ -72,12 +74,12 @@ Closing s past (Ok _) last = (rows : List Row) × IsByKey rows × ((k : Key) →
 Closing s past (Err fault) last = last ≡ []
 
 -- the execution of a script: what it started from, and the history of the events answered
-pub record Execution : Type 0 where
+pub record RunHistory : Type 0 where
   pub setting : Setting
   pub past : List Entry
 
 -- what a run over these lines behind the opening writes: the replies of a legal history of their events, and the closing text
-pub record RunOutput (run : Execution) (later : List (List ℕ)) (ending : Ending) (out : List ℕ) (end : End) : Type 0 where
+pub record RunOutput (run : RunHistory) (later : List (List ℕ)) (ending : Ending) (out : List ℕ) (end : End) : Type 0 where
   pub last : List ℕ
   pub legal : Legal run.setting run.past
   pub events_are : events_of run.past ≡ events later
@@ -100,7 +102,7 @@ abbrev pub opened_setting : List Program → Opening → Setting
 opened_setting programs opening = setting (contents_of opening.database) (programs ++ opening.procedures.items) opening.limits
 
 -- line 1 is an opening, and the later lines are answered
-pub record Opened (programs : List Program) (line : List ℕ) (later : List (List ℕ)) (ending : Ending) (run : Execution) (out : List ℕ) (end : End) : Type 0 where
+pub record Opened (programs : List Program) (line : List ℕ) (later : List (List ℕ)) (ending : Ending) (run : RunHistory) (out : List ℕ) (end : End) : Type 0 where
   pub opening : Opening
   pub opens : Opens line opening
   pub setting : run.setting ≡ opened_setting programs opening
@@ -124,19 +126,23 @@ abbrev pub Unopened : Ending → List ℕ → End → Type 0
 Unopened ending out end = (out ≡ []) × (end ≡ no_opening ending)
 
 -- what a run over these lines writes: with an execution where line 1 opens, and without one where it does not
-abbrev pub ScriptOf : List Program → List (List ℕ) → Ending → Option Execution → List ℕ → End → Type 0
+abbrev pub ScriptOf : List Program → List (List ℕ) → Ending → Option RunHistory → List ℕ → End → Type 0
 ScriptOf programs [] ending None out end = Unopened ending out end
 ScriptOf programs [] ending (Some run) out end = ⊥
 ScriptOf programs (line ∷ later) ending None out end = Refused line out end
 ScriptOf programs (line ∷ later) ending (Some run) out end = Opened programs line later ending run out end
 
 -- what a script's run over these bytes writes, and how it ends
-abbrev pub Script : List Program → List ℕ → Option Execution → List ℕ → End → Type 0
+abbrev pub Script : List Program → List ℕ → Option RunHistory → List ℕ → End → Type 0
 Script programs bytes run out end = ScriptOf programs (cut bytes).given (cut bytes).ending run out end
 
 -- of the execution, if there is one, the headline holds
-abbrev pub HeadlineOf : Option Execution → Type 0
+abbrev pub HeadlineOf : Option RunHistory → Type 0
 HeadlineOf run = IfSome run (λ r. Headline r.setting r.past)
+
+-- of the execution, if there is one, the committed transactions agree with the bank
+abbrev pub BankOf : Option RunHistory → Type 0
+BankOf run = IfSome run (λ r. RunsAgreeWithBank r.setting (committed_runs r.past))
 
 -- a fault of the script itself, and not of its reader, its writer or the memory
 abbrev pub IsOfScript : Fault → Type 0

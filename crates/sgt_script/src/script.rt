@@ -6,7 +6,7 @@ ghost use Rattle.sgt_format.specs.ReplyText.{text};
 ghost use Rattle.sgt_format.specs.EventLines.{event_of};
 ghost use Rattle.sgt_format.specs.declared.errors.LineError.{LineError};
 ghost use Rattle.sgt_script.specs.Intake.{come, cut_left, has_whole_line};
-ghost use Rattle.sgt_script.specs.Scripts.{Execution, IsOfScript, IsExact, RunOutput, Script, fault_in, fault_of_opening, replies};
+ghost use Rattle.sgt_script.specs.Scripts.{RunHistory, IsOfScript, IsExact, RunOutput, Script, fault_in, fault_of_opening, replies};
 ghost use Rattle.sgt_script.specs.Answering.{Answered, NoEvent, AllAnswered};
 ghost use Rattle.sgt_format.specs.Openings.{Opens, Refuses};
 ghost use Rattle.sgt_format.specs.declared.errors.OpeningError.{OpeningError};
@@ -174,7 +174,7 @@ pub(crate) fn run_opened<S: Source, T: Sink, M: Machine>(
     requires second { lines.old.number ≡ 1 }
     requires few { come lines.old ≤ 16777217 }
     ensures output { IsExact result → IfSome (cut_left lines.old (S.rest source.old)) (λ c.
-        (run : Execution) × (run.setting ≡ M.setting machine.old)
+        (run : RunHistory) × (run.setting ≡ M.setting machine.old)
         × (out : List ℕ) × Appends (T.held sink.old) (T.held sink.new) out
         × RunOutput run c.given c.ending out result) }
     ensures bounded { S.given source.new + come lines.old ≤ S.given source.old + 16777217 }
@@ -226,7 +226,7 @@ pub(crate) fn run_with<M: Machine, S: Source, T: Sink>(
     requires reading { S.failures source.old + 1 < 2 ^ 64 }
     requires writing { T.failures sink.old + 1 < 2 ^ 64 }
     ensures script { IsExact result → IfSome (S.rest source.old) (λ bytes.
-        (run : Option Execution) × (out : List ℕ) × Appends (T.held sink.old) (T.held sink.new) out
+        (run : Option RunHistory) × (out : List ℕ) × Appends (T.held sink.old) (T.held sink.new) out
         × Script M.programs bytes run out result) }
     ensures bounded { S.given source.new ≤ S.given source.old + 16777217 }
     ensures read_well { IsExact result → S.failures source.new ≡ S.failures source.old }

@@ -91,45 +91,46 @@ fn an_abort_and_refusals_in_the_middle(rt: HostRuntime) -> Result<(), Fail> {
     };
     let (first, second) = (Tid(0), Tid(1));
     let (cause, fell) = (Cause::Quit, Tids::new());
-    let looked = Reply::Looked {
-        key,
-        value: Some(4),
-    };
-    let over = Reply::Over(Fate::Aborted(Cause::Quit));
-    let rows = [
-        (Event::Step(first), Reply::Unknown),
-        (start(), Reply::Started(first)),
-        (start(), Reply::Full),
-        (Event::Step(first), Reply::Wrote { key, value: 4 }),
-        (Event::Commit(first), Reply::NotEnded),
-        (Event::Quit(first), Reply::Aborted { cause, fell }),
-        (Event::Quit(first), over),
-        (start(), Reply::Started(second)),
-        (Event::Step(second), Reply::Wrote { key, value: 4 }),
-        (Event::Step(second), looked),
-        (Event::Commit(second), Reply::Committed(answers)),
-        (Event::Commit(second), Reply::Over(Fate::Committed)),
+    let events = [
+        Event::Step(first),
+        start(),
+        start(),
+        Event::Step(first),
+        Event::Commit(first),
+        Event::Quit(first),
+        Event::Quit(first),
+        start(),
+        Event::Step(second),
+        Event::Step(second),
+        Event::Commit(second),
+        Event::Commit(second),
     ];
-    let mut events: Vec<Event> = Vec::new(a);
-    for (event, _) in &rows {
-        events.push(event.copied())?;
+    let replies = [
+        Reply::Unknown,
+        Reply::Started(first),
+        Reply::Full,
+        Reply::Wrote { key, value: 4 },
+        Reply::NotEnded,
+        Reply::Aborted { cause, fell },
+        Reply::Over(Fate::Aborted(Cause::Quit)),
+        Reply::Started(second),
+        Reply::Wrote { key, value: 4 },
+        Reply::Looked {
+            key,
+            value: Some(4),
+        },
+        Reply::Committed(answers),
+        Reply::Over(Fate::Committed),
+    ];
+    let ran = run(a, &events)?;
+    assert_eq!(rt; ran.done, 12);
+    for (entry, reply) in ran.engine.history().iter().zip(&replies) {
+        assert_eq!(rt; entry.reply, *reply);
     }
-    for done in 0..=rows.len() {
-        let ran = run(a, &events.as_slice()[..done])?;
-        assert_eq!(rt; ran.done, done);
-        assert_eq!(rt; ran.engine.history().len(), done);
-        for (entry, (event, reply)) in ran.engine.history().iter().zip(&rows) {
-            assert_eq!(rt; entry.event, *event);
-            assert_eq!(rt; entry.reply, *reply);
-        }
-        let committed = if done < 11 { None } else { Some(4) };
-        assert_eq!(rt; ran.engine.committed(key), committed, "after {done} events");
-        assert_eq!(rt;
-            ran.engine.database(a)?.get(key),
-            committed,
-            "after {done} events"
-        );
-    }
+    assert_eq!(rt; ran.engine.committed(key), Some(4));
+    let before = run(a, &events[..10])?;
+    assert_eq!(rt; before.done, 10);
+    assert_eq!(rt; before.engine.committed(key), None);
     Ok(())
 }
 

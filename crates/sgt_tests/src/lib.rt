@@ -7,8 +7,6 @@
 #[cfg(test)]
 mod accesses;
 #[cfg(test)]
-mod cascades;
-#[cfg(test)]
 mod engine;
 #[cfg(test)]
 mod formats;

@@ -125,6 +125,9 @@ fn readers_that_never_end(rt: HostRuntime) -> Result<(), Fail> {
 #[derive(Drop)]
 struct Asking<'a> {
     turns: &'a [(&'a str, &'a str)],
+    /// How many lines were given.
+    given: usize,
+    /// Their replies.
     expected: Vec<u8>,
     written: &'a RefCell<Vec<u8>>,
 }
@@ -138,10 +141,10 @@ impl Read for Asking<'_> {
         if !is_told {
             return Err(io::Error::from(ErrorKind::Other));
         }
-        let Some((&(piece, reply), rest)) = self.turns.split_first() else {
+        let Some(&(piece, reply)) = self.turns.get(self.given) else {
             return Ok(0);
         };
-        self.turns = rest;
+        self.given = self.given.wrapping_add(1);
         self.expected.extend_from_slice(reply.as_bytes())?;
         let piece = piece.as_bytes();
         let n = piece.len().min(room.len());
@@ -170,6 +173,22 @@ impl Write for Telling<'_> {
     }
 }
 
+/// Runs a script whose reader gives a piece a call, and asks at each call for the replies to what it gave before.
+fn converse(
+    alloc: Global,
+    turns: &[(&str, &str)],
+    written: &RefCell<Vec<u8>>,
+) -> Result<(), Fault> {
+    let mut reader = Reader::new(Asking {
+        turns,
+        given: 0,
+        expected: Vec::new(alloc),
+        written,
+    });
+    let mut writer = Writer::new(Telling { written });
+    run_script(alloc, &mut reader, &mut writer)
+}
+
 /// What comes at each read, and the replies that have to be written before the next.
 #[test]
 fn each_reply_is_written_before_the_next_read(rt: HostRuntime) -> Result<(), Fail> {
@@ -184,14 +203,7 @@ fn each_reply_is_written_before_the_next_read(rt: HostRuntime) -> Result<(), Fai
         ("[\"quit\",0]", ""),
     ];
     let written = RefCell::new(Vec::new(rt.alloc()));
-    let mut reader = Reader::new(Asking {
-        turns: &turns,
-        expected: Vec::new(rt.alloc()),
-        written: &written,
-    });
-    let mut writer = Writer::new(Telling { written: &written });
-    let ended = run_script(rt.alloc(), &mut reader, &mut writer);
-    assert_eq!(rt; ended, Ok(()));
+    assert_eq!(rt; converse(rt.alloc(), &turns, &written), Ok(()));
     let all: &[u8] = b"started 0\nfull\nunknown\nread 0/1 none\naborted quit fell none\n";
     assert!(rt; written.into_inner().as_slice() == all);
     Ok(())

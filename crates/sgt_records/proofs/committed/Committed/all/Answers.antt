@@ -1,4 +1,4 @@
-use Rattle.std.proofs.Common.{rules, ◌≡◌, ℤ, ◌∷◌, ◌++◌, [], Option, Some, map, w64, ap, sym, subst, ◌∙◌, cond}
+use Rattle.std.proofs.Common.{rules, ◌≡◌, ℤ, ◌∷◌, ◌++◌, [], Option, IfSome, Some, map, w64, ap, sym, subst, ◌∙◌, cond}
 use Rattle.std.proofs.lemmas.Int.{to_z-of_z}
 use Rattle.std.proofs.lemmas.List.{map-append}
 use Rattle.std.proofs.lemmas.Map.Iter.{btree_map_turn, iter_end}
@@ -16,7 +16,7 @@ pub put-requires : goal.put-requires
 put-requires c =
     let start = c.into_iter-key-iterator.ensures.into_iter_gives in
     let found : get key_cmp c.args.self.now.records c.in-Some.key.now ≡ Some c.in-Some.record.now = (btree_map_turn deref_pair c.loop-key.yielded c.into_iter-key-iterator.result c.loop-key.key-iterator c.next.new.self c.next.result (c.in-Some.key, c.in-Some.record) c.loop-key.yielded_by c.in-Some.is c.next.ensures.steps key_order c.args.self.now.records start.0 start.5).1 in
-    subst IsValue (sym (to_z-of_z w64 c.in-Some-record.value (search rules))) (c.args.self.now.in_range c.in-Some.key.now c.in-Some-record.value (ap option_flatten found ∙ c.in-Some-record.is))
+    subst IsValue (sym (to_z-of_z w64 c.in-Some-record.value (search rules))) (subst (λ (o : Option ℤ). IfSome o IsValue) (ap option_flatten found ∙ c.in-Some-record.is) (c.args.self.now.in_range c.in-Some.key.now))
 
 pub loop-key-preserved-in-Continue-1 : goal.loop-key-preserved-in-Continue-1
 loop-key-preserved-in-Continue-1 c =
