@@ -1,5 +1,5 @@
 -- The history keeps room for one end of each live transaction; and which legal replies end one.
-use Rattle.std.proofs.Common.{◌≡◌, ℕ, ◌+◌, ◌<◌, ◌≤◌, arith, Bool, true, false, inl, inr, List, ◌∷◌, length, nat_lt, Option, Some, None, refl, sym, ap, ◌∙◌, subst}
+use Rattle.std.proofs.Common.{◌≡◌, ℕ, ◌+◌, ◌≤◌, arith, Bool, true, false, inl, inr, List, length, nat_lt, Option, Some, None, refl, sym, ap, ◌∙◌, subst}
 use Rattle.std.proofs.lemmas.Bool.{true≢false, ltb-true, lt-ltb}
 use Rattle.sgt_model.specs.declared.entry.Entry.{Entry}
 use Rattle.sgt_model.specs.declared.event.Event.{Event}
@@ -9,7 +9,7 @@ use Rattle.sgt_model.specs.declared.reply.Fate.{Fate}
 use Rattle.sgt_model.specs.declared.reply.Reply.{Reply}
 use Rattle.sgt_model.specs.Traces.{Next, Looks, Puts, Ends, Asks}
 use Rattle.sgt_model.specs.Fates.{starts, fate_of, live, live_ones}
-use Rattle.sgt_model.specs.Settings.{Setting, Rules}
+use Rattle.sgt_model.specs.Settings.{Setting}
 use Rattle.sgt_model.specs.Progress.{next_of}
 use Rattle.sgt_model.specs.LiveProgress.{next_in}
 use Rattle.sgt_model.specs.Legality.{Legal, LegalReply, StepReply, CommitReply, OfStarted, called_reply}
@@ -22,6 +22,7 @@ use Rattle.sgt_model.proofs.StateSound.{state_is_sound}
 use Rattle.sgt_model.proofs.Verdict.{blocks_from_closes}
 use Rattle.sgt_sched.specs.Steps.{IsUnended}
 use Rattle.sgt_sched.specs.Endings.{is_ending, StepEnds, CommitEnds, EndsOne}
+use Rattle.sgt_engine.specs.EngineView.{EngineView, setting_of}
 use Rattle.sgt_sched.proofs.Endings.{call_counts, replies_agree, start_quiet}
 
 module _ (s : Setting) (past : List Entry) (legal : Legal s past) (c : State) (i : IsStateAfter s past c) where
@@ -46,7 +47,7 @@ module _ (s : Setting) (past : List Entry) (legal : Legal s past) (c : State) (i
   no_start p args (Some count) = start_quiet s.rules.limits (starts past) (length (live_ones past)) (Some count) args
 
   quiet : (r answer : Reply) → r ≡ answer → is_ending answer ≡ false → is_ending r ≡ true → ⊥
-  quiet r answer is no e = true≢false (sym e ∙ (ap is_ending is ∙ no))
+  quiet r answer is isnt e = true≢false (sym e ∙ (ap is_ending is ∙ isnt))
 
   opened : (r : Reply) (X : Type 0) (b : Bool) (o : Option Fate) → OfStarted b o r X → is_ending r ≡ true → (b ≡ true) × (o ≡ None) × X
   opened r X false o x e = absurd (quiet r _ x refl e)
@@ -87,3 +88,7 @@ module _ (s : Setting) (past : List Entry) (legal : Legal s past) (c : State) (i
   legal_ends (Quit t) r x e =
       let o = opened r _ (nat_lt t (starts past)) (fate_of past t) x e in
       live_unended t (alive t o.0 o.1)
+
+-- the same, as callers see an engine
+pub ends_seen : (before now : EngineView) → before ≡ now → (c : State) → Legal (setting_of before) before.past → IsStateAfter (setting_of before) before.past c → (event : Event) (r : Reply) → LegalReply (setting_of now) now.past event r → is_ending r ≡ true → EndsOne (setting_of before).rules event c
+ends_seen before now seen c legal i event r l e = legal_ends (setting_of before) before.past legal c i event r (subst (λ (v : EngineView). LegalReply (setting_of v) v.past event r) (sym seen) l) e
