@@ -15,8 +15,6 @@ mod access;
 mod accesses;
 mod one_list;
 mod rising;
-#[cfg(test)]
-mod tests;
 
 pub use accesses::Accesses;
 pub use one_list::OneList;

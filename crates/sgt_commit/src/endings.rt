@@ -4,7 +4,7 @@ ghost use Rattle.sgt_model.specs.Contents.{Key as K};
 ghost use Rattle.sgt_model.specs.AccessList.{forgotten};
 ghost use Rattle.sgt_model.specs.Chains.{without, value_in};
 ghost use Rattle.sgt_model.specs.ChainOrder.{IsFirstIn};
-ghost use Rattle.sgt_graph.specs.Pairs.{IsLeastPred};
+ghost use Rattle.sgt_graph.specs.Graphs.{IsLeastPred};
 
 use sgt_access::Accesses;
 use sgt_graph::Graph;

@@ -2,4 +2,3 @@ pub mod Members
 pub mod Links
 pub mod Searched
 pub mod Walked
-pub mod Counts

@@ -14,8 +14,6 @@
 
 mod list;
 mod search;
-#[cfg(test)]
-mod tests;
 mod walks;
 
 pub use walks::{is_walk, walk};

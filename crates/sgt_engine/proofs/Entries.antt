@@ -14,7 +14,8 @@ use Rattle.sgt_model.specs.Legality.{Legal, LegalReply}
 use Rattle.sgt_model.specs.State.{State}
 use Rattle.sgt_model.specs.StateAfter.{IsStateAfter}
 use Rattle.sgt_model.specs.CallEffects.{CallEffect}
-use Rattle.sgt_engine.specs.EngineView.{EngineView, setting_of, made_of, events_of}
+use Rattle.sgt_engine.specs.EngineView.{EngineView, setting_of, made_of}
+use Rattle.sgt_model.specs.Histories.{events_of}
 use Rattle.sgt_model.proofs.Joining.{calls_simulate}
 
 -- what an engine keeps: a legal history, and a scheduler whose state is the one after it

@@ -1,5 +1,5 @@
 -- What callers see of an engine.
-use Rattle.std.specs.Prelude.{List, [], ◌∷◌, map, reverse}
+use Rattle.std.specs.Prelude.{List, [], ◌∷◌}
 use Rattle.sgt_model.specs.declared.entry.Entry.{Entry}
 use Rattle.sgt_model.specs.declared.event.Event.{Event}
 use Rattle.sgt_model.specs.declared.reply.Reply.{Reply}
@@ -31,7 +31,3 @@ with_entry event reply e = record {
   limits = e.limits;
   past = record { event = event; reply = reply } ∷ e.past;
 }
-
--- the events of a history, oldest first
-abbrev pub events_of : List Entry → List Event
-events_of past = map (λ (e : Entry). e.event) (reverse past)

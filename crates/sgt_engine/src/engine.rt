@@ -4,7 +4,7 @@ ghost use Rattle.sgt_model.specs.declared.event.Event.TheVariants.{Quit};
 ghost use Rattle.sgt_model.specs.declared.reply.Reply.{Reply as Answer};
 ghost use Rattle.sgt_model.specs.Bounds.{AreInRange};
 ghost use Rattle.sgt_model.specs.Contents.{Key as K};
-ghost use Rattle.sgt_model.specs.Databases.{contents_of};
+ghost use Rattle.sgt_model.specs.Databases.{contents_of, IsByKey};
 ghost use Rattle.sgt_model.specs.Fates.{live};
 ghost use Rattle.sgt_model.specs.Headline.{Headline};
 ghost use Rattle.sgt_model.specs.Legality.{Legal, LegalReply};
@@ -164,6 +164,7 @@ impl<R: Records, A: Accesses, G: Graph> Engine<R, A, G> {
             contents_of d k ≡ settled (contents_of self.now.opening) self.now.past k) }
         ensures replayed { IfOk result (λ d. (k : K) →
             contents_of d k ≡ replayed (setting_of self.now) (committed_runs self.now.past) k) }
+        ensures by_key { IfOk result IsByKey }
     {
         self.sched.records().all(alloc)
     }

@@ -17,8 +17,6 @@
 mod engine;
 mod room;
 mod run;
-#[cfg(test)]
-mod tests;
 
 pub use engine::Engine;
 pub use run::{Ran, run_list};

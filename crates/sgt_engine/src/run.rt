@@ -4,7 +4,8 @@ ghost use Rattle.sgt_model.specs.Headline.{Headline};
 ghost use Rattle.sgt_model.specs.Legality.{Legal};
 ghost use Rattle.sgt_model.specs.Databases.{contents_of};
 ghost use Rattle.sgt_model.specs.Settings.{setting};
-ghost use Rattle.sgt_engine.specs.EngineView.{setting_of, events_of};
+ghost use Rattle.sgt_engine.specs.EngineView.{setting_of};
+ghost use Rattle.sgt_model.specs.Histories.{events_of};
 
 use crate::engine::Engine;
 use sgt_access::Accesses;

@@ -6,7 +6,7 @@ use Rattle.serde_json.specs.View.{view}
 use Rattle.serde_json.specs.declared.value.Value.{Value}
 use Rattle.sgt_model.specs.Syntax.{Program}
 use Rattle.sgt_format.specs.Procedures.{IsProcedure, AreProcedures, HasMisfit, HasFlaw, NextIs}
-use Rattle.sgt_format.specs.Openings.{first_number, ProcedureIsRefused, ThisIsRefused}
+use Rattle.sgt_format.specs.Openings.{first_number, ProcedureIsRefused, IsRefusedAs}
 use Rattle.sgt_format.specs.declared.errors.OpeningError.{OpeningError}
 use Rattle.sgt_format.specs.declared.errors.OpeningError.TheVariants.{NotJson, BadLine, BadLimits, BadOpening, ProcShape, ProcFlaw, NoMemory}
 
@@ -29,7 +29,7 @@ next_is so (t ∷ trees) (suc i) v [] h e are is = absurd are
 next_is so (t ∷ trees) (suc i) v (p ∷ programs) h e are is = ((p, are.0), next_is so trees i v programs (omega arith) e are.1 is)
 
 -- the next is refused
-pub next_refused : (trees : List Value) (i number : ℕ) (v : Value) (programs : List Program) (error : OpeningError) → number ≡ first_number + i → i < length trees → v ≡ get_or trees i v → AreProcedures (map view (take i trees)) programs → ThisIsRefused number (view v) error → ProcedureIsRefused (map view trees) error
+pub next_refused : (trees : List Value) (i number : ℕ) (v : Value) (programs : List Program) (error : OpeningError) → number ≡ first_number + i → i < length trees → v ≡ get_or trees i v → AreProcedures (map view (take i trees)) programs → IsRefusedAs number (view v) error → ProcedureIsRefused (map view trees) error
 next_refused trees i number v programs NotJson same h e are is = absurd is
 next_refused trees i number v programs BadLine same h e are is = absurd is
 next_refused trees i number v programs BadLimits same h e are is = absurd is

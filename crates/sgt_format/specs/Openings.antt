@@ -110,19 +110,20 @@ ProcedureIsRefused trees (ProcFlaw number flaw) = (n : ℕ) × (number ≡ first
 ProcedureIsRefused trees NoMemory = ⊤
 ProcedureIsRefused trees other = ⊥
 
--- the procedure of this number is refused
-abbrev pub ThisIsRefused : ℕ → Data → OpeningError → Type 0
-ThisIsRefused number tree (ProcShape n place) = (n ≡ number) × HasMisfit place tree
-ThisIsRefused number tree (ProcFlaw n flaw) = (n ≡ number) × HasFlaw flaw tree
-ThisIsRefused number tree NoMemory = ⊤
-ThisIsRefused number tree other = ⊥
+-- the procedure that the tree is to spell is refused as the one of this number
+abbrev pub IsRefusedAs : ℕ → Data → OpeningError → Type 0
+IsRefusedAs number tree (ProcShape n place) = (n ≡ number) × HasMisfit place tree
+IsRefusedAs number tree (ProcFlaw n flaw) = (n ≡ number) × HasFlaw flaw tree
+IsRefusedAs number tree NoMemory = ⊤
+IsRefusedAs number tree other = ⊥
 
 -- the error of accounts that are refused
 abbrev pub error_of : accounts.BadOpening → OpeningError
 error_of (bad.Fault fault) = BadOpening fault
 error_of bad.NoMemory = NoMemory
 
--- why what a line says is refused: its limits are out of their ranges, or else an account is at fault, or else a procedure is refused
+-- why what a line says is refused: its limits are out of their ranges, or else an account is at fault, or else a procedure is
+-- refused. Memory is wanting only where the limits and the accounts pass
 abbrev pub IsRefused : Sheet → OpeningError → Type 0
 IsRefused sheet NotJson = ⊥
 IsRefused sheet BadLine = ⊥
@@ -130,13 +131,14 @@ IsRefused sheet BadLimits = (limits : Limits) → ¬ AreLimits sheet.limits limi
 IsRefused sheet (BadOpening fault) = HasLimits sheet × (fault_of sheet.accounts ≡ Some fault)
 IsRefused sheet (ProcShape number place) = HasLimits sheet × (fault_of sheet.accounts ≡ None) × ProcedureIsRefused sheet.procedures (ProcShape number place)
 IsRefused sheet (ProcFlaw number flaw) = HasLimits sheet × (fault_of sheet.accounts ≡ None) × ProcedureIsRefused sheet.procedures (ProcFlaw number flaw)
-IsRefused sheet NoMemory = ⊤
+IsRefused sheet NoMemory = HasLimits sheet × (fault_of sheet.accounts ≡ None)
 
 -- the same of a line that has the shape of an opening
 abbrev pub SheetIsRefused : List ℕ → OpeningError → Type 0
 SheetIsRefused line error = (sheet : Sheet) × (sheet_of line ≡ Some sheet) × IsRefused sheet error
 
--- why the line spells none: it is no JSON, or it has not the shape, or what it says is refused
+-- why the line spells none: it is no JSON, or it has not the shape, or what it says is refused. To read what it says takes
+-- memory too
 abbrev pub Refuses : List ℕ → OpeningError → Type 0
 Refuses line NotJson = tree_of line ≡ None
 Refuses line BadLine = IsSome (tree_of line) × (sheet_of line ≡ None)

@@ -22,8 +22,6 @@ mod opening;
 mod procedures;
 mod reply_text;
 mod sheet;
-#[cfg(test)]
-mod tests;
 mod tree;
 
 pub use database_text::append_database;

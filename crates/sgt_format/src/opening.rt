@@ -28,7 +28,7 @@ pub struct Opening {
 ///
 /// The first of these that applies: `NotJson`, `BadLine` for any other shape, `BadLimits`, `BadOpening` with the fault of the
 /// first account that has one, and `ProcShape` or `ProcFlaw` of the first procedure that has a misfit or a flaw. `NoMemory`
-/// where a growth was refused.
+/// where a growth was refused: while the shape was read, or behind limits in their ranges and accounts without a fault.
 pub fn read_opening(alloc: Global, line: &[u8]) -> Result<Opening, OpeningError>
     ensures opening { IfOk result (Opens line.now) }
     ensures refused { IfErr result (Refuses line.now) }

@@ -1,6 +1,6 @@
 ghost use Rattle.std.specs.Prelude.{◌≡◌, ⊤, IfOk, IfErr, map};
 ghost use Rattle.serde_json.specs.View.{view};
-ghost use Rattle.sgt_format.specs.Openings.{ProcedureIsRefused, ThisIsRefused};
+ghost use Rattle.sgt_format.specs.Openings.{ProcedureIsRefused, IsRefusedAs};
 ghost use Rattle.sgt_format.specs.Procedures.{AreProcedures, IsProcedure};
 
 use crate::errors::OpeningError;
@@ -25,7 +25,7 @@ pub(crate) fn read_procedures(alloc: Global, trees: &[Value]) -> Result<Vec<Chec
 /// The procedure that a tree spells, which has this number, unless it has a flaw.
 fn read_procedure(alloc: Global, number: u64, tree: &Value) -> Result<Checked, OpeningError>
     ensures procedure { IfOk result (IsProcedure (view tree.now)) }
-    ensures refused { IfErr result (ThisIsRefused number (view tree.now)) }
+    ensures refused { IfErr result (IsRefusedAs number (view tree.now)) }
 {
     let procedure = match read(alloc, tree) {
         Ok(procedure) => procedure,

@@ -4,7 +4,7 @@ use Rattle.std.proofs.Common.{take, refl, sym, ◌∙◌, ap, subst, inl, inr, a
 use Rattle.std.proofs.Math.Seq.{take-suc}
 use Rattle.std.proofs.lemmas.Bool.{eq-eqb, and_from, or_left, or_right, both_ways, false_from_ne_true, cases_lt}
 use Rattle.sgt_cycle.specs.Links.{is_link}
-use Rattle.sgt_graph.specs.Pairs.{IsLeastPred}
+use Rattle.sgt_graph.specs.Graphs.{IsLeastPred}
 use Rattle.sgt_graph.proofs.Lists.{pair_push, pushed_cases}
 
 -- the least one, or none where there is none

@@ -8,7 +8,7 @@ use Rattle.std.proofs.lemmas.List.Folds.{list_any-append}
 use Rattle.std.proofs.lemmas.Map.Views.{any-filter_same}
 use Rattle.sgt_model.specs.Walks.{Member}
 use Rattle.sgt_cycle.specs.Links.{is_link, is_end}
-use Rattle.sgt_graph.specs.Pairs.{OfNodes}
+use Rattle.sgt_graph.specs.Graphs.{OfNodes}
 use Rattle.sgt_graph.specs.PairGraphs.{is_node, is_apart}
 
 -- a member is listed, and what is listed is a member

@@ -1,3 +1,3 @@
-pub mod Pairs
+pub mod Graphs
 pub mod Verdicts
 pub mod PairGraphs

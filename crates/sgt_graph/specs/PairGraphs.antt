@@ -3,7 +3,7 @@ use Rattle.std.specs.Prelude.{◌≡◌, ℕ, ◌≤◌, Bool, false, not, ◌&&
 use Rattle.std.specs.List.{list_any}
 use Rattle.sgt_model.specs.Walks.{Distinct}
 use Rattle.sgt_cycle.specs.Links.{is_link}
-use Rattle.sgt_graph.specs.Pairs.{NoCycle, OfNodes}
+use Rattle.sgt_graph.specs.Graphs.{NoCycle, OfNodes}
 
 -- whether the number is listed
 abbrev pub is_node : List ℕ → ℕ → Bool

@@ -6,9 +6,9 @@ use Rattle.sgt_graph.specs.declared.verdict.Verdict.{Verdict}
 use Rattle.sgt_graph.specs.declared.verdict.Verdict.TheVariants.{Accepted, Closes}
 
 -- Accepted where no walk leads from t to one of the targets, else one that does
-abbrev pub Tells : (ℕ → ℕ → Bool) → ℕ → List ℕ → Verdict → Type 0
-Tells pairs t targets Accepted = NoWalk pairs t targets
-Tells pairs t targets (Closes walk) = IsWalk pairs t targets walk
+abbrev pub IsVerdict : (ℕ → ℕ → Bool) → ℕ → List ℕ → Verdict → Type 0
+IsVerdict pairs t targets Accepted = NoWalk pairs t targets
+IsVerdict pairs t targets (Closes walk) = IsWalk pairs t targets walk
 
 -- with Accepted a pair from each pred to t is added, and no other; else nothing changes
 abbrev pub Inserts : (ℕ → ℕ → Bool) → (ℕ → ℕ → Bool) → ℕ → List ℕ → Verdict → Type 0

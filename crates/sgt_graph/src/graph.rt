@@ -1,7 +1,7 @@
 ghost use Rattle.std.specs.Prelude.{◌≡◌, ◌≢◌, ℕ, Bool, true, false, not, ◌||◌, ◌&&◌, nat_eq, IfSome, IsNone};
 ghost use Rattle.sgt_model.specs.Walks.{AtMost, Member};
-ghost use Rattle.sgt_graph.specs.Pairs.{NoCycle, OfNodes, IsLeastPred};
-ghost use Rattle.sgt_graph.specs.Verdicts.{Tells, Inserts};
+ghost use Rattle.sgt_graph.specs.Graphs.{NoCycle, OfNodes, IsLeastPred};
+ghost use Rattle.sgt_graph.specs.Verdicts.{IsVerdict, Inserts};
 
 use crate::verdict::Verdict;
 use sgt_model::{Tid, Tids};
@@ -35,7 +35,7 @@ pub trait Graph: Drop + Send {
     fn test(&self, t: Tid, preds: &Tids) -> Verdict
         requires node { nodes self.now t ≡ true }
         requires preds { (u : ℕ) → Member u preds.now → (nodes self.now u ≡ true) × (u ≢ t) }
-        ensures verdict { Tells (pairs self.now) t preds.now result }
+        ensures verdict { IsVerdict (pairs self.now) t preds.now result }
         ensures of_nodes { OfNodes (nodes self.now) (pairs self.now) }
         ensures acyclic { NoCycle (pairs self.now) };
 
@@ -44,7 +44,7 @@ pub trait Graph: Drop + Send {
         requires node { nodes self.old t ≡ true }
         requires preds { (u : ℕ) → Member u preds.now → (nodes self.old u ≡ true) × (u ≢ t) }
         ensures nodes { (u : ℕ) → nodes self.new u ≡ nodes self.old u }
-        ensures verdict { Tells (pairs self.old) t preds.now result }
+        ensures verdict { IsVerdict (pairs self.old) t preds.now result }
         ensures pairs { Inserts (pairs self.old) (pairs self.new) t preds.now result }
         ensures of_nodes { OfNodes (nodes self.new) (pairs self.new) }
         ensures acyclic { NoCycle (pairs self.new) };

@@ -18,8 +18,6 @@
 
 mod graph;
 mod pair_graph;
-#[cfg(test)]
-mod tests;
 mod verdict;
 
 pub use graph::Graph;

@@ -3,7 +3,7 @@ ghost use Rattle.std.specs.List.{filter};
 ghost use Rattle.sgt_model.specs.Walks.{Reaches};
 ghost use Rattle.sgt_cycle.specs.Links.{is_link};
 ghost use Rattle.sgt_cycle.specs.Walk.{Holds};
-ghost use Rattle.sgt_graph.specs.Pairs.{NoCycle};
+ghost use Rattle.sgt_graph.specs.Graphs.{NoCycle};
 ghost use Rattle.sgt_graph.specs.PairGraphs.{is_node, is_apart};
 
 use crate::graph::Graph;

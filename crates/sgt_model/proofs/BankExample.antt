@@ -135,3 +135,6 @@ bank_put_and_tell = bank_with opening (Some 0) put_and_tell None none_such
 
 abbrev pub bank_tell : Setting
 bank_tell = bank_with opening (Some 1) put_arg (Some 0) tell
+
+abbrev pub bank_put_over : Setting
+bank_put_over = bank_with opening (Some 1) put_arg (Some 0) put_and_tell

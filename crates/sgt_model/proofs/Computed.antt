@@ -1,5 +1,6 @@
 -- The definitions as tests that compute, so that a written-out history is proved legal by computing. Each test says that its
 -- definition holds; where the definition speaks of all walks or all transactions, the test is given a set that has them.
+-- The tests of pairs, and of who read from whom, hold exactly where the definitions do.
 use Rattle.std.specs.Prelude.{◌≡◌, ◌≢◌, ℕ, ◌≤◌, ℤ, Bool, true, false, not, ◌&&◌, ◌||◌, nat_eq, nat_lt, List, [], ◌∷◌, length, Option, Some, None}
 use Rattle.std.specs.List.{list_any, list_all}
 use Rattle.std.proofs.Common.{refl, sym, ap, subst, inl, inr, arith}
@@ -68,7 +69,7 @@ actor-later : (o : Option Access) (rest : List ℕ) (t : ℕ) → Member t rest 
 actor-later None rest t m = m
 actor-later (Some b) rest t m = inr m
 
-has_conflicting-actor : (past : List Entry) (t : ℕ) (k : Key) (kind : Kind) → has_conflicting past t k kind ≡ true → Member t (actors past)
+pub has_conflicting-actor : (past : List Entry) (t : ℕ) (k : Key) (kind : Kind) → has_conflicting past t k kind ≡ true → Member t (actors past)
 has_conflicting-actor [] t k kind h = absurd (cc)
 has_conflicting-actor (e ∷ past) t k kind h = elim (or_cases _ _ h) [ inl now ↦ let c = conflicts-access _ t k kind now in subst (λ u. Member u (actor_in (access_of e) (actors past))) c.by (actor-first (access_of e) (actors past) c.access c.is) | inr before ↦ actor-later (access_of e) (actors past) t (has_conflicting-actor past t k kind before) ]
 
@@ -100,7 +101,7 @@ so-precedes [] t u h = absurd h
 so-precedes (e ∷ past) t u (inl now) = or_left _ _ (so-follows past (access_of e) t u now)
 so-precedes (e ∷ past) t u (inr before) = or_right _ _ (so-precedes past t u before)
 
-precedes-actors : (past : List Entry) (t u : ℕ) → Precedes past t u → Member t (actors past) × Member u (actors past)
+pub precedes-actors : (past : List Entry) (t u : ℕ) → Precedes past t u → Member t (actors past) × Member u (actors past)
 precedes-actors [] t u h = absurd h
 precedes-actors (e ∷ past) t u (inl now) = let f = follows-access past (access_of e) t u now in (actor-later (access_of e) (actors past) t (has_conflicting-actor past t f.access.key f.access.kind f.access_list), subst (λ v. Member v (actor_in (access_of e) (actors past))) f.by (actor-first (access_of e) (actors past) f.access f.is))
 precedes-actors (e ∷ past) t u (inr before) = let p = precedes-actors past t u before in (actor-later (access_of e) (actors past) t p.0, actor-later (access_of e) (actors past) u p.1)
@@ -115,7 +116,7 @@ pair-so past t u h =
     let r = and_parts _ _ q.1 in
     record { apart = λ e. both_ways _ (not-true _ p.0) (eq-eqb t u e); first_stands = not-true _ q.0; second_stands = not-true _ r.0; precedes = precedes-so past t u r.1 }
 
-so-pair : (past : List Entry) (t u : ℕ) → Pair past t u → pair past t u ≡ true
+pub so-pair : (past : List Entry) (t u : ℕ) → Pair past t u → pair past t u ≡ true
 so-pair past t u p = and_from _ _ (not_from_false _ (ne_eqb t u p.apart)) (and_from _ _ (not_from_false _ p.first_stands) (and_from _ _ (not_from_false _ p.second_stands) (so-precedes past t u p.precedes)))
 
 -- an access closes no walk
@@ -215,16 +216,16 @@ so-looks_from : (past : List Entry) (o : Option Access) (t u : ℕ) → LooksFro
 so-looks_from past None t u h = absurd h
 so-looks_from past (Some a) t u h = and_from _ _ (ap is_look h.0) (and_from _ _ (eq-eqb a.by t h.1) (so-is_by _ u h.2))
 
-read_from-so : (past : List Entry) (t u : ℕ) → read_from past t u ≡ true → ReadFrom past t u
+pub read_from-so : (past : List Entry) (t u : ℕ) → read_from past t u ≡ true → ReadFrom past t u
 read_from-so [] t u h = absurd (cc)
 read_from-so (e ∷ past) t u h = elim (or_cases _ _ h) [ inl now ↦ let p = and_parts _ _ now in inl ((λ q. both_ways _ (not-true _ p.0) (eq-eqb t u q)), looks_from-so past (access_of e) t u p.1) | inr before ↦ inr (read_from-so past t u before) ]
 
-so-read_from : (past : List Entry) (t u : ℕ) → ReadFrom past t u → read_from past t u ≡ true
+pub so-read_from : (past : List Entry) (t u : ℕ) → ReadFrom past t u → read_from past t u ≡ true
 so-read_from [] t u h = absurd h
 so-read_from (e ∷ past) t u (inl now) = or_left _ _ (and_from _ _ (not_from_false _ (ne_eqb t u now.0)) (so-looks_from past (access_of e) t u now.1))
 so-read_from (e ∷ past) t u (inr before) = or_right _ _ (so-read_from past t u before)
 
-read_from-actor : (past : List Entry) (t u : ℕ) → ReadFrom past t u → Member t (actors past)
+pub read_from-actor : (past : List Entry) (t u : ℕ) → ReadFrom past t u → Member t (actors past)
 read_from-actor past t u h = (precedes-actors past u t (read-precedes past t u h)).1
 
 -- Rising

@@ -1,4 +1,4 @@
--- Worked examples of aborts: over two levels, by cycles of three and of two, and asked for.
+-- Worked examples of aborts: over two levels, by cycles of three and of two, by one of several walks, and asked for.
 use Rattle.std.specs.Prelude.{◌≡◌, pos, List, [], ◌∷◌, Some, None, refl}
 use Rattle.std.proofs.Common.{inl, inr}
 use Rattle.sgt_model.specs.declared.event.Event.TheVariants.{Start, Step, Commit, Quit}
@@ -7,7 +7,7 @@ use Rattle.sgt_model.specs.declared.reply.Cause.TheVariants as cause
 use Rattle.sgt_model.specs.declared.reply.Fate.TheVariants as fate
 use Rattle.sgt_model.specs.declared.entry.Entry.{Entry}
 use Rattle.sgt_model.specs.Values.{settled}
-use Rattle.sgt_model.specs.Legality.{Legal}
+use Rattle.sgt_model.specs.Legality.{Legal, LegalReply}
 use Rattle.sgt_model.proofs.Computed.{made_by, aborts_by, refused_by, commits_by, waits_by}
 use Rattle.sgt_model.proofs.BankExample.{bank, entry, bank_copy, bank_twice}
 
@@ -265,3 +265,52 @@ asking_is_no_end-legal = (
   ),
   refl,
 )
+
+-- a store that three walks would close: the reply may name any of them, and is else the same
+abbrev pub several_walks : List Entry
+several_walks =
+    entry (Step 1) (reply.Wrote (2, pos 103) (pos 1000))
+    ∷ entry (Step 0) (reply.Wrote (2, pos 103) (pos 1000))
+    ∷ entry (Step 2) (reply.Looked (2, pos 103) (Some (pos 300)))
+    ∷ entry (Step 1) (reply.Looked (2, pos 101) (Some (pos 1000)))
+    ∷ entry (Step 0) (reply.Looked (2, pos 101) (Some (pos 1000)))
+    ∷ entry (Start 5 (pos 103 ∷ pos 101 ∷ [])) (reply.Started 2)
+    ∷ entry (Start 5 (pos 101 ∷ pos 103 ∷ [])) (reply.Started 1)
+    ∷ entry (Start 5 (pos 101 ∷ pos 103 ∷ [])) (reply.Started 0)
+    ∷ []
+
+several_walks-legal : Legal bank_copy several_walks
+several_walks-legal = (
+  (
+    (
+      (
+        (
+          (
+            (
+              (
+                tt,
+                refl,
+              ),
+              refl,
+            ),
+            refl,
+          ),
+          inr (made_by (0 ∷ []) refl),
+        ),
+        inr (made_by (1 ∷ []) refl),
+      ),
+      inr (made_by (2 ∷ []) refl),
+    ),
+    inr (made_by (0 ∷ []) refl),
+  ),
+  inr (made_by (1 ∷ []) refl),
+)
+
+several_walks-first : LegalReply bank_copy several_walks (Step 2) (reply.Aborted (cause.Cycle (2 ∷ 0 ∷ [])) [])
+several_walks-first = inl (refused_by (0 ∷ []) [] [] (2 ∷ []) refl refl refl refl)
+
+several_walks-second : LegalReply bank_copy several_walks (Step 2) (reply.Aborted (cause.Cycle (2 ∷ 1 ∷ [])) [])
+several_walks-second = inl (refused_by (1 ∷ []) [] [] (2 ∷ []) refl refl refl refl)
+
+several_walks-longest : LegalReply bank_copy several_walks (Step 2) (reply.Aborted (cause.Cycle (2 ∷ 0 ∷ 1 ∷ [])) [])
+several_walks-longest = inl (refused_by (0 ∷ 1 ∷ []) [] [] (2 ∷ []) refl refl refl refl)

@@ -1,4 +1,4 @@
--- Worked examples of looks: what is not committed, the own value, and a value that changed in between.
+-- Worked examples of looks: what is not committed, the own value, also over another's, and a value that changed in between.
 use Rattle.std.specs.Prelude.{◌≡◌, pos, List, [], ◌∷◌, Some, None, refl}
 use Rattle.std.proofs.Common.{inl, inr}
 use Rattle.sgt_model.specs.declared.event.Event.TheVariants.{Start, Step, Commit, Quit}
@@ -9,7 +9,7 @@ use Rattle.sgt_model.specs.declared.entry.Entry.{Entry}
 use Rattle.sgt_model.specs.Values.{settled}
 use Rattle.sgt_model.specs.Legality.{Legal}
 use Rattle.sgt_model.proofs.Computed.{made_by, aborts_by, refused_by, commits_by, waits_by}
-use Rattle.sgt_model.proofs.BankExample.{bank, entry, bank_look_twice, bank_put_and_tell, bank_tell}
+use Rattle.sgt_model.proofs.BankExample.{bank, entry, bank_look_twice, bank_put_and_tell, bank_put_over, bank_tell}
 
 -- a look finds what is not committed, and its transaction waits for the source
 abbrev pub dirty_read_waits : List Entry
@@ -233,3 +233,42 @@ read_past_aborted-legal = (
 
 read_past_aborted-record : settled bank_tell.opening read_past_aborted (3, pos 7) ≡ None
 read_past_aborted-record = refl
+
+-- who stored over another's value before looking has read from nobody: it stays when the other quits
+abbrev pub own_store_over_anothers : List Entry
+own_store_over_anothers =
+    entry (Commit 1) (reply.Committed (pos 4 ∷ []))
+    ∷ entry (Quit 0) (reply.Aborted cause.Quit [])
+    ∷ entry (Step 1) (reply.Looked (3, pos 7) (Some (pos 4)))
+    ∷ entry (Step 1) (reply.Wrote (3, pos 7) (pos 4))
+    ∷ entry (Step 0) (reply.Wrote (3, pos 7) (pos 1))
+    ∷ entry (Start 6 []) (reply.Started 1)
+    ∷ entry (Start 5 (pos 1 ∷ [])) (reply.Started 0)
+    ∷ []
+
+own_store_over_anothers-legal : Legal bank_put_over own_store_over_anothers
+own_store_over_anothers-legal = (
+  (
+    (
+      (
+        (
+          (
+            (
+              tt,
+              refl,
+            ),
+            refl,
+          ),
+          inr (made_by (0 ∷ []) refl),
+        ),
+        inr (made_by (1 ∷ []) refl),
+      ),
+      inr (made_by (1 ∷ []) refl),
+    ),
+    aborts_by [] [] (0 ∷ []) refl refl refl,
+  ),
+  inr (commits_by refl),
+)
+
+own_store_over_anothers-record : settled bank_put_over.opening own_store_over_anothers (3, pos 7) ≡ Some (pos 4)
+own_store_over_anothers-record = refl

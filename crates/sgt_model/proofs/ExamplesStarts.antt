@@ -1,13 +1,13 @@
 -- Worked examples of starts, and of events that are refused.
 use Rattle.std.specs.Prelude.{pos, List, [], ◌∷◌, Some, refl}
-use Rattle.std.proofs.Common.{inr}
+use Rattle.std.proofs.Common.{inl, inr}
 use Rattle.sgt_model.specs.declared.event.Event.TheVariants.{Start, Step, Commit}
 use Rattle.sgt_model.specs.declared.reply.Reply.TheVariants as reply
 use Rattle.sgt_model.specs.declared.reply.Fate.TheVariants as fate
 use Rattle.sgt_model.specs.declared.entry.Entry.{Entry}
 use Rattle.sgt_model.specs.Legality.{Legal}
-use Rattle.sgt_model.proofs.Computed.{made_by, commits_by}
-use Rattle.sgt_model.proofs.BankExample.{bank, entry}
+use Rattle.sgt_model.proofs.Computed.{made_by, commits_by, waits_by}
+use Rattle.sgt_model.proofs.BankExample.{bank, entry, bank_twice}
 
 -- limits of one live and two started
 abbrev pub limits_and_fates : List Entry
@@ -95,3 +95,39 @@ start_refused =
 
 start_refused-legal : Legal (bank 8 100) start_refused
 start_refused-legal = (((tt, refl), refl), refl)
+
+-- that the procedure is not at its end is tested before predecessors are
+abbrev pub not_ended_before_waits : List Entry
+not_ended_before_waits =
+    entry (Commit 1) (reply.Waits 0)
+    ∷ entry (Step 1) (reply.Wrote (3, pos 7) (pos 2))
+    ∷ entry (Commit 1) reply.NotEnded
+    ∷ entry (Step 1) (reply.Wrote (3, pos 7) (pos 1))
+    ∷ entry (Step 0) (reply.Wrote (3, pos 7) (pos 1))
+    ∷ entry (Start 5 []) (reply.Started 1)
+    ∷ entry (Start 5 []) (reply.Started 0)
+    ∷ []
+
+not_ended_before_waits-legal : Legal bank_twice not_ended_before_waits
+not_ended_before_waits-legal = (
+  (
+    (
+      (
+        (
+          (
+            (
+              tt,
+              refl,
+            ),
+            refl,
+          ),
+          inr (made_by (0 ∷ []) refl),
+        ),
+        inr (made_by (1 ∷ []) refl),
+      ),
+      refl,
+    ),
+    inr (made_by (1 ∷ []) refl),
+  ),
+  inl (waits_by refl),
+)

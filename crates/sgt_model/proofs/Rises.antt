@@ -73,5 +73,9 @@ sorted-rising [] h = tt
 sorted-rising (t ∷ []) h = tt
 sorted-rising (t ∷ u ∷ l) h = (h.0.0, sorted-rising (u ∷ l) h.1)
 
+-- those of the started ones that pass a test
+pub begun-rise : (f : ℕ → Bool) (past : List Entry) → Rising (filter f (begun past))
+begun-rise f past = sorted-rising (filter f (begun past)) (sorted-filter f (begun past) (begun-sorted past))
+
 pub live_ones-rise : (past : List Entry) → Rising (live_ones past)
-live_ones-rise past = sorted-rising (live_ones past) (sorted-filter (live past) (begun past) (begun-sorted past))
+live_ones-rise past = begun-rise (live past) past

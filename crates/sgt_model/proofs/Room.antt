@@ -46,7 +46,7 @@ begun_below (e ∷ past) t m = go (begun_below past t) (is_start e.reply) m
     go rest true m = elim (member_append t (begun past) (starts past) m) [ inl k ↦ let before : t < starts past = rest k in omega arith | inr e ↦ omega arith ]
     go rest false m = rest m
 
-starts_or_not : {s : Setting} {past : List Entry} {event : Event} {r : Reply} → Effect s past event r → Begins s past event r ⊎ (is_start r ≡ false)
+pub starts_or_not : {s : Setting} {past : List Entry} {event : Event} {r : Reply} → Effect s past event r → Begins s past event r ⊎ (is_start r ≡ false)
 starts_or_not (idle i) = inr i.no_start
 starts_or_not (begins b) = inl b
 starts_or_not (accesses x) = inr x.no_start

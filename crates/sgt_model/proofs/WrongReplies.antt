@@ -1,8 +1,8 @@
 -- Replies of engines that are wrong, at the worked examples: none of them is legal.
-use Rattle.std.specs.Prelude.{◌≡◌, ℕ, ℤ, pos, Bool, true, false, ◌&&◌, ◌⊎◌, List, [], ◌∷◌, Option, Some, None, refl}
+use Rattle.std.specs.Prelude.{◌≡◌, ℕ, ◌<◌, ◌≤◌, ℤ, pos, Bool, true, false, ◌&&◌, ◌⊎◌, List, [], ◌∷◌, Option, Some, None, refl}
 use Rattle.std.proofs.Common.{inl, inr, arith, sym, ap, subst}
 use Rattle.std.specs.Ordering.{int_eq}
-use Rattle.std.proofs.lemmas.Bool.{and_parts, true≢false}
+use Rattle.std.proofs.lemmas.Bool.{and_parts, both_ways, true≢false}
 use Rattle.sgt_model.specs.declared.event.Event.TheVariants.{Start, Step, Commit, Quit}
 use Rattle.sgt_model.specs.declared.reply.Reply.{Reply}
 use Rattle.sgt_model.specs.declared.reply.Reply.TheVariants as reply
@@ -10,13 +10,14 @@ use Rattle.sgt_model.specs.declared.reply.Cause.{Cause}
 use Rattle.sgt_model.specs.declared.reply.Cause.TheVariants as cause
 use Rattle.sgt_model.specs.declared.entry.Entry.{Entry}
 use Rattle.sgt_model.specs.declared.kind.Kind.{Kind}
-use Rattle.sgt_model.specs.declared.kind.Kind.TheVariants.{Look}
+use Rattle.sgt_model.specs.declared.kind.Kind.TheVariants.{Look, Store}
 use Rattle.sgt_model.specs.Contents.{Key}
-use Rattle.sgt_model.specs.Walks.{Member}
+use Rattle.sgt_model.specs.Walks.{Member, PathOf, last_of, Rising}
 use Rattle.sgt_model.specs.Fates.{live}
+use Rattle.sgt_model.specs.Pairs.{Pair, has_conflicting}
 use Rattle.sgt_model.specs.Legality.{Refuses, Makes, MustWait, MayCommit, LegalReply}
-use Rattle.sgt_model.proofs.Computed.{pair, pair-so, free_test, free-so, closes-so, each-so, all-so}
-use Rattle.sgt_model.proofs.BankExample.{bank, entry, bank_put, bank_look_twice, bank_tell}
+use Rattle.sgt_model.proofs.Computed.{pair, pair-so, so-pair, free_test, free-so, closes-so, each-so, all-so}
+use Rattle.sgt_model.proofs.BankExample.{bank, entry, bank_put, bank_copy, bank_twice, bank_look_twice, bank_put_over, bank_tell}
 
 -- where an access closes no walk it is not refused
 not_refused : {past : List Entry} {t : ℕ} {k : Key} {kind : Kind} {why : Cause} {fell : List ℕ} (given : Reply) (set : List ℕ) → free_test past t k kind set ≡ true → (given ≡ reply.Aborted why fell → ⊥) → Refuses past t k kind (reply.Aborted why fell) ⊎ Makes past t k kind given (reply.Aborted why fell) → ⊥
@@ -182,3 +183,108 @@ keeps_committed_places h = cc h
 -- a start past the limit
 starts_too_many : LegalReply (bank 1 1) one_committed (Start 0 (pos 2 ∷ [])) (reply.Started 1) → ⊥
 starts_too_many h = cc h
+
+-- who looked at its own store has read from nobody, whose value it ever stored over
+abbrev stored_over : List Entry
+stored_over =
+    entry (Step 1) (reply.Looked (3, pos 7) (Some (pos 4)))
+    ∷ entry (Step 1) (reply.Wrote (3, pos 7) (pos 4))
+    ∷ entry (Step 0) (reply.Wrote (3, pos 7) (pos 1))
+    ∷ entry (Start 6 []) (reply.Started 1)
+    ∷ entry (Start 5 (pos 1 ∷ [])) (reply.Started 0)
+    ∷ []
+
+own_readers_fall : LegalReply bank_put_over stored_over (Quit 0) (reply.Aborted cause.Quit (1 ∷ [])) → ⊥
+own_readers_fall h =
+    let named : h.fell ≡ 1 ∷ [] = cc h.is in
+    let fallen = h.falls.each 1 (subst (λ l. Member 1 l) (sym named) (inl refl)) in
+    all-so stored_over 0 [] (0 ∷ []) refl 1 fallen.0 fallen.1 fallen.2
+
+-- the fallen are listed rising
+falls_out_of_order : LegalReply (bank 8 100) two_levels (Quit 0) (reply.Aborted cause.Quit (2 ∷ 1 ∷ [])) → ⊥
+falls_out_of_order h =
+    let named : h.fell ≡ 2 ∷ 1 ∷ [] = cc h.is in
+    let rises : Rising (2 ∷ 1 ∷ []) = subst (λ l. Rising l) named h.falls.rising in
+    let less : 2 < 1 = rises.0 in
+    omega arith
+
+-- of two live predecessors the least is named
+abbrev two_live_writers : List Entry
+two_live_writers =
+    entry (Step 2) (reply.Wrote (3, pos 7) (pos 3))
+    ∷ entry (Step 0) (reply.Wrote (3, pos 7) (pos 1))
+    ∷ entry (Step 1) (reply.Wrote (3, pos 7) (pos 2))
+    ∷ entry (Start 5 (pos 3 ∷ [])) (reply.Started 2)
+    ∷ entry (Start 5 (pos 2 ∷ [])) (reply.Started 1)
+    ∷ entry (Start 5 (pos 1 ∷ [])) (reply.Started 0)
+    ∷ []
+
+waits_for_the_greater : LegalReply bank_put two_live_writers (Commit 2) (reply.Waits 1) → ⊥
+waits_for_the_greater (inl h) =
+    let named : h.before ≡ 1 = cc h.is in
+    let least : h.before ≤ 0 = h.least.least 0 refl (pair-so two_live_writers 0 2 refl) in
+    omega arith
+waits_for_the_greater (inr h) = cc h.is
+
+-- who is not at its end does not wait, though another stored before it
+abbrev half_done : List Entry
+half_done =
+    entry (Step 1) (reply.Wrote (3, pos 7) (pos 1))
+    ∷ entry (Step 0) (reply.Wrote (3, pos 7) (pos 1))
+    ∷ entry (Start 5 []) (reply.Started 1)
+    ∷ entry (Start 5 []) (reply.Started 0)
+    ∷ []
+
+waits_before_its_end : LegalReply bank_twice half_done (Commit 1) (reply.Waits 0) → ⊥
+waits_before_its_end h = cc h
+
+-- the answers are those of the procedure
+abbrev at_its_end : List Entry
+at_its_end =
+    entry (Step 0) (reply.Looked (2, pos 101) (Some (pos 1000)))
+    ∷ entry (Step 0) (reply.Looked (1, pos 101) (Some (pos 500)))
+    ∷ entry (Step 0) (reply.Looked (0, pos 1) (Some (pos 101)))
+    ∷ entry (Start 0 (pos 1 ∷ [])) (reply.Started 0)
+    ∷ []
+
+abbrev answers_with : Reply → ℤ → Bool
+answers_with (reply.Committed (v ∷ [])) w = int_eq v w
+answers_with _ w = false
+
+wrong_answers : LegalReply (bank 8 100) at_its_end (Commit 0) (reply.Committed (pos 1000 ∷ [])) → ⊥
+wrong_answers (inl h) = cc h.is
+wrong_answers (inr h) = true≢false (ap (λ r. answers_with r (pos 1000)) h.is)
+
+no_answers : LegalReply (bank 8 100) at_its_end (Commit 0) (reply.Committed []) → ⊥
+no_answers (inl h) = cc h.is
+no_answers (inr h) = cc h.is
+
+-- a walk follows pairs, and begins with the one that is refused. Here it is 2, 1, 0
+abbrev ring : List Entry
+ring =
+    entry (Step 1) (reply.Wrote (2, pos 103) (pos 200))
+    ∷ entry (Step 0) (reply.Wrote (2, pos 102) (pos 1000))
+    ∷ entry (Step 2) (reply.Looked (2, pos 103) (Some (pos 300)))
+    ∷ entry (Step 1) (reply.Looked (2, pos 102) (Some (pos 200)))
+    ∷ entry (Step 0) (reply.Looked (2, pos 101) (Some (pos 1000)))
+    ∷ entry (Start 5 (pos 103 ∷ pos 101 ∷ [])) (reply.Started 2)
+    ∷ entry (Start 5 (pos 102 ∷ pos 103 ∷ [])) (reply.Started 1)
+    ∷ entry (Start 5 (pos 101 ∷ pos 102 ∷ [])) (reply.Started 0)
+    ∷ []
+
+leaves_one_out : LegalReply bank_copy ring (Step 2) (reply.Aborted (cause.Cycle (2 ∷ 0 ∷ [])) []) → ⊥
+leaves_one_out (inl h) =
+    let named : h.rest ≡ 0 ∷ [] = cc h.aborts.is in
+    let goes : PathOf (Pair ring) 2 (0 ∷ []) = subst (λ l. PathOf (Pair ring) 2 l) named h.closes.pairs in
+    both_ways (pair ring 2 0) refl (so-pair ring 2 0 goes.0)
+leaves_one_out (inr h) = cc h.is
+
+ends_too_early : LegalReply bank_copy ring (Step 2) (reply.Aborted (cause.Cycle (2 ∷ 1 ∷ [])) []) → ⊥
+ends_too_early (inl h) =
+    let named : h.rest ≡ 1 ∷ [] = cc h.aborts.is in
+    cc (subst (λ l. has_conflicting ring (last_of 2 l) (2, pos 101) Store ≡ true) named h.closes.conflict)
+ends_too_early (inr h) = cc h.is
+
+begins_with_another : LegalReply bank_copy ring (Step 2) (reply.Aborted (cause.Cycle (1 ∷ 0 ∷ [])) []) → ⊥
+begins_with_another (inl h) = cc h.aborts.is
+begins_with_another (inr h) = cc h.is

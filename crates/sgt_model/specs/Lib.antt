@@ -12,6 +12,7 @@ pub mod Meaning
 pub mod Codes
 -- histories: accesses, fates, values, who read from whom, conflicts
 pub mod Walks
+pub mod Histories
 pub mod Accesses
 pub mod Fates
 pub mod Values
@@ -24,12 +25,15 @@ pub mod Bounds
 pub mod Settings
 pub mod Progress
 pub mod Legality
+pub mod OneReply
 -- what is true of legal histories
 pub mod Replay
 pub mod CommitOrder
 pub mod Aborts
 pub mod Headline
+pub mod StoredValues
 pub mod Laws
+pub mod ReplySizes
 -- the state of a scheduler, and the one that belongs to a history
 pub mod AccessList
 pub mod Chains
@@ -48,3 +52,7 @@ pub mod Soundness
 pub mod NewState
 pub mod Sameness
 pub mod Refinement
+-- what the statements of a procedure mean, and what is left of them
+pub mod Executions
+pub mod Left
+pub mod ExecutedReplay

@@ -53,6 +53,7 @@ impl Database {
         ensures put { OnOk result ((k : K) → contents_of self.new k ≡ put_in (contents_of self.old) key value k) }
         ensures err { OnErr result (self.new ≡ self.old) }
         ensures absent { OnErr result (contents_of self.old key ≡ None) }
+        ensures by_key { IsByKey self.new }
     {
         match self.find(key) {
             Ok(at) => self.rows[at] = (key, value),

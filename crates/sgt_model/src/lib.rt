@@ -45,6 +45,7 @@ mod event;
 mod key;
 mod kind;
 mod laws;
+mod left;
 mod limits;
 mod procedure;
 mod refinement;
@@ -59,10 +60,12 @@ pub use event::{Answers, Args, Event};
 pub use key::{Key, LAST_TABLE, LEAST, MOST, is_value};
 pub use kind::Kind;
 pub use laws::{
-    aborts_have_cause, commits_in_order, headline_holds, limits_are_kept, looks_agree_at_commit,
-    no_pair_from_live, replay_is_serial, runs_are_traces, sources_commit_first, sources_stand,
-    writers_commit_in_order,
+    aborts_have_cause, commits_in_order, headline_holds, histories_are_executed, limits_are_kept,
+    looks_agree_at_commit, no_pair_from_live, replay_is_serial, replays_hold_values,
+    replies_are_unique, replies_name_few, runs_are_traces, serial_is_execution,
+    some_reply_is_legal, sources_commit_first, sources_stand, writers_commit_in_order,
 };
+pub use left::{left_goes_on, next_is_of_left};
 pub use limits::{Limits, MOST_BEGINS, MOST_LIVE};
 pub use procedure::{Cond, Expr, Procedure, Statement};
 pub use refinement::{
@@ -70,6 +73,3 @@ pub use refinement::{
 };
 pub use reply::{Cause, Fate, Reply};
 pub use tid::{Tid, Tids};
-
-#[cfg(test)]
-mod tests;

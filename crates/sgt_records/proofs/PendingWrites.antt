@@ -1,19 +1,20 @@
 -- The pending writes: what is left of them, and what one more changes.
-use Rattle.std.proofs.Common.{◌≡◌, ◌≢◌, ℕ, ◌+◌, ◌<◌, ◌≤◌, ℤ, Bool, true, false, cond, not, ◌||◌, nat_eq, ◌⊎◌, List, [], ◌∷◌, ◌++◌, length, take, drop, get_or, Option, Some, None, refl, sym, ap, ap₂, ◌∙◌, subst, inl, inr, arith, add-one, append_assoc}
+use Rattle.std.proofs.Common.{◌≡◌, ◌≢◌, ℕ, suc, ◌+◌, ◌<◌, ◌≤◌, ℤ, Bool, true, false, cond, not, ◌||◌, nat_eq, List, [], ◌∷◌, ◌++◌, length, length-append, ◌⊎◌, take, drop, get_or, Option, Some, None, refl, sym, ap, ap₂, ◌∙◌, subst, inl, inr, arith, add-one, append_assoc}
 use Rattle.std.proofs.lemmas.Bool.{true≢false, eq-eqb, ne_eqb, cases_eq}
 use Rattle.std.proofs.lemmas.List.{append-nil, take-append-drop}
 use Rattle.std.proofs.Math.Seq.{take-suc}
-use Rattle.std.proofs.lemmas.List.Elements.{All-filter, All-push, filter-append}
+use Rattle.std.proofs.lemmas.List.Elements.{All-nil, All-cons, All-head, All-tail, All-filter, All-push, filter-append}
 use Rattle.std.specs.BTreeMap.{BTreeMap}
-use Rattle.std.specs.List.{filter}
+use Rattle.std.specs.List.{filter, All}
 use Rattle.std.specs.Option.{option_or}
 use Rattle.sgt_model.specs.Numbers.{IsValue}
 use Rattle.sgt_model.specs.Contents.{Key, key_eq}
-use Rattle.sgt_model.specs.Chains.{without, write_last, value_in}
+use Rattle.sgt_model.specs.Chains.{without, write_last, value_in, writes_in}
 use Rattle.sgt_model.proofs.Stores.{key_eq-true}
 use Rattle.sgt_records.specs.declared.write.Write.{Write}
 use Rattle.sgt_records.specs.Settleds.{has_record}
-use Rattle.sgt_records.specs.Pendings.{chain_in, IsOnceIn, ArePending}
+use Rattle.sgt_records.specs.Pendings.{chain_in, ArePending}
+use Rattle.sgt_records.specs.Validity.{IsOnceIn, IsChain}
 
 -- on one chain
 
@@ -48,6 +49,35 @@ once_written t v u c h = subst (λ l. length l ≤ 1) (sym (filter-append (λ w.
     go : (t ≡ u) ⊎ (t ≢ u) → length (filter (λ w. nat_eq w.0 u) (without t c) ++ cond (nat_eq t u) ((t, v) ∷ []) []) ≤ 1
     go (inl e) = rw (eq-eqb t u e, subst (λ z. filter (λ w. nat_eq w.0 u) (without z c) ≡ []) (sym e) (none_left u c)) (omega arith)
     go (inr n) = rw (ne_eqb t u n, append-nil) (once_without t u c h)
+
+-- what is left is no longer
+few_filtered : (f : ℕ × ℤ → Bool) (c : List (ℕ × ℤ)) → length (filter f c) ≤ length c
+few_filtered f [] = omega arith
+few_filtered f (w ∷ c) = go (f w) (few_filtered f c)
+  where
+    go : (b : Bool) → length (filter f c) ≤ length c → length (cond b (w ∷ filter f c) (filter f c)) ≤ suc (length c)
+    go true h = omega (arith, h)
+    go false h = omega (arith, h)
+
+-- and where t had a value there is room
+fewer_left : (t : ℕ) (c : List (ℕ × ℤ)) → writes_in t c ≡ true → length (without t c) < length c
+fewer_left t [] h = absurd (true≢false (sym h))
+fewer_left t (w ∷ c) h = go (nat_eq w.0 t) (few_filtered (λ w. not (nat_eq w.0 t)) c) (fewer_left t c) h
+  where
+    go : (b : Bool) → length (without t c) ≤ length c → (writes_in t c ≡ true → length (without t c) < length c) → (b || writes_in t c) ≡ true → length (cond (not b) (w ∷ without t c) (without t c)) < suc (length c)
+    go true le less e = omega (arith, le)
+    go false le less e = omega (arith, less e)
+
+-- so a write leaves at most 32
+few_written : (t : ℕ) (v : ℤ) (c : List (ℕ × ℤ)) → length c ≤ 32 → (writes_in t c ≡ false → length c < 32) → length (write_last t v c) ≤ 32
+few_written t v c few room = go (writes_in t c) refl
+  where
+    longer : length (write_last t v c) ≡ length (without t c) + 1
+    longer = length-append (without t c) ((t, v) ∷ [])
+
+    go : (b : Bool) → writes_in t c ≡ b → length (write_last t v c) ≤ 32
+    go true e = let less = fewer_left t c e in omega (arith, longer)
+    go false e = let less = room e in let le = few_filtered (λ w. not (nat_eq w.0 t)) c in omega (arith, longer)
 
 -- on the writes
 
@@ -139,25 +169,44 @@ module _ (records : BTreeMap Key (Option ℤ)) (writes : List Write) (are : AreP
   pub pending_left : (t : ℕ) → ArePending records (filter (not_by t) writes)
   pending_left t = record {
     once = λ u k. subst (λ c. IsOnceIn u c) (sym (chain_left t writes k)) (once_without t u (chain_in writes k) (are.once u k));
+    few = λ k. let le = few_filtered (λ w. not (nat_eq w.0 t)) (chain_in writes k) in let few = are.few k in subst (λ c. length c ≤ 32) (sym (chain_left t writes k)) (omega arith);
     recorded = All-filter (not_by t) IsRecorded writes are.recorded;
     in_range = All-filter (not_by t) HasValue writes are.in_range;
   }
 
   -- and so is what a write leaves
-  pub pending_written : (t : ℕ) (key : Key) (v : ℤ) → has_record records key ≡ true → IsValue v → ArePending records (written t key v writes)
-  pending_written t key v there in_range = record {
-    once = λ u k. subst (λ c. IsOnceIn u c) (sym (chain_written t key v writes k)) (go (key_eq key k) u k);
+  pub pending_written : (t : ℕ) (key : Key) (v : ℤ) → has_record records key ≡ true → IsValue v → (writes_in t (chain_in writes key) ≡ false → length (chain_in writes key) < 32) → ArePending records (written t key v writes)
+  pending_written t key v there in_range room = record {
+    once = λ u k. subst (λ c. IsOnceIn u c) (sym (chain_written t key v writes k)) (single (key_eq key k) u k);
+    few = λ k. subst (λ c. length c ≤ 32) (sym (chain_written t key v writes k)) (short k (key_eq key k) refl);
     recorded = All-push IsRecorded _ _ (All-filter (not_this t key) IsRecorded writes are.recorded) there;
     in_range = All-push HasValue _ _ (All-filter (not_this t key) HasValue writes are.in_range) in_range;
   }
     where
-      go : (b : Bool) (u : ℕ) (k : Key) → IsOnceIn u (cond b (write_last t v (chain_in writes k)) (chain_in writes k))
-      go true u k = once_written t v u (chain_in writes k) (are.once u k)
-      go false u k = are.once u k
+      single : (b : Bool) (u : ℕ) (k : Key) → IsOnceIn u (cond b (write_last t v (chain_in writes k)) (chain_in writes k))
+      single true u k = once_written t v u (chain_in writes k) (are.once u k)
+      single false u k = are.once u k
+
+      short : (k : Key) (b : Bool) → key_eq key k ≡ b → length (cond b (write_last t v (chain_in writes k)) (chain_in writes k)) ≤ 32
+      short k true e = few_written t v (chain_in writes k) (are.few k) (subst (λ (j : Key). writes_in t (chain_in writes j) ≡ false → length (chain_in writes j) < 32) (key_eq-true key k e) room)
+      short k false e = are.few k
 
   -- records that are kept still wait for them
   pub pending_kept : (new : BTreeMap Key (Option ℤ)) → ((k : Key) → has_record records k ≡ true → has_record new k ≡ true) → ArePending new writes
-  pending_kept new kept = record { once = are.once; recorded = λ i d short. kept _ (are.recorded i d short); in_range = are.in_range }
+  pending_kept new kept = record { once = are.once; few = are.few; recorded = λ i d short. kept _ (are.recorded i d short); in_range = are.in_range }
+
+-- the chain of writes of values is of values
+chain_values : (writes : List Write) → All (λ (w : Write). IsValue w.value) writes → (k : Key) → All (λ (w : ℕ × ℤ). IsValue w.1) (chain_in writes k)
+chain_values [] values k = All-nil (λ (x : ℕ × ℤ). IsValue x.1)
+chain_values (w ∷ writes) values k = go (key_eq w.key k) (All-head (λ (x : Write). IsValue x.value) w writes values) (chain_values writes (All-tail (λ (x : Write). IsValue x.value) w writes values) k)
+  where
+    go : (b : Bool) → IsValue w.value → All (λ (w : ℕ × ℤ). IsValue w.1) (chain_in writes k) → All (λ (w : ℕ × ℤ). IsValue w.1) (cond b ((w.by, w.value) ∷ chain_in writes k) (chain_in writes k))
+    go true here rest = All-cons (λ (x : ℕ × ℤ). IsValue x.1) (w.by, w.value) (chain_in writes k) here rest
+    go false here rest = rest
+
+-- what is pending of a key is a chain
+pub are_chains : (records : BTreeMap Key (Option ℤ)) (writes : List Write) → ArePending records writes → (k : Key) → IsChain (chain_in writes k)
+are_chains records writes are k = record { once = λ t. are.once t k; few = are.few k; values = chain_values writes are.in_range k }
 
 -- on what a commit settles
 

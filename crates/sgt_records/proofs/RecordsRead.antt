@@ -6,11 +6,11 @@ use Rattle.std.proofs.lemmas.Map.Made.{is_some-lookup}
 use Rattle.std.specs.BTreeMap.{BTreeMap, get, is_at}
 use Rattle.std.specs.List.{list_any}
 use Rattle.std.specs.Map.{keys_of}
-use Rattle.std.specs.Option.{is_some}
+use Rattle.std.specs.Option.{is_some, option_flatten}
 use Rattle.sgt_model.specs.Contents.{Key, key_eq, put_in}
 use Rattle.sgt_model.specs.Databases.{key_cmp}
 use Rattle.sgt_model.proofs.Stores.{key_eq-true}
-use Rattle.sgt_records.specs.Settleds.{value_in, settled_in}
+use Rattle.sgt_records.specs.Settleds.{settled_in}
 use Rattle.sgt_records.proofs.SettledValues.{key_back}
 
 -- the key is that of one of the entries
@@ -32,7 +32,7 @@ module _ (m : BTreeMap Key (Option ℤ)) where
 
   -- one entry more says its key's value
   entry_more : (entries : List (Key × Option ℤ)) (e : Key × Option ℤ) → get key_cmp m e.0 ≡ Some e.1 → (k : Key) → read_so_far (entries ++ e ∷ []) k ≡ cond (key_eq e.0 k) e.1 (read_so_far entries k)
-  entry_more entries e found k = ap (λ b. cond b (settled_in m k) None) (among_more k entries e) ∙ go (is_among k entries) (key_eq e.0 k) (λ same. ap value_in (subst (λ j. get key_cmp m j ≡ Some e.1) (key_eq-true e.0 k same) found))
+  entry_more entries e found k = ap (λ b. cond b (settled_in m k) None) (among_more k entries e) ∙ go (is_among k entries) (key_eq e.0 k) (λ same. ap option_flatten (subst (λ j. get key_cmp m j ≡ Some e.1) (key_eq-true e.0 k same) found))
     where
       go : (a b : Bool) → (b ≡ true → settled_in m k ≡ e.1) → cond (a || b) (settled_in m k) None ≡ cond b e.1 (cond a (settled_in m k) None)
       go true true is = is refl
@@ -46,7 +46,7 @@ module _ (m : BTreeMap Key (Option ℤ)) where
 
   -- an empty one puts none
   pub blank_more : (entries : List (Key × Option ℤ)) (key : Key) → get key_cmp m key ≡ Some None → (k : Key) → read_so_far (entries ++ (key, None) ∷ []) k ≡ read_so_far entries k
-  blank_more entries key found k = entry_more entries (key, None) found k ∙ go (key_eq key k) (is_among k entries) (λ same. ap value_in (subst (λ j. get key_cmp m j ≡ Some None) (key_eq-true key k same) found))
+  blank_more entries key found k = entry_more entries (key, None) found k ∙ go (key_eq key k) (is_among k entries) (λ same. ap option_flatten (subst (λ j. get key_cmp m j ≡ Some None) (key_eq-true key k same) found))
     where
       go : (b a : Bool) → (b ≡ true → settled_in m k ≡ None) → cond b None (cond a (settled_in m k) None) ≡ cond a (settled_in m k) None
       go true true is = sym (is refl)
@@ -57,6 +57,6 @@ module _ (m : BTreeMap Key (Option ℤ)) where
   pub all_read : (k : Key) → read_so_far m.entries k ≡ settled_in m k
   all_read k = ap (λ b. cond b (settled_in m k) None) (sym (is_some-lookup (is_at (key_cmp k)) m.entries)) ∙ go (get key_cmp m k)
     where
-      go : (o : Option (Option ℤ)) → cond (is_some o) (value_in o) None ≡ value_in o
+      go : (o : Option (Option ℤ)) → cond (is_some o) (option_flatten o) None ≡ option_flatten o
       go None = refl
       go (Some content) = refl

@@ -1,3 +1,4 @@
 pub mod Tops
+pub mod Validity
 pub mod Settleds
 pub mod Pendings

@@ -1,5 +1,5 @@
 -- The pending writes: those of the live transactions, of all keys in one list, oldest first.
-use Rattle.std.specs.Prelude.{◌≡◌, ℕ, ℤ, ◌≤◌, true, cond, filter, length, nat_eq, List, [], ◌∷◌, Option}
+use Rattle.std.specs.Prelude.{◌≡◌, ℕ, ℤ, ◌≤◌, true, cond, length, List, [], ◌∷◌, Option}
 use Rattle.std.specs.BTreeMap.{BTreeMap}
 use Rattle.std.specs.List.{All}
 use Rattle.std.specs.Option.{option_or}
@@ -8,6 +8,7 @@ use Rattle.sgt_model.specs.Contents.{Key, key_eq, Contents}
 use Rattle.sgt_model.specs.Chains.{value_in}
 use Rattle.sgt_records.specs.declared.write.Write.{Write}
 use Rattle.sgt_records.specs.Settleds.{has_record}
+use Rattle.sgt_records.specs.Validity.{IsOnceIn}
 
 -- a key's chain: who has written it, and what, oldest first
 abbrev pub chain_in : List Write → Key → List (ℕ × ℤ)
@@ -18,12 +19,10 @@ chain_in (w ∷ writes) k = cond (key_eq w.key k) ((w.by, w.value) ∷ chain_in 
 abbrev pub settled_with : ℕ → List Write → Contents → Contents
 settled_with t writes settled k = option_or (value_in t (chain_in writes k)) (settled k)
 
--- t has at most one value in the chain
-abbrev pub IsOnceIn : ℕ → List (ℕ × ℤ) → Type 0
-IsOnceIn t chain = length (filter (λ w. nat_eq w.0 t) chain) ≤ 1
-
--- each transaction's last write of a key alone is pending, of a value, and a record waits for it
+-- each transaction's last write of a key alone is pending, at most 32 are of one key, each is of a value, and a record waits
+-- for it
 pub record ArePending (records : BTreeMap Key (Option ℤ)) (writes : List Write) : Type 0 where
   pub once : (t : ℕ) (k : Key) → IsOnceIn t (chain_in writes k)
+  pub few : (k : Key) → length (chain_in writes k) ≤ 32
   pub recorded : All (λ (w : Write). has_record records w.key ≡ true) writes
   pub in_range : All (λ (w : Write). IsValue w.value) writes

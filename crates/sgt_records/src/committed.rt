@@ -1,8 +1,10 @@
 ghost use Rattle.std.specs.Prelude.{◌≡◌, true, IfSome, IfOk, OnOk};
 ghost use Rattle.sgt_model.specs.Numbers.{IsValue};
 ghost use Rattle.sgt_model.specs.Contents.{Key as K, put_in};
-ghost use Rattle.sgt_model.specs.Databases.{contents_of};
-ghost use Rattle.sgt_records.specs.Settleds.{settled_in, has_record, KeepsRecords, AreValues};
+ghost use Rattle.sgt_model.specs.Databases.{contents_of, IsByKey};
+ghost use Rattle.sgt_model.specs.StoredValues.{HoldValues};
+ghost use Rattle.std.proofs.Props.{props};
+ghost use Rattle.sgt_records.specs.Settleds.{settled_in, has_record, KeepsRecords};
 ghost use Rattle.sgt_records.specs.Pendings.{settled_with, ArePending};
 
 use crate::write::Write;
@@ -15,7 +17,7 @@ use std::collections::BTreeMap;
 #[derive(Drop)]
 pub struct Committed {
     pub records: BTreeMap<Key, Option<i64>>,
-    ghost in_range: { AreValues records },
+    ghost in_range: { HoldValues (settled_in records) } by { Prim.hlevel props },
 }
 
 impl Committed {
@@ -82,7 +84,8 @@ impl Committed {
 
     /// All values, by key.
     pub fn all(&self, alloc: Global) -> Result<Database, NoMemory>
-        ensures { IfOk result (λ d. (k : K) → contents_of d k ≡ settled_in self.now.records k) }
+        ensures values { IfOk result (λ d. (k : K) → contents_of d k ≡ settled_in self.now.records k) }
+        ensures by_key { IfOk result IsByKey }
     {
         let mut values = Database::empty(alloc);
         for (key, record) in &self.records {

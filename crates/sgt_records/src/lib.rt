@@ -18,8 +18,6 @@
 mod committed;
 mod list_records;
 mod records;
-#[cfg(test)]
-mod tests;
 mod top;
 mod write;
 

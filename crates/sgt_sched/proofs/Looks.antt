@@ -21,7 +21,7 @@ use Rattle.sgt_model.proofs.Uses.{used_look, used_store}
 use Rattle.sgt_cycle.specs.Walk.{NoWalk}
 use Rattle.sgt_graph.specs.declared.verdict.Verdict.{Verdict}
 use Rattle.sgt_graph.specs.declared.verdict.Verdict.TheVariants.{Accepted, Closes}
-use Rattle.sgt_graph.specs.Verdicts.{Tells, Inserts}
+use Rattle.sgt_graph.specs.Verdicts.{IsVerdict, Inserts}
 use Rattle.sgt_records.specs.Tops.{top_from, value_of}
 use Rattle.sgt_sched.specs.LiveList.{progress_at, changed, looked, stored}
 use Rattle.sgt_sched.specs.SchedulerView.{SchedulerView, state_of, IsKept}
@@ -29,7 +29,7 @@ use Rattle.sgt_sched.specs.Steps.{next_along, with_source}
 use Rattle.sgt_sched.proofs.Accessed.{not_blocked, notes, own_progress_is, kept_access, read_added, value_of-from}
 
 -- what a test allowed is inserted
-pub inserted : (old new : ℕ → ℕ → Bool) (t : ℕ) (preds : List ℕ) (v : Verdict) → Tells old t preds v → NoWalk old t preds → Inserts old new t preds v → Inserts old new t preds Accepted
+pub inserted : (old new : ℕ → ℕ → Bool) (t : ℕ) (preds : List ℕ) (v : Verdict) → IsVerdict old t preds v → NoWalk old t preds → Inserts old new t preds v → Inserts old new t preds Accepted
 inserted old new t preds Accepted told free pairs = pairs
 inserted old new t preds (Closes walk) told free pairs = absurd (free told.0 told.2)
 

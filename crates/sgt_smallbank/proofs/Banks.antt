@@ -8,7 +8,8 @@ use Rattle.sgt_model.specs.Runs.{Run, looks, puts, asks, Outcome, Asked, serial}
 use Rattle.sgt_model.specs.Meaning.{is, over, both, compared, wrong, with_value, with_test, if_found, run_with}
 use Rattle.sgt_smallbank.specs.Texts.{balance, deposit_checking, transact_saving, amalgamate, write_check}
 use Rattle.sgt_smallbank.specs.Tables.{saving, checking}
-use Rattle.sgt_smallbank.specs.Arithmetic.{refused_if, found, in_range, now_has, bank, HoldValues, SerialIsBank}
+use Rattle.sgt_model.specs.StoredValues.{HoldValues}
+use Rattle.sgt_smallbank.specs.Arithmetic.{refused_if, found, in_range, now_has, bank, SerialIsBank}
 use Rattle.sgt_smallbank.proofs.Values.{Decides-is_value}
 
 -- ---- single steps

@@ -1,17 +1,15 @@
--- The faults of accounts, seen in the contents that the earlier ones made.
-use Rattle.std.proofs.Common.{◌≡◌, ℕ, ℤ, Bool, true, false, ◌||◌, cond, List, [], ◌∷◌, ◌++◌, Option, Some, None, refl, ap, sym, ◌∙◌, ◌+◌, ◌<◌, length, take, drop, get_or, append_assoc}
-use Rattle.std.proofs.lemmas.List.{append-nil, take-append-drop, take_more, drop_more}
-use Rattle.std.specs.Prelude.{is_some}
+-- The rows that accounts put, one after another, and their faults.
+use Rattle.std.proofs.Common.{◌≡◌, ℕ, ℤ, Bool, true, false, cond, List, [], ◌∷◌, ◌++◌, Option, Some, None, refl, ap, sym, ◌∙◌, ◌+◌, ◌<◌, length, take, drop, get_or, All}
+use Rattle.std.proofs.lemmas.List.{take_more, drop_more}
+use Rattle.std.proofs.lemmas.List.Elements.{All-nil, All-cons}
+use Rattle.std.proofs.lemmas.Bool.Decides.{Decides-and}
 use Rattle.std.specs.Option.{option_or}
-use Rattle.std.specs.List.{list_any}
-use Rattle.std.specs.Ordering.{int_eq}
-use Rattle.std.proofs.Math.Bool.{or-false}
 use Rattle.sgt_model.specs.Contents.{Key, key_eq, Contents, put_in}
 use Rattle.sgt_smallbank.specs.declared.account.Account.{Account}
-use Rattle.sgt_smallbank.specs.declared.errors.BadOpening.{BadOpening}
-use Rattle.sgt_smallbank.specs.declared.errors.BadOpening.TheVariants.{Fault, NoMemory}
 use Rattle.sgt_smallbank.specs.declared.errors.OpeningFault.{OpeningFault}
-use Rattle.sgt_smallbank.specs.Accounts.{name_key, saving_key, checking_key, with_account, with_accounts, opened, fault, fault_in, fault_behind, first_fault, fault_of, IsRefused, AreRefused}
+use Rattle.sgt_smallbank.specs.declared.errors.OpeningFault.TheVariants.{Range}
+use Rattle.sgt_smallbank.specs.Accounts.{name_key, saving_key, checking_key, with_account, with_accounts, opened, fault_behind, first_fault, fault_of, IsInRange, is_in_range}
+use Rattle.sgt_smallbank.proofs.Values.{Decides-is_value}
 
 -- ---- one account
 
@@ -36,32 +34,6 @@ pub with_accounts-append : (m : Contents) (accounts : List Account) (a : Account
 with_accounts-append m [] a = refl
 with_accounts-append m (b ∷ accounts) a = with_accounts-append (with_account m b) accounts a
 
-moved : (p q r s : Bool) → q ≡ (p || s) → (q || r) ≡ (s || (p || r))
-moved true q r true e = rw e refl
-moved true q r false e = rw e refl
-moved false q r true e = rw e refl
-moved false q r false e = rw e refl
-
-put_some : (b : Bool) (v : ℤ) (o : Option ℤ) → is_some (cond b (Some v) o) ≡ (b || is_some o)
-put_some true v o = refl
-put_some false v o = refl
-
--- a name stands where an account has it
-pub named : (m : Contents) (accounts : List Account) (name : ℤ) → is_some (with_accounts m accounts (0, name)) ≡ (is_some (m (0, name)) || list_any (λ b. int_eq b.name name) accounts)
-named m [] name = sym (or-false _)
-named m (b ∷ accounts) name = named (with_account m b) accounts name ∙ moved (int_eq b.name name) _ (list_any (λ c. int_eq c.name name) accounts) (is_some (m (0, name))) (put_some (int_eq b.name name) b.customer (m (0, name)))
-
--- a customer has savings where an account has the customer
-pub served : (m : Contents) (accounts : List Account) (customer : ℤ) → is_some (with_accounts m accounts (1, customer)) ≡ (is_some (m (1, customer)) || list_any (λ b. int_eq b.customer customer) accounts)
-served m [] customer = sym (or-false _)
-served m (b ∷ accounts) customer = served (with_account m b) accounts customer ∙ moved (int_eq b.customer customer) _ (list_any (λ c. int_eq c.customer customer) accounts) (is_some (m (1, customer))) (put_some (int_eq b.customer customer) b.saving (m (1, customer)))
-
--- the contents that the earlier accounts made show the fault of the next
-pub fault_in_opened : (m : Contents) (earlier : List Account) (a : Account) → ((k : Key) → m k ≡ opened earlier k) → fault_in m a ≡ fault_behind earlier a
-fault_in_opened m earlier a same =
-    ap (λ b. fault a b (is_some (m (saving_key a)))) (ap is_some (same (name_key a)) ∙ named (λ k. None) earlier a.name)
-    ∙ ap (λ b. fault a (list_any (λ c. int_eq c.name a.name) earlier) b) (ap is_some (same (saving_key a)) ∙ served (λ k. None) earlier a.customer)
-
 -- the contents after the account at i
 pub rows_next : (before after : Contents) (accounts : List Account) (i : ℕ) (d : Account) → i < length accounts → ((k : Key) → before k ≡ opened (take i accounts) k) → ((k : Key) → after k ≡ with_account before (get_or accounts i d) k) → (k : Key) → after k ≡ opened (take (i + 1) accounts) k
 rows_next before after accounts i d within same put k =
@@ -75,10 +47,6 @@ neither : (o p : Option OpeningFault) → option_or o p ≡ None → (o ≡ None
 neither None p e = (refl, e)
 neither (Some f) p e = absurd cc
 
-not_nil : (l : List Account) (a : Account) → l ++ a ∷ [] ≡ [] → ⊥
-not_nil [] a e = cc
-not_nil (b ∷ l) a e = cc
-
 -- the first fault of an account without one and of those behind it
 fault_later : (earlier later : List Account) (a : Account) → fault_behind earlier a ≡ None → first_fault earlier (a ∷ later) ≡ first_fault (earlier ++ a ∷ []) later
 fault_later earlier later a none = ap (λ o. option_or o (first_fault (earlier ++ a ∷ []) later)) none
@@ -91,28 +59,23 @@ fault_next accounts i d found within is none =
     ∙ ap (first_fault (take i accounts)) (sym (drop_more accounts i d within))
     ∙ is
 
--- one more account that has no fault
-first_fault-append : (earlier good : List Account) (a : Account) → first_fault earlier good ≡ None → fault_behind (earlier ++ good) a ≡ None → first_fault earlier (good ++ a ∷ []) ≡ None
-first_fault-append earlier [] a faultless none = ap (λ f. option_or f None) (ap (λ l. fault_behind l a) (sym (append-nil earlier)) ∙ none)
-first_fault-append earlier (b ∷ good) a faultless none =
-    let parts = neither (fault_behind earlier b) _ faultless in
-    ap (λ f. option_or f (first_fault (earlier ++ b ∷ []) (good ++ a ∷ []))) parts.0
-    ∙ first_fault-append (earlier ++ b ∷ []) good a parts.1 (ap (λ l. fault_behind l a) (append_assoc earlier (b ∷ []) good) ∙ none)
+-- ---- accounts without a fault
 
--- the accounts up to and with the one at i have no fault, where those before it have none, nor has it
-pub fault_of-next : (accounts : List Account) (i : ℕ) (d : Account) → i < length accounts → fault_of (take i accounts) ≡ None → fault_behind (take i accounts) (get_or accounts i d) ≡ None → fault_of (take (i + 1) accounts) ≡ None
-fault_of-next accounts i d within faultless none =
-    ap fault_of (take_more accounts i d within) ∙ first_fault-append [] (take i accounts) (get_or accounts i d) faultless none
+in_range_where : (b : Bool) (o : Option OpeningFault) → cond b o (Some Range) ≡ None → b ≡ true
+in_range_where true o none = refl
+in_range_where false o none = absurd cc
 
--- the account at i is refused, and none before it has a fault: so all are
-pub refused_at : (accounts : List Account) (i : ℕ) (d : Account) (error : BadOpening) → i < length accounts → first_fault (take i accounts) (drop i accounts) ≡ fault_of accounts → fault_of (take i accounts) ≡ None → IsRefused (fault_behind (take i accounts) (get_or accounts i d)) error → AreRefused accounts error
-refused_at accounts i d (Fault fault) within is faultless here =
-    sym (ap (first_fault (take i accounts)) (sym (drop_more accounts i d within)) ∙ is)
-    ∙ ap (λ o. option_or o (first_fault (take i accounts ++ get_or accounts i d ∷ []) (drop (i + 1) accounts))) here
-refused_at accounts i d NoMemory within is faultless here = record {
-  good = take (i + 1) accounts;
-  rest = drop (i + 1) accounts;
-  whole = sym (take-append-drop (i + 1) accounts);
-  some_stand = λ nothing. not_nil (take i accounts) (get_or accounts i d) (sym (take_more accounts i d within) ∙ nothing);
-  faultless = fault_of-next accounts i d within faultless here;
-}
+account_in_range : (a : Account) → is_in_range a ≡ true → IsInRange a
+account_in_range a fits =
+    let values = (Decides-and _ _ (Decides-is_value a.name) (Decides-and _ _ (Decides-is_value a.customer) (Decides-and _ _ (Decides-is_value a.saving) (Decides-is_value a.checking)))).0 fits in
+    record { name = values.0; customer = values.1.0; saving = values.1.1.0; checking = values.1.1.1 }
+
+-- accounts without a fault are in range
+all_in_range : (earlier accounts : List Account) → first_fault earlier accounts ≡ None → All IsInRange accounts
+all_in_range earlier [] none = All-nil IsInRange
+all_in_range earlier (a ∷ accounts) none =
+    let parts = neither (fault_behind earlier a) (first_fault (earlier ++ a ∷ []) accounts) none in
+    All-cons IsInRange a accounts (account_in_range a (in_range_where (is_in_range a) _ parts.0)) (all_in_range (earlier ++ a ∷ []) accounts parts.1)
+
+pub faultless_in_range : (accounts : List Account) → fault_of accounts ≡ None → All IsInRange accounts
+faultless_in_range = all_in_range []

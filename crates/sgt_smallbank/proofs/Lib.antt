@@ -3,3 +3,4 @@ pub mod Forks
 pub mod Flawless
 pub mod Banks
 pub mod Faults
+pub mod Replays

@@ -1,5 +1,5 @@
 -- The rows that accounts put in a database, and what may be wrong with accounts.
-use Rattle.std.specs.Prelude.{◌≡◌, ◌≢◌, ℕ, Bool, ◌&&◌, cond, List, [], ◌∷◌, ◌++◌, Option, Some, None, is_some}
+use Rattle.std.specs.Prelude.{◌≡◌, ◌≢◌, ℕ, ℤ, Bool, ◌&&◌, cond, List, [], ◌∷◌, ◌++◌, Option, Some, None}
 use Rattle.std.specs.Option.{option_or}
 use Rattle.std.specs.List.{list_any}
 use Rattle.std.specs.Ordering.{int_eq}
@@ -38,23 +38,31 @@ abbrev pub opened : List Account → Contents
 opened = with_accounts (λ key. None)
 
 -- its four numbers are values
-pub record HasValues (a : Account) : Type 0 where
+pub record IsInRange (a : Account) : Type 0 where
   pub name : IsValue a.name
   pub customer : IsValue a.customer
   pub saving : IsValue a.saving
   pub checking : IsValue a.checking
 
 -- the same as a test
-abbrev pub has_values : Account → Bool
-has_values a = is_value a.name && (is_value a.customer && (is_value a.saving && is_value a.checking))
+abbrev pub is_in_range : Account → Bool
+is_in_range a = is_value a.name && (is_value a.customer && (is_value a.saving && is_value a.checking))
 
--- what is wrong with an account, given whether its name and whether its customer stand already
-abbrev pub fault : Account → Bool → Bool → Option OpeningFault
-fault a named served = cond (has_values a) (cond named (Some SameName) (cond served (Some SameCustomer) None)) (Some Range)
+-- one of the accounts has the name
+abbrev pub has_name : List Account → ℤ → Bool
+has_name accounts name = list_any (λ a. int_eq a.name name) accounts
 
--- the same behind these accounts
+-- one of them has the customer
+abbrev pub has_customer : List Account → ℤ → Bool
+has_customer accounts customer = list_any (λ a. int_eq a.customer customer) accounts
+
+-- what is wrong with an account behind these: a number is out of range, or else one of these has its name, or else one has
+-- its customer
 abbrev pub fault_behind : List Account → Account → Option OpeningFault
-fault_behind earlier a = fault a (list_any (λ b. int_eq b.name a.name) earlier) (list_any (λ b. int_eq b.customer a.customer) earlier)
+fault_behind earlier a =
+    cond (is_in_range a)
+    (cond (has_name earlier a.name) (Some SameName) (cond (has_customer earlier a.customer) (Some SameCustomer) None))
+    (Some Range)
 
 -- the fault of the first account that has one, behind these
 abbrev pub first_fault : List Account → List Account → Option OpeningFault
@@ -71,24 +79,7 @@ number_of SameName = 1
 number_of SameCustomer = 2
 number_of Range = 3
 
--- what is wrong with an account, where the contents are those of the accounts before it
-abbrev pub fault_in : Contents → Account → Option OpeningFault
-fault_in m a = fault a (is_some (m (name_key a))) (is_some (m (saving_key a)))
-
--- why an account is refused: by what is wrong with it, or, where nothing is, for want of memory
-abbrev pub IsRefused : Option OpeningFault → BadOpening → Type 0
-IsRefused found (Fault fault) = found ≡ Some fault
-IsRefused found NoMemory = found ≡ None
-
--- accounts begin with some, at least one, of which none has a fault
-pub record BeginWell (accounts : List Account) : Type 0 where
-  pub good : List Account
-  pub rest : List Account
-  pub whole : accounts ≡ good ++ rest
-  pub some_stand : good ≢ []
-  pub faultless : fault_of good ≡ None
-
--- why accounts are refused: by the first fault of all, or for want of memory behind some that have none
+-- why accounts are refused: by the first fault of all, or, where there are some and none has a fault, for want of memory
 abbrev pub AreRefused : List Account → BadOpening → Type 0
 AreRefused accounts (Fault fault) = fault_of accounts ≡ Some fault
-AreRefused accounts NoMemory = BeginWell accounts
+AreRefused accounts NoMemory = (accounts ≢ []) × (fault_of accounts ≡ None)

@@ -1,12 +1,13 @@
 -- The bank's arithmetic: what each procedure is to do, over a plain map of the records. The first refusal that applies
 -- decides, and who is refused changes nothing. Amounts are whole cents.
-use Rattle.std.specs.Prelude.{◌≡◌, ℕ, zero, suc, ℤ, pos, ◌+ℤ◌, ◌-ℤ◌, int_lt, Bool, cond, List, [], ◌∷◌, length, All, Option, Some, None, IfSome, slice_get}
+use Rattle.std.specs.Prelude.{◌≡◌, ℕ, zero, suc, ℤ, pos, ◌+ℤ◌, ◌-ℤ◌, int_lt, Bool, cond, List, [], ◌∷◌, length, All, Option, Some, None, slice_get}
 use Rattle.std.specs.Ordering.{int_eq}
 use Rattle.sgt_model.specs.Numbers.{IsValue, is_value}
 use Rattle.sgt_model.specs.Contents.{Key, Contents, put_in}
 use Rattle.sgt_model.specs.Syntax.{Program}
 use Rattle.sgt_model.specs.Runs.{Outcome, Done, Asked, serial}
 use Rattle.sgt_model.specs.Meaning.{run_with}
+use Rattle.sgt_model.specs.StoredValues.{HoldValues}
 use Rattle.sgt_smallbank.specs.Tables.{account, saving, checking}
 use Rattle.sgt_smallbank.specs.Texts.{procedures}
 
@@ -95,10 +96,6 @@ bank (suc (suc zero)) (name ∷ amount ∷ []) m = transact_saving_outcome name 
 bank (suc (suc (suc zero))) (from ∷ to ∷ []) m = amalgamate_outcome from to m
 bank (suc (suc (suc (suc zero)))) (name ∷ amount ∷ []) m = write_check_outcome name amount m
 bank n args m = Asked 0
-
--- what stands in the contents are values
-abbrev pub HoldValues : Contents → Type 0
-HoldValues m = (k : Key) → IfSome (m k) IsValue
 
 -- each of the five procedures, run at once over contents that hold values, with as many values as it takes, does what the
 -- bank's arithmetic says of its number

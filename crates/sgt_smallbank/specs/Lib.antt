@@ -3,3 +3,4 @@ pub mod Forks
 pub mod Tables
 pub mod Arithmetic
 pub mod Accounts
+pub mod Replays

@@ -1,6 +1,6 @@
 -- The texts of the five procedures. Tables are 0 (customers by name), 1 (savings by customer) and 2 (checkings by customer).
 use Rattle.std.specs.Prelude.{pos, List, [], ◌∷◌}
-use Rattle.sgt_model.specs.Syntax.{Program, num, arg, reg, sum, diff, less, equal, empty, look, put, save, ask, choose, answer}
+use Rattle.sgt_model.specs.Syntax.{Block, Program, num, arg, reg, sum, diff, less, equal, empty, look, put, save, ask, choose, answer}
 
 -- the sum of the saving and the checking of a name's customer. An unknown name asks 1, and a balance that is not there 5
 abbrev pub balance : Program
@@ -63,6 +63,14 @@ amalgamate = record {
       empty)))))))))));
 }
 
+-- register 3 becomes the checking in register 2 less the amount, and less 100 more where the saving in register 1 and the
+-- checking together are smaller than the amount
+abbrev pub charge : Block → Block
+charge =
+    choose (less (sum (reg 1) (reg 2)) (arg 1))
+    (save 3 (diff (diff (reg 2) (arg 1)) (num (pos 100))) empty)
+    (save 3 (diff (reg 2) (arg 1)) empty)
+
 -- an amount is taken from the checking of a name's customer, and 100 more where saving and checking together are smaller
 -- than it. A negative amount asks 2, first of all
 abbrev pub write_check : Program
@@ -73,9 +81,7 @@ write_check = record {
       look 0 0 (arg 0) 1 (
       look 1 1 (reg 0) 5 (
       look 2 2 (reg 0) 5 (
-      choose (less (sum (reg 1) (reg 2)) (arg 1))
-      (save 3 (diff (diff (reg 2) (arg 1)) (num (pos 100))) empty)
-      (save 3 (diff (reg 2) (arg 1)) empty) (
+      charge (
       put 2 (reg 0) (reg 3) (
       answer (reg 3)
       empty))))));

@@ -1,11 +1,11 @@
-ghost use Rattle.std.specs.Prelude.{◌≡◌, ◌↔◌, None, IsSome, IfSome, OnOk, IfOk, IfErr};
+ghost use Rattle.std.specs.Prelude.{◌≡◌, ◌≢◌, ◌↔◌, [], All, None, IsSome, IfSome, OnOk, OnErr, IfOk, IfErr};
 ghost use Rattle.sgt_model.specs.Contents.{Key as K};
 ghost use Rattle.sgt_model.specs.Databases.{contents_of};
-ghost use Rattle.sgt_smallbank.specs.Accounts.{name_key, saving_key, checking_key, with_account, opened, HasValues, fault_in, fault_of, IsRefused, AreRefused};
+ghost use Rattle.sgt_smallbank.specs.Accounts.{name_key, saving_key, checking_key, with_account, opened, IsInRange, has_name, has_customer, fault_behind, fault_of, AreRefused};
 
 use crate::errors::{BadOpening, OpeningFault};
 use crate::tables::{ACCOUNT, CHECKING, SAVING};
-use sgt_model::{Database, Key, is_value};
+use sgt_model::{Database, Key, NoMemory, is_value};
 use std::alloc::Global;
 
 /// A bank account: its name, the customer that it belongs to, and what the customer has. An opening takes each of the four
@@ -26,35 +26,96 @@ pub struct Account {
 /// in table 2 each checking by customer.
 ///
 /// The first account with a fault decides: a number out of range, else a name that an earlier account has, else such a
-/// customer. Memory is wanting only for accounts without a fault.
+/// customer. All accounts are tested, each against all before it, before the first growth: memory is wanting only where no
+/// account has a fault.
 pub fn opening(alloc: Global, accounts: &[Account]) -> Result<Database, BadOpening>
     ensures contents { IfOk result (λ database. (k : K) → contents_of database k ≡ opened accounts.now k) }
     ensures no_fault { OnOk result (fault_of accounts.now ≡ None) }
     ensures refused { IfErr result (AreRefused accounts.now) }
 {
+    if let Some(fault) = first_fault(accounts) {
+        return Err(BadOpening::Fault(fault));
+    }
+    Ok(database_of(alloc, accounts)?)
+}
+
+/// The fault of the first account that has one.
+fn first_fault(accounts: &[Account]) -> Option<OpeningFault>
+    ensures { result ≡ fault_of accounts.now }
+{
+    for (index, account) in accounts.iter().enumerate() {
+        let fault = fault_behind(&accounts[..index], account);
+        if fault.is_some() {
+            return fault;
+        }
+    }
+    None
+}
+
+/// What is wrong with an account behind these.
+fn fault_behind(earlier: &[Account], account: &Account) -> Option<OpeningFault>
+    ensures { result ≡ fault_behind earlier.now account.now }
+{
+    if keys(account).is_none() {
+        return Some(OpeningFault::Range);
+    }
+    if has_name(earlier, account.name) {
+        return Some(OpeningFault::SameName);
+    }
+    if has_customer(earlier, account.customer) {
+        return Some(OpeningFault::SameCustomer);
+    }
+    None
+}
+
+/// Whether one of the accounts has the name.
+#[tactic(auto, using(std::proofs::lemmas::List::Folds::list_any_more, std::proofs::lemmas::List::Folds::list_any_at))]
+fn has_name(accounts: &[Account], name: i64) -> bool
+    ensures { result ≡ has_name accounts.now name }
+{
+    for account in accounts {
+        if account.name == name {
+            return true;
+        }
+    }
+    false
+}
+
+/// Whether one of the accounts has the customer.
+#[tactic(auto, using(std::proofs::lemmas::List::Folds::list_any_more, std::proofs::lemmas::List::Folds::list_any_at))]
+fn has_customer(accounts: &[Account], customer: i64) -> bool
+    ensures { result ≡ has_customer accounts.now customer }
+{
+    for account in accounts {
+        if account.customer == customer {
+            return true;
+        }
+    }
+    false
+}
+
+/// The database with the rows of these accounts.
+fn database_of(alloc: Global, accounts: &[Account]) -> Result<Database, NoMemory>
+    requires { All IsInRange accounts.now }
+    ensures contents { IfOk result (λ database. (k : K) → contents_of database k ≡ opened accounts.now k) }
+    ensures some { OnErr result (accounts.now ≢ []) }
+{
     let mut database = Database::empty(alloc);
     for account in accounts {
-        add(&mut database, account)?;
+        put_rows(&mut database, account)?;
     }
     Ok(database)
 }
 
-/// Puts the rows of an account into the database, unless it is at fault.
-fn add(database: &mut Database, account: &Account) -> Result<(), BadOpening>
-    ensures rows { OnOk result
+/// Puts the rows of an account into the database.
+fn put_rows(database: &mut Database, account: &Account) -> Result<(), NoMemory>
+    requires { IsInRange account.now }
+    ensures { OnOk result
         ((k : K) → contents_of database.new k ≡ with_account (contents_of database.old) account.now k) }
-    ensures no_fault { OnOk result (fault_in (contents_of database.old) account.now ≡ None) }
-    ensures refused { IfErr result (IsRefused (fault_in (contents_of database.old) account.now)) }
 {
     let Some((name, saving, checking)) = keys(account) else {
-        return Err(BadOpening::Fault(OpeningFault::Range));
+        unreachable!();
     };
-    if database.get(name).is_some() {
-        return Err(BadOpening::Fault(OpeningFault::SameName));
-    }
-    if database.get(saving).is_some() {
-        return Err(BadOpening::Fault(OpeningFault::SameCustomer));
-    }
     database.put(name, account.customer)?;
     database.put(saving, account.saving)?;
     database.put(checking, account.checking)?;
@@ -65,7 +126,7 @@ fn add(database: &mut Database, account: &Account) -> Result<(), BadOpening>
 fn keys(account: &Account) -> Option<(Key, Key, Key)>
     ensures keys { IfSome result
         (λ k. k ≡ (name_key account.now, saving_key account.now, checking_key account.now)) }
-    ensures values { IsSome result ↔ HasValues account.now }
+    ensures in_range { IsSome result ↔ IsInRange account.now }
 {
     if is_value(account.saving) && is_value(account.checking) {
         let name = Key::new(ACCOUNT, account.name)?;

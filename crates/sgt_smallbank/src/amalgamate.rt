@@ -3,10 +3,10 @@ ghost use Rattle.sgt_model.specs.Programs.{program_of};
 ghost use Rattle.sgt_smallbank.specs.Texts.{amalgamate};
 
 use crate::statements::{
-    ask_where, look_up_balance, look_up_customer, set_register, store_balance, sum_of,
+    answer, ask_where, look_up_balance, look_up_customer, set_register, store_balance, sum_of,
 };
 use crate::tables::{CHECKING, SAME_NAME, SAVING};
-use sgt_model::{Cond, Expr, NoMemory, Procedure, Statement};
+use sgt_model::{Cond, Expr, NoMemory, Procedure};
 use std::alloc::Global;
 
 /// Amalgamate(from, to): moves all that the customer of the first name has, saving and checking, to the checking of the
@@ -14,9 +14,9 @@ use std::alloc::Global;
 pub(crate) fn amalgamate(alloc: Global) -> Result<Procedure, NoMemory>
     ensures { IfOk result (λ p. program_of p ≡ amalgamate) }
 {
-    let is_same = Cond::Equal(Expr::Arg(0), Expr::Arg(1));
     let moved = sum_of(alloc, Expr::Reg(2), Expr::Reg(3))?;
     let sum = sum_of(alloc, Expr::Reg(5), Expr::Reg(4))?;
+    let is_same = Cond::Equal(Expr::Arg(0), Expr::Arg(1));
     let body = vec![in alloc;
         ask_where(alloc, is_same, SAME_NAME)?,
         look_up_customer(0, 0),
@@ -29,9 +29,7 @@ pub(crate) fn amalgamate(alloc: Global) -> Result<Procedure, NoMemory>
         look_up_balance(5, CHECKING, 1),
         set_register(6, sum),
         store_balance(CHECKING, 1, Expr::Reg(6)),
-        Statement::Answer {
-            value: Expr::Reg(4)
-        },
+        answer(Expr::Reg(4)),
     ]?;
     Ok(Procedure { args: 2, body })
 }

@@ -3,10 +3,10 @@ ghost use Rattle.sgt_model.specs.Programs.{program_of};
 ghost use Rattle.sgt_smallbank.specs.Texts.{deposit_checking};
 
 use crate::statements::{
-    ask_where, look_up_balance, look_up_customer, set_register, store_balance, sum_of,
+    answer, ask_where, look_up_balance, look_up_customer, set_register, store_balance, sum_of,
 };
 use crate::tables::{CHECKING, NEGATIVE_AMOUNT};
-use sgt_model::{Cond, Expr, NoMemory, Procedure, Statement};
+use sgt_model::{Cond, Expr, NoMemory, Procedure};
 use std::alloc::Global;
 
 /// DepositChecking(name, amount): adds the amount, which may not be negative, to the checking of the name's customer, and
@@ -14,17 +14,15 @@ use std::alloc::Global;
 pub(crate) fn deposit_checking(alloc: Global) -> Result<Procedure, NoMemory>
     ensures { IfOk result (λ p. program_of p ≡ deposit_checking) }
 {
-    let is_negative = Cond::Less(Expr::Arg(1), Expr::Num(0));
     let sum = sum_of(alloc, Expr::Reg(1), Expr::Arg(1))?;
+    let is_negative = Cond::Less(Expr::Arg(1), Expr::Num(0));
     let body = vec![in alloc;
         ask_where(alloc, is_negative, NEGATIVE_AMOUNT)?,
         look_up_customer(0, 0),
         look_up_balance(1, CHECKING, 0),
         set_register(2, sum),
         store_balance(CHECKING, 0, Expr::Reg(2)),
-        Statement::Answer {
-            value: Expr::Reg(2)
-        },
+        answer(Expr::Reg(2)),
     ]?;
     Ok(Procedure { args: 2, body })
 }

@@ -8,7 +8,7 @@ use sgt_model::NoMemory;
 pub enum BadOpening {
     /// An account has this fault, and none before it has one.
     Fault(OpeningFault),
-    /// A growth was refused, behind at least one account without a fault.
+    /// A growth was refused. There are accounts, and none has a fault.
     NoMemory,
 }
 

@@ -1,8 +1,8 @@
 //! The statements and expressions that the five procedures are made of.
-ghost use Rattle.std.specs.Prelude.{◌≡◌, IfOk};
+ghost use Rattle.std.specs.Prelude.{◌≡◌, [], ◌∷◌, IfOk};
 ghost use Rattle.sgt_model.specs.Programs.{term_of};
 ghost use Rattle.sgt_model.specs.Syntax.{sum, diff};
-ghost use Rattle.sgt_smallbank.specs.Forks.{AsksWhere, SetsBy};
+ghost use Rattle.sgt_smallbank.specs.Forks.{AsksWhere};
 
 use crate::tables::{ACCOUNT, NO_BALANCE, UNKNOWN_NAME};
 use sgt_model::{Cond, Expr, NoMemory, Statement};
@@ -50,31 +50,30 @@ pub(crate) fn set_register(reg: u8, value: Expr) -> Statement
     Statement::Let { reg, value }
 }
 
+/// Answers the value.
+pub(crate) fn answer(value: Expr) -> Statement
+    ensures { result ≡ Statement.Answer value }
+{
+    Statement::Answer { value }
+}
+
+/// A branch of this one statement.
+pub(crate) fn alone(alloc: Global, statement: Statement) -> Result<Vec<Statement>, NoMemory>
+    ensures { IfOk result (λ v. v.items ≡ statement ∷ []) }
+{
+    Ok(vec![in alloc; statement]?)
+}
+
 /// Asks the code where the condition holds.
 pub(crate) fn ask_where(alloc: Global, cond: Cond, code: u16) -> Result<Statement, NoMemory>
     ensures { IfOk result (AsksWhere cond code) }
 {
-    let yes = vec![in alloc; Statement::Ask { code }]?;
+    let yes = alone(alloc, Statement::Ask { code })?;
     Ok(Statement::If {
         cond,
         yes,
         no: Vec::new(alloc),
     })
-}
-
-/// Sets the register to the first value where the condition holds, and else to the second.
-pub(crate) fn set_by(
-    alloc: Global,
-    cond: Cond,
-    reg: u8,
-    first: Expr,
-    second: Expr,
-) -> Result<Statement, NoMemory>
-    ensures { IfOk result (SetsBy cond reg first second) }
-{
-    let yes = vec![in alloc; set_register(reg, first)]?;
-    let no = vec![in alloc; set_register(reg, second)]?;
-    Ok(Statement::If { cond, yes, no })
 }
 
 /// The sum of the two.

@@ -1,9 +1,11 @@
-ghost use Rattle.std.specs.Prelude.{◌≡◌, IfOk};
-ghost use Rattle.sgt_model.specs.Programs.{program_of};
-ghost use Rattle.sgt_smallbank.specs.Texts.{write_check};
+ghost use Rattle.std.specs.Prelude.{◌≡◌, IfOk, pos};
+ghost use Rattle.sgt_model.specs.Programs.{term_of, before, program_of};
+ghost use Rattle.sgt_smallbank.specs.Texts.{charge, write_check};
+ghost use Rattle.sgt_model.specs.Syntax.{Block, num, arg, reg, diff};
 
 use crate::statements::{
-    ask_where, difference_of, look_up_balance, look_up_customer, set_by, store_balance, sum_of,
+    alone, answer, ask_where, difference_of, look_up_balance, look_up_customer, set_register,
+    store_balance, sum_of,
 };
 use crate::tables::{CHECKING, NEGATIVE_AMOUNT, PENALTY, SAVING};
 use sgt_model::{Cond, Expr, NoMemory, Procedure, Statement};
@@ -15,21 +17,34 @@ pub(crate) fn write_check(alloc: Global) -> Result<Procedure, NoMemory>
     ensures { IfOk result (λ p. program_of p ≡ write_check) }
 {
     let is_negative = Cond::Less(Expr::Arg(1), Expr::Num(0));
-    let sum = sum_of(alloc, Expr::Reg(1), Expr::Reg(2))?;
-    let is_uncovered = Cond::Less(sum, Expr::Arg(1));
-    let before_penalty = difference_of(alloc, Expr::Reg(2), Expr::Arg(1))?;
-    let with_penalty = difference_of(alloc, before_penalty, Expr::Num(PENALTY))?;
-    let without_penalty = difference_of(alloc, Expr::Reg(2), Expr::Arg(1))?;
-    let body = vec![in alloc;
+    let mut body = vec![in alloc;
         ask_where(alloc, is_negative, NEGATIVE_AMOUNT)?,
         look_up_customer(0, 0),
         look_up_balance(1, SAVING, 0),
         look_up_balance(2, CHECKING, 0),
-        set_by(alloc, is_uncovered, 3, with_penalty, without_penalty)?,
-        store_balance(CHECKING, 0, Expr::Reg(3)),
-        Statement::Answer {
-            value: Expr::Reg(3)
-        },
     ]?;
+    body.push(charge(alloc)?)?;
+    body.push(store_balance(CHECKING, 0, Expr::Reg(3)))?;
+    body.push(answer(Expr::Reg(3)))?;
     Ok(Procedure { args: 2, body })
+}
+
+/// Sets register 3 to the checking less the amount, and less the penalty too where the amount is not covered.
+fn charge(alloc: Global) -> Result<Statement, NoMemory>
+    ensures { IfOk result (λ s. (rest : Block) → before s rest ≡ charge rest) }
+{
+    let yes = alone(alloc, set_register(3, less_penalty(alloc)?))?;
+    let left = difference_of(alloc, Expr::Reg(2), Expr::Arg(1))?;
+    let no = alone(alloc, set_register(3, left))?;
+    let sum = sum_of(alloc, Expr::Reg(1), Expr::Reg(2))?;
+    let cond = Cond::Less(sum, Expr::Arg(1));
+    Ok(Statement::If { cond, yes, no })
+}
+
+/// The checking less the amount and the penalty.
+fn less_penalty(alloc: Global) -> Result<Expr, NoMemory>
+    ensures { IfOk result (λ e. term_of e ≡ diff (diff (reg 2) (arg 1)) (num (pos 100))) }
+{
+    let left = difference_of(alloc, Expr::Reg(2), Expr::Arg(1))?;
+    difference_of(alloc, left, Expr::Num(PENALTY))
 }

@@ -1,4 +1,4 @@
-use Rattle.std.proofs.Common.{rules, ◌≡◌, ◌<◌, length, length-append, [], ◌∷◌, true, false, not, slice_index_or, sym, ap, ◌∙◌, arith}
+use Rattle.std.proofs.Common.{◌≡◌, ◌<◌, length, length-append, [], ◌∷◌, true, false, not, slice_index_or, sym, ap, arith}
 use Rattle.sgt_cascade.specs.Standing.{stands}
 use Rattle.sgt_cascade.proofs.Fallen.{keeps, skips}
 use Rattle.sgt_cascade.proofs.standing.fallen.Goals as goal

@@ -1,6 +1,7 @@
 use Rattle.std.proofs.Common.{rules, refl, ap, ◌∙◌, ◌+◌}
 use Rattle.sgt_model.proofs.Headline.{headline}
-use Rattle.sgt_engine.specs.EngineView.{EngineView, setting_of, events_of}
+use Rattle.sgt_engine.specs.EngineView.{EngineView, setting_of}
+use Rattle.sgt_model.specs.Histories.{events_of}
 use Rattle.sgt_engine.proofs.Entries.{legal_new, events_taken}
 use Rattle.sgt_engine.proofs.run.run_list.Goals as goal
 

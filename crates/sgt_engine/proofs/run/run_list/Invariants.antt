@@ -3,7 +3,8 @@ use Rattle.sgt_model.specs.Databases.{contents_of}
 use Rattle.sgt_model.specs.Headline.{Headline}
 use Rattle.sgt_model.specs.Legality.{Legal}
 use Rattle.sgt_model.specs.Settings.{setting}
-use Rattle.sgt_engine.specs.EngineView.{setting_of, events_of}
+use Rattle.sgt_engine.specs.EngineView.{setting_of}
+use Rattle.sgt_model.specs.Histories.{events_of}
 use Rattle.sgt_engine.proofs.run.run_list.Given as goal
 
 abbrev pub invariant-loop-event : goal.invariant-loop-event

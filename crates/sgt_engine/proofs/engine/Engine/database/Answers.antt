@@ -13,4 +13,4 @@ returns-clause-replayed g c = IfOk-weaker c.all.result _ _ (λ d are k.
     ∙ (ap (λ r. g.R.Records.settled r k) c.records.ensures
     ∙ (c.self.invariant.1.settled k
     ∙ (sym ((is_serial (setting (contents_of c.self.inside.opening) c.self.inside.sched.procedures c.self.inside.sched.limits) _ c.self.invariant.0).same k)
-    ∙ ap (λ e. replayed (setting_of e) (committed_runs e.past) k) c.self.view_is)))) c.all.ensures
+    ∙ ap (λ e. replayed (setting_of e) (committed_runs e.past) k) c.self.view_is)))) c.all.ensures.values

@@ -1,6 +1,6 @@
 use Rattle.std.proofs.Common.{◌≡◌, take}
 use Rattle.sgt_cycle.specs.Links.{is_link}
-use Rattle.sgt_graph.specs.Pairs.{NoCycle}
+use Rattle.sgt_graph.specs.Graphs.{NoCycle}
 use Rattle.sgt_graph.proofs.Insertion.{Adds}
 use Rattle.sgt_graph.proofs.pair_graph.PairGraphGraph.insert.Given as goal
 

@@ -31,3 +31,12 @@ pub returns-in_err-insert-in-Err-clause-absent : goal.returns-in_err-insert-in-E
 returns-in_err-insert-in-Err-clause-absent c =
     let absent : contents_of c.args.self.now c.args.key ≡ None = sym (value_missing c.args.key c.args.self.now c.in-Err.at (subst IsByKey c.self.view_is c.self.invariant.0) c.in-Err.ensures.0 c.in-Err.ensures.1) in
     search rules
+
+pub returns-in-Ok-clause-by_key : goal.returns-in-Ok-clause-by_key
+returns-in-Ok-clause-by_key c =
+    let found = c.in-Ok.ensures in
+    (set_rows c.args.key c.args.value _ c.self.inside.rows.items c.args.self.now c.in-Ok.at found.1 (to_z-of_z w64 c.args.value c.ranges.value) c.self.view_is found.2 c.requires c.self.invariant).0
+
+pub returns-in_ok-insert-in-Err-clause-by_key : goal.returns-in_ok-insert-in-Err-clause-by_key
+returns-in_ok-insert-in-Err-clause-by_key c =
+    (insert_rows c.args.key c.args.value _ c.self.inside.rows.items c.args.self.now c.insert.new.self.items c.in-Err.at (to_z-of_z w64 c.args.value c.ranges.value) c.self.view_is c.in_ok-insert-in-Err.ensures.items c.in-Err.ensures c.requires c.self.invariant).0

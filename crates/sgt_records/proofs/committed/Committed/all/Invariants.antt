@@ -1,10 +1,13 @@
 use Rattle.std.proofs.Common.{◌≡◌, map}
 use Rattle.std.specs.Map.Iter.{deref_pair}
 use Rattle.sgt_model.specs.Contents.{Key}
-use Rattle.sgt_model.specs.Databases.{contents_of}
+use Rattle.sgt_model.specs.Databases.{contents_of, IsByKey}
 use Rattle.sgt_records.proofs.RecordsRead.{read_so_far}
 use Rattle.sgt_records.proofs.committed.Committed.all.Given as goal
 
--- the values of the records so far
+-- the values of the records so far, by key
 abbrev pub invariant-loop-key : goal.invariant-loop-key
-invariant-loop-key l = (k : Key) → contents_of l.values k ≡ read_so_far l.self.records (map deref_pair l.yielded) k
+invariant-loop-key l = record {
+  values : (k : Key) → contents_of l.values k ≡ read_so_far l.self.records (map deref_pair l.yielded) k;
+  by_key : IsByKey l.values;
+}

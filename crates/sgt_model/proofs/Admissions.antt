@@ -1,0 +1,69 @@
+-- Who was started was admitted: there is such a procedure, it takes so many arguments, and each of them is a value.
+use Rattle.std.specs.Prelude.{◌≡◌, ℕ, ◌+◌, ◌<◌, ◌≤◌, ℤ, true, false, cond, ◌⊎◌, nat_eq, List, [], ◌∷◌, ◌++◌, length, Some, None, All}
+use Rattle.std.specs.List.{list_all}
+use Rattle.std.specs.Option.{unwrap_or}
+use Rattle.std.proofs.Common.{refl, sym, ap, ◌∙◌, subst, inl, inr, arith}
+use Rattle.std.proofs.lemmas.Bool.{and_parts, eqb-true, eq-eqb, cases_lt}
+use Rattle.std.proofs.lemmas.List.Elements.{All-nil, All-cons}
+use Rattle.sgt_model.specs.declared.event.Event.{Event}
+use Rattle.sgt_model.specs.declared.reply.Reply.{Reply}
+use Rattle.sgt_model.specs.declared.entry.Entry.{Entry}
+use Rattle.sgt_model.specs.Numbers.{IsValue, is_value}
+use Rattle.sgt_model.specs.Fates.{is_start, starts, subject}
+use Rattle.sgt_model.specs.Settings.{Setting}
+use Rattle.sgt_model.specs.Progress.{Call, call_at, call_in, call_of}
+use Rattle.sgt_model.specs.Legality.{Legal}
+use Rattle.sgt_model.specs.Replay.{CommittedRun, committed_run_in, committed_runs}
+use Rattle.sgt_model.proofs.Effects.{Begins, effect, Commits}
+use Rattle.sgt_model.proofs.Facts.{call-kept, commits_or_not, Uncommitted, live-started}
+use Rattle.sgt_model.proofs.Room.{starts_or_not}
+use Rattle.sgt_model.proofs.StoredValues.{is_value-fact}
+
+-- the setting has the call's procedure, which takes so many arguments as these, and each is a value
+pub record IsAdmitted (s : Setting) (c : Call) : Type 0 where
+  pub known : s.rules.procedures c.procedure ≡ Some (length c.args)
+  pub values : All IsValue c.args
+
+values_fit : (args : List ℤ) → list_all is_value args ≡ true → All IsValue args
+values_fit [] e = All-nil IsValue
+values_fit (a ∷ args) e = let parts = and_parts (is_value a) (list_all is_value args) e in All-cons IsValue a args (is_value-fact a parts.0) (values_fit args parts.1)
+
+at_start : (s : Setting) (past : List Entry) (event : Event) (r : Reply) → Begins s past event r → (before : Call) → IsAdmitted s (unwrap_or (call_in event r (starts past)) before)
+at_start s past event r b before =
+    let parts = and_parts (nat_eq (length b.args) b.count) (list_all is_value b.args) b.fit in
+    let call : Call = record { procedure = b.procedure; args = b.args } in
+    let is : call_in event r (starts past) ≡ Some call = ap (λ x. call_in event x (starts past)) b.reply_is ∙ ap (λ x. cond x (call_at event) None) (eq-eqb (starts past) (starts past) refl) ∙ ap call_at b.event_is in
+    subst (λ o. IsAdmitted s (unwrap_or o before)) (sym is) (record { known = b.known ∙ ap Some (sym (eqb-true (length b.args) b.count parts.0)); values = values_fit b.args parts.1 })
+
+pub started_admitted : (s : Setting) (past : List Entry) (t : ℕ) → Legal s past → t < starts past → IsAdmitted s (call_of past t)
+started_admitted s [] t h started = absurd (omega arith)
+started_admitted s (e ∷ past) t h started = by_age (started_admitted s past t h.0) (cases_lt t (starts past))
+  where
+    by_start : starts past ≤ t → Begins s past e.event e.reply ⊎ (is_start e.reply ≡ false) → IsAdmitted s (call_of (e ∷ past) t)
+    by_start new (inl b) =
+        let count : starts (e ∷ past) ≡ starts past + 1 = ap (λ r. cond (is_start r) (starts past + 1) (starts past)) b.reply_is in
+        let is : starts past ≡ t = omega arith in
+        subst (λ u. IsAdmitted s (unwrap_or (call_in e.event e.reply u) (call_of past u))) is (at_start s past e.event e.reply b (call_of past (starts past)))
+    by_start new (inr none) =
+        let count : starts (e ∷ past) ≡ starts past = ap (λ b. cond b (starts past + 1) (starts past)) none in
+        absurd (omega arith)
+
+    by_age : (t < starts past → IsAdmitted s (call_of past t)) → (t < starts past) ⊎ (starts past ≤ t) → IsAdmitted s (call_of (e ∷ past) t)
+    by_age before (inl earlier) = subst (IsAdmitted s) (sym (call-kept s past e t h.1 earlier)) (before earlier)
+    by_age before (inr new) = by_start new (starts_or_not (effect s past e.event e.reply h.1))
+
+-- so was each that committed
+abbrev pub AreAdmitted : Setting → List CommittedRun → Type 0
+AreAdmitted s [] = Unit {0}
+AreAdmitted s (c ∷ before) = AreAdmitted s before × IsAdmitted s c.call
+
+pub committed_admitted : (s : Setting) (past : List Entry) → Legal s past → AreAdmitted s (committed_runs past)
+committed_admitted s [] h = tt
+committed_admitted s (e ∷ past) h = by_end (committed_admitted s past h.0) (commits_or_not (effect s past e.event e.reply h.1))
+  where
+    by_end : AreAdmitted s (committed_runs past) → Commits s past e.event e.reply ⊎ Uncommitted s past e.event e.reply → AreAdmitted s (committed_run_in past e.event e.reply ++ committed_runs past)
+    by_end before (inl c) =
+        let who : subject e.event ≡ c.t = ap subject c.event_is in
+        let admitted = started_admitted s past c.t h.0 (live-started past c.t c.is_live) in
+        subst (λ r. AreAdmitted s (committed_run_in past e.event r ++ committed_runs past)) (sym c.reply_is) (before, subst (λ u. IsAdmitted s (call_of past u)) (sym who) admitted)
+    by_end before (inr quiet) = subst (λ l. AreAdmitted s (l ++ committed_runs past)) (sym quiet.not_committed_run) before

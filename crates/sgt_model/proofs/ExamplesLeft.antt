@@ -1,0 +1,67 @@
+-- Worked examples of what is left of a procedure.
+use Rattle.std.specs.Prelude.{◌≡◌, pos, [], ◌∷◌, Some, None, replicate, refl}
+use Rattle.sgt_model.specs.Syntax as text
+use Rattle.sgt_model.specs.Syntax.{Program, num, arg, reg, diff, at_most}
+use Rattle.sgt_model.specs.Traces.{Puts, Ends}
+use Rattle.sgt_model.specs.Left.{ToRun, ToAsk, left, left_at_start, next_left}
+use Rattle.sgt_model.proofs.ExamplesTexts.{draw}
+
+-- tell what record 7 holds where the argument is at most 5, and store it into record 8 in every case: the If has statements
+-- behind its look, and more stand behind the If
+abbrev pub tell_and_store : Program
+tell_and_store = record {
+  args = 1;
+  body =
+      text.choose (at_most (arg 0) (num (pos 5))) (text.look 0 3 (num (pos 7)) 6 (text.answer (reg 0) text.empty)) text.empty
+      (text.put 3 (num (pos 8)) (arg 0)
+      (text.answer (arg 0)
+      text.empty));
+}
+
+-- behind the look of the branch: the rest of the branch, and then what stands behind the If
+in_branch-left : left tell_and_store (pos 5 ∷ []) (Some (pos 70) ∷ []) 1 ≡ ToRun (record {
+  statements = text.answer (reg 0) (text.put 3 (num (pos 8)) (arg 0) (text.answer (arg 0) text.empty));
+  args = pos 5 ∷ [];
+  registers = Some (pos 70) ∷ replicate 15 None;
+  answers = [];
+})
+in_branch-left = refl
+
+in_branch-next : next_left (left tell_and_store (pos 5 ∷ []) (Some (pos 70) ∷ []) 1) ≡ Puts (3, pos 8) (pos 5)
+in_branch-next = refl
+
+-- the answer that stood before the store is given
+in_branch-stored : left tell_and_store (pos 5 ∷ []) (Some (pos 70) ∷ []) 2 ≡ ToRun (record {
+  statements = text.answer (arg 0) text.empty;
+  args = pos 5 ∷ [];
+  registers = Some (pos 70) ∷ replicate 15 None;
+  answers = pos 70 ∷ [];
+})
+in_branch-stored = refl
+
+in_branch-ends : next_left (left tell_and_store (pos 5 ∷ []) (Some (pos 70) ∷ []) 2) ≡ Ends (pos 70 ∷ pos 5 ∷ [])
+in_branch-ends = refl
+
+-- the look of the branch found no record
+in_branch-absent : left tell_and_store (pos 5 ∷ []) (None ∷ []) 1 ≡ ToAsk 6
+in_branch-absent = refl
+
+-- the other branch is empty: the store is the first access
+past_branch-next : next_left (left_at_start tell_and_store (pos 6 ∷ [])) ≡ Puts (3, pos 8) (pos 6)
+past_branch-next = refl
+
+-- an If that stands behind the look is not entered yet
+draws-left : left draw (pos 101 ∷ pos 1000 ∷ []) (Some (pos 1000) ∷ []) 1 ≡ ToRun (record {
+  statements =
+      text.choose (at_most (arg 1) (reg 0)) (text.save 1 (diff (reg 0) (arg 1)) text.empty) (text.save 1 (reg 0) text.empty)
+      (text.put 2 (arg 0) (reg 1)
+      (text.answer (diff (reg 0) (reg 1))
+      text.empty));
+  args = pos 101 ∷ pos 1000 ∷ [];
+  registers = Some (pos 1000) ∷ replicate 15 None;
+  answers = [];
+})
+draws-left = refl
+
+draws-next : next_left (left draw (pos 101 ∷ pos 1000 ∷ []) (Some (pos 1000) ∷ []) 1) ≡ Puts (2, pos 101) (pos 0)
+draws-next = refl

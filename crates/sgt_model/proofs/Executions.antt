@@ -1,0 +1,139 @@
+-- The run of a procedure does what its statements mean: by induction on the statements, for whatever comes behind them.
+use Rattle.std.specs.Prelude.{◌≡◌, ℕ, ℤ, ◌+ℤ◌, ◌-ℤ◌, int_lt, int_le, Bool, true, false, cond, nat_lt, List, length, Option, Some, None, Ok, Err, ok_or, slice_get, slice_index_or}
+use Rattle.std.specs.Ordering.{int_eq}
+use Rattle.std.proofs.Common.{refl, ◌∙◌}
+use Rattle.sgt_model.specs.Numbers.{is_value}
+use Rattle.sgt_model.specs.Contents.{Key, Contents}
+use Rattle.sgt_model.specs.Syntax.{Term, num, arg, reg, sum, diff, Test, less, at_most, equal, Block, empty, look, put, save, ask, choose, answer}
+use Rattle.sgt_model.specs.Runs.{Run, Outcome, Asked, serial}
+use Rattle.sgt_model.specs.Ways.{Way, onto}
+use Rattle.sgt_model.specs.Ways as way
+use Rattle.sgt_model.specs.Meaning.{Got, is, over, missing, got, bounded, both, value_of, Holds, holds, too_far, unknown, compared, result_of, wrong, with_value, with_test, is_key, if_found, run}
+use Rattle.sgt_model.specs.Executions.{OrCode, and_then, provided, Workspace, workspace_of, in_turn, value_or_overflow, evaluate, decide, look_at_record, put_record, let_register, give_answer, execute, outcome_of, SerialIsExecution}
+
+-- expressions
+
+abbrev got_or_code : Got → OrCode ℤ
+got_or_code (is v) = Ok v
+got_or_code over = Err 1000
+got_or_code missing = Err 0
+
+abbrev test_or_code : Holds → OrCode Bool
+test_or_code (holds b) = Ok b
+test_or_code too_far = Err 1000
+test_or_code unknown = Err 0
+
+ranged : (fits : Bool) (v : ℤ) → provided fits v 1000 ≡ got_or_code (cond fits (is v) over)
+ranged true v = refl
+ranged false v = refl
+
+both_are : (f : ℤ → ℤ → ℤ) (a b : Got) → in_turn (got_or_code a) (got_or_code b) (λ x y. value_or_overflow (f x y)) ≡ got_or_code (both (λ x y. bounded (f x y)) a b)
+both_are f (is a) (is b) = ranged (is_value (f a b)) (f a b)
+both_are f (is a) over = refl
+both_are f (is a) missing = refl
+both_are f over b = refl
+both_are f missing b = refl
+
+compared_are : (f : ℤ → ℤ → Bool) (a b : Got) → in_turn (got_or_code a) (got_or_code b) (λ x y. Ok (f x y)) ≡ test_or_code (compared f a b)
+compared_are f (is a) (is b) = refl
+compared_are f (is a) over = refl
+compared_are f (is a) missing = refl
+compared_are f over b = refl
+compared_are f missing b = refl
+
+found_is : (o : Option ℤ) → ok_or o 0 ≡ got_or_code (got o)
+found_is None = refl
+found_is (Some v) = refl
+
+value_is : (t : Term) (args : List ℤ) (w : Workspace) → evaluate t args w ≡ got_or_code (value_of t args w.registers)
+value_is (num n) args w = refl
+value_is (arg n) args w = found_is (slice_get args n)
+value_is (reg n) args w = found_is (slice_index_or w.registers n None)
+value_is (sum a b) args w = rw (value_is a args w, value_is b args w) (both_are (λ x y. x +ℤ y) (value_of a args w.registers) (value_of b args w.registers))
+value_is (diff a b) args w = rw (value_is a args w, value_is b args w) (both_are (λ x y. x -ℤ y) (value_of a args w.registers) (value_of b args w.registers))
+
+test_is : (t : Test) (args : List ℤ) (w : Workspace) → decide t args w ≡ test_or_code (result_of t args w.registers)
+test_is (less a b) args w = rw (value_is a args w, value_is b args w) (compared_are int_lt (value_of a args w.registers) (value_of b args w.registers))
+test_is (at_most a b) args w = rw (value_is a args w, value_is b args w) (compared_are int_le (value_of a args w.registers) (value_of b args w.registers))
+test_is (equal a b) args w = rw (value_is a args w, value_is b args w) (compared_are int_eq (value_of a args w.registers) (value_of b args w.registers))
+
+-- what comes after a part: its result goes on, and a code is asked
+abbrev after : {A : Type 0} → OrCode A → (A → Outcome) → Outcome
+after (Ok a) go = go a
+after (Err code) go = Asked code
+
+after_both : {A B : Type 0} (r : OrCode A) (next : A → OrCode B) (go : B → Outcome) → after (and_then r next) go ≡ after r (λ a. after (next a) go)
+after_both (Ok a) next go = refl
+after_both (Err code) next go = refl
+
+-- the tests of a run, one by one
+
+value_step : (g : Got) (r : OrCode ℤ) (go : ℤ → Run) (m : Contents) (next : ℤ → OrCode Workspace) (rest : Workspace → Outcome) → r ≡ got_or_code g → ((v : ℤ) → serial (go v) m ≡ after (next v) rest) → serial (with_value g go) m ≡ after (and_then r next) rest
+value_step (is v) r go m next rest e same = rw e (same v)
+value_step over r go m next rest e same = rw e refl
+value_step missing r go m next rest e same = rw e refl
+
+key_step : (fits : Bool) (key : Key) (go : Run) (m : Contents) (next : Key → OrCode Workspace) (rest : Workspace → Outcome) → serial go m ≡ after (next key) rest → serial (cond fits go wrong) m ≡ after (and_then (provided fits key 0) next) rest
+key_step true key go m next rest same = same
+key_step false key go m next rest same = refl
+
+found_step : (o : Option ℤ) (absent : ℕ) (go : ℤ → Run) (m : Contents) (next : ℤ → OrCode Workspace) (rest : Workspace → Outcome) → ((v : ℤ) → serial (go v) m ≡ after (next v) rest) → serial (if_found absent o go) m ≡ after (and_then (ok_or o absent) next) rest
+found_step None absent go m next rest same = refl
+found_step (Some v) absent go m next rest same = same v
+
+last_step : (fits : Bool) (w : Workspace) (go : Run) (m : Contents) (rest : Workspace → Outcome) → serial go m ≡ rest w → serial (cond fits go wrong) m ≡ after (provided fits w 0) rest
+last_step true w go m rest same = same
+last_step false w go m rest same = refl
+
+test_step : (h : Holds) (r : OrCode Bool) (ys ns : Run) (m : Contents) (next : Bool → OrCode Workspace) (rest : Workspace → Outcome) → r ≡ test_or_code h → serial ys m ≡ after (next true) rest → serial ns m ≡ after (next false) rest → serial (with_test h ys ns) m ≡ after (and_then r next) rest
+test_step (holds true) r ys ns m next rest e yes_same no_same = rw e yes_same
+test_step (holds false) r ys ns m next rest e yes_same no_same = rw e no_same
+test_step too_far r ys ns m next rest e yes_same no_same = rw e refl
+test_step unknown r ys ns m next rest e yes_same no_same = rw e refl
+
+-- statements
+
+-- the outcome of the run along a way, from a workspace
+abbrev along : List ℤ → Way → Workspace → Outcome
+along args behind w = serial (run args behind w.registers w.answers) w.working
+
+-- what the first statement does, and then what is behind it
+behind_first : (args : List ℤ) (b : Block) (behind : Way) (r : OrCode Workspace) (first : Outcome) → ((w : Workspace) → along args (onto b behind) w ≡ after (execute args b w) (along args behind)) → first ≡ after r (along args (onto b behind)) → first ≡ after (and_then r (λ next. execute args b next)) (along args behind)
+behind_first args b behind (Ok w) first same so = so ∙ same w
+behind_first args b behind (Err code) first same so = so
+
+block_is : (args : List ℤ) (b : Block) (behind : Way) (w : Workspace) → along args (onto b behind) w ≡ after (execute args b w) (along args behind)
+block_is args empty behind w = refl
+block_is args (look to table id absent b) behind w =
+    behind_first args b behind (look_at_record args to table id absent w) _ (block_is args b behind)
+    (value_step (value_of id args w.registers) (evaluate id args w) _ w.working _ (along args (onto b behind)) (value_is id args w)
+    (λ n. key_step (is_key table n) (table, n) _ w.working _ (along args (onto b behind))
+    (found_step (w.working (table, n)) absent _ w.working _ (along args (onto b behind)) (λ v. refl))))
+block_is args (put table id value b) behind w =
+    behind_first args b behind (put_record args table id value w) _ (block_is args b behind)
+    (value_step (value_of id args w.registers) (evaluate id args w) _ w.working _ (along args (onto b behind)) (value_is id args w)
+    (λ n. value_step (value_of value args w.registers) (evaluate value args w) _ w.working _ (along args (onto b behind)) (value_is value args w)
+    (λ v. key_step (is_key table n) (table, n) _ w.working _ (along args (onto b behind))
+    (last_step (is_value v) _ _ w.working (along args (onto b behind)) refl))))
+block_is args (save to value b) behind w =
+    behind_first args b behind (let_register args to value w) _ (block_is args b behind)
+    (value_step (value_of value args w.registers) (evaluate value args w) _ w.working _ (along args (onto b behind)) (value_is value args w) (λ v. refl))
+block_is args (ask code b) behind w = refl
+block_is args (choose test ys ns b) behind w =
+    test_step (result_of test args w.registers) (decide test args w) _ _ w.working _ (along args behind) (test_is test args w)
+    (behind_first args b behind (execute args ys w) _ (block_is args b behind) (block_is args ys (onto b behind) w))
+    (behind_first args b behind (execute args ns w) _ (block_is args b behind) (block_is args ns (onto b behind) w))
+block_is args (answer value b) behind w =
+    behind_first args b behind (give_answer args value w) _ (block_is args b behind)
+    (value_step (value_of value args w.registers) (evaluate value args w) _ w.working _ (along args (onto b behind)) (value_is value args w)
+    (λ v. last_step (nat_lt (length w.answers) 8) _ _ w.working (along args (onto b behind)) refl))
+
+-- procedures
+
+ended : (args : List ℤ) (r : OrCode Workspace) → after r (along args way.end) ≡ outcome_of r
+ended args (Ok w) = refl
+ended args (Err code) = refl
+
+-- the law
+pub serial_is : SerialIsExecution
+serial_is p args database = block_is args p.body way.end (workspace_of database) ∙ ended args (execute args p.body (workspace_of database))

@@ -1,0 +1,185 @@
+-- Some reply to each event is legal: whether an access closes a walk, who falls and who has to be waited for are found
+-- among the finitely many transactions of the entries.
+use Rattle.std.specs.Prelude.{◌≡◌, ◌≢◌, ℕ, ℤ, ◌<◌, ◌≤◌, ◌+◌, Bool, true, false, cond, not, ◌&&◌, ◌⊎◌, nat_eq, nat_lt, List, [], ◌∷◌, ◌++◌, Option, Some, None}
+use Rattle.std.specs.List.{filter}
+use Rattle.std.proofs.Common.{refl, sym, ◌∙◌, subst, inl, inr, arith}
+use Rattle.std.proofs.lemmas.Bool.{and_parts, and_from, cases_Bool, cases_lt, both_ways, eq-eqb, ltb-true, ne_eqb, not-true, not_from_false}
+use Rattle.sgt_model.specs.declared.event.Event.TheVariants.{Start, Step, Commit, Quit}
+use Rattle.sgt_model.specs.declared.reply.Reply.{Reply}
+use Rattle.sgt_model.specs.declared.reply.Reply.TheVariants as reply
+use Rattle.sgt_model.specs.declared.reply.Cause.{Cause}
+use Rattle.sgt_model.specs.declared.reply.Cause.TheVariants as cause
+use Rattle.sgt_model.specs.declared.reply.Fate.{Fate}
+use Rattle.sgt_model.specs.declared.entry.Entry.{Entry}
+use Rattle.sgt_model.specs.declared.kind.Kind.{Kind}
+use Rattle.sgt_model.specs.declared.kind.Kind.TheVariants.{Look, Store}
+use Rattle.sgt_model.specs.Contents.{Key}
+use Rattle.sgt_model.specs.Walks.{last_of, Member, Reaches}
+use Rattle.sgt_model.specs.Traces.{Next, Looks, Puts, Ends, Asks}
+use Rattle.sgt_model.specs.Fates.{is_start, starts, fate_of, begun, live}
+use Rattle.sgt_model.specs.Values.{visible}
+use Rattle.sgt_model.specs.Falls.{Feeds, Falls}
+use Rattle.sgt_model.specs.Pairs.{has_conflicting, Pair}
+use Rattle.sgt_model.specs.Closes.{Closes}
+use Rattle.sgt_model.specs.Settings.{Setting}
+use Rattle.sgt_model.specs.Progress.{next_of}
+use Rattle.sgt_model.specs.Legality.{start_reply, Aborts, Refuses, Makes, StepReply, MustWait, MayCommit, CommitReply, OfStarted}
+use Rattle.sgt_model.specs.OneReply.{SomeReplyIsLegal}
+use Rattle.sgt_model.proofs.Paths.{last_is_member, Simple, simple, simple_some}
+use Rattle.sgt_model.proofs.Listed.{member_added, kept_member, member_kept}
+use Rattle.sgt_model.proofs.Rises.{begun-rise}
+use Rattle.sgt_model.proofs.Computed.{actors, has_conflicting-actor, precedes-actors, pair, pair-so, so-pair, feeds, read_from-so, so-read_from, read_from-actor}
+use Rattle.sgt_model.proofs.Leads.{leads, leads-reaches, reaches-leads}
+
+-- the least member of a list that passes a test
+record Least (test : ℕ → Bool) (l : List ℕ) : Type 0 where
+  at : ℕ
+  member : Member at l
+  passes : test at ≡ true
+  least : (u : ℕ) → Member u l → test u ≡ true → at ≤ u
+
+-- no member passes it
+abbrev NonePasses : (ℕ → Bool) → List ℕ → Type 0
+NonePasses test l = (u : ℕ) → Member u l → test u ≡ true → ⊥
+
+-- one more member is the least that passes
+least_first : (test : ℕ → Bool) (t : ℕ) (l : List ℕ) → test t ≡ true → ((u : ℕ) → Member u l → test u ≡ true → t ≤ u) → Least test (t ∷ l)
+least_first test t l h below = record { at = t; member = inl refl; passes = h; least = λ u m q. elim m [ inl e ↦ omega arith | inr k ↦ below u k q ] }
+
+-- or is not
+least_later : (test : ℕ → Bool) (t : ℕ) (l : List ℕ) (w : Least test l) → (test t ≡ true → w.at ≤ t) → Least test (t ∷ l)
+least_later test t l w above = record { at = w.at; member = inr w.member; passes = w.passes; least = λ u m q. elim m [ inl e ↦ subst (λ x. w.at ≤ x) (sym e) (above (subst (λ x. test x ≡ true) e q)) | inr k ↦ w.least u k q ] }
+
+least_or_none : (test : ℕ → Bool) (l : List ℕ) → Least test l ⊎ NonePasses test l
+least_or_none test [] = inr (λ u m q. m)
+least_or_none test (t ∷ l) = elim (cases_Bool (test t)) [
+  | inl h ↦ elim (least_or_none test l) [
+    | inl w ↦ elim (cases_lt t w.at) [
+      | inl less ↦ inl (least_first test t l h (λ u m q. let x = w.least u m q in omega arith))
+      | inr ge ↦ inl (least_later test t l w (λ q. ge))
+    ]
+    | inr none ↦ inl (least_first test t l h (λ u m q. absurd (none u m q)))
+  ]
+  | inr n ↦ elim (least_or_none test l) [
+    | inl w ↦ inl (least_later test t l w (λ q. absurd (both_ways (test t) n q)))
+    | inr none ↦ inr (λ u m q. elim m [ inl e ↦ both_ways (test t) n (subst (λ x. test x ≡ true) e q) | inr k ↦ none u k q ])
+  ]
+]
+
+-- who was started is listed
+pub begun_has : (past : List Entry) (t : ℕ) → t < starts past → Member t (begun past)
+begun_has [] t less = absurd (omega arith)
+begun_has (e ∷ past) t less = go (begun_has past t) (is_start e.reply) less
+  where
+    go : (t < starts past → Member t (begun past)) → (b : Bool) → t < cond b (starts past + 1) (starts past) → Member t (cond b (begun past ++ starts past ∷ []) (begun past))
+    go before true less = member_added t (begun past) (starts past) (elim (cases_lt t (starts past)) [ inl early ↦ inl (before early) | inr last ↦ inr (omega arith) ])
+    go before false less = before less
+
+module _ (past : List Entry) (t : ℕ) where
+  -- who falls
+
+  abbrev falls : ℕ → Bool
+  falls u = live past u && (not (nat_eq u t) && leads (feeds past) (actors past) t u)
+
+  falls-each : (u : ℕ) → Member u (filter falls (begun past)) → (live past u ≡ true) × (u ≢ t) × Reaches (Feeds past) t u
+  falls-each u m =
+      let p = and_parts _ _ (member_kept falls u (begun past) m).0 in
+      let q = and_parts _ _ p.1 in
+      (p.0, (λ e. both_ways _ (not-true _ q.0) (eq-eqb u t e)), leads-reaches (feeds past) (Feeds past) (λ a b h. read_from-so past b a h) (actors past) t u q.1)
+
+  falls-all : (u : ℕ) → live past u ≡ true → u ≢ t → Reaches (Feeds past) t u → Member u (filter falls (begun past))
+  falls-all u alive apart r =
+      let led : leads (feeds past) (actors past) t u ≡ true = reaches-leads (feeds past) (Feeds past) (λ a b h. so-read_from past b a h) (actors past) (λ a b h. read_from-actor past b a h) t u r in
+      kept_member falls u (begun past) (and_from _ _ alive (and_from _ _ (not_from_false _ (ne_eqb u t apart)) led)) (begun_has past u (ltb-true u (starts past) (and_parts _ _ alive).0))
+
+  some_fall : (fell : List ℕ) × Falls past t fell
+  some_fall = (filter falls (begun past), record { rising = begun-rise falls past; each = falls-each; all = falls-all })
+
+  some_abort : (why : Cause) → (r : Reply) × Aborts past t why r
+  some_abort why = (reply.Aborted why some_fall.0, record { fell = some_fall.0; falls = some_fall.1; is = refl })
+
+  -- whether an access closes a walk
+
+  module _ (k : Key) (kind : Kind) where
+    -- another with a conflicting access, to which pairs lead from t
+    abbrev closing : ℕ → Bool
+    closing u = not (nat_eq t u) && (has_conflicting past u k kind && leads (pair past) (actors past) t u)
+
+    walk_to : (u : ℕ) → closing u ≡ true → (rest : List ℕ) × Closes past t k kind rest
+    walk_to u h = let p = and_parts _ _ h in let q = and_parts _ _ p.1 in
+        go p.0 q.0 (leads-reaches (pair past) (Pair past) (pair-so past) (actors past) t u q.1)
+      where
+        go : not (nat_eq t u) ≡ true → has_conflicting past u k kind ≡ true → Reaches (Pair past) t u → (rest : List ℕ) × Closes past t k kind rest
+        go other touched (path, goes, e) = let w : Simple (Pair past) t path = simple (Pair past) t path goes in (
+          w.rest,
+          record {
+            distinct = w.distinct;
+            at_least_two = simple_some (Pair past) t path w (λ same. both_ways _ (not-true _ other) (eq-eqb t u (same ∙ e)));
+            pairs = w.goes;
+            conflict = subst (λ x. has_conflicting past x k kind ≡ true) (sym (w.ends ∙ e)) touched;
+          },
+        )
+
+    apart_from_last : (rest : List ℕ) → Closes past t k kind rest → t ≢ last_of t rest
+    apart_from_last [] c e = omega (arith, c.at_least_two)
+    apart_from_last (u ∷ rest) c e = c.distinct.0 (subst (λ x. Member x (u ∷ rest)) (sym e) (last_is_member t u rest))
+
+    closing_last : (rest : List ℕ) → Closes past t k kind rest → closing (last_of t rest) ≡ true
+    closing_last rest c =
+        let led : leads (pair past) (actors past) t (last_of t rest) ≡ true = reaches-leads (pair past) (Pair past) (so-pair past) (actors past) (λ a b p. (precedes-actors past a b p.precedes).1) t (last_of t rest) (rest, c.pairs, refl) in
+        and_from _ _ (not_from_false _ (ne_eqb t (last_of t rest) (apart_from_last rest c))) (and_from _ _ c.conflict led)
+
+    some_access : (given : Reply) → (r : Reply) × (Refuses past t k kind r ⊎ Makes past t k kind given r)
+    some_access given = elim (least_or_none closing (actors past)) [
+      | inl w ↦
+          let walk = walk_to w.at w.passes in
+          let abort = some_abort (cause.Cycle (t ∷ walk.0)) in
+          (abort.0, inl (record { rest = walk.0; closes = walk.1; aborts = abort.1 }))
+      | inr none ↦ (given, inr (record { free = λ rest c. none (last_of t rest) (has_conflicting-actor past (last_of t rest) k kind c.conflict) (closing_last rest c); is = refl }))
+    ]
+
+  -- who has to be waited for
+
+  abbrev before : ℕ → Bool
+  before u = live past u && pair past u t
+
+  before-actor : (u : ℕ) → Pair past u t → Member u (actors past)
+  before-actor u p = (precedes-actors past u t p.precedes).0
+
+  some_end : (answers : List ℤ) → (r : Reply) × (MustWait past t r ⊎ MayCommit past t answers r)
+  some_end answers = elim (least_or_none before (actors past)) [
+    | inl w ↦ let p = and_parts _ _ w.passes in (
+      reply.Waits w.at,
+      inl (record {
+        before = w.at;
+        least = record { is_live = p.0; pair = pair-so past w.at t p.1; least = λ u alive q. w.least u (before-actor u q) (and_from _ _ alive (so-pair past u t q)) };
+        is = refl;
+      }),
+    )
+    | inr none ↦ (reply.Committed answers, inr (record { none_live = λ u alive q. none u (before-actor u q) (and_from _ _ alive (so-pair past u t q)); is = refl }))
+  ]
+
+  -- to each kind of event
+
+  some_step : (s : Setting) (next : Next) → (r : Reply) × StepReply s past t next r
+  some_step s (Looks k) = some_access k Look (reply.Looked k (visible s.opening past k))
+  some_step s (Puts k v) = some_access k Store (reply.Wrote k v)
+  some_step s (Ends answers) = (reply.Ended, refl)
+  some_step s (Asks code) = some_abort (cause.Asked code)
+
+  some_commit : (next : Next) → (r : Reply) × CommitReply past t next r
+  some_commit (Ends answers) = some_end answers
+  some_commit (Looks k) = (reply.NotEnded, refl)
+  some_commit (Puts k v) = (reply.NotEnded, refl)
+  some_commit (Asks code) = (reply.NotEnded, refl)
+
+some_of_started : (P : Reply → Type 0) → (r : Reply) × P r → (started : Bool) (ended : Option Fate) → (r : Reply) × OfStarted started ended r (P r)
+some_of_started P if_live true None = if_live
+some_of_started P if_live true (Some fate) = (reply.Over fate, refl)
+some_of_started P if_live false ended = (reply.Unknown, refl)
+
+pub some_reply_is_legal : SomeReplyIsLegal
+some_reply_is_legal s past (Start p args) = (start_reply s past p args, refl)
+some_reply_is_legal s past (Step t) = some_of_started (λ r. StepReply s past t (next_of s past t) r) (some_step past t s (next_of s past t)) (nat_lt t (starts past)) (fate_of past t)
+some_reply_is_legal s past (Commit t) = some_of_started (λ r. CommitReply past t (next_of s past t) r) (some_commit past t (next_of s past t)) (nat_lt t (starts past)) (fate_of past t)
+some_reply_is_legal s past (Quit t) = some_of_started (λ r. Aborts past t cause.Quit r) (some_abort past t cause.Quit) (nat_lt t (starts past)) (fate_of past t)

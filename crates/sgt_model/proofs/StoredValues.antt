@@ -1,0 +1,94 @@
+-- A procedure's run stores values only, so the contents of a replay hold values.
+use Rattle.std.proofs.Common.{◌≡◌, refl, sym, subst, T, ℕ, ℤ, pos, negsuc, Bool, true, false, cond, List, [], ◌∷◌, length, Option, Some, None, nat_lt}
+use Rattle.std.specs.Prelude.{int_le, IfSome, slice_get}
+use Rattle.std.proofs.lemmas.Bool.{and_parts}
+use Rattle.sgt_model.specs.Numbers.{IsValue, is_value}
+use Rattle.sgt_model.specs.Contents.{Key, key_eq, Contents, put_in}
+use Rattle.sgt_model.specs.Syntax.{Program}
+use Rattle.sgt_model.specs.Ways.{Way, onto}
+use Rattle.sgt_model.specs.Ways as way
+use Rattle.sgt_model.specs.Runs.{Run, looks, puts, ends, asks, serial, contents_after}
+use Rattle.sgt_model.specs.Meaning.{Got, is, over, missing, Registers, fresh, value_of, Holds, holds, too_far, unknown, result_of, wrong, with_value, with_test, is_key, with_key, with_stored, if_found, run}
+use Rattle.sgt_model.specs.Settings.{setting, run_if}
+use Rattle.sgt_model.specs.StoredValues.{HoldValues, StoresValues, RunsStoreValues, ReplaysHoldValues, CommittedAreValues}
+use Rattle.sgt_model.proofs.Replays.{is_serial}
+
+-- ---- what a run stores
+
+pub is_value-fact : (v : ℤ) → is_value v ≡ true → IsValue v
+is_value-fact v e =
+    let parts = and_parts (int_le (negsuc 999999999999998) v) (int_le v (pos 999999999999999)) e in
+    (record { le = subst T (sym parts.0) tt }, record { le = subst T (sym parts.1) tt })
+
+-- a test that has to hold, or else a code is asked
+stores_where : (test : Bool) (r : Run) → (test ≡ true → StoresValues r) → StoresValues (cond test r wrong)
+stores_where true r h = h refl
+stores_where false r h = tt
+
+-- a number that has to be a value, or else a code is asked
+stores_with : (g : Got) (go : ℤ → Run) → ((v : ℤ) → StoresValues (go v)) → StoresValues (with_value g go)
+stores_with (is v) go h = h v
+stores_with over go h = tt
+stores_with missing go h = tt
+
+stores_either : (h : Holds) (ys ns : Run) → StoresValues ys → StoresValues ns → StoresValues (with_test h ys ns)
+stores_either (holds true) ys ns first second = first
+stores_either (holds false) ys ns first second = second
+stores_either too_far ys ns first second = tt
+stores_either unknown ys ns first second = tt
+
+stores_found : (absent : ℕ) (found : Option ℤ) (go : ℤ → Run) → ((v : ℤ) → StoresValues (go v)) → StoresValues (if_found absent found go)
+stores_found absent None go h = tt
+stores_found absent (Some v) go h = h v
+
+stores_value : (k : Key) (v : ℤ) (rest : Run) → StoresValues rest → StoresValues (with_stored v (puts k v rest))
+stores_value k v rest h = stores_where (is_value v) (puts k v rest) (λ fits. (is_value-fact v fits, h))
+
+-- the run along the statements to come
+stores_along : (args : List ℤ) (w : Way) (regs : Registers) (answers : List ℤ) → StoresValues (run args w regs answers)
+stores_along args way.end regs answers = tt
+stores_along args (way.look to table id absent rest) regs answers =
+    stores_with _ _ (λ n. stores_where (is_key table n) _ (λ e found. stores_found absent found _ (λ v. stores_along args rest _ answers)))
+stores_along args (way.put table id value rest) regs answers =
+    let onwards : Run = run args rest regs answers in
+    stores_with (value_of id args regs) (λ n. with_value (value_of value args regs) (λ v. with_key table n (λ k. with_stored v (puts k v onwards))))
+    (λ n. stores_with (value_of value args regs) (λ v. with_key table n (λ k. with_stored v (puts k v onwards)))
+    (λ v. stores_where (is_key table n) _ (λ e. stores_value (table, n) v onwards (stores_along args rest regs answers))))
+stores_along args (way.save to value rest) regs answers =
+    stores_with _ _ (λ v. stores_along args rest _ answers)
+stores_along args (way.ask code) regs answers = tt
+stores_along args (way.fork test ys ns) regs answers =
+    stores_either (result_of test args regs) _ _ (stores_along args ys regs answers) (stores_along args ns regs answers)
+stores_along args (way.answer value rest) regs answers =
+    stores_with _ _ (λ v. stores_where (nat_lt (length answers) 8) _ (λ e. stores_along args rest regs _))
+
+pub runs_store_values : RunsStoreValues
+runs_store_values p args = stores_along args (onto p.body way.end) fresh []
+
+stores_if_any : (o : Option Program) (args : List ℤ) → StoresValues (run_if o args)
+stores_if_any None args = tt
+stores_if_any (Some p) args = runs_store_values p args
+
+-- ---- what the contents hold
+
+pub value_put : (test : Bool) (v : ℤ) (before : Option ℤ) → IsValue v → IfSome before IsValue → IfSome (cond test (Some v) before) IsValue
+value_put true v before fits stood = fits
+value_put false v before fits stood = stood
+
+-- a run that stores values leaves values
+hold_after : (r : Run) (m before : Contents) → StoresValues r → HoldValues m → HoldValues before → HoldValues (contents_after (serial r m) before)
+hold_after (looks k go) m before stores now left = hold_after (go (m k)) m before (stores (m k)) now left
+hold_after (puts k v rest) m before stores now left = hold_after rest (put_in m k v) before stores.1 (λ other. value_put (key_eq k other) v (m other) stores.0 (now other)) left
+hold_after (ends answers) m before stores now left = now
+hold_after (asks code) m before stores now left = left
+
+pub replays_hold_values : ReplaysHoldValues
+replays_hold_values opening programs limits [] hold = hold
+replays_hold_values opening programs limits (c ∷ ran) hold =
+    let before = replays_hold_values opening programs limits ran hold in
+    hold_after (run_if (slice_get programs c.call.procedure) c.call.args) _ _ (stores_if_any (slice_get programs c.call.procedure) c.call.args) before before
+
+pub committed_are_values : CommittedAreValues
+committed_are_values opening programs limits past hold legal =
+    let serially = is_serial (setting opening programs limits) past legal in
+    λ k. subst (λ o. IfSome o IsValue) (serially.same k) (replays_hold_values opening programs limits _ hold k)

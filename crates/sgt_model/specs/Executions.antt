@@ -1,0 +1,141 @@
+-- The meaning of the procedure language, statement by statement: a procedure is executed at once and alone, over a working
+-- copy of the database. This is a denotational semantics of a small language whose statements may end it early, by recursion
+-- on its text. It knows no accesses, no runs and no histories; the law at the end joins it to the runs that these are read from.
+use Rattle.std.specs.Prelude.{◌≡◌, ℕ, ℤ, ◌+ℤ◌, ◌-ℤ◌, int_lt, int_le, Bool, ◌&&◌, cond, nat_le, nat_lt, List, [], ◌∷◌, ◌++◌, length, Option, Some, None, Result, Ok, Err, ok_or, slice_get, slice_index_or, slice_set, replicate}
+use Rattle.std.specs.Ordering.{int_eq}
+use Rattle.sgt_model.specs.Numbers.{is_value}
+use Rattle.sgt_model.specs.Contents.{Key, Contents, put_in}
+use Rattle.sgt_model.specs.Syntax.{Term, num, arg, reg, sum, diff, Test, less, at_most, equal, Block, empty, look, put, save, ask, choose, answer, Program}
+use Rattle.sgt_model.specs.Runs.{Outcome, Done, Asked, serial}
+use Rattle.sgt_model.specs.Meaning.{run_with}
+
+-- codes, which end a procedure
+
+-- what a part of a procedure gives, or the code that is asked there and ends the whole procedure
+abbrev pub OrCode : Type 0 → Type 0
+OrCode A = Result A ℕ
+
+-- one part, and then the next, which is told what the first one gave; a code ends both
+abbrev pub and_then : {A B : Type 0} → OrCode A → (A → OrCode B) → OrCode B
+and_then (Ok a) next = next a
+and_then (Err code) next = Err code
+
+-- this, provided that the condition holds, or else the code
+abbrev pub provided : {A : Type 0} → Bool → A → ℕ → OrCode A
+provided condition a code = cond condition (Ok a) (Err code)
+
+-- the code of a sum or difference that is no value
+abbrev pub overflow : ℕ
+overflow = 1000
+
+-- the code of all that no checked procedure does: to use a register that is not set or an argument that is not there, to look
+-- at or store into what is no key, to store what is no value, to give a ninth answer
+abbrev pub stuck : ℕ
+stuck = 0
+
+-- where an execution stands
+
+-- sixteen registers, each with its value or not set; the working map; the answers so far
+pub record Workspace : Type 0 where
+  pub registers : List (Option ℤ)
+  pub working : Contents
+  pub answers : List ℤ
+
+-- at the start no register is set, the map is the database, and there are no answers
+abbrev pub workspace_of : Contents → Workspace
+workspace_of database = record { registers = replicate 16 None; working = database; answers = [] }
+
+-- a value goes into a register; a number over 15 names none, and nothing is set
+abbrev pub into_register : ℕ → ℤ → Workspace → Workspace
+into_register to v w = record { registers = slice_set w.registers to (Some v); working = w.working; answers = w.answers }
+
+-- a value goes into a record of the working map
+abbrev pub into_record : Key → ℤ → Workspace → Workspace
+into_record key v w = record { registers = w.registers; working = put_in w.working key v; answers = w.answers }
+
+-- a value goes behind the answers
+abbrev pub into_answers : ℤ → Workspace → Workspace
+into_answers v w = record { registers = w.registers; working = w.working; answers = w.answers ++ v ∷ [] }
+
+-- expressions and conditions
+
+-- the left part first, then the right one, and then what their values make
+abbrev pub in_turn : {A : Type 0} → OrCode ℤ → OrCode ℤ → (ℤ → ℤ → OrCode A) → OrCode A
+in_turn left right make = and_then left (λ x. and_then right (λ y. make x y))
+
+-- what arithmetic gives, where it is a value
+abbrev pub value_or_overflow : ℤ → OrCode ℤ
+value_or_overflow v = provided (is_value v) v overflow
+
+-- the value of an expression
+abbrev pub evaluate : Term → List ℤ → Workspace → OrCode ℤ
+evaluate (num n) args w = Ok n
+evaluate (arg n) args w = ok_or (slice_get args n) stuck
+evaluate (reg n) args w = ok_or (slice_index_or w.registers n None) stuck
+evaluate (sum a b) args w = in_turn (evaluate a args w) (evaluate b args w) (λ x y. value_or_overflow (x +ℤ y))
+evaluate (diff a b) args w = in_turn (evaluate a args w) (evaluate b args w) (λ x y. value_or_overflow (x -ℤ y))
+
+-- whether a condition holds
+abbrev pub decide : Test → List ℤ → Workspace → OrCode Bool
+decide (less a b) args w = in_turn (evaluate a args w) (evaluate b args w) (λ x y. Ok (int_lt x y))
+decide (at_most a b) args w = in_turn (evaluate a args w) (evaluate b args w) (λ x y. Ok (int_le x y))
+decide (equal a b) args w = in_turn (evaluate a args w) (evaluate b args w) (λ x y. Ok (int_eq x y))
+
+-- statements
+
+-- a table from 0 to 7 and a value are a key
+abbrev pub key_of : ℕ → ℤ → OrCode Key
+key_of table id = provided (nat_le table 7 && is_value id) (table, id) stuck
+
+-- Look: the value of the record in the working map goes into the register; where there is no record `absent` is asked
+abbrev pub look_at_record : List ℤ → (to table : ℕ) → (id : Term) → (absent : ℕ) → Workspace → OrCode Workspace
+look_at_record args to table id absent w =
+    and_then (evaluate id args w) (λ n.
+    and_then (key_of table n) (λ key.
+    and_then (ok_or (w.working key) absent) (λ v.
+    Ok (into_register to v w))))
+
+-- Put: the value goes into the record
+abbrev pub put_record : List ℤ → (table : ℕ) → (id value : Term) → Workspace → OrCode Workspace
+put_record args table id value w =
+    and_then (evaluate id args w) (λ n.
+    and_then (evaluate value args w) (λ v.
+    and_then (key_of table n) (λ key.
+    provided (is_value v) (into_record key v w) stuck)))
+
+-- Let: the value goes into the register
+abbrev pub let_register : List ℤ → (to : ℕ) → (value : Term) → Workspace → OrCode Workspace
+let_register args to value w = and_then (evaluate value args w) (λ v. Ok (into_register to v w))
+
+-- Answer: the value is one answer more, of at most eight
+abbrev pub give_answer : List ℤ → (value : Term) → Workspace → OrCode Workspace
+give_answer args value w = and_then (evaluate value args w) (λ v. provided (nat_lt (length w.answers) 8) (into_answers v w) stuck)
+
+-- statements in a row: the first one, and then the rest. An Ask ends the procedure with its code; an If is the branch that its
+-- condition chooses, and then the rest
+abbrev pub execute : List ℤ → Block → Workspace → OrCode Workspace
+execute args empty w = Ok w
+execute args (look to table id absent rest) w = and_then (look_at_record args to table id absent w) (λ next. execute args rest next)
+execute args (put table id value rest) w = and_then (put_record args table id value w) (λ next. execute args rest next)
+execute args (save to value rest) w = and_then (let_register args to value w) (λ next. execute args rest next)
+execute args (ask code rest) w = Err code
+execute args (choose test ys ns rest) w =
+    and_then (decide test args w) (λ chosen.
+    and_then (cond chosen (execute args ys w) (execute args ns w)) (λ next.
+    execute args rest next))
+execute args (answer value rest) w = and_then (give_answer args value w) (λ next. execute args rest next)
+
+-- procedures
+
+-- at its end a procedure is done, with its answers and the working map; where it asked, its working map is dropped
+abbrev pub outcome_of : OrCode Workspace → Outcome
+outcome_of (Ok w) = Done w.answers w.working
+outcome_of (Err code) = Asked code
+
+-- what a procedure with these arguments does to a database
+abbrev pub execution : Program → List ℤ → Contents → Outcome
+execution p args database = outcome_of (execute args p.body (workspace_of database))
+
+-- the run of a procedure at once is its execution: for every text, whatever its flaws, all arguments and every database
+abbrev pub SerialIsExecution : Type 0
+SerialIsExecution = (p : Program) (args : List ℤ) (database : Contents) → serial (run_with p args) database ≡ execution p args database

@@ -1,0 +1,36 @@
+-- Contents that hold values, and why a replay's do: a run stores nothing else.
+use Rattle.std.specs.Prelude.{ℤ, List, Option, IfSome}
+use Rattle.sgt_model.specs.declared.limits.Limits.{Limits}
+use Rattle.sgt_model.specs.declared.entry.Entry.{Entry}
+use Rattle.sgt_model.specs.Numbers.{IsValue}
+use Rattle.sgt_model.specs.Contents.{Key, Contents}
+use Rattle.sgt_model.specs.Syntax.{Program}
+use Rattle.sgt_model.specs.Runs.{Run, looks, puts, ends, asks}
+use Rattle.sgt_model.specs.Meaning.{run_with}
+use Rattle.sgt_model.specs.Values.{settled}
+use Rattle.sgt_model.specs.Settings.{setting}
+use Rattle.sgt_model.specs.Legality.{Legal}
+use Rattle.sgt_model.specs.Replay.{CommittedRun, replayed}
+
+-- what stands in the contents are values
+abbrev pub HoldValues : Contents → Type 0
+HoldValues m = (k : Key) → IfSome (m k) IsValue
+
+-- what the run stores are values, whatever its looks find
+abbrev pub StoresValues : Run → Type 0
+StoresValues (looks k go) = (found : Option ℤ) → StoresValues (go found)
+StoresValues (puts k v rest) = IsValue v × StoresValues rest
+StoresValues (ends answers) = Unit {0}
+StoresValues (asks code) = Unit {0}
+
+-- what the run of a procedure stores are values, whatever its text and its arguments
+abbrev pub RunsStoreValues : Type 0
+RunsStoreValues = (p : Program) (args : List ℤ) → StoresValues (run_with p args)
+
+-- where the opening holds values, so do the contents after transactions that ran one after another
+abbrev pub ReplaysHoldValues : Type 0
+ReplaysHoldValues = (opening : Contents) (programs : List Program) (limits : Limits) (runs : List CommittedRun) → HoldValues opening → HoldValues (replayed (setting opening programs limits) runs)
+
+-- and so do the committed ones after a legal history
+abbrev pub CommittedAreValues : Type 0
+CommittedAreValues = (opening : Contents) (programs : List Program) (limits : Limits) (past : List Entry) → HoldValues opening → Legal (setting opening programs limits) past → HoldValues (settled opening past)

@@ -1,0 +1,43 @@
+ghost use Rattle.std.specs.Prelude.{◌≡◌, IfOk, vec_len};
+ghost use Rattle.sgt_model.specs.Programs.{program_of};
+ghost use Rattle.sgt_proc.specs.Flaws.{IsFlawless};
+ghost use Rattle.sgt_smallbank.specs.Texts.{procedures};
+
+use crate::amalgamate::amalgamate;
+use crate::balance::balance;
+use crate::deposit_checking::deposit_checking;
+use crate::transact_saving::transact_saving;
+use crate::write_check::write_check;
+use sgt_model::{NoMemory, Procedure};
+use sgt_proc::{Checked, check};
+use std::alloc::Global;
+
+/// How many procedures SmallBank has. They are numbered from 0, and those of an opening from here.
+pub const PROCEDURES: u16 = 5;
+
+/// The five procedures, each with the number of its place: Balance, DepositChecking, TransactSaving, Amalgamate and
+/// WriteCheck. Only memory can be wanting.
+pub fn procedures(alloc: Global) -> Result<Vec<Checked>, NoMemory>
+    ensures texts { IfOk result (λ list. list.items ≡ procedures) }
+    ensures count { IfOk result (λ list. vec_len list ≡ PROCEDURES) }
+{
+    let list = vec![in alloc;
+        checked(balance(alloc)?),
+        checked(deposit_checking(alloc)?),
+        checked(transact_saving(alloc)?),
+        checked(amalgamate(alloc)?),
+        checked(write_check(alloc)?),
+    ]?;
+    Ok(list)
+}
+
+/// The procedure, which has no flaw, as one that may run.
+fn checked(procedure: Procedure) -> Checked
+    requires { IsFlawless (program_of procedure) }
+    ensures { result ≡ program_of procedure }
+{
+    match check(procedure) {
+        Ok(checked) => checked,
+        Err(_) => unreachable!(),
+    }
+}
