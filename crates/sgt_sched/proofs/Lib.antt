@@ -7,3 +7,4 @@ pub mod Aborted
 pub mod Accessed
 pub mod Looks
 pub mod Stepped
+pub mod Endings

@@ -2,3 +2,4 @@ pub mod LiveList
 pub mod SchedulerView
 pub mod Admission
 pub mod Steps
+pub mod Endings

@@ -1,5 +1,4 @@
 use Rattle.std.proofs.Common.{None, ap, sym, ◌∙◌, subst, ◌++◌, ◌∷◌, []}
-use Rattle.sgt_model.specs.Contents.{Contents}
 use Rattle.sgt_model.specs.CallEffects.{start_answer}
 use Rattle.sgt_sched.specs.Admission.{HasRoom}
 use Rattle.sgt_sched.specs.LiveList.{started}

@@ -7,7 +7,7 @@ use Rattle.sgt_model.specs.ChainOrder.{IsLastIn}
 use Rattle.sgt_sched.specs.LiveList.{progress_at}
 use Rattle.sgt_sched.specs.SchedulerView.{state_of}
 use Rattle.sgt_sched.specs.Steps.{next_along}
-use Rattle.sgt_sched.proofs.Accessed.{rivals_few, rivals_are_nodes, blocks_from_walk}
+use Rattle.sgt_sched.proofs.Accessed.{rivals_few, rivals_are_nodes, blocks_from_walk, free_seen}
 use Rattle.sgt_sched.proofs.Aborted.{refuses_seen}
 use Rattle.sgt_sched.proofs.Looks.{inserted, store_last, store_room, kept_store, makes_store}
 use Rattle.sgt_sched.proofs.sched.Sched.store.Goals as goal
@@ -51,3 +51,9 @@ returns-in_ok-reserve-in-Accepted-2-clause-done g c =
     (c.note.ensures.noted ∙ ap (λ l. l ++ record { by = c.args.t; key = c.args.key; kind = Store } ∷ []) c.reserve-in-Accepted.ensures.same) c.insert.ensures.nodes
     (inserted _ _ c.args.t c.rivals-rivals.result c.insert.result c.insert.ensures.verdict c.in-Accepted.ensures.verdict c.insert.ensures.pairs)
     c.store.ensures _ (to_z-of_z w64 c.args.value c.ranges.value))
+
+pub returns-in_err-reserve-in-Accepted-clause-no_memory : goal.returns-in_err-reserve-in-Accepted-clause-no_memory
+returns-in_err-reserve-in-Accepted-clause-no_memory g c = λ b. absurd (free_seen c.self.invariant c.args.t (ap (λ p. g.G.Graph.nodes p.graph c.args.t) c.self.view_is ∙ c.requires.live) c.args.key Store c.rivals-rivals.result c.rivals-rivals.ensures.exact c.args.self.now c.self.view_is c.in-Accepted.ensures.verdict b)
+
+pub returns-in_err-reserve-in-Accepted-2-clause-no_memory : goal.returns-in_err-reserve-in-Accepted-2-clause-no_memory
+returns-in_err-reserve-in-Accepted-2-clause-no_memory g c = λ b. absurd (free_seen c.self.invariant c.args.t (ap (λ p. g.G.Graph.nodes p.graph c.args.t) c.self.view_is ∙ c.requires.live) c.args.key Store c.rivals-rivals.result c.rivals-rivals.ensures.exact c.args.self.now c.self.view_is c.in-Accepted.ensures.verdict b)
