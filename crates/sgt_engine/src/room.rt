@@ -26,9 +26,9 @@ pub fn make_room<R: Records, A: Accesses, G: Graph>(
         → vec_len history.new + (length (⟦<Sched<R, A, G> as Scheduler>⟧.state sched.now).live + 2) ≤ vec_capacity history.new) }
     ensures no_memory { EndsOne (rules_of sched.now) event.now (⟦<Sched<R, A, G> as Scheduler>⟧.state sched.now) → IsOk result }
 {
-    if sched.ends(event) {
+    // Whether it ends one is worked out only where the growth was refused.
+    if history.reserve(sched.live().len() + 2).is_ok() || sched.ends(event) {
         return Ok(());
     }
-    history.reserve(sched.live().len() + 2)?;
-    Ok(())
+    Err(NoMemory)
 }
