@@ -1,6 +1,5 @@
 -- Which replies end a live transaction, and how many are live afterwards.
 use Rattle.std.proofs.Common.{◌≡◌, ℕ, ◌+◌, ◌≤◌, arith, Bool, true, false, not, ◌||◌, cond, nat_eq, nat_lt, inl, inr, List, [], ◌∷◌, length, filter, Option, Some, None, refl, sym, ap, ◌∙◌, subst}
-use Rattle.std.specs.Prelude.{◌↔◌, IsTrue}
 use Rattle.std.specs.List.{list_any}
 use Rattle.std.proofs.lemmas.Bool.{true≢false, eq-eqb}
 use Rattle.std.proofs.lemmas.List.{length-append}
@@ -18,7 +17,7 @@ use Rattle.sgt_model.specs.State.{State}
 use Rattle.sgt_model.specs.Walks.{Member}
 use Rattle.sgt_model.specs.Changes.{Removes}
 use Rattle.sgt_model.specs.CallEffects.{Stays, IfOpen, AbortsIn, StepOn, CommitOn, CallEffect, StartOn, room_reply, taken_reply}
-use Rattle.sgt_sched.specs.Steps.{IsUnended, IsClosed, IsClosedBy}
+use Rattle.sgt_sched.specs.Steps.{IsUnended}
 use Rattle.sgt_sched.specs.Endings.{is_ending, StepEnds, CommitEnds, EndsOne}
 
 -- whether the reply ends a live transaction is decided by the state
@@ -75,19 +74,6 @@ replies_agree rules (Commit t) c r after x = open_agrees t c r after _ (CommitEn
 replies_agree rules (Quit t) c r after x =
     let a = open_agrees t c r after _ (Unit {0}) (λ y. loud r _ _ (y.reply) refl tt) (nat_lt t c.starts) (c.fates t) refl refl x in
     ((λ u. a.0 (u, tt)), (λ none. a.1 (λ u. none u.0)))
-
--- so an answer that is exact tells the replies
-pub replies_told : (rules : Rules) (event : Event) (c : State) (b : Bool) → IsTrue b ↔ EndsOne rules event c → (r : Reply) (after : State) → CallEffect rules event c r after → is_ending r ≡ b
-replies_told rules event c true exact r after x = (replies_agree rules event c r after x).0 (exact.0 refl)
-replies_told rules event c false exact r after x = (replies_agree rules event c r after x).1 (λ e. true≢false (sym (exact.1 e)))
-
--- what is answered to one that is not live ends nothing
-pub closed_ends_none : (c : State) (t : ℕ) (r : Reply) → IsClosed c t r → IsUnended c t → ⊥
-closed_ends_none c t r closed u = both (nat_lt t c.starts) (c.fates t) u.begun u.unended closed where
-  both : (b : Bool) (o : Option Fate) → b ≡ true → o ≡ None → IsClosedBy b o r → ⊥
-  both false o e f x = true≢false (sym e)
-  both true (Some fate) e f x = cc
-  both true None e f x = x
 
 -- how many are live afterwards: at most one more, and fewer where the reply ends one
 pub record Counts (r : Reply) (before after : State) : Type 0 where

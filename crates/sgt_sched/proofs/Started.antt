@@ -18,15 +18,21 @@ use Rattle.sgt_model.specs.Changes.{Starts}
 use Rattle.sgt_model.proofs.Conditions.{next_no_node}
 use Rattle.sgt_model.proofs.SoundCalls.{sound_starts}
 use Rattle.sgt_sched.specs.LiveList.{numbers, progress_at, started}
-use Rattle.sgt_sched.specs.SchedulerView.{SchedulerView, fate_at, state_of, HasUsed, IsKept}
+use Rattle.sgt_sched.specs.SchedulerView.{SchedulerView, fate_at, rules_of, state_of, HasUsed, IsKept}
 use Rattle.sgt_sched.proofs.Lists.{numbers-added, progress_at-added, progress_at-new, fate_at-added, fate_at-past, rising-added}
 
 -- a start that is let in names a procedure
-pub named : (programs : List Program) (procedure : ℕ) (limits : Limits) (begun living t : ℕ) (args : List ℤ) → reply.Started t ≡ taken_reply limits begun living (args_in programs procedure) args → procedure < length programs
+named : (programs : List Program) (procedure : ℕ) (limits : Limits) (begun living t : ℕ) (args : List ℤ) → reply.Started t ≡ taken_reply limits begun living (args_in programs procedure) args → procedure < length programs
 named [] zero limits begun living t args e = absurd (cc)
 named [] (suc n) limits begun living t args e = absurd (cc)
 named (p ∷ rest) zero limits begun living t args e = omega arith
 named (p ∷ rest) (suc n) limits begun living t args e = let r = named rest n limits begun living t args e in omega (arith, r)
+
+-- the same, as callers see it
+pub named_seen : {R A G : Type 0} (held : SchedulerView R A G → State) (before now : SchedulerView R A G) → before ≡ now → (procedure t : ℕ) (args : List ℤ) → reply.Started t ≡ start_answer (rules_of now) (held now) procedure args → procedure < length before.procedures
+named_seen {R} {A} {G} held before now seen procedure t args is =
+    subst (λ (p : SchedulerView R A G). procedure < length p.procedures) (sym seen)
+    (named now.procedures procedure now.limits (held now).starts (length (held now).live) t args is)
 
 module _ {R A G : Type 0} {chain : R → Key → List (ℕ × ℤ)} {settled : R → Key → Option ℤ} {list : A → List ListedAccess} {nodes : G → ℕ → Bool} {pairs : G → ℕ → ℕ → Bool} {before : SchedulerView R A G} (kept : IsKept chain settled list nodes pairs before) (procedure : ℕ) (args : List ℤ) (graph : G) (nodes_are : (u : ℕ) → nodes graph u ≡ (nodes before.graph u || nat_eq u (length before.fates))) (pairs_are : (u v : ℕ) → pairs graph u v ≡ pairs before.graph u v) where
   -- the parts afterwards
