@@ -16,8 +16,6 @@
 
 mod engine;
 mod run;
-#[cfg(test)]
-mod tests;
 
 pub use engine::Engine;
 pub use run::{Ran, run_list};

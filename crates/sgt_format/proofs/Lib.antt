@@ -1,4 +1,5 @@
 pub mod Begins
+pub mod Pieces
 pub mod Views
 pub mod Shapes
 pub mod ReadProcedures

@@ -79,6 +79,15 @@ pub(crate) fn append_answers(line: &mut Vec<u8>, answers: &Answers) -> Result<()
     if answers.is_empty() {
         return line.extend_from_slice(b" none");
     }
+    append_each_answer(line, answers)
+}
+
+/// Adds each answer behind a blank. On an error the line still begins with what it held.
+fn append_each_answer(line: &mut Vec<u8>, answers: &Answers) -> Result<(), AllocError>
+    ensures ok { OnOk result
+        (line.new.items ≡ line.old.items ++ each_item signed_decimal answers.now) }
+    ensures err { OnErr result (take (vec_len line.old) line.new.items ≡ line.old.items) }
+{
     for answer in answers.as_slice() {
         line.extend_from_slice(b" ")?;
         append_number(line, *answer)?;

@@ -1,7 +1,7 @@
 ghost use Rattle.std.specs.Prelude.{◌≡◌, ◌≢◌, Ok, Err, IfOk, IfErr};
 ghost use Rattle.std.specs.Option.{option_map};
 ghost use Rattle.serde_json.specs.View.{view};
-ghost use Rattle.sgt_format.specs.EventLines.{tid, procedure, arguments, event_in, event_of};
+ghost use Rattle.sgt_format.specs.EventLines.{tid, procedure, arguments, of_transaction, of_procedure, event_in, event_of};
 ghost use Rattle.sgt_format.specs.declared.errors.LineError.TheVariants.{NoMemory};
 
 use crate::errors::LineError;
@@ -26,23 +26,28 @@ fn event_in(tree: &Value) -> Option<Event>
     ensures { result ≡ event_in (view tree.now) }
 {
     match items(tree)? {
-        [word, number] => {
-            let t = tid(number)?;
-            match word.as_str()? {
-                "step" => Some(Event::Step(t)),
-                "commit" => Some(Event::Commit(t)),
-                "quit" => Some(Event::Quit(t)),
-                _ => None,
-            }
-        }
-        [word, number, list] => {
-            let procedure = procedure(number)?;
-            let args = arguments(list)?;
-            match word.as_str()? {
-                "start" => Some(Event::Start { procedure, args }),
-                _ => None,
-            }
-        }
+        [word, number] => of_transaction(word.as_str()?, tid(number)?),
+        [word, number, list] => of_procedure(word.as_str()?, procedure(number)?, arguments(list)?),
+        _ => None,
+    }
+}
+
+fn of_transaction(word: &str, t: Tid) -> Option<Event>
+    ensures { result ≡ of_transaction word.now t }
+{
+    match word {
+        "step" => Some(Event::Step(t)),
+        "commit" => Some(Event::Commit(t)),
+        "quit" => Some(Event::Quit(t)),
+        _ => None,
+    }
+}
+
+fn of_procedure(word: &str, procedure: u16, args: Args) -> Option<Event>
+    ensures { result ≡ of_procedure word.now procedure args }
+{
+    match word {
+        "start" => Some(Event::Start { procedure, args }),
         _ => None,
     }
 }

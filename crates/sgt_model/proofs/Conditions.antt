@@ -31,7 +31,7 @@ module _ (most : ℕ) (c : State) (sound : Sound most c) where
   next_no_node h = absurd (let lt = sound.begun c.starts h in omega arith)
 
 -- a number of a list is left out
-removed : (x : ℕ) (ys : List ℕ) → Member x ys → (zs : List ℕ) × (length ys ≡ suc (length zs)) × ((y : ℕ) → Member y ys → y ≢ x → Member y zs)
+pub removed : (x : ℕ) (ys : List ℕ) → Member x ys → (zs : List ℕ) × (length ys ≡ suc (length zs)) × ((y : ℕ) → Member y ys → y ≢ x → Member y zs)
 removed x [] m = absurd m
 removed x (y ∷ ys) (inl e) = (ys, refl, λ z m other. elim m [ inl same ↦ absurd (other (same ∙ sym e)) | inr k ↦ k ])
 removed x (y ∷ ys) (inr m) = let (zs, long, keep) = removed x ys m in

@@ -1,9 +1,9 @@
 -- Worked examples of what is left of a procedure.
-use Rattle.std.specs.Prelude.{◌≡◌, pos, List, [], ◌∷◌, Some, None, replicate, refl}
+use Rattle.std.specs.Prelude.{◌≡◌, pos, [], ◌∷◌, Some, None, replicate, refl}
 use Rattle.sgt_model.specs.Syntax as text
 use Rattle.sgt_model.specs.Syntax.{Program, num, arg, reg, diff, at_most}
-use Rattle.sgt_model.specs.Traces.{Looks, Puts, Ends, Asks}
-use Rattle.sgt_model.specs.Left.{ToRun, ToAsk, left, left_at_start, next_left, after_look, after_store}
+use Rattle.sgt_model.specs.Traces.{Puts, Ends}
+use Rattle.sgt_model.specs.Left.{ToRun, ToAsk, left, left_at_start, next_left}
 use Rattle.sgt_model.proofs.ExamplesTexts.{draw}
 
 -- tell what record 7 holds where the argument is at most 5, and store it into record 8 in every case: the If has statements

@@ -3,14 +3,14 @@ use Rattle.std.specs.Prelude.{◌≡◌, ℕ, zero, suc, ◌+◌, ℤ, Bool, tru
 use Rattle.std.proofs.Common.{refl, sym, ap, ◌∙◌, arith}
 use Rattle.sgt_model.specs.Numbers.{is_value}
 use Rattle.sgt_model.specs.Contents.{Key}
-use Rattle.sgt_model.specs.Syntax.{Block, empty, look, put, save, ask, choose, answer, Program}
+use Rattle.sgt_model.specs.Syntax.{Block, empty, look, put, save, ask, choose, answer}
 use Rattle.sgt_model.specs.Runs.{Run, looks, puts, ends, asks}
 use Rattle.sgt_model.specs.Traces.{Used, Next, Looks, Puts, Ends, Asks, trace, next_at}
 use Rattle.sgt_model.specs.Ways.{Way, onto}
 use Rattle.sgt_model.specs.Ways as way
 use Rattle.sgt_model.specs.Meaning.{Got, is, over, missing, Holds, holds, too_far, unknown, Registers, value_of, result_of, wrong, with_value, with_test, is_key, if_found, run, run_with}
 use Rattle.sgt_model.specs.Executions.{OrCode, and_then, provided}
-use Rattle.sgt_model.specs.Left.{Rest, Left, ToRun, ToAsk, left_at_start, followed_by, Reached, AtLook, AtStore, AtEnd, then_behind, number_or_code, choice_or_code, reach, reached, next_of_reached, next_left, with_found, behind_look, after_look, behind_store, after_store, after_next, left_after, left, NextIsOfLeft, LeftAfterLook, LeftAfterStore}
+use Rattle.sgt_model.specs.Left.{Rest, Left, ToRun, ToAsk, left_at_start, followed_by, Reached, AtLook, AtStore, AtEnd, then_behind, number_or_code, choice_or_code, reach, reached, next_of_reached, next_left, with_found, behind_look, after_look, behind_store, after_store, after_next, left_after, NextIsOfLeft, LeftAfterLook, LeftAfterStore}
 
 -- up to the next access
 

@@ -24,12 +24,12 @@ use Rattle.sgt_model.proofs.Paths.{Within}
 -- rising lists
 
 -- the first is below all others
-rising_below : (t : ℕ) (l : List ℕ) → Rising (t ∷ l) → (u : ℕ) → Member u l → t < u
+pub rising_below : (t : ℕ) (l : List ℕ) → Rising (t ∷ l) → (u : ℕ) → Member u l → t < u
 rising_below t [] r u m = absurd m
 rising_below t (v ∷ l) r u (inl e) = let less : t < v = r.0 in omega arith
 rising_below t (v ∷ l) r u (inr m) = let less : t < v = r.0 in let more : v < u = rising_below v l r.1 u m in omega arith
 
-rising_rest : (t : ℕ) (l : List ℕ) → Rising (t ∷ l) → Rising l
+pub rising_rest : (t : ℕ) (l : List ℕ) → Rising (t ∷ l) → Rising l
 rising_rest t [] r = tt
 rising_rest t (u ∷ l) r = r.1
 

@@ -67,7 +67,7 @@ least_or_none test (t ∷ l) = elim (cases_Bool (test t)) [
 ]
 
 -- who was started is listed
-begun_has : (past : List Entry) (t : ℕ) → t < starts past → Member t (begun past)
+pub begun_has : (past : List Entry) (t : ℕ) → t < starts past → Member t (begun past)
 begun_has [] t less = absurd (omega arith)
 begun_has (e ∷ past) t less = go (begun_has past t) (is_start e.reply) less
   where

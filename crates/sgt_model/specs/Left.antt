@@ -4,7 +4,7 @@
 use Rattle.std.specs.Prelude.{◌≡◌, ℕ, zero, suc, ◌+◌, ℤ, Bool, cond, nat_lt, List, [], ◌∷◌, ◌++◌, length, Option, Some, None, Ok, Err, slice_set}
 use Rattle.sgt_model.specs.Numbers.{is_value}
 use Rattle.sgt_model.specs.Contents.{Key}
-use Rattle.sgt_model.specs.Syntax.{Term, Test, Block, empty, look, put, save, ask, choose, answer, Program}
+use Rattle.sgt_model.specs.Syntax.{Block, empty, look, put, save, ask, choose, answer, Program}
 use Rattle.sgt_model.specs.Traces.{Used, Next, Looks, Puts, Ends, Asks, trace, next_at}
 use Rattle.sgt_model.specs.Meaning.{Got, is, over, missing, Holds, holds, too_far, unknown, Registers, fresh, value_of, result_of, run_with}
 use Rattle.sgt_model.specs.Executions.{OrCode, and_then, provided, overflow, stuck, key_of}

@@ -36,6 +36,7 @@ pub mod Aborts
 pub mod Headline
 pub mod StoredValues
 pub mod Laws
+pub mod ReplySizes
 -- the state of a scheduler, and the one that belongs to a history
 pub mod AccessList
 pub mod Chains

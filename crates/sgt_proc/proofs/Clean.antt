@@ -66,21 +66,21 @@ in_nothing (text.choose test ys ns b) = or_none _ _ (or_none _ _ (test_nothing t
 in_nothing (text.answer value b) = or_none _ _ (term_nothing value) (in_nothing b)
 
 -- a number that has no flaw
-abbrev pub IsFine : ℕ → Number → Type 0
-IsFine args (Register n) = n < 16
-IsFine args (Argument n) = n < args
-IsFine args (Table n) = n ≤ 7
-IsFine args (Code n) = (1 ≤ n) × (n ≤ 999)
-IsFine args (Literal n) = IsValue n
+abbrev pub IsAllowed : ℕ → Number → Type 0
+IsAllowed args (Register n) = n < 16
+IsAllowed args (Argument n) = n < args
+IsAllowed args (Table n) = n ≤ 7
+IsAllowed args (Code n) = (1 ≤ n) × (n ≤ 999)
+IsAllowed args (Literal n) = IsValue n
 
 pub value_from : (v : ℤ) → is_value v ≡ true → IsValue v
 value_from v e = grind arith
 
-pub fine_number : (args : ℕ) (n : Number) → ((f : Flaw) → is_bad f args n ≡ false) → IsFine args n
-fine_number args (Register n) h = let e : nat_lt 15 n ≡ false = h HighRegister in grind (arith, nat_tests, e)
-fine_number args (Argument n) h = let e : nat_le args n ≡ false = h NoArgument in grind (arith, nat_tests, e)
-fine_number args (Table n) h = let e : nat_lt 7 n ≡ false = h HighTable in grind (arith, nat_tests, e)
-fine_number args (Code n) h =
+pub allowed_number : (args : ℕ) (n : Number) → ((f : Flaw) → is_bad f args n ≡ false) → IsAllowed args n
+allowed_number args (Register n) h = let e : nat_lt 15 n ≡ false = h HighRegister in grind (arith, nat_tests, e)
+allowed_number args (Argument n) h = let e : nat_le args n ≡ false = h NoArgument in grind (arith, nat_tests, e)
+allowed_number args (Table n) h = let e : nat_lt 7 n ≡ false = h HighTable in grind (arith, nat_tests, e)
+allowed_number args (Code n) h =
     let p = or_parts (nat_eq n 0) (nat_lt 999 n) (h BadCode) in
     (grind (arith, nat_tests, p.0), grind (arith, nat_tests, p.1))
-fine_number args (Literal n) h = let e : not (is_value n) ≡ false = h BadLiteral in value_from n (grind (arith, e))
+allowed_number args (Literal n) h = let e : not (is_value n) ≡ false = h BadLiteral in value_from n (grind (arith, e))

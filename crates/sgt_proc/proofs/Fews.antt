@@ -15,15 +15,15 @@ use Rattle.sgt_proc.specs.Nexts.{seen, IsAccess}
 use Rattle.sgt_proc.specs.Flaws.{size, IsFlawless}
 
 -- a run makes at most so many accesses, whatever its looks find
-abbrev pub Within : Run → ℕ → Type 0
-Within (ends answers) n = Unit {0}
-Within (asks code) n = Unit {0}
-Within (looks k go) zero = ⊥
-Within (looks k go) (suc n) = (v : Option ℤ) → Within (go v) n
-Within (puts k v rest) zero = ⊥
-Within (puts k v rest) (suc n) = Within rest n
+abbrev pub MakesAtMost : Run → ℕ → Type 0
+MakesAtMost (ends answers) n = Unit {0}
+MakesAtMost (asks code) n = Unit {0}
+MakesAtMost (looks k go) zero = ⊥
+MakesAtMost (looks k go) (suc n) = (v : Option ℤ) → MakesAtMost (go v) n
+MakesAtMost (puts k v rest) zero = ⊥
+MakesAtMost (puts k v rest) (suc n) = MakesAtMost rest n
 
-within_more : (r : Run) (n m : ℕ) → n ≤ m → Within r n → Within r m
+within_more : (r : Run) (n m : ℕ) → n ≤ m → MakesAtMost r n → MakesAtMost r m
 within_more (ends answers) n m h w = tt
 within_more (asks code) n m h w = tt
 within_more (looks k go) zero m h w = absurd w
@@ -35,33 +35,33 @@ within_more (puts k v rest) (suc n) (suc m) h w = within_more rest n m (omega ar
 
 -- the parts of a statement
 
-within_value : (n : ℕ) (g : Got) (go : ℤ → Run) → ((v : ℤ) → Within (go v) n) → Within (with_value g go) n
+within_value : (n : ℕ) (g : Got) (go : ℤ → Run) → ((v : ℤ) → MakesAtMost (go v) n) → MakesAtMost (with_value g go) n
 within_value n (is v) go h = h v
 within_value n over go h = tt
 within_value n missing go h = tt
 
-within_cond : (n : ℕ) (b : Bool) (r : Run) → Within r n → Within (cond b r (asks 0)) n
+within_cond : (n : ℕ) (b : Bool) (r : Run) → MakesAtMost r n → MakesAtMost (cond b r (asks 0)) n
 within_cond n true r h = h
 within_cond n false r h = tt
 
-within_test : (n : ℕ) (t : Holds) (ys ns : Run) → Within ys n → Within ns n → Within (with_test t ys ns) n
+within_test : (n : ℕ) (t : Holds) (ys ns : Run) → MakesAtMost ys n → MakesAtMost ns n → MakesAtMost (with_test t ys ns) n
 within_test n (holds true) ys ns h i = h
 within_test n (holds false) ys ns h i = i
 within_test n too_far ys ns h i = tt
 within_test n unknown ys ns h i = tt
 
-within_found : (n : ℕ) (absent : ℕ) (found : Option ℤ) (go : ℤ → Run) → ((v : ℤ) → Within (go v) n) → Within (if_found absent found go) n
+within_found : (n : ℕ) (absent : ℕ) (found : Option ℤ) (go : ℤ → Run) → ((v : ℤ) → MakesAtMost (go v) n) → MakesAtMost (if_found absent found go) n
 within_found n absent None go h = tt
 within_found n absent (Some v) go h = h v
 
 -- a way whose runs make at most so many accesses
-abbrev WayWithin : Way → ℕ → Type 0
-WayWithin w n = (args : List ℤ) (regs : Registers) (answers : List ℤ) → Within (run args w regs answers) n
+abbrev WayMakesAtMost : Way → ℕ → Type 0
+WayMakesAtMost w n = (args : List ℤ) (regs : Registers) (answers : List ℤ) → MakesAtMost (run args w regs answers) n
 
-grown : (w : Way) (n m : ℕ) → n ≤ m → WayWithin w n → WayWithin w m
+grown : (w : Way) (n m : ℕ) → n ≤ m → WayMakesAtMost w n → WayMakesAtMost w m
 grown w n m h i args regs answers = within_more (run args w regs answers) n m h (i args regs answers)
 
-within_onto : (b : Block) (rest : Way) (n : ℕ) → WayWithin rest n → WayWithin (onto b rest) (size b + n)
+within_onto : (b : Block) (rest : Way) (n : ℕ) → WayMakesAtMost rest n → WayMakesAtMost (onto b rest) (size b + n)
 within_onto text.empty rest n h args regs answers = grown rest n (0 + n) (omega arith) h args regs answers
 within_onto (text.look to table id absent b) rest n h args regs answers =
     within_more _ (suc (size b + n)) (1 + size b + n) (omega arith) (within_value (suc (size b + n)) (value_of id args regs) _ (λ v. within_cond (suc (size b + n)) (is_key table v) _ (λ found. within_found (size b + n) absent found _ (λ x. within_onto b rest n h args (slice_set regs to (Some x)) answers))))
@@ -80,7 +80,7 @@ within_onto (text.answer value b) rest n h args regs answers =
     within_more _ (size b + n) (1 + size b + n) (omega arith) (within_value (size b + n) (value_of value args regs) _ (λ x. within_cond (size b + n) (nat_lt (length answers) 8) _ (within_onto b rest n h args regs (answers ++ x ∷ []))))
 
 -- so a procedure makes at most as many accesses as it has statements
-pub within_size : (p : Program) (args : List ℤ) → Within (run_with p args) (size p.body)
+pub within_size : (p : Program) (args : List ℤ) → MakesAtMost (run_with p args) (size p.body)
 within_size p args = within_more (run_with p args) (size p.body + 0) (size p.body) (omega arith) (within_onto p.body way.end 0 (λ args regs answers. tt) args fresh [])
 
 -- and where an access is next, it has made fewer
@@ -91,7 +91,7 @@ AccessNext (Puts k v) = Unit {0}
 AccessNext (Ends answers) = ⊥
 AccessNext (Asks code) = ⊥
 
-pub fewer : (r : Run) (n : ℕ) (vs : List (Option ℤ)) (made : ℕ) → Within r n → Used r vs made → AccessNext (next_at (trace r vs) made) → made < n
+pub fewer : (r : Run) (n : ℕ) (vs : List (Option ℤ)) (made : ℕ) → MakesAtMost r n → Used r vs made → AccessNext (next_at (trace r vs) made) → made < n
 fewer (looks k go) zero vs made w u a = absurd w
 fewer (looks k go) (suc n) [] zero w u a = omega arith
 fewer (looks k go) (suc n) (v ∷ vs) zero w u a = absurd u

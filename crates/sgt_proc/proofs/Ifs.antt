@@ -11,7 +11,7 @@ use Rattle.sgt_model.specs.Ways.{Way, onto}
 use Rattle.sgt_proc.specs.declared.numbers.Number.{Number}
 use Rattle.sgt_proc.specs.Flaws.{in_test, in_block, test_uses, uses_unset, most_answers, size, depth, test_depth, terms_depth}
 use Rattle.sgt_model.proofs.Texts.{before_if}
-use Rattle.sgt_proc.proofs.Texts.{onto_if}
+use Rattle.sgt_proc.proofs.StatementTexts.{onto_if}
 
 or_false : (a : Bool) → (a || false) ≡ a
 or_false true = refl

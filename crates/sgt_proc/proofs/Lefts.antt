@@ -3,7 +3,7 @@ use Rattle.std.proofs.Common.{◌≡◌, refl, ◌⊎◌, inl, inr, ℕ, zero, s
 use Rattle.sgt_model.specs.Contents.{Key}
 use Rattle.sgt_model.specs.Runs.{Run, looks, puts, ends, asks}
 use Rattle.sgt_model.specs.Traces.{trace, Looks, Ends, Asks, next_at}
-use Rattle.sgt_proc.specs.Walks.{left_of, first_of}
+use Rattle.sgt_proc.specs.Execution.{left_of, first_of}
 
 -- an access of the trace is the first one of what is left there
 pub next_is_first : (r : Run) (vs : List (Option ℤ)) (made : ℕ) → next_at (trace r vs) made ≡ first_of (left_of r vs made)

@@ -1,10 +1,10 @@
-pub mod Texts
+pub mod StatementTexts
 pub mod Ifs
-pub mod Lists
+pub mod StatementLists
 pub mod Caps
 pub mod AllFlaws
 pub mod Clean
 pub mod Sounds
 pub mod Lefts
-pub mod Steps
+pub mod Executed
 pub mod Fews

@@ -1,6 +1,6 @@
 pub mod Nexts
-pub mod Walks
+pub mod Execution
 pub mod Flaws
 pub mod NumberFlaws
-pub mod Behind
+pub mod Dataflow
 pub mod Sound

@@ -1,6 +1,6 @@
 ghost use Rattle.sgt_model.specs.Syntax.{empty};
 ghost use Rattle.sgt_model.specs.Programs.{before, block_of};
-ghost use Rattle.sgt_proc.specs.Behind.{AnswersFrom};
+ghost use Rattle.sgt_proc.specs.Dataflow.{AnswersFrom};
 
 use sgt_model::Statement;
 

@@ -5,10 +5,10 @@ ghost use Rattle.sgt_model.specs.Traces.{next_at, trace, Used};
 ghost use Rattle.sgt_proc.specs.Nexts.{seen, IsAccess, StoresValue};
 ghost use Rattle.sgt_proc.specs.Flaws.{IsFlawless, IsLeastFlaw};
 
+use crate::execute::execute_block;
 use crate::flaw::{Flaw, Flawed};
-use crate::machine::Machine;
+use crate::interpreter::Interpreter;
 use crate::next::Next;
-use crate::walk::walk;
 use sgt_model::{Answers, Args, Procedure};
 use std::marker::Model;
 
@@ -73,14 +73,19 @@ impl Checked {
         ensures in_range { StoresValue result }
         ensures few { IsAccess result → Used (run_with self.now args.now) read.now made → made < 64 }
     {
-        let mut machine = Machine {
+        let mut interpreter = Interpreter {
             registers: [None; 16],
             answers: Answers::new(),
             used: 0,
             left: made,
         };
-        match walk(&self.procedure.body, args.as_slice(), read, &mut machine) {
-            Ok(()) => Next::Ends(machine.answers),
+        match execute_block(
+            &self.procedure.body,
+            args.as_slice(),
+            read,
+            &mut interpreter,
+        ) {
+            Ok(()) => Next::Ends(interpreter.answers),
             Err(next) => next,
         }
     }

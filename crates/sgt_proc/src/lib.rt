@@ -15,20 +15,17 @@
 mod answers;
 mod checked;
 mod depths;
+mod execute;
 mod flaw;
+mod interpreter;
 mod laws;
-mod machine;
 mod next;
 mod numbers;
 mod registers;
 mod sizes;
 mod value;
-mod walk;
 
 pub use checked::{Checked, check};
 pub use flaw::{Flaw, Flawed};
 pub use laws::flawless_is_sound;
 pub use next::Next;
-
-#[cfg(test)]
-mod tests;

@@ -3,7 +3,7 @@ ghost use Rattle.sgt_model.specs.Syntax.{empty};
 ghost use Rattle.sgt_model.specs.Programs.{term_of, test_of, before, block_of};
 ghost use Rattle.sgt_model.specs.Ways.{onto, end};
 ghost use Rattle.sgt_proc.specs.Flaws.{uses, test_uses, UsesUnset};
-ghost use Rattle.sgt_proc.specs.Behind.{LiveBefore};
+ghost use Rattle.sgt_proc.specs.Dataflow.{LiveBefore};
 
 use sgt_model::{Cond, Expr, Statement};
 

@@ -1,7 +1,7 @@
 ghost use Rattle.std.specs.Prelude.{◌≡◌, ◌+ℤ◌, ◌-ℤ◌};
 ghost use Rattle.sgt_model.specs.Programs.{term_of, test_of};
 ghost use Rattle.sgt_model.specs.Meaning.{bounded, value_of, result_of};
-ghost use Rattle.sgt_proc.specs.Walks.{as_value, as_test, as_key};
+ghost use Rattle.sgt_proc.specs.Execution.{as_value, as_test, as_key};
 
 use crate::next::Next;
 use sgt_model::{Cond, Expr, Key, is_value};

@@ -1,8 +1,8 @@
 pub mod Lengths
 pub mod Places
-pub mod Blocks
-pub mod Rows
-pub mod Spelled
+pub mod StatementsRead
+pub mod IfRows
+pub mod SpelledIsRead
 pub mod Written
-pub mod Found
+pub mod ReadIsSpelled
 pub mod Outcomes

@@ -9,8 +9,8 @@ use Rattle.sgt_proc_json.specs.Readings.{reading}
 use Rattle.sgt_proc_json.specs.Refusals.{Tells}
 use Rattle.sgt_proc_json.specs.declared.errors.ReadError.{ReadError}
 use Rattle.sgt_proc_json.specs.declared.errors.ReadError.TheVariants.{Shape, NoMemory}
-use Rattle.sgt_proc_json.proofs.Spelled.{read_spelled}
-use Rattle.sgt_proc_json.proofs.Found.{spelled_read}
+use Rattle.sgt_proc_json.proofs.SpelledIsRead.{read_spelled}
+use Rattle.sgt_proc_json.proofs.ReadIsSpelled.{spelled_read}
 
 -- a procedure that is read is spelled
 pub read_is_spelled : (d : Data) (r : Result Procedure ReadError) → IfOk r (λ p. reading d ≡ Ok (program_of p)) → IfOk r (λ p. Spells (program_of p) d)

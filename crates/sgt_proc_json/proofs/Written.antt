@@ -15,7 +15,7 @@ use Rattle.sgt_model.specs.Syntax.{Block, empty, choose}
 use Rattle.sgt_model.specs.Programs.{test_of, before, block_of}
 use Rattle.sgt_model.proofs.Texts.{before_if}
 use Rattle.sgt_proc_json.specs.Spelling.{SpellsTest, Listed, SpellsBlock}
-use Rattle.sgt_proc_json.proofs.Blocks.{onto_block, onto_last, onto_all}
+use Rattle.sgt_proc_json.proofs.StatementsRead.{onto_block, onto_last, onto_all}
 
 -- the tree of an If, in front of others
 pub if_spelled : (s : Statement) (test : Cond) (ys ns : Vec Statement Global) (row : Vec Value Global) (word first second third : Value) → s ≡ If test ys ns → row.items ≡ word ∷ first ∷ second ∷ third ∷ [] → view word ≡ string (codes "if")

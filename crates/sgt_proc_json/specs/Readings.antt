@@ -58,22 +58,34 @@ abbrev pub is_word : Option (List ℕ) → List ℕ → Bool
 is_word None word = false
 is_word (Some text) word = bytes_eq text word
 
+-- the argument or register that a word and the number behind it spell
+abbrev pub arg_or_reg : Option (List ℕ) → Reading ℕ → Reading Term
+arg_or_reg word n =
+    cond (is_word word (codes "arg")) (one arg n)
+    (cond (is_word word (codes "reg")) (one reg n) here)
+
+-- the sum or difference that a word and the two expressions behind it spell
+abbrev pub sum_or_diff : Option (List ℕ) → Reading Term → Reading Term → Reading Term
+sum_or_diff word a b =
+    cond (is_word word (codes "sum")) (two sum a b)
+    (cond (is_word word (codes "diff")) (two diff a b) here)
+
 -- the expression that a tree spells
 abbrev pub expression : Data → Reading Term
-expression (array (item w (item n no_items))) =
-    cond (is_word (as_str w) (codes "arg")) (one arg (at 1 (byte n)))
-    (cond (is_word (as_str w) (codes "reg")) (one reg (at 1 (byte n))) here)
-expression (array (item w (item a (item b no_items)))) =
-    cond (is_word (as_str w) (codes "sum")) (two sum (at 1 (expression a)) (at 2 (expression b)))
-    (cond (is_word (as_str w) (codes "diff")) (two diff (at 1 (expression a)) (at 2 (expression b))) here)
+expression (array (item w (item n no_items))) = arg_or_reg (as_str w) (at 1 (byte n))
+expression (array (item w (item a (item b no_items)))) = sum_or_diff (as_str w) (at 1 (expression a)) (at 2 (expression b))
 expression tree = one num (or_here (whole tree))
+
+-- the comparison that a word and the two expressions behind it spell
+abbrev pub comparison : Option (List ℕ) → Reading Term → Reading Term → Reading Test
+comparison word a b =
+    cond (is_word word (codes "less")) (two less a b)
+    (cond (is_word word (codes "most")) (two at_most a b)
+    (cond (is_word word (codes "same")) (two equal a b) here))
 
 -- the condition that a tree spells
 abbrev pub condition : Data → Reading Test
-condition (array (item w (item a (item b no_items)))) =
-    cond (is_word (as_str w) (codes "less")) (two less (at 1 (expression a)) (at 2 (expression b)))
-    (cond (is_word (as_str w) (codes "most")) (two at_most (at 1 (expression a)) (at 2 (expression b)))
-    (cond (is_word (as_str w) (codes "same")) (two equal (at 1 (expression a)) (at 2 (expression b))) here))
+condition (array (item w (item a (item b no_items)))) = comparison (as_str w) (at 1 (expression a)) (at 2 (expression b))
 condition tree = here
 
 -- the statement that a word and one item spell, which is put in front of others

@@ -1,8 +1,9 @@
 ghost use Rattle.std.specs.Prelude.{◌≡◌, Ok, IfOk, IfErr};
 ghost use Rattle.serde_json.specs.Data.{array};
+ghost use Rattle.serde_json.specs.Find.{as_str};
 ghost use Rattle.serde_json.specs.View.{view, items_view};
 ghost use Rattle.sgt_model.specs.Programs.{test_of};
-ghost use Rattle.sgt_proc_json.specs.Readings.{at, condition};
+ghost use Rattle.sgt_proc_json.specs.Readings.{at, expression, comparison, condition};
 ghost use Rattle.sgt_proc_json.specs.Refusals.{Tells};
 
 use crate::errors::ReadError;
@@ -32,12 +33,23 @@ fn read_row(alloc: Global, items: &[Value]) -> Result<Cond, ReadError>
     ensures err { IfErr result (Tells (condition (array (items_view items.now)))) }
 {
     match items {
-        [word, a, b] => match word.as_str() {
-            Some("less") => Ok(Cond::Less(expr_at(alloc, 1, a)?, expr_at(alloc, 2, b)?)),
-            Some("most") => Ok(Cond::AtMost(expr_at(alloc, 1, a)?, expr_at(alloc, 2, b)?)),
-            Some("same") => Ok(Cond::Equal(expr_at(alloc, 1, a)?, expr_at(alloc, 2, b)?)),
-            _ => Err(ReadError::here()),
-        },
+        [word, a, b] => comparison(alloc, word, a, b),
+        _ => Err(ReadError::here()),
+    }
+}
+
+/// The condition that a word and two items spell.
+fn comparison(alloc: Global, word: &Value, a: &Value, b: &Value) -> Result<Cond, ReadError>
+    ensures ok { IfOk result (λ c.
+        comparison (as_str (view word.now)) (at 1 (expression (view a.now))) (at 2 (expression (view b.now)))
+        ≡ Ok (test_of c)) }
+    ensures err { IfErr result (Tells
+        (comparison (as_str (view word.now)) (at 1 (expression (view a.now))) (at 2 (expression (view b.now))))) }
+{
+    match word.as_str() {
+        Some("less") => Ok(Cond::Less(expr_at(alloc, 1, a)?, expr_at(alloc, 2, b)?)),
+        Some("most") => Ok(Cond::AtMost(expr_at(alloc, 1, a)?, expr_at(alloc, 2, b)?)),
+        Some("same") => Ok(Cond::Equal(expr_at(alloc, 1, a)?, expr_at(alloc, 2, b)?)),
         _ => Err(ReadError::here()),
     }
 }

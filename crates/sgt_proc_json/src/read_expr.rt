@@ -1,8 +1,9 @@
 ghost use Rattle.std.specs.Prelude.{◌≡◌, Ok, IfOk, IfErr};
 ghost use Rattle.serde_json.specs.View.{view, items_view};
 ghost use Rattle.serde_json.specs.Data.{array};
+ghost use Rattle.serde_json.specs.Find.{as_str};
 ghost use Rattle.sgt_model.specs.Programs.{term_of};
-ghost use Rattle.sgt_proc_json.specs.Readings.{at, expression};
+ghost use Rattle.sgt_proc_json.specs.Readings.{at, byte, arg_or_reg, expression};
 ghost use Rattle.sgt_proc_json.specs.Refusals.{Tells};
 
 use crate::errors::ReadError;
@@ -33,16 +34,26 @@ fn read_row(alloc: Global, items: &[Value]) -> Result<Expr, ReadError>
     ensures err { IfErr result (Tells (expression (array (items_view items.now)))) }
 {
     match items {
-        [word, n] => match word.as_str() {
-            Some("arg") => Ok(Expr::Arg(byte_at(1, n)?)),
-            Some("reg") => Ok(Expr::Reg(byte_at(1, n)?)),
-            _ => Err(ReadError::here()),
-        },
+        [word, n] => arg_or_reg(word, n),
         [word, a, b] => match word.as_str() {
             Some("sum") => Ok(Expr::Sum(boxed_at(alloc, 1, a)?, boxed_at(alloc, 2, b)?)),
             Some("diff") => Ok(Expr::Diff(boxed_at(alloc, 1, a)?, boxed_at(alloc, 2, b)?)),
             _ => Err(ReadError::here()),
         },
+        _ => Err(ReadError::here()),
+    }
+}
+
+/// The expression that a word and a number spell: an argument or a register.
+fn arg_or_reg(word: &Value, n: &Value) -> Result<Expr, ReadError>
+    ensures ok { IfOk result (λ e.
+        arg_or_reg (as_str (view word.now)) (at 1 (byte (view n.now))) ≡ Ok (term_of e)) }
+    ensures err { IfErr result
+        (Tells (arg_or_reg (as_str (view word.now)) (at 1 (byte (view n.now))))) }
+{
+    match word.as_str() {
+        Some("arg") => Ok(Expr::Arg(byte_at(1, n)?)),
+        Some("reg") => Ok(Expr::Reg(byte_at(1, n)?)),
         _ => Err(ReadError::here()),
     }
 }

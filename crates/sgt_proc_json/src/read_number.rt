@@ -11,12 +11,9 @@ pub(crate) fn byte_at(position: u64, tree: &Value) -> Result<u8, ReadError>
     ensures ok { IfOk result (λ n. at position (byte (view tree.now)) ≡ Ok n) }
     ensures err { IfErr result (Tells (at position (byte (view tree.now)))) }
 {
-    match tree.as_i64() {
-        Some(n) => match u8::try_from(n) {
-            Ok(n) => Ok(n),
-            Err(_) => Err(ReadError::here().under(position)),
-        },
-        None => Err(ReadError::here().under(position)),
+    match u8::try_from(short_at(position, tree)?) {
+        Ok(n) => Ok(n),
+        Err(_) => Err(ReadError::here().under(position)),
     }
 }
 

@@ -1,10 +1,11 @@
 -- The rows of a database, read one by one.
-use Rattle.std.proofs.Common.{◌≡◌, ℕ, zero, suc, ◌+◌, ℤ, Bool, true, false, cond, List, [], ◌∷◌, Some, None, take, slice_get, refl, sym, ap, ◌∙◌, subst, add-one}
+use Rattle.std.proofs.Common.{◌≡◌, ℕ, zero, suc, ◌+◌, Bool, true, false, cond, List, [], ◌∷◌, Some, None, IfSome, take, slice_get, refl, sym, ap, ◌∙◌, subst, add-one}
 use Rattle.std.proofs.lemmas.Bool.{true≢false}
 use Rattle.std.proofs.lemmas.Option.{same_Some}
 use Rattle.sgt_model.specs.Numbers.{IsValue}
 use Rattle.sgt_model.specs.Contents.{Key, key_eq, put_in}
 use Rattle.sgt_model.specs.Databases.{Row, contents_of, IsByKey, HasValues}
+use Rattle.sgt_model.specs.StoredValues.{HoldValues}
 use Rattle.sgt_model.proofs.Rows.{below_at, key_eq-below}
 use Rattle.sgt_model.proofs.Stores.{key_eq-true}
 
@@ -25,10 +26,10 @@ pub row_more : (rows : List Row) (i : ℕ) (r : Row) → IsByKey rows → slice_
 row_more rows i r ordered at k = subst (λ n. contents_of (take n rows) k ≡ put_in (contents_of (take i rows)) r.0 r.1 k) (sym (add-one i)) (one_row_more rows i r ordered at k)
 
 -- the values of rows are in range
-pub rows_values : (rows : List Row) → HasValues rows → (k : Key) (v : ℤ) → contents_of rows k ≡ Some v → IsValue v
-rows_values [] values k v h = absurd (cc)
-rows_values (r ∷ rows) values k v h = go (key_eq r.0 k) (rows_values rows values.1 k v) h
+pub rows_values : (rows : List Row) → HasValues rows → HoldValues (contents_of rows)
+rows_values [] values k = tt
+rows_values (r ∷ rows) values k = go (key_eq r.0 k) (rows_values rows values.1 k)
   where
-    go : (b : Bool) → (contents_of rows k ≡ Some v → IsValue v) → cond b (Some r.1) (contents_of rows k) ≡ Some v → IsValue v
-    go true rest e = subst IsValue (same_Some r.1 v e) values.0
-    go false rest e = rest e
+    go : (b : Bool) → IfSome (contents_of rows k) IsValue → IfSome (cond b (Some r.1) (contents_of rows k)) IsValue
+    go true rest = values.0
+    go false rest = rest

@@ -1,7 +1,6 @@
 -- What a value put in a key's record, or an empty record, changes.
 use Rattle.std.proofs.Common.{◌≡◌, ℤ, Bool, true, false, cond, Equal, Option, Some, None, Result, Ok, Err, OnOk, OnErr, IfSome, refl, sym, ap, ◌∙◌, subst}
 use Rattle.std.proofs.lemmas.Bool.{true≢false}
-use Rattle.std.proofs.lemmas.Option.{same_Some}
 use Rattle.std.proofs.lemmas.Cmp.{tied_itself}
 use Rattle.std.specs.Option.{is_some, option_flatten}
 use Rattle.std.specs.Ordering.{is_eq}
@@ -11,10 +10,10 @@ use Rattle.std.specs.Map.{lookup}
 use Rattle.sgt_model.specs.Numbers.{IsValue}
 use Rattle.sgt_model.specs.Contents.{Key, key_eq, put_in}
 use Rattle.sgt_model.specs.Databases.{key_cmp}
+use Rattle.sgt_model.specs.StoredValues.{HoldValues}
 use Rattle.sgt_model.proofs.Rows.{key_order, key_cmp-equal}
 use Rattle.sgt_model.proofs.Stores.{key_eq-true, key_eq-refl}
 use Rattle.sgt_records.specs.Settleds.{settled_in, has_record}
-use Rattle.sgt_records.specs.Validity.{AreValues}
 
 -- the order of keys finds a key where it is the same
 pub same_key : (a b : Key) → is_eq (key_cmp a b) ≡ key_eq a b
@@ -62,12 +61,12 @@ pub value_put : (m n : BTreeMap Key (Option ℤ)) (key : Key) (v : ℤ) → Upda
 value_put m n key v told = value_told m n key (Some v) told
 
 -- of values in range, if it is
-pub values_put : (m n : BTreeMap Key (Option ℤ)) (key : Key) (v : ℤ) → Updates key_cmp m n key (Some (Some v)) → IsValue v → AreValues (settled_in m) → AreValues (settled_in n)
-values_put m n key v told in_range values k u h = go (key_eq key k) (sym (value_put m n key v told k) ∙ h)
+pub values_put : (m n : BTreeMap Key (Option ℤ)) (key : Key) (v : ℤ) → Updates key_cmp m n key (Some (Some v)) → IsValue v → HoldValues (settled_in m) → HoldValues (settled_in n)
+values_put m n key v told in_range values k = rw (value_put m n key v told k) (go (key_eq key k) (values k))
   where
-    go : (b : Bool) → cond b (Some v) (settled_in m k) ≡ Some u → IsValue u
-    go true e = subst IsValue (same_Some v u e) in_range
-    go false e = values k u e
+    go : (b : Bool) → IfSome (settled_in m k) IsValue → IfSome (cond b (Some v) (settled_in m k)) IsValue
+    go true rest = in_range
+    go false rest = rest
 
 -- an empty record for a key that has none
 pub value_same : (m n : BTreeMap Key (Option ℤ)) (key : Key) → get key_cmp m key ≡ None → Updates key_cmp m n key (Some None) → (k : Key) → settled_in n k ≡ settled_in m k
@@ -78,11 +77,10 @@ value_same m n key absent told k = value_told m n key None told k ∙ go (key_eq
     go false e = refl
 
 -- whatever came of the empty record, the values are as before
-pub values_same : {T F : Type 0} (m n : BTreeMap Key (Option ℤ)) (key : Key) (r : Result T F) → get key_cmp m key ≡ None → OnOk r (Updates key_cmp m n key (Some None)) → OnErr r (IsUnchanged m n) → AreValues (settled_in m) → AreValues (settled_in n)
-values_same m n key (Ok x) absent told same values k v h = values k v (sym (value_same m n key absent told k) ∙ h)
-values_same m n key (Err e) absent told same values k v h = values k v (sym (ap (λ es. option_flatten (lookup (is_at (key_cmp k)) es)) same) ∙ h)
+pub values_same : {T F : Type 0} (m n : BTreeMap Key (Option ℤ)) (key : Key) (r : Result T F) → get key_cmp m key ≡ None → OnOk r (Updates key_cmp m n key (Some None)) → OnErr r (IsUnchanged m n) → HoldValues (settled_in m) → HoldValues (settled_in n)
+values_same m n key (Ok x) absent told same values k = rw (value_same m n key absent told k) (values k)
+values_same m n key (Err e) absent told same values k = subst (λ (o : Option ℤ). IfSome o IsValue) (sym (ap (λ es. option_flatten (lookup (is_at (key_cmp k)) es)) same)) (values k)
 
 -- the value of a record is in range
-pub value_in_range : (m : BTreeMap Key (Option ℤ)) (key : Key) (content : Option ℤ) → Some content ≡ get key_cmp m key → AreValues (settled_in m) → IfSome content IsValue
-value_in_range m key None is values = tt
-value_in_range m key (Some v) is values = values key v (ap option_flatten (sym is))
+pub value_in_range : (m : BTreeMap Key (Option ℤ)) (key : Key) (content : Option ℤ) → Some content ≡ get key_cmp m key → HoldValues (settled_in m) → IfSome content IsValue
+value_in_range m key content is values = subst (λ (o : Option ℤ). IfSome o IsValue) (sym (ap option_flatten is)) (values key)

@@ -1,8 +1,7 @@
--- What holds of every chain and of the committed values, whatever was done before.
-use Rattle.std.specs.Prelude.{◌≡◌, ℕ, ℤ, ◌≤◌, filter, length, nat_eq, List, Some}
+-- What holds of every chain, whatever was done before.
+use Rattle.std.specs.Prelude.{ℕ, ℤ, ◌≤◌, filter, length, nat_eq, List}
 use Rattle.std.specs.List.{All}
 use Rattle.sgt_model.specs.Numbers.{IsValue}
-use Rattle.sgt_model.specs.Contents.{Key, Contents}
 
 -- t has at most one value in the chain
 abbrev pub IsOnceIn : ℕ → List (ℕ × ℤ) → Type 0
@@ -13,7 +12,3 @@ pub record IsChain (chain : List (ℕ × ℤ)) : Type 0 where
   pub once : (t : ℕ) → IsOnceIn t chain
   pub few : length chain ≤ 32
   pub values : All (λ (w : ℕ × ℤ). IsValue w.1) chain
-
--- what a key has is a value
-abbrev pub AreValues : Contents → Type 0
-AreValues contents = (k : Key) (v : ℤ) → contents k ≡ Some v → IsValue v

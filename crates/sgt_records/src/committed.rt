@@ -2,9 +2,10 @@ ghost use Rattle.std.specs.Prelude.{◌≡◌, true, IfSome, IfOk, OnOk};
 ghost use Rattle.sgt_model.specs.Numbers.{IsValue};
 ghost use Rattle.sgt_model.specs.Contents.{Key as K, put_in};
 ghost use Rattle.sgt_model.specs.Databases.{contents_of, IsByKey};
+ghost use Rattle.sgt_model.specs.StoredValues.{HoldValues};
+ghost use Rattle.std.proofs.Props.{props};
 ghost use Rattle.sgt_records.specs.Settleds.{settled_in, has_record, KeepsRecords};
 ghost use Rattle.sgt_records.specs.Pendings.{settled_with, ArePending};
-ghost use Rattle.sgt_records.specs.Validity.{AreValues};
 
 use crate::write::Write;
 use sgt_model::{Database, Key, NoMemory, Tid};
@@ -16,7 +17,7 @@ use std::collections::BTreeMap;
 #[derive(Drop)]
 pub struct Committed {
     pub records: BTreeMap<Key, Option<i64>>,
-    ghost in_range: { AreValues (settled_in records) },
+    ghost in_range: { HoldValues (settled_in records) } by { Prim.hlevel props },
 }
 
 impl Committed {

@@ -6,8 +6,9 @@ ghost use Rattle.sgt_model.specs.Contents.{Key as K, key_eq};
 ghost use Rattle.sgt_model.specs.Databases.{contents_of, IsByKey};
 ghost use Rattle.sgt_model.specs.Chains.{without, write_last, value_in, writes_in};
 ghost use Rattle.sgt_model.specs.ChainOrder.{IsFirstIn, IsLastIn};
+ghost use Rattle.sgt_model.specs.StoredValues.{HoldValues};
 ghost use Rattle.sgt_records.specs.Tops.{top_of, IsTop, value_of};
-ghost use Rattle.sgt_records.specs.Validity.{IsChain, AreValues};
+ghost use Rattle.sgt_records.specs.Validity.{IsChain};
 
 use crate::top::Top;
 use sgt_model::{Database, Key, NoMemory, Tid};
@@ -31,7 +32,7 @@ pub trait Records: Drop + Send {
     fn build(alloc: Global, opening: &Database) -> Result<Self, NoMemory>
         ensures chain { IfOk result (λ r. (k : K) → chain r k ≡ []) }
         ensures settled { IfOk result (λ r. (k : K) → settled r k ≡ contents_of opening.now k) }
-        ensures are_values { IfOk result (λ r. AreValues (settled r)) };
+        ensures hold_values { IfOk result (λ r. HoldValues (settled r)) };
 
     /// What a look at the key finds: the last write that is not undone, committed or not.
     fn top(&self, key: Key) -> Top
@@ -39,7 +40,7 @@ pub trait Records: Drop + Send {
         ensures cases { IsTop result (last_or None (chain self.now key)) (settled self.now key) }
         ensures in_range { IfSome (value_of result) IsValue }
         ensures are_chains { (k : K) → IsChain (chain self.now k) }
-        ensures are_values { AreValues (settled self.now) };
+        ensures hold_values { HoldValues (settled self.now) };
 
     /// Takes the room that the next write of the key needs. `NoMemory` where a growth was refused.
     fn reserve(&mut self, key: Key) -> Result<(), NoMemory>
@@ -47,7 +48,7 @@ pub trait Records: Drop + Send {
         ensures settled { (k : K) → settled self.new k ≡ settled self.old k }
         ensures ready { OnOk result (is_ready self.new key) }
         ensures are_chains { (k : K) → IsChain (chain self.new k) }
-        ensures are_values { AreValues (settled self.new) };
+        ensures hold_values { HoldValues (settled self.new) };
 
     /// Writes t's value, from `LEAST` to `MOST`, above all others of the key. It replaces t's earlier one, which nobody
     /// may have written over. This takes no memory.
@@ -61,7 +62,7 @@ pub trait Records: Drop + Send {
             ≡ cond (key_eq key k) (write_last t value (chain self.old k)) (chain self.old k) }
         ensures settled { (k : K) → settled self.new k ≡ settled self.old k }
         ensures are_chains { (k : K) → IsChain (chain self.new k) }
-        ensures are_values { AreValues (settled self.new) };
+        ensures hold_values { HoldValues (settled self.new) };
 
     /// Makes the values of t, each the first of its chain, the committed ones. This takes no memory.
     fn settle(&mut self, t: Tid)
@@ -70,26 +71,26 @@ pub trait Records: Drop + Send {
         ensures settled { (k : K) → settled self.new k
             ≡ option_or (value_in t (chain self.old k)) (settled self.old k) }
         ensures are_chains { (k : K) → IsChain (chain self.new k) }
-        ensures are_values { AreValues (settled self.new) };
+        ensures hold_values { HoldValues (settled self.new) };
 
     /// Takes the values of t out of every chain. All else stays, also what was written over them. This takes no memory.
     fn undo(&mut self, t: Tid)
         ensures chain { (k : K) → chain self.new k ≡ without t (chain self.old k) }
         ensures settled { (k : K) → settled self.new k ≡ settled self.old k }
         ensures are_chains { (k : K) → IsChain (chain self.new k) }
-        ensures are_values { AreValues (settled self.new) };
+        ensures hold_values { HoldValues (settled self.new) };
 
     /// The committed value of the key, or none.
     fn committed(&self, key: Key) -> Option<i64>
         ensures value { result ≡ settled self.now key }
         ensures in_range { IfSome result IsValue }
         ensures are_chains { (k : K) → IsChain (chain self.now k) }
-        ensures are_values { AreValues (settled self.now) };
+        ensures hold_values { HoldValues (settled self.now) };
 
     /// The committed values, by key. `NoMemory` where a growth was refused.
     fn all(&self, alloc: Global) -> Result<Database, NoMemory>
         ensures values { IfOk result (λ d. (k : K) → contents_of d k ≡ settled self.now k) }
         ensures by_key { IfOk result IsByKey }
         ensures are_chains { (k : K) → IsChain (chain self.now k) }
-        ensures are_values { AreValues (settled self.now) };
+        ensures hold_values { HoldValues (settled self.now) };
 }

@@ -5,12 +5,10 @@ use Rattle.std.proofs.lemmas.Bool.{and_from, or_cases, or_left, or_right, eqb-tr
 use Rattle.sgt_model.specs.declared.kind.Kind.{Kind}
 use Rattle.sgt_model.specs.declared.kind.Kind.TheVariants.{Look, Store}
 use Rattle.sgt_model.specs.Contents.{Key, key_eq}
-use Rattle.sgt_model.specs.Walks.{Member, AtMost, last_of}
+use Rattle.sgt_model.specs.Walks.{Member, AtMost, Rising, last_of}
 use Rattle.sgt_model.specs.Pairs.{one_stores}
 use Rattle.sgt_model.specs.AccessList.{ListedAccess, is_conflicting, lists_conflicting, is_listed}
 use Rattle.sgt_model.specs.LiveProgress.{Progress}
-use Rattle.sgt_model.specs.Traces.{Used}
-use Rattle.sgt_model.specs.Settings.{runs_in}
 use Rattle.sgt_model.specs.State.{Has}
 use Rattle.sgt_model.specs.Found.{top_value, SourceIs}
 use Rattle.sgt_model.specs.Blocks.{Blocks}
@@ -20,7 +18,7 @@ use Rattle.sgt_model.proofs.Stores.{key_eq-refl}
 use Rattle.sgt_cycle.specs.Walk.{Walk, NoWalk}
 use Rattle.sgt_records.specs.Tops.{top_from, value_of}
 use Rattle.sgt_sched.specs.LiveList.{numbers, progress_at, changed}
-use Rattle.sgt_sched.specs.SchedulerView.{SchedulerView, state_of, IsKept}
+use Rattle.sgt_sched.specs.SchedulerView.{SchedulerView, state_of, HasUsed, IsKept}
 use Rattle.sgt_sched.specs.Steps.{with_source}
 use Rattle.sgt_sched.proofs.Lists.{numbers-changed, progress_at-changed, progress_at-own}
 
@@ -117,18 +115,16 @@ module _ {R A G : Type 0} {chain : R → Key → List (ℕ × ℤ)} {settled : R
       pub own_progress_is : progress_at (changed t change before.live) t ≡ change (progress_at before.live t)
       own_progress_is = progress_at-own t change before.live ((kept.sound.listed t).0 live_t)
 
-      abbrev UsedBy : Progress → Type 0
-      UsedBy c = Used (runs_in before.procedures c.call.procedure c.call.args) c.read c.made
-
       -- what holds at every moment holds afterwards, where it does of what is held and of t's course
-      pub kept_access : UsedBy (change (progress_at before.live t)) → Sound before.limits.live (state_of chain settled list nodes pairs after_access) → IsKept chain settled list nodes pairs after_access
+      pub kept_access : HasUsed before.procedures (change (progress_at before.live t)) → Sound before.limits.live (state_of chain settled list nodes pairs after_access) → IsKept chain settled list nodes pairs after_access
       kept_access used sound = record {
         in_range = kept.in_range;
         begun = kept.begun;
         sound = sound;
+        rising = subst Rising (sym notes.live) kept.rising;
         unended = λ u. ((λ h. (kept.unended u).0 (sym (nodes_are u) ∙ h)), (λ h. nodes_are u ∙ (kept.unended u).1 h));
         used = λ u h. both u (nat_eq u t) refl (sym (nodes_are u) ∙ h);
       } where
-        both : (u : ℕ) (b : Bool) → nat_eq u t ≡ b → nodes before.graph u ≡ true → UsedBy (progress_at (changed t change before.live) u)
-        both u true e h = subst UsedBy (sym (ap (progress_at (changed t change before.live)) (eqb-true u t e) ∙ own_progress_is)) used
-        both u false e h = subst UsedBy (sym (progress_at-changed t u change before.live (eqb-false u t e))) (kept.used u h)
+        both : (u : ℕ) (b : Bool) → nat_eq u t ≡ b → nodes before.graph u ≡ true → HasUsed before.procedures (progress_at (changed t change before.live) u)
+        both u true e h = subst (HasUsed before.procedures) (sym (ap (progress_at (changed t change before.live)) (eqb-true u t e) ∙ own_progress_is)) used
+        both u false e h = subst (HasUsed before.procedures) (sym (progress_at-changed t u change before.live (eqb-false u t e))) (kept.used u h)

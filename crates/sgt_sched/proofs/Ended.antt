@@ -7,16 +7,15 @@ use Rattle.sgt_model.specs.Contents.{Key}
 use Rattle.sgt_model.specs.Chains as chains
 use Rattle.sgt_model.specs.AccessList.{ListedAccess, forgotten}
 use Rattle.sgt_model.specs.LiveProgress.{Progress}
-use Rattle.sgt_model.specs.Traces.{Used}
-use Rattle.sgt_model.specs.Settings.{runs_in}
+use Rattle.sgt_model.specs.Walks.{Rising}
 use Rattle.sgt_model.specs.State.{Has}
 use Rattle.sgt_model.specs.Changes.{Removes}
 use Rattle.sgt_model.proofs.Counted.{filter-same}
 use Rattle.sgt_model.proofs.SoundCalls.{sound_removes}
-use Rattle.sgt_sched.specs.LiveList.{without}
-use Rattle.sgt_sched.specs.SchedulerView.{SchedulerView, fate_at, state_of, IsKept}
+use Rattle.sgt_sched.specs.LiveList.{numbers, without}
+use Rattle.sgt_sched.specs.SchedulerView.{SchedulerView, fate_at, state_of, HasUsed, IsKept}
 use Rattle.sgt_sched.specs.Steps.{unread}
-use Rattle.sgt_sched.proofs.Lists.{nat_eq-swap, numbers-without, progress_at-without, fate_at-set}
+use Rattle.sgt_sched.proofs.Lists.{nat_eq-swap, numbers-without, progress_at-without, fate_at-set, rising-filter}
 
 not-true : (b : Bool) → not b ≡ true → b ≡ false
 not-true false h = refl
@@ -88,12 +87,10 @@ module _ {R A G : Type 0} {chain : R → Key → List (ℕ × ℤ)} {settled : R
     in_range = kept.in_range;
     begun = subst (λ n. n ≤ before.limits.begins) (sym (length-set before.fates t (Some f))) kept.begun;
     sound = sound_removes before.limits.live _ _ kept.sound (λ u. nat_eq t u) removes;
+    rising = subst Rising (sym removes.live) (rising-filter (λ u. not (nat_eq t u)) (numbers before.live) kept.rising);
     unended = λ u. ((λ h. still u (parts u h)), (λ h. nodes_are u ∙ back u h.0 h.1));
-    used = λ u h. subst (UsedBy u) (sym (removes.progress u (not-true (nat_eq t u) (parts u h).1))) (kept.used u (parts u h).0);
+    used = λ u h. subst (HasUsed before.procedures) (sym (removes.progress u (not-true (nat_eq t u) (parts u h).1))) (kept.used u (parts u h).0);
   } where
-    UsedBy : ℕ → Progress → Type 0
-    UsedBy u c = Used (runs_in before.procedures c.call.procedure c.call.args) c.read c.made
-
     parts : (u : ℕ) → nodes graph u ≡ true → (nodes before.graph u ≡ true) × (not (nat_eq t u) ≡ true)
     parts u h = and_parts (nodes before.graph u) (not (nat_eq t u)) (sym (nodes_are u) ∙ h)
 

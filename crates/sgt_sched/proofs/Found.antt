@@ -1,13 +1,14 @@
 -- Whether a transaction is live, by the list of the live ones.
-use Rattle.std.proofs.Common.{◌≡◌, ℕ, ℤ, ◌<◌, Bool, true, false, nat_eq, cond, ◌⊎◌, inl, inr, List, [], ◌∷◌, length, Option, Some, None, refl, sym, ap, ◌∙◌, find}
+use Rattle.std.proofs.Common.{◌≡◌, ℕ, ℤ, ◌<◌, Bool, true, false, nat_eq, cond, ◌⊎◌, inl, inr, List, [], ◌∷◌, length, Option, Some, None, refl, sym, ap, ◌∙◌, subst, subst₂, find}
 use Rattle.std.proofs.lemmas.Bool.{eqb-true, eqb-false, lt-ltb}
 use Rattle.std.proofs.lemmas.Option.{same_Some}
 use Rattle.sgt_model.specs.Contents.{Key}
 use Rattle.sgt_model.specs.Walks.{Member}
 use Rattle.sgt_model.specs.AccessList.{ListedAccess}
+use Rattle.sgt_model.specs.Syntax.{Program}
 use Rattle.sgt_model.specs.LiveProgress.{Progress}
 use Rattle.sgt_sched.specs.LiveList.{numbers, has_number, progress_at}
-use Rattle.sgt_sched.specs.SchedulerView.{SchedulerView, fate_at, IsKept, state_of}
+use Rattle.sgt_sched.specs.SchedulerView.{SchedulerView, fate_at, HasUsed, IsKept, state_of}
 use Rattle.sgt_sched.specs.Steps.{IsUnended}
 
 -- one that is found has that number, and its course
@@ -44,3 +45,9 @@ module _ {R A G : Type 0} {chain : R → Key → List (ℕ × ℤ)} {settled : R
   -- a node was started, and has not ended
   pub unended : nodes p.graph t ≡ true → IsUnended (state_of chain settled list nodes pairs p) t
   unended node = let u = (kept.unended t).0 node in record { begun = lt-ltb t (length p.fates) u.0; unended = u.1 }
+
+-- a node has come so far by its procedure, as callers see it
+pub used_seen : {R A G : Type 0} {chain : R → Key → List (ℕ × ℤ)} {settled : R → Key → Option ℤ} {list : A → List ListedAccess} {nodes : G → ℕ → Bool} {pairs : G → ℕ → ℕ → Bool} {before now : SchedulerView R A G} → IsKept chain settled list nodes pairs before → before ≡ now → (t : ℕ) (programs : List Program) (r : ℕ × Progress) → nodes now.graph t ≡ true → programs ≡ before.procedures → r ≡ (t, progress_at now.live t) → HasUsed programs r.1
+used_seen {R} {A} {G} {chain} {settled} {list} {nodes} {pairs} {before} {now} kept seen t programs r node same is =
+    let used = (subst (IsKept chain settled list nodes pairs) seen kept).used t node in
+    subst₂ HasUsed (ap (λ (p : SchedulerView R A G). p.procedures) (sym seen) ∙ sym same) (ap (λ (x : ℕ × Progress). x.1) (sym is)) used

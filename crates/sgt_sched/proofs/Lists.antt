@@ -1,8 +1,8 @@
 -- Courses, fates and reads, as one of them is added, changed or dropped.
-use Rattle.std.proofs.Common.{◌≡◌, ◌≢◌, ℕ, zero, suc, ◌<◌, ◌≤◌, arith, Bool, true, false, not, cond, ◌⊎◌, inl, inr, nat_eq, List, [], ◌∷◌, ◌++◌, length, filter, Option, Some, None, refl, sym, ap, ◌∙◌, slice_set}
+use Rattle.std.proofs.Common.{◌≡◌, ◌≢◌, ℕ, zero, suc, ◌<◌, ◌≤◌, lt_trans, arith, Bool, true, false, not, cond, ◌⊎◌, inl, inr, nat_eq, List, [], ◌∷◌, ◌++◌, length, filter, Option, Some, None, refl, sym, ap, ◌∙◌, slice_set}
 use Rattle.std.proofs.lemmas.Bool.{false_from_ne_true, eqb-true, eqb-false, eq-eqb}
 use Rattle.sgt_model.specs.declared.reply.Fate.{Fate}
-use Rattle.sgt_model.specs.Walks.{Member}
+use Rattle.sgt_model.specs.Walks.{Member, Rising, Distinct}
 use Rattle.sgt_model.specs.LiveProgress.{Progress}
 use Rattle.sgt_sched.specs.LiveList.{numbers, progress_at, changed, without}
 use Rattle.sgt_sched.specs.SchedulerView.{fate_at}
@@ -123,3 +123,57 @@ pub fate_at-past : (fates : List (Option Fate)) (u : ℕ) → length fates ≤ u
 fate_at-past [] u h = refl
 fate_at-past (f ∷ fates) zero h = absurd (omega arith)
 fate_at-past (f ∷ fates) (suc u) h = fate_at-past fates u (omega arith)
+
+-- numbers that rise
+
+-- t is below each of the list
+abbrev Above : ℕ → List ℕ → Type 0
+Above t [] = Unit {0}
+Above t (u ∷ l) = (t < u) × Above t l
+
+above-more : (t u : ℕ) (l : List ℕ) → t < u → Above u l → Above t l
+above-more t u [] lt h = tt
+above-more t u (v ∷ l) lt h = (lt_trans lt h.0, above-more t u l lt h.1)
+
+-- the first of those that rise is below the others
+above-rest : (t : ℕ) (l : List ℕ) → Rising (t ∷ l) → Above t l
+above-rest t [] h = tt
+above-rest t (u ∷ l) h = (h.0, above-more t u l h.0 (above-rest u l h.1))
+
+rising-rest : (t : ℕ) (l : List ℕ) → Rising (t ∷ l) → Rising l
+rising-rest t [] h = tt
+rising-rest t (u ∷ l) h = h.1
+
+rising-from : (t : ℕ) (l : List ℕ) → Above t l → Rising l → Rising (t ∷ l)
+rising-from t [] h r = tt
+rising-from t (u ∷ l) h r = (h.0, r)
+
+above-filter : (f : ℕ → Bool) (t : ℕ) (l : List ℕ) → Above t l → Above t (filter f l)
+above-filter f t [] h = tt
+above-filter f t (u ∷ l) h = both (f u) (above-filter f t l h.1) where
+  both : (b : Bool) → Above t (filter f l) → Above t (cond b (u ∷ filter f l) (filter f l))
+  both true r = (h.0, r)
+  both false r = r
+
+-- some of those that rise rise
+pub rising-filter : (f : ℕ → Bool) (l : List ℕ) → Rising l → Rising (filter f l)
+rising-filter f [] h = tt
+rising-filter f (u ∷ l) h = both (f u) (rising-filter f l (rising-rest u l h)) where
+  both : (b : Bool) → Rising (filter f l) → Rising (cond b (u ∷ filter f l) (filter f l))
+  both true r = rising-from u (filter f l) (above-filter f u l (above-rest u l h)) r
+  both false r = r
+
+-- with a greater one at the end they rise
+pub rising-added : (n : ℕ) (l : List ℕ) → Rising l → ((t : ℕ) → Member t l → t < n) → Rising (l ++ n ∷ [])
+rising-added n [] h under = tt
+rising-added n (t ∷ []) h under = (under t (inl refl), tt)
+rising-added n (t ∷ u ∷ l) h under = (h.0, rising-added n (u ∷ l) h.1 (λ v m. under v (inr m)))
+
+-- those that rise differ
+pub rising-distinct : (l : List ℕ) → Rising l → Distinct l
+rising-distinct [] h = tt
+rising-distinct (t ∷ l) h = (not_among t l (above-rest t l h), rising-distinct l (rising-rest t l h)) where
+  not_among : (t : ℕ) (l : List ℕ) → Above t l → Member t l → ⊥
+  not_among t [] h m = m
+  not_among t (u ∷ l) h (inl e) = absurd (omega (arith, h.0, e))
+  not_among t (u ∷ l) h (inr m) = not_among t l h.1 m

@@ -1,10 +1,11 @@
 -- The list of live transactions: where one stands in it, and what changes there.
-use Rattle.std.proofs.Common.{◌≡◌, ℕ, zero, suc, ◌<◌, ◌≤◌, ◌+◌, arith, Bool, true, false, not, cond, nat_eq, nat_lt, List, [], ◌∷◌, length, Some, None, refl, sym, ap, ◌∙◌, subst, slice_get, slice_set, get_or, position}
+use Rattle.std.proofs.Common.{◌≡◌, ℕ, zero, suc, ◌<◌, ◌≤◌, ◌+◌, arith, Bool, true, false, not, cond, nat_eq, nat_lt, ◌⊎◌, inl, inr, List, [], ◌∷◌, length, Some, None, refl, sym, ap, ◌∙◌, subst, slice_get, slice_set, get_or, position}
 use Rattle.std.specs.List.{position_or_len}
-use Rattle.std.proofs.lemmas.Bool.{ltb-true, ltb-false}
+use Rattle.std.proofs.lemmas.Bool.{ltb-true, ltb-false, eqb-false}
 use Rattle.std.proofs.lemmas.Option.{same_Some, slice_get_read}
 use Rattle.sgt_model.specs.LiveProgress.{Progress}
-use Rattle.sgt_sched.specs.LiveList.{has_number, progress_at, changed}
+use Rattle.sgt_model.specs.Walks.{Member}
+use Rattle.sgt_sched.specs.LiveList.{numbers, has_number, progress_at, changed}
 
 first_true : (b : Bool) (n : ℕ) → cond (not b) (1 + n) 0 ≡ 0 → b ≡ true
 first_true true n e = refl
@@ -37,14 +38,6 @@ first_at t (q ∷ rest) (suc i) r e at =
       change = λ f. ap (λ l. q ∷ l) (rec.change f) ∙ sym (ap (λ c. cond c ((q.0, f q.1) ∷ rest) (q ∷ changed t f rest)) b.0);
     }
 
--- none has that number: nothing changes
-pub unchanged : (t : ℕ) (live : List (ℕ × Progress)) (f : Progress → Progress) → length live ≤ position_or_len (has_number t) live → changed t f live ≡ live
-unchanged t [] f e = refl
-unchanged t (q ∷ rest) f e = both (nat_eq q.0 t) refl (unchanged t rest f) where
-  both : (b : Bool) → nat_eq q.0 t ≡ b → (length rest ≤ position_or_len (has_number t) rest → changed t f rest ≡ rest) → changed t f (q ∷ rest) ≡ q ∷ rest
-  both true h rec = absurd (omega (arith, subst (λ b. suc (length rest) ≤ cond (not b) (1 + position_or_len (has_number t) rest) 0) h e))
-  both false h rec = ap (λ b. cond b ((q.0, f q.1) ∷ rest) (q ∷ changed t f rest)) h ∙ ap (λ l. q ∷ l) (rec (omega (arith, subst (λ b. suc (length rest) ≤ cond (not b) (1 + position_or_len (has_number t) rest) 0) h e)))
-
 -- a place that was found, or not
 pub placed : (n len i : ℕ) → cond (nat_lt n len) (Some n) None ≡ Some i → n ≡ i
 placed n len i e = both (nat_lt n len) e where
@@ -58,21 +51,28 @@ within n len i e = both (nat_lt n len) refl where
   both true h = subst (λ m. m < len) (placed n len i e) (ltb-true n len h)
   both false h = absurd (let f : None ≡ Some i = sym (ap (λ c. cond c (Some n) None) h) ∙ e in cc)
 
-missed : (n len : ℕ) → cond (nat_lt n len) (Some n) None ≡ None → len ≤ n
-missed n len e = both (nat_lt n len) refl where
-  both : (b : Bool) → nat_lt n len ≡ b → len ≤ n
-  both true h = absurd (let f : None ≡ Some n = sym e ∙ ap (λ c. cond c (Some n) None) h in cc)
-  both false h = ltb-false n len h
-
 -- the same of a list that was seen as another
 pub found_at : (t : ℕ) (rows seen : List (ℕ × Progress)) (i : ℕ) (r : ℕ × Progress) → rows ≡ seen → Some i ≡ position (has_number t) seen → r ≡ get_or rows i r → IsFirst t seen i r
 found_at t rows seen i r same found read =
     let at : position_or_len (has_number t) seen ≡ i = placed _ (length seen) i (sym found) in
     first_at t seen i r at (slice_get_read seen (length seen) i r refl (within (position_or_len (has_number t) seen) (length seen) i (sym found)) (subst (λ l. r ≡ get_or l i r) same read))
 
--- where t has no place, a change does nothing
-pub none_found : (t : ℕ) (live : List (ℕ × Progress)) (f : Progress → Progress) → None ≡ position (has_number t) live → live ≡ changed t f live
-none_found t live f missing = sym (unchanged t live f (missed _ (length live) (sym missing)))
+-- a live one has a place
+pub has_place : (t : ℕ) (live : List (ℕ × Progress)) → Member t (numbers live) → position (has_number t) live ≡ None → ⊥
+has_place t live m missing = absurd (omega (arith, before_end t live m, missed _ (length live) missing)) where
+  before_end : (t : ℕ) (live : List (ℕ × Progress)) → Member t (numbers live) → position_or_len (has_number t) live < length live
+  before_end t [] m = absurd m
+  before_end t (q ∷ rest) m = both (nat_eq q.0 t) refl (before_end t rest) m where
+    both : (b : Bool) → nat_eq q.0 t ≡ b → (Member t (numbers rest) → position_or_len (has_number t) rest < length rest) → (t ≡ q.0) ⊎ Member t (numbers rest) → cond (not (nat_eq q.0 t)) (1 + position_or_len (has_number t) rest) 0 < suc (length rest)
+    both true h rec m = subst (λ b. cond (not b) (1 + position_or_len (has_number t) rest) 0 < suc (length rest)) (sym h) (omega arith)
+    both false h rec (inl e) = absurd (eqb-false q.0 t h (sym e))
+    both false h rec (inr i) = let r = rec i in subst (λ b. cond (not b) (1 + position_or_len (has_number t) rest) 0 < suc (length rest)) (sym h) (omega (arith, r))
+
+  missed : (n len : ℕ) → cond (nat_lt n len) (Some n) None ≡ None → len ≤ n
+  missed n len e = both (nat_lt n len) refl where
+    both : (b : Bool) → nat_lt n len ≡ b → len ≤ n
+    both true h = absurd (let f : None ≡ Some n = sym e ∙ ap (λ c. cond c (Some n) None) h in cc)
+    both false h = ltb-false n len h
 
 -- the change at that place, of a list that was seen as another
 pub changed_at : (t : ℕ) (rows seen : List (ℕ × Progress)) (i : ℕ) (r s : ℕ × Progress) (f : Progress → Progress) → rows ≡ seen → s ≡ (r.0, f r.1) → IsFirst t seen i r → slice_set rows i s ≡ changed t f seen

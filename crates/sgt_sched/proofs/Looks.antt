@@ -57,7 +57,7 @@ module _ {R A G : Type 0} {chain : R → Key → List (ℕ × ℤ)} {settled : R
     pub kept_look : IsKept chain settled list nodes pairs after_look
     kept_look = subst (IsKept chain settled list nodes pairs) is_after
         (kept_access kept t live_t k Look rivals exact before.records accesses graph (looked value) (with_source (top_from (last_or None (chain before.records k)) (settled before.records k)) t before.read_from) (λ j. refl) list_is nodes_are pairs_are
-        (used_look (runs_in before.procedures (progress_at before.live t).call.procedure (progress_at before.live t).call.args) (progress_at before.live t).read (progress_at before.live t).made k value (kept.used t live_t) next)
+        (record { named = (kept.used t live_t).named; used = used_look (runs_in before.procedures (progress_at before.live t).call.procedure (progress_at before.live t).call.args) (progress_at before.live t).read (progress_at before.live t).made k value (kept.used t live_t).used next })
         (sound_look before.limits.live _ _ kept.sound t k live_t looks))
 
     -- it is a look that nothing blocks
@@ -97,7 +97,7 @@ module _ {R A G : Type 0} {chain : R → Key → List (ℕ × ℤ)} {settled : R
       pub kept_store : IsKept chain settled list nodes pairs after_store
       kept_store = subst (IsKept chain settled list nodes pairs) store_is
           (kept_access kept t live_t k Store rivals exact records accesses graph stored before.read_from settled_is list_is nodes_are pairs_are
-          (used_store (runs_in before.procedures (progress_at before.live t).call.procedure (progress_at before.live t).call.args) (progress_at before.live t).read (progress_at before.live t).made k v (kept.used t live_t) next)
+          (record { named = (kept.used t live_t).named; used = used_store (runs_in before.procedures (progress_at before.live t).call.procedure (progress_at before.live t).call.args) (progress_at before.live t).read (progress_at before.live t).made k v (kept.used t live_t).used next })
           (sound_store before.limits.live _ _ kept.sound t k v live_t stores.notes stores.chain stores.read_from))
 
       -- it is a store that nothing blocks

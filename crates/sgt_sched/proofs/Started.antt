@@ -1,23 +1,32 @@
 -- What a start does to what is held.
-use Rattle.std.proofs.Common.{◌≡◌, ℕ, ℤ, ◌<◌, arith, Bool, true, false, ◌||◌, inl, inr, nat_eq, List, [], ◌∷◌, ◌++◌, length, Option, None, refl, sym, ap, ◌∙◌, subst}
+use Rattle.std.proofs.Common.{◌≡◌, ℕ, zero, suc, ℤ, ◌<◌, arith, Bool, true, false, ◌||◌, inl, inr, nat_eq, List, [], ◌∷◌, ◌++◌, length, Option, None, refl, sym, ap, ◌∙◌, subst}
 use Rattle.std.proofs.lemmas.List.{length-append, length-map}
 use Rattle.std.proofs.lemmas.Bool.{false_from_ne_true, or_cases, or_left, or_right, eqb-true, eqb-false}
 use Rattle.sgt_model.specs.declared.reply.Fate.{Fate}
 use Rattle.sgt_model.specs.Contents.{Key}
-use Rattle.sgt_model.specs.Walks.{Member, AtMost}
+use Rattle.sgt_model.specs.Walks.{Member, AtMost, Rising}
 use Rattle.sgt_model.specs.AccessList.{ListedAccess}
 use Rattle.sgt_model.specs.LiveProgress.{Progress}
-use Rattle.sgt_model.specs.Traces.{Used}
-use Rattle.sgt_model.specs.Settings.{Rules, runs_in}
+use Rattle.sgt_model.specs.declared.limits.Limits.{Limits}
+use Rattle.sgt_model.specs.Syntax.{Program}
+use Rattle.sgt_model.specs.Settings.{Rules, args_in}
 use Rattle.sgt_model.specs.declared.reply.Reply.{Reply}
-use Rattle.sgt_model.specs.CallEffects.{start_answer, StartOn, StartEffect}
+use Rattle.sgt_model.specs.declared.reply.Reply.TheVariants as reply
+use Rattle.sgt_model.specs.CallEffects.{start_answer, taken_reply, StartOn, StartEffect}
 use Rattle.sgt_model.specs.State.{State}
 use Rattle.sgt_model.specs.Changes.{Starts}
 use Rattle.sgt_model.proofs.Conditions.{next_no_node}
 use Rattle.sgt_model.proofs.SoundCalls.{sound_starts}
 use Rattle.sgt_sched.specs.LiveList.{numbers, progress_at, started}
-use Rattle.sgt_sched.specs.SchedulerView.{SchedulerView, fate_at, state_of, IsKept}
-use Rattle.sgt_sched.proofs.Lists.{numbers-added, progress_at-added, progress_at-new, fate_at-added, fate_at-past}
+use Rattle.sgt_sched.specs.SchedulerView.{SchedulerView, fate_at, state_of, HasUsed, IsKept}
+use Rattle.sgt_sched.proofs.Lists.{numbers-added, progress_at-added, progress_at-new, fate_at-added, fate_at-past, rising-added}
+
+-- a start that is let in names a procedure
+pub named : (programs : List Program) (procedure : ℕ) (limits : Limits) (begun living t : ℕ) (args : List ℤ) → reply.Started t ≡ taken_reply limits begun living (args_in programs procedure) args → procedure < length programs
+named [] zero limits begun living t args e = absurd (cc)
+named [] (suc n) limits begun living t args e = absurd (cc)
+named (p ∷ rest) zero limits begun living t args e = omega arith
+named (p ∷ rest) (suc n) limits begun living t args e = let r = named rest n limits begun living t args e in omega (arith, r)
 
 module _ {R A G : Type 0} {chain : R → Key → List (ℕ × ℤ)} {settled : R → Key → Option ℤ} {list : A → List ListedAccess} {nodes : G → ℕ → Bool} {pairs : G → ℕ → ℕ → Bool} {before : SchedulerView R A G} (kept : IsKept chain settled list nodes pairs before) (procedure : ℕ) (args : List ℤ) (graph : G) (nodes_are : (u : ℕ) → nodes graph u ≡ (nodes before.graph u || nat_eq u (length before.fates))) (pairs_are : (u v : ℕ) → pairs graph u v ≡ pairs before.graph u v) where
   -- the parts afterwards
@@ -54,19 +63,17 @@ module _ {R A G : Type 0} {chain : R → Key → List (ℕ × ℤ)} {settled : R
   }
 
   -- what holds at every moment holds afterwards
-  pub kept_start : length before.live < before.limits.live → length before.fates < before.limits.begins → IsKept chain settled list nodes pairs after_start
-  kept_start room more = record {
+  pub kept_start : procedure < length before.procedures → length before.live < before.limits.live → length before.fates < before.limits.begins → IsKept chain settled list nodes pairs after_start
+  kept_start named room more = record {
     in_range = kept.in_range;
     begun = omega (arith, length-append before.fates (None ∷ []));
     sound = sound_starts before.limits.live _ _ kept.sound (record { procedure = procedure; args = args }) (few before.live room) starts;
+    rising = subst Rising (sym starts.live) (rising-added (length before.fates) (numbers before.live) kept.rising (λ u m. kept.sound.begun u ((kept.sound.listed u).1 m)));
     unended = λ u. ((λ h. elim (or_cases (nodes before.graph u) (nat_eq u (length before.fates)) (sym (nodes_are u) ∙ h)) [ inl old ↦ was u old | inr new ↦ is_new u (eqb-true u (length before.fates) new) ]), (λ h. nodes_are u ∙ back u h.0 h.1));
     used = λ u h. elim (or_cases (nodes before.graph u) (nat_eq u (length before.fates)) (sym (nodes_are u) ∙ h)) [ inl old ↦ used_before u old | inr new ↦ used_now u (eqb-true u (length before.fates) new) ];
   } where
     Open : ℕ → Type 0
     Open u = (u < length (before.fates ++ None ∷ [])) × (fate_at (before.fates ++ None ∷ []) u ≡ None)
-
-    UsedBy : ℕ → Progress → Type 0
-    UsedBy u c = Used (runs_in before.procedures c.call.procedure c.call.args) c.read c.made
 
     few : (l : List (ℕ × Progress)) → length l < before.limits.live → length (numbers l) < before.limits.live
     few l h = subst (λ n. n < before.limits.live) (sym (length-map l _)) h
@@ -83,11 +90,11 @@ module _ {R A G : Type 0} {chain : R → Key → List (ℕ × ℤ)} {settled : R
       both true e = or_right (nodes before.graph u) _ e
       both false e = or_left _ (nat_eq u (length before.fates)) ((kept.unended u).1 (omega (arith, h, length-append before.fates (None ∷ []), eqb-false u (length before.fates) e), sym (fate_at-added before.fates u) ∙ f))
 
-    used_before : (u : ℕ) → nodes before.graph u ≡ true → UsedBy u (progress_at (before.live ++ (length before.fates, started procedure args) ∷ []) u)
-    used_before u h = subst (UsedBy u) (sym (starts.progress u (λ e. next_no_node before.limits.live (state_of chain settled list nodes pairs before) kept.sound (subst (λ x. nodes before.graph x ≡ true) e h)))) (kept.used u h)
+    used_before : (u : ℕ) → nodes before.graph u ≡ true → HasUsed before.procedures (progress_at (before.live ++ (length before.fates, started procedure args) ∷ []) u)
+    used_before u h = subst (HasUsed before.procedures) (sym (starts.progress u (λ e. next_no_node before.limits.live (state_of chain settled list nodes pairs before) kept.sound (subst (λ x. nodes before.graph x ≡ true) e h)))) (kept.used u h)
 
-    used_now : (u : ℕ) → u ≡ length before.fates → UsedBy u (progress_at (before.live ++ (length before.fates, started procedure args) ∷ []) u)
-    used_now u e = subst (UsedBy u) (sym (ap (progress_at after_start.live) e ∙ starts.own_progress)) tt
+    used_now : (u : ℕ) → u ≡ length before.fates → HasUsed before.procedures (progress_at (before.live ++ (length before.fates, started procedure args) ∷ []) u)
+    used_now u e = subst (HasUsed before.procedures) (sym (ap (progress_at after_start.live) e ∙ starts.own_progress)) (record { named = named; used = tt })
 
 module _ {R A G : Type 0} {chain : R → Key → List (ℕ × ℤ)} {settled : R → Key → Option ℤ} {list : A → List ListedAccess} {nodes : G → ℕ → Bool} {pairs : G → ℕ → ℕ → Bool} {before : SchedulerView R A G} (kept : IsKept chain settled list nodes pairs before) (procedure : ℕ) (args : List ℤ) (t : ℕ) (next : t ≡ length before.fates) where
   -- the next number is no node
@@ -103,10 +110,10 @@ module _ {R A G : Type 0} {chain : R → Key → List (ℕ × ℤ)} {settled : R
   }
 
   -- the parts after a start, with its effect
-  pub start_done : (graph : G) (live : List (ℕ × Progress)) (fates : List (Option Fate)) → ((u : ℕ) → nodes graph u ≡ (nodes before.graph u || nat_eq u t)) → ((u v : ℕ) → pairs graph u v ≡ pairs before.graph u v) → live ≡ before.live ++ (t, started procedure args) ∷ [] → fates ≡ before.fates ++ None ∷ [] → length (numbers before.live) < before.limits.live → length before.fates < before.limits.begins → IsKept chain settled list nodes pairs (record { procedures = before.procedures; limits = before.limits; records = before.records; accesses = before.accesses; graph = graph; live = live; read_from = before.read_from; fates = fates }) × Starts (record { procedure = procedure; args = args }) (state_of chain settled list nodes pairs before) (state_of chain settled list nodes pairs (record { procedures = before.procedures; limits = before.limits; records = before.records; accesses = before.accesses; graph = graph; live = live; read_from = before.read_from; fates = fates }))
-  start_done graph live fates nodes_are pairs_are live_is fates_is room more =
+  pub start_done : (graph : G) (live : List (ℕ × Progress)) (fates : List (Option Fate)) → ((u : ℕ) → nodes graph u ≡ (nodes before.graph u || nat_eq u t)) → ((u v : ℕ) → pairs graph u v ≡ pairs before.graph u v) → live ≡ before.live ++ (t, started procedure args) ∷ [] → fates ≡ before.fates ++ None ∷ [] → procedure < length before.procedures → length (numbers before.live) < before.limits.live → length before.fates < before.limits.begins → IsKept chain settled list nodes pairs (record { procedures = before.procedures; limits = before.limits; records = before.records; accesses = before.accesses; graph = graph; live = live; read_from = before.read_from; fates = fates }) × Starts (record { procedure = procedure; args = args }) (state_of chain settled list nodes pairs before) (state_of chain settled list nodes pairs (record { procedures = before.procedures; limits = before.limits; records = before.records; accesses = before.accesses; graph = graph; live = live; read_from = before.read_from; fates = fates }))
+  start_done graph live fates nodes_are pairs_are live_is fates_is named room more =
       subst (λ (p : SchedulerView R A G). IsKept chain settled list nodes pairs p × Starts (record { procedure = procedure; args = args }) (state_of chain settled list nodes pairs before) (state_of chain settled list nodes pairs p)) same
-      (kept_start kept procedure args graph nodes_now pairs_are (subst (λ n. n < before.limits.live) (length-map before.live _) room) more, starts kept procedure args graph nodes_now pairs_are) where
+      (kept_start kept procedure args graph nodes_now pairs_are named (subst (λ n. n < before.limits.live) (length-map before.live _) room) more, starts kept procedure args graph nodes_now pairs_are) where
         nodes_now : (u : ℕ) → nodes graph u ≡ (nodes before.graph u || nat_eq u (length before.fates))
         nodes_now u = nodes_are u ∙ ap (λ n. nodes before.graph u || nat_eq u n) next
 

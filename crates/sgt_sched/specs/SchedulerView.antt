@@ -7,6 +7,7 @@ use Rattle.sgt_model.specs.Contents.{Key}
 use Rattle.sgt_model.specs.Syntax.{Program}
 use Rattle.sgt_model.specs.Traces.{Used}
 use Rattle.sgt_model.specs.Settings.{Rules, rules_from, runs_in}
+use Rattle.sgt_model.specs.Walks.{Rising}
 use Rattle.sgt_model.specs.AccessList.{ListedAccess}
 use Rattle.sgt_model.specs.LiveProgress.{Progress}
 use Rattle.sgt_model.specs.State.{State}
@@ -33,9 +34,11 @@ rules_of p = rules_from p.procedures p.limits
 abbrev pub fate_at : List (Option Fate) → ℕ → Option Fate
 fate_at fates t = slice_index_or fates t None
 
--- the values that a transaction's looks found are those that its procedure has used
-abbrev pub HasUsed : List Program → Progress → Type 0
-HasUsed programs c = Used (runs_in programs c.call.procedure c.call.args) c.read c.made
+-- a transaction has come so far: its procedure is one of these, and the values that its looks found are those that the
+-- procedure has used
+pub record HasUsed (programs : List Program) (c : Progress) : Type 0 where
+  pub named : c.call.procedure < length programs
+  pub used : Used (runs_in programs c.call.procedure c.call.args) c.read c.made
 
 -- by what the layers tell: of records the chain and the committed value of each key, of accesses their list, of a graph its
 -- nodes and pairs
@@ -55,11 +58,12 @@ module _ {R A G : Type 0} (chain : R → Key → List (ℕ × ℤ)) (settled : R
     progress = progress_at p.live;
   }
 
-  -- what holds at every moment: the limits are in their ranges and kept; the state is sound; the graph's nodes are those
-  -- that were started and have not ended; and the values looked at are those that the procedures have used
+  -- what holds at every moment: the limits are in their ranges and kept; the state is sound; the live ones rise; the graph's
+  -- nodes are those that were started and have not ended; and each has come so far by its procedure
   pub record IsKept (p : SchedulerView R A G) : Type 0 where
     pub in_range : AreInRange p.limits
     pub begun : length p.fates ≤ p.limits.begins
     pub sound : Sound p.limits.live (state_of p)
+    pub rising : Rising (numbers p.live)
     pub unended : (t : ℕ) → (nodes p.graph t ≡ true) ↔ ((t < length p.fates) × (fate_at p.fates t ≡ None))
     pub used : (t : ℕ) → nodes p.graph t ≡ true → HasUsed p.procedures (progress_at p.live t)

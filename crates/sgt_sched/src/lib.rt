@@ -22,8 +22,6 @@ mod reads;
 mod running;
 mod sched;
 mod scheduler;
-#[cfg(test)]
-mod tests;
 
 pub use sched::Sched;
 pub use scheduler::Scheduler;

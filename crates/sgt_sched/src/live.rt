@@ -1,6 +1,7 @@
 ghost use Rattle.std.specs.Prelude.{◌≡◌, ◌<◌, [], ◌∷◌, ◌++◌, length, OnOk, OnErr, position, find};
 ghost use Rattle.std.specs.Option.{option_copied};
-ghost use Rattle.sgt_sched.specs.LiveList.{has_number, progress_at, started, looked, stored, changed, without};
+ghost use Rattle.sgt_model.specs.Walks.{Member};
+ghost use Rattle.sgt_sched.specs.LiveList.{numbers, has_number, progress_at, started, looked, stored, changed, without};
 
 use crate::running::Running;
 use sgt_model::{Args, NoMemory, Tid};
@@ -64,25 +65,28 @@ impl Live {
         Ok(())
     }
 
-    /// Notes that a look of t found this. `NoMemory` where a growth was refused; then nothing has changed.
+    /// Notes that a look of t, which is live, found this. `NoMemory` where a growth was refused; then nothing has changed.
     pub fn look(&mut self, t: Tid, value: Option<i64>) -> Result<(), NoMemory>
+        requires live { Member t (numbers self.old) }
         requires few { (progress_at self.old t).made < 64 }
         ensures ok { OnOk result (self.new ≡ changed t (looked value) self.old) }
         ensures err { OnErr result (self.new ≡ self.old) }
     {
-        if let Some(place) = self.place(t) {
-            self.running[place].look(value)?;
+        match self.place(t) {
+            Some(place) => self.running[place].look(value),
+            None => unreachable!(),
         }
-        Ok(())
     }
 
-    /// Notes that t stored a value. This takes no memory.
+    /// Notes that t, which is live, stored a value. This takes no memory.
     pub fn store(&mut self, t: Tid)
+        requires live { Member t (numbers self.old) }
         requires few { (progress_at self.old t).made < 64 }
         ensures { self.new ≡ changed t stored self.old }
     {
-        if let Some(place) = self.place(t) {
-            self.running[place].store();
+        match self.place(t) {
+            Some(place) => self.running[place].store(),
+            None => unreachable!(),
         }
     }
 
@@ -93,7 +97,7 @@ impl Live {
         self.running.retain(|running| running.tid != t);
     }
 
-    // The place of the transaction.
+    // The place of the transaction, if it is live.
     fn place(&self, t: Tid) -> Option<usize>
         ensures { result ≡ position (has_number t) self.now }
     {

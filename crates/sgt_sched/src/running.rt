@@ -57,17 +57,17 @@ impl Running {
     }
 }
 
-/// What the procedure of a live transaction does next. Where its number names no procedure, which no start lets in, it asks
-/// the code 0.
+/// What the procedure of a live transaction does next: its number names one of the procedures, and it has come so far by
+/// that one.
 pub fn next_of(procedures: &[Checked], running: &Running) -> Next
+    requires { HasUsed procedures.now running.now.1 }
     ensures next { seen result ≡ next_along procedures.now running.now.1 }
     ensures in_range { StoresValue result }
-    ensures few { IsAccess result
-        → HasUsed procedures.now running.now.1
-        → running.now.1.made < 64 }
+    ensures few { IsAccess result → running.now.1.made < 64 }
 {
-    match procedures.get(usize::from(running.procedure)) {
-        Some(procedure) => procedure.next(&running.args, running.read.as_slice(), running.made),
-        None => Next::Asks(0),
-    }
+    procedures[usize::from(running.procedure)].next(
+        &running.args,
+        running.read.as_slice(),
+        running.made,
+    )
 }

@@ -3,7 +3,7 @@ use Rattle.std.proofs.Common.{◌≡◌, ℕ, ◌+◌, ◌≤◌, List, ◌++◌
 use Rattle.std.specs.Prelude.{Result, Ok, Err, OnErr, Option, None, Some, Bool, true, false, is_some, ◌⊎◌, if◌then◌else◌}
 use Rattle.std.proofs.lemmas.Grind.{common_steps}
 use Rattle.sgt_script.specs.Lines.{has_break}
-use Rattle.sgt_script.specs.Intake.{Intake, left, AtRest, HasCome, IsReady, has_whole_line}
+use Rattle.sgt_script.specs.Intake.{Intake, left, AtRest, IsReady, has_whole_line}
 use Rattle.std.proofs.lemmas.Bool.{true≢false}
 use Rattle.sgt_script.proofs.Breaks.{found-none, found-is}
 use Rattle.std.proofs.lemmas.List.{take-append-drop}
@@ -39,18 +39,6 @@ keeps-trans None b c first second = tt
 keeps-trans (Some xs) None c first second = absurd first
 keeps-trans (Some xs) (Some ys) None first second = second
 keeps-trans (Some xs) (Some ys) (Some zs) first second = second ∙ first
-
--- bytes that are consumed one part after another
-pub consumes-trans : (a b c : Option (List ℕ)) (xs ys : List ℕ) → Consumes a b xs → Consumes b c ys → Consumes a c (xs ++ ys)
-consumes-trans None b c xs ys first second = tt
-consumes-trans (Some ws) None c xs ys first second = absurd first
-consumes-trans (Some ws) (Some bs) None xs ys first second = second
-consumes-trans (Some ws) (Some bs) (Some cs) xs ys first second = first ∙ ap (λ l. xs ++ l) second ∙ sym (append_assoc xs ys cs)
-
--- what came in two parts
-pub come-trans : (i j k : Intake) (a b c : Option (List ℕ)) → HasCome i a j b → HasCome j b k c → HasCome i a k c
-come-trans i j k a b c (xs, first, count) (ys, second, count') =
-    (xs ++ ys, consumes-trans a b c xs ys first second, grind (arith, common_steps))
 
 -- where no whole line is held and the source goes on, the next line has not come
 pub not-ready : (i : Intake) → has_whole_line i ≡ false → i.ended ≡ false → ¬ IsReady i

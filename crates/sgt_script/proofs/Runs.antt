@@ -1,5 +1,5 @@
 -- Laws of a script's run from its first line.
-use Rattle.std.proofs.Common.{◌≡◌, ◌≢◌, ℕ, List, [], refl, ap, sym, ◌∙◌, append-nil, subst, inl, inr}
+use Rattle.std.proofs.Common.{◌≡◌, ◌≢◌, ℕ, List, [], ◌∷◌, refl, ap, sym, ◌∙◌, append-nil, subst}
 use Rattle.std.specs.Prelude.{Option, None, Some, IfSome}
 use Rattle.std.specs.Io.KnownBytes.{Appends}
 use Rattle.sgt_model.specs.Syntax.{Program}
@@ -10,7 +10,11 @@ use Rattle.sgt_format.specs.declared.errors.OpeningError.{OpeningError}
 use Rattle.sgt_format.specs.declared.errors.OpeningError.TheVariants as opening_error
 use Rattle.sgt_script.specs.Lines.{Cut, Ending, cut}
 use Rattle.sgt_script.specs.Intake.{Intake, before_input, cut_left, Gives, EndsAs, Explains}
-use Rattle.sgt_script.specs.Scripts.{End, Script, ScriptOf, Tells, no_opening, fault_of_opening, setting_of, IsExact}
+use Rattle.sgt_script.specs.Scripts.{RunHistory, End, HeadlineOf, Script, ScriptOf, RunOutput, no_opening, fault_of_opening, opened_setting, IsExact}
+use Rattle.sgt_script.proofs.Answers.{Output}
+use Rattle.sgt_model.specs.declared.entry.Entry.{Entry}
+use Rattle.sgt_model.specs.Legality.{Legal}
+use Rattle.sgt_model.specs.Headline.{Headline}
 use Rattle.sgt_script.specs.declared.fault.Fault.{Fault}
 use Rattle.sgt_script.specs.declared.fault.Fault.TheVariants as fault
 use Rattle.sgt_script.specs.Lines.{AtLongLine, AtLimit}
@@ -18,7 +22,7 @@ use Rattle.std.specs.Prelude.{Err, ◌+◌}
 
 -- what a run wrote over bytes that are known
 abbrev pub Wrote : List Program → Option (List ℕ) → Option (List ℕ) → Option (List ℕ) → End → Type 0
-Wrote programs rest held held' r = IfSome rest (λ bytes. (out : List ℕ) × Appends held held' out × Script programs bytes out r)
+Wrote programs rest held held' r = IfSome rest (λ bytes. (run : Option RunHistory) × (out : List ℕ) × Appends held held' out × Script programs bytes run out r)
 
 -- nothing written
 pub appends-none : (held : Option (List ℕ)) → Appends held held []
@@ -29,7 +33,7 @@ appends-none (Some xs) = sym (append-nil xs)
 pub wrote-nothing : (programs : List Program) (i : Intake) (rest held : Option (List ℕ)) (ending : Ending) (r : End) → i ≡ before_input → EndsAs ending (cut_left i rest) → r ≡ no_opening ending → Wrote programs rest held held r
 wrote-nothing programs i None held ending r start ends is = tt
 wrote-nothing programs i (Some bytes) held ending r start ends is =
-    ([], appends-none held, subst (λ (c : Cut). ScriptOf programs c.given c.ending [] r) (sym (subst (λ (j : Intake). EndsAs ending (cut_left j (Some bytes))) start ends)) (refl, is))
+    (None, [], appends-none held, subst (λ (c : Cut). ScriptOf programs c.given c.ending None [] r) (sym (subst (λ (j : Intake). EndsAs ending (cut_left j (Some bytes))) start ends)) (refl, is))
 
 -- line 1 is refused
 pub wrote-refused : (programs : List Program) (i : Intake) (rest held : Option (List ℕ)) (line : List ℕ) (new : Option Cut) (e : OpeningError) (r : End) → i ≡ before_input → Gives (cut_left i rest) line new → Refuses line e → e ≢ opening_error.NoMemory → r ≡ Err (fault_of_opening e) → Wrote programs rest held held r
@@ -37,42 +41,55 @@ wrote-refused programs i None held line new e r start gives refuses known is = t
 wrote-refused programs i (Some bytes) held line None e r start gives refuses known is = absurd (subst (λ (j : Intake). Gives (cut_left j (Some bytes)) line None) start gives)
 wrote-refused programs i (Some bytes) held line (Some c) e r start gives refuses known is =
     let gives' : Gives (cut_left before_input (Some bytes)) line (Some c) = subst (λ (j : Intake). Gives (cut_left j (Some bytes)) line (Some c)) start gives in (
+      None,
       [],
       appends-none held,
-      subst (λ (ls : List (List ℕ)). ScriptOf programs ls (cut bytes).ending [] r) (sym gives'.0)
-          (inr (record { error = e; refuses = refuses; known = known; nothing = refl; end_is = is })),
+      subst (λ (ls : List (List ℕ)). ScriptOf programs ls (cut bytes).ending None [] r) (sym gives'.0)
+          (record { error = e; refuses = refuses; known = known; nothing = refl; end_is = is }),
     )
 
 -- line 1 opens
-pub wrote-opened : (programs : List Program) (i : Intake) (s : Setting) (rest held held' : Option (List ℕ)) (line : List ℕ) (new : Option Cut) (o : Opening) (r : End) → i ≡ before_input → Gives (cut_left i rest) line new → Opens line o → s ≡ setting_of programs o → IfSome new (λ c. (out : List ℕ) × Appends held held' out × Tells s c.given c.ending out r) → Wrote programs rest held held' r
-wrote-opened programs i s None held held' line new o r start gives opens is committed_runs = tt
-wrote-opened programs i s (Some bytes) held held' line None o r start gives opens is committed_runs = absurd (subst (λ (j : Intake). Gives (cut_left j (Some bytes)) line None) start gives)
-wrote-opened programs i s (Some bytes) held held' line (Some c) o r start gives opens is (out, wrote, tells) =
+pub wrote-opened : (programs : List Program) (i : Intake) (s : Setting) (rest held held' : Option (List ℕ)) (line : List ℕ) (new : Option Cut) (o : Opening) (r : End) → i ≡ before_input → Gives (cut_left i rest) line new → Opens line o → s ≡ opened_setting programs o → Output s new held held' r → Wrote programs rest held held' r
+wrote-opened programs i s None held held' line new o r start gives opens is output = tt
+wrote-opened programs i s (Some bytes) held held' line None o r start gives opens is output = absurd (subst (λ (j : Intake). Gives (cut_left j (Some bytes)) line None) start gives)
+wrote-opened programs i s (Some bytes) held held' line (Some c) o r start gives opens is (run, from, out, wrote, output) =
     let gives' : Gives (cut_left before_input (Some bytes)) line (Some c) = subst (λ (j : Intake). Gives (cut_left j (Some bytes)) line (Some c)) start gives in (
+      Some run,
       out,
       wrote,
-      subst (λ (ls : List (List ℕ)). ScriptOf programs ls (cut bytes).ending out r) (sym gives'.0)
-          (inl (record { opening = o; opens = opens; tells = subst (λ (e : Ending). Tells (setting_of programs o) c.given e out r) (sym gives'.1) (subst (λ (t : Setting). Tells t c.given c.ending out r) is tells) })),
+      subst (λ (ls : List (List ℕ)). ScriptOf programs ls (cut bytes).ending (Some run) out r) (sym gives'.0)
+          (record { opening = o; opens = opens; setting = from ∙ is; output = subst (λ (e : Ending). RunOutput run c.given e out r) (sym gives'.1) output }),
     )
 
 -- line 1 is too long, or the input is
 wrote-fault : (programs : List Program) (i : Intake) (rest held : Option (List ℕ)) (f : Fault) → i ≡ before_input → Explains f i.number (cut_left i rest) → IsExact (Err f) → Wrote programs rest held held (Err f)
-wrote-fault programs i rest held (fault.LongLine n) start committed_runs exact =
-    let one : n ≡ 1 = committed_runs.0 ∙ ap (λ (j : Intake). j.number + 1) start in
-    wrote-nothing programs i rest held AtLongLine (Err (fault.LongLine n)) start committed_runs.1 (ap (λ k. Err (fault.LongLine k)) one)
-wrote-fault programs i rest held fault.TooLong start committed_runs exact = wrote-nothing programs i rest held AtLimit (Err fault.TooLong) start committed_runs refl
-wrote-fault programs i rest held fault.Reading start committed_runs exact = absurd exact
-wrote-fault programs i rest held fault.Writing start committed_runs exact = absurd exact
-wrote-fault programs i rest held fault.NoMemory start committed_runs exact = absurd exact
-wrote-fault programs i rest held fault.NoOpening start committed_runs exact = absurd committed_runs
-wrote-fault programs i rest held (fault.NotJson n) start committed_runs exact = absurd committed_runs
-wrote-fault programs i rest held (fault.BadLine n) start committed_runs exact = absurd committed_runs
-wrote-fault programs i rest held fault.BadLimits start committed_runs exact = absurd committed_runs
-wrote-fault programs i rest held (fault.BadOpening k) start committed_runs exact = absurd committed_runs
-wrote-fault programs i rest held (fault.ProcShape n place) start committed_runs exact = absurd committed_runs
-wrote-fault programs i rest held (fault.ProcFlaw n k) start committed_runs exact = absurd committed_runs
+wrote-fault programs i rest held (fault.LongLine n) start explained exact =
+    let one : n ≡ 1 = explained.0 ∙ ap (λ (j : Intake). j.number + 1) start in
+    wrote-nothing programs i rest held AtLongLine (Err (fault.LongLine n)) start explained.1 (ap (λ k. Err (fault.LongLine k)) one)
+wrote-fault programs i rest held fault.TooLong start explained exact = wrote-nothing programs i rest held AtLimit (Err fault.TooLong) start explained refl
+wrote-fault programs i rest held fault.Reading start explained exact = absurd exact
+wrote-fault programs i rest held fault.Writing start explained exact = absurd exact
+wrote-fault programs i rest held fault.NoMemory start explained exact = absurd exact
+wrote-fault programs i rest held fault.NoOpening start explained exact = absurd explained
+wrote-fault programs i rest held (fault.NotJson n) start explained exact = absurd explained
+wrote-fault programs i rest held (fault.BadLine n) start explained exact = absurd explained
+wrote-fault programs i rest held fault.BadLimits start explained exact = absurd explained
+wrote-fault programs i rest held (fault.BadOpening k) start explained exact = absurd explained
+wrote-fault programs i rest held (fault.ProcShape n place) start explained exact = absurd explained
+wrote-fault programs i rest held (fault.ProcFlaw n k) start explained exact = absurd explained
 
 -- where the first line was not given
 pub wrote-no-line : (programs : List Program) (i : Intake) (rest held : Option (List ℕ)) (f : Fault) (r : End) → i ≡ before_input → r ≡ Err f → Explains f i.number (cut_left i rest) → IsExact r → Wrote programs rest held held r
-wrote-no-line programs i rest held f r start is committed_runs exact =
-    subst (Wrote programs rest held held) (sym is) (wrote-fault programs i rest held f start committed_runs (subst IsExact is exact))
+wrote-no-line programs i rest held f r start is explained exact =
+    subst (Wrote programs rest held held) (sym is) (wrote-fault programs i rest held f start explained (subst IsExact is exact))
+
+-- of every execution of a script the headline holds
+headline-of : ((s : Setting) (past : List Entry) → Legal s past → Headline s past) → (programs : List Program) (ls : List (List ℕ)) (ending : Ending) (run : Option RunHistory) (out : List ℕ) (r : End) → ScriptOf programs ls ending run out r → HeadlineOf run
+headline-of law programs ls ending None out r script = tt
+headline-of law programs [] ending (Some run) out r script = absurd script
+headline-of law programs (line ∷ later) ending (Some run) out r script = law run.setting run.past script.output.legal
+
+-- what a run wrote, with the headline beside it
+pub with-headline : ((s : Setting) (past : List Entry) → Legal s past → Headline s past) → (programs : List Program) (rest held held' : Option (List ℕ)) (r : End) → Wrote programs rest held held' r → IfSome rest (λ bytes. (run : Option RunHistory) × (out : List ℕ) × Appends held held' out × Script programs bytes run out r × HeadlineOf run)
+with-headline law programs None held held' r wrote = tt
+with-headline law programs (Some bytes) held held' r (run, out, appended, script) = (run, out, appended, script, headline-of law programs (cut bytes).given (cut bytes).ending run out r script)

@@ -2,6 +2,6 @@
 use Rattle.std.specs.Prelude.{ℕ, List}
 
 -- the line taken last, and the bytes behind it
-pub record Held : Type 0 where
+pub record Buffered : Type 0 where
   pub line : List ℕ
   pub held : List ℕ

@@ -1,7 +1,7 @@
 -- Where the cutting of a source's bytes into lines stands.
 use Rattle.std.specs.Prelude.{◌≡◌, ℕ, ◌+◌, ◌-◌, ◌<◌, ◌≤◌, ◌⊎◌, Bool, true, false, ⊤, if◌then◌else◌, List, [], ◌∷◌, ◌++◌, length, take, Option, None, Some, IfSome, IsTrue}
 use Rattle.std.specs.Option.{option_map}
-use Rattle.std.specs.Io.KnownBytes.{prepend_known, Consumes}
+use Rattle.std.specs.Io.KnownBytes.{prepend_known}
 use Rattle.sgt_script.specs.declared.fault.Fault.{Fault}
 use Rattle.sgt_script.specs.declared.fault.Fault.TheVariants.{LongLine, TooLong, Reading}
 use Rattle.sgt_script.specs.Lines.{Cut, cut_within, has_break, IsBreak, Ending, AtLongLine, AtLimit}
@@ -52,10 +52,6 @@ taken i = if i.ended then i.line else i.line ++ 10 ∷ []
 -- how many reads may still be made, at most
 abbrev pub work : Intake → ℕ
 work i = (i.within + 1 - length i.held) + (if i.ended then 0 else 1)
-
--- what came from the source in between is counted
-abbrev pub HasCome : Intake → Option (List ℕ) → Intake → Option (List ℕ) → Type 0
-HasCome old rest new rest' = (bytes : List ℕ) × Consumes rest rest' bytes × (come new ≡ come old + length bytes)
 
 -- what is true of it between two calls: lines and bytes are counted; at most one byte past the limit has come; where the first
 -- byte 10 stands is known; and behind the end of the source there is at most one last line

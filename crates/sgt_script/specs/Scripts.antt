@@ -1,18 +1,21 @@
 -- What the run of a script writes, and how it ends.
-use Rattle.std.specs.Prelude.{◌≡◌, ◌≢◌, ℕ, ◌+◌, ◌⊎◌, ⊤, List, [], ◌∷◌, ◌++◌, Option, None, Some, Result, Ok, Err}
+use Rattle.std.specs.Prelude.{◌≡◌, ◌≢◌, ℕ, ◌+◌, ⊤, List, [], ◌∷◌, ◌++◌, Option, None, Some, IfSome, Result, Ok, Err}
 use Rattle.sgt_model.specs.declared.event.Event.{Event}
 use Rattle.sgt_model.specs.declared.entry.Entry.{Entry}
 use Rattle.sgt_model.specs.Contents.{Key}
 use Rattle.sgt_model.specs.Databases.{Row, IsByKey, contents_of}
 use Rattle.sgt_model.specs.Syntax.{Program}
 use Rattle.sgt_model.specs.Settings.{Setting, setting}
+use Rattle.sgt_model.specs.Replay.{committed_runs}
 use Rattle.sgt_model.specs.Headline.{Headline}
 use Rattle.sgt_model.specs.Legality.{Legal}
 use Rattle.sgt_model.specs.Values.{settled}
+use Rattle.sgt_model.specs.Histories.{events_of}
 use Rattle.sgt_format.specs.EventLines.{event_of}
 use Rattle.sgt_format.specs.Openings.{Opens, Refuses}
 use Rattle.sgt_proc.specs.Flaws.{number}
 use Rattle.sgt_smallbank.specs.Accounts.{number_of}
+use Rattle.sgt_smallbank.specs.Replays.{RunsAgreeWithBank}
 use Rattle.sgt_format.specs.ReplyText.{text}
 use Rattle.sgt_format.specs.DatabaseText.{database_text}
 use Rattle.sgt_format.specs.declared.opening.Opening.{Opening}
@@ -22,7 +25,7 @@ use Rattle.sgt_format.specs.declared.errors.OpeningError.{OpeningError}
 use Rattle.sgt_format.specs.declared.errors.OpeningError.TheVariants as opening_error
 use Rattle.sgt_script.specs.declared.fault.Fault.{Fault}
 use Rattle.sgt_script.specs.declared.fault.Fault.TheVariants as fault
-use Rattle.sgt_script.specs.Lines.{Ending, AtEnd, AtLongLine, AtLimit, Cut, cut}
+use Rattle.sgt_script.specs.Lines.{Ending, AtEnd, AtLongLine, AtLimit, cut}
 
 -- an event in front of the later ones; where a line spells none, no later line counts
 abbrev pub and_later : Result Event LineError → List Event → List Event
@@ -60,12 +63,7 @@ abbrev pub end_of : ℕ → List (List ℕ) → Ending → End
 end_of n [] ending = end_at n ending
 end_of n (l ∷ ls) ending = or_later n (event_of l) (end_of (n + 1) ls ending)
 
--- the events of a history, the oldest first
-abbrev pub events_of : List Entry → List Event
-events_of [] = []
-events_of (e ∷ past) = events_of past ++ e.event ∷ []
-
--- the text of its replies, the oldest first
+-- the text of a history's replies, the oldest first
 abbrev pub replies : List Entry → List ℕ
 replies [] = []
 replies (e ∷ past) = replies past ++ text e.reply
@@ -75,17 +73,19 @@ abbrev pub Closing : Setting → List Entry → End → List ℕ → Type 0
 Closing s past (Ok _) last = (rows : List Row) × IsByKey rows × ((k : Key) → contents_of rows k ≡ settled s.opening past k) × (last ≡ database_text rows)
 Closing s past (Err fault) last = last ≡ []
 
--- what a run over these lines after the opening writes: the replies of a legal history of their events, of which the headline
--- holds, and the closing text
-pub record Tells (s : Setting) (later : List (List ℕ)) (ending : Ending) (out : List ℕ) (end : End) : Type 0 where
+-- the execution of a script: what it started from, and the history of the events answered
+pub record RunHistory : Type 0 where
+  pub setting : Setting
   pub past : List Entry
+
+-- what a run over these lines behind the opening writes: the replies of a legal history of their events, and the closing text
+pub record RunOutput (run : RunHistory) (later : List (List ℕ)) (ending : Ending) (out : List ℕ) (end : End) : Type 0 where
   pub last : List ℕ
-  pub legal : Legal s past
-  pub headline : Headline s past
-  pub events_are : events_of past ≡ events later
+  pub legal : Legal run.setting run.past
+  pub events_are : events_of run.past ≡ events later
   pub end_is : end ≡ end_of 2 later ending
-  pub closing : Closing s past end last
-  pub text : out ≡ replies past ++ last
+  pub closing : Closing run.setting run.past end last
+  pub text : out ≡ replies run.past ++ last
 
 -- the fault of line 1 where it is refused as an opening
 abbrev pub fault_of_opening : OpeningError → Fault
@@ -98,14 +98,15 @@ fault_of_opening (opening_error.ProcFlaw n flaw) = fault.ProcFlaw n (number flaw
 fault_of_opening opening_error.NoMemory = fault.NoMemory
 
 -- the setting of an opening, whose procedures stand behind these
-abbrev pub setting_of : List Program → Opening → Setting
-setting_of programs opening = setting (contents_of opening.database) (programs ++ opening.procedures.items) opening.limits
+abbrev pub opened_setting : List Program → Opening → Setting
+opened_setting programs opening = setting (contents_of opening.database) (programs ++ opening.procedures.items) opening.limits
 
 -- line 1 is an opening, and the later lines are answered
-pub record Opened (programs : List Program) (line : List ℕ) (later : List (List ℕ)) (ending : Ending) (out : List ℕ) (end : End) : Type 0 where
+pub record Opened (programs : List Program) (line : List ℕ) (later : List (List ℕ)) (ending : Ending) (run : RunHistory) (out : List ℕ) (end : End) : Type 0 where
   pub opening : Opening
   pub opens : Opens line opening
-  pub tells : Tells (setting_of programs opening) later ending out end
+  pub setting : run.setting ≡ opened_setting programs opening
+  pub output : RunOutput run later ending out end
 
 -- line 1 is refused as an opening
 pub record Refused (line out : List ℕ) (end : End) : Type 0 where
@@ -120,30 +121,28 @@ abbrev pub no_opening : Ending → End
 no_opening AtEnd = Err fault.NoOpening
 no_opening ending = end_at 1 ending
 
--- what a run over these lines writes
-abbrev pub ScriptOf : List Program → List (List ℕ) → Ending → List ℕ → End → Type 0
-ScriptOf programs [] ending out end = (out ≡ []) × (end ≡ no_opening ending)
-ScriptOf programs (line ∷ later) ending out end = Opened programs line later ending out end ⊎ Refused line out end
+-- there is no line 1, and nothing is written
+abbrev pub Unopened : Ending → List ℕ → End → Type 0
+Unopened ending out end = (out ≡ []) × (end ≡ no_opening ending)
+
+-- what a run over these lines writes: with an execution where line 1 opens, and without one where it does not
+abbrev pub ScriptOf : List Program → List (List ℕ) → Ending → Option RunHistory → List ℕ → End → Type 0
+ScriptOf programs [] ending None out end = Unopened ending out end
+ScriptOf programs [] ending (Some run) out end = ⊥
+ScriptOf programs (line ∷ later) ending None out end = Refused line out end
+ScriptOf programs (line ∷ later) ending (Some run) out end = Opened programs line later ending run out end
 
 -- what a script's run over these bytes writes, and how it ends
-abbrev pub Script : List Program → List ℕ → List ℕ → End → Type 0
-Script programs bytes out end = ScriptOf programs (cut bytes).given (cut bytes).ending out end
+abbrev pub Script : List Program → List ℕ → Option RunHistory → List ℕ → End → Type 0
+Script programs bytes run out end = ScriptOf programs (cut bytes).given (cut bytes).ending run out end
 
--- known lines from number n on begin with those of a history's events; behind them, from number m on, are these
-abbrev pub Answered : ℕ → Option Cut → List Entry → ℕ → Option Cut → Type 0
-Answered n None past m new = ⊤
-Answered n (Some old) past m None = ⊥
-Answered n (Some old) past m (Some new) = (events old.given ≡ events_of past ++ events new.given) × (end_of n old.given old.ending ≡ end_of m new.given new.ending)
+-- of the execution, if there is one, the headline holds
+abbrev pub HeadlineOf : Option RunHistory → Type 0
+HeadlineOf run = IfSome run (λ r. Headline r.setting r.past)
 
--- known lines from number n on give no event, and end so
-abbrev pub NoEvent : ℕ → Option Cut → End → Type 0
-NoEvent n None end = ⊤
-NoEvent n (Some c) end = (events c.given ≡ []) × (end_of n c.given c.ending ≡ end)
-
--- known lines from number n on have just a history's events, and end so
-abbrev pub AllAnswered : ℕ → Option Cut → List Entry → End → Type 0
-AllAnswered n None past end = ⊤
-AllAnswered n (Some c) past end = (events c.given ≡ events_of past) × (end_of n c.given c.ending ≡ end)
+-- of the execution, if there is one, the committed transactions agree with the bank
+abbrev pub BankOf : Option RunHistory → Type 0
+BankOf run = IfSome run (λ r. RunsAgreeWithBank r.setting (committed_runs r.past))
 
 -- a fault of the script itself, and not of its reader, its writer or the memory
 abbrev pub IsOfScript : Fault → Type 0

@@ -10,7 +10,7 @@ const ROOM: usize = 131_072;
 
 /// Bytes that have come from a source, in a room of fixed size: the line taken last, and what has come behind it.
 #[derive(Drop)]
-pub struct Buffer {
+pub(crate) struct Buffer {
     bytes: Vec<u8>,
     line_start: usize,
     line_end: usize,
@@ -20,9 +20,9 @@ pub struct Buffer {
 
 impl Model for Buffer {
     ghost use Rattle.std.specs.Prelude.{◌≡◌, ◌≤◌, ◌-◌, take, drop, vec_len};
-    ghost use Rattle.sgt_script.specs.Buffers.{Held};
+    ghost use Rattle.sgt_script.specs.Buffers.{Buffered};
 
-    ghost Value = { Held };
+    ghost Value = { Buffered };
 
     ghost view = { λ b. record {
       line = take (b.line_end - b.line_start) (drop b.line_start b.bytes.items);
@@ -93,6 +93,8 @@ impl Buffer {
             (drop (length self.old.held) self.new.held)) }
         ensures end { IfOk result (λ n. n ≡ 0 → IsAtEnd (S.rest source.new)) }
         ensures rest { OnErr result (Keeps (S.rest source.old) (S.rest source.new)) }
+        ensures given { S.given source.new + length self.old.held
+            ≤ S.given source.old + length self.new.held }
         ensures well { OnOk result (S.failures source.new ≡ S.failures source.old) }
         ensures failed { OnErr result (S.failures source.new ≡ S.failures source.old + 1) }
     {
@@ -124,6 +126,8 @@ fn read_between<S: Source>(
         Consumes (S.rest source.old) (S.rest source.new) (take n (drop from bytes.new))) }
     ensures end { IfOk result (λ n. n ≡ 0 → IsAtEnd (S.rest source.new)) }
     ensures rest { OnErr result (Keeps (S.rest source.old) (S.rest source.new)) }
+    ensures given { IfOk result (λ n. S.given source.new ≤ S.given source.old + n) }
+    ensures none_given { OnErr result (S.given source.new ≡ S.given source.old) }
     ensures well { OnOk result (S.failures source.new ≡ S.failures source.old) }
     ensures failed { OnErr result (S.failures source.new ≡ S.failures source.old + 1) }
 {

@@ -2,9 +2,9 @@
 //! says what a script's run writes and how it ends, over `specs/Lines.antt`, which says what the lines of a text are.
 //!
 //! It is no program: it opens no file and knows no command line. A reader is a `Source` and a writer a `Sink`, two small
-//! traits with bodies over any `Read` and `Write`, that count their failed calls. `Lines` cuts what a source gives into lines
-//! within the limits, a `Machine` answers the events, and `Fault` is how a run can end before its end. `Bank` is the machine
-//! of the program: the engine, with the bodies of its layers named.
+//! traits with bodies over any `Read` and `Write`, that count their failed calls; a source counts the bytes that it gives, too.
+//! `Fault` is how a run can end before its end. Inside, `Lines` cuts what a source gives into lines within the limits, and a
+//! `Machine` answers the events: `SmallBankEngine`, the engine with the bodies of its layers named.
 //!
 //! ```
 //! let mut reader = Reader::new(rt.reader());
@@ -13,23 +13,17 @@
 //! ```
 #![tactic(auto)]
 
-mod bank;
 mod buffer;
 mod fault;
 mod lines;
 mod machine;
-#[cfg(test)]
-mod rows;
+mod run;
 mod script;
 mod sink;
+mod small_bank;
 mod source;
-#[cfg(test)]
-mod tests;
 
-pub use bank::{Bank, run_script};
 pub use fault::Fault;
-pub use lines::{LONGEST_INPUT, LONGEST_LINE, Lines};
-pub use machine::Machine;
-pub use script::{run_opened, run_with};
-pub use sink::{Sink, Writer, write_all};
+pub use run::run_script;
+pub use sink::{Sink, Writer};
 pub use source::{Failed, Reader, Source};

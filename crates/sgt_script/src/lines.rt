@@ -1,7 +1,7 @@
 ghost use Rattle.std.specs.Prelude.{◌≡◌, ◌≢◌, ℕ, if◌then◌else◌, IsTrue, IsFalse, true, false, IfOk, IfErr, OnOk, OnErr, OnSome, None, Some, min, [], ◌++◌, ◌+◌, ◌-◌, ◌^◌, ◌<◌, ◌≤◌, ◌↔◌, length, take, drop};
 ghost use Rattle.std.specs.Io.KnownBytes.{Consumes, Keeps};
 ghost use Rattle.sgt_script.specs.Lines.{has_break, whole_lines, IsBreak, AtEnd};
-ghost use Rattle.sgt_script.specs.Intake.{before_input, has_whole_line, left, HasCome, work, IsReady, IsGiven, IsLong, cut_left, Gives, EndsAs, Explains, taken, come};
+ghost use Rattle.sgt_script.specs.Intake.{before_input, has_whole_line, left, work, IsReady, IsGiven, IsLong, cut_left, Gives, EndsAs, Explains, taken, come};
 
 use crate::buffer::Buffer;
 use crate::fault::Fault;
@@ -11,10 +11,10 @@ use std::alloc::Global;
 use std::marker::Model;
 
 /// The most bytes that a line may have, without its byte 10.
-pub const LONGEST_LINE: usize = 65_536;
+const LONGEST_LINE: usize = 65_536;
 
 /// The most bytes that an input may have.
-pub const LONGEST_INPUT: usize = 16_777_216;
+const LONGEST_INPUT: usize = 16_777_216;
 
 /// Where the first byte 10 stands among the first `within` bytes, where none is among the first `from`.
 fn find_break(bytes: &[u8], from: usize, within: usize) -> Option<usize>
@@ -36,7 +36,7 @@ fn find_break(bytes: &[u8], from: usize, within: usize) -> Option<usize>
 
 /// Cuts the bytes of a source into lines, within the limits. It keeps a piece of fixed size, however long the input is.
 #[derive(Drop)]
-pub struct Lines {
+pub(crate) struct Lines {
     buffer: Buffer,
     /// Where the first byte 10 stands among the bytes held that are within the limit.
     found: Option<usize>,
@@ -131,7 +131,7 @@ impl Lines {
         ensures kept { result ≡ Err Fault.Reading →
             Keeps (left self.old (S.rest source.old)) (left self.new (S.rest source.new)) }
         ensures no_line { result ≡ Err Fault.Reading → whole_lines self.new.held ≡ [] }
-        ensures come { HasCome self.old (S.rest source.old) self.new (S.rest source.new) }
+        ensures come { S.given source.new + come self.old ≤ S.given source.old + come self.new }
         ensures few { come self.new ≤ 16777217 }
         ensures untouched { IsReady self.old → source.new ≡ source.old }
         ensures well { result ≢ Err Fault.Reading →
@@ -154,7 +154,7 @@ impl Lines {
         ensures same { self.new.within ≡ self.old.within }
         ensures bytes { Keeps
             (left self.old (S.rest source.old)) (left self.new (S.rest source.new)) }
-        ensures come { HasCome self.old (S.rest source.old) self.new (S.rest source.new) }
+        ensures come { S.given source.new + come self.old ≤ S.given source.old + come self.new }
         ensures few { come self.new ≤ 16777217 }
         ensures nearer { OnOk result (work self.new < work self.old) }
         ensures no_line { OnErr result (whole_lines self.new.held ≡ []) }
@@ -178,7 +178,7 @@ impl Lines {
         ensures within { self.new.within ≡ self.old.within }
         ensures bytes { Keeps
             (left self.old (S.rest source.old)) (left self.new (S.rest source.new)) }
-        ensures come { HasCome self.old (S.rest source.old) self.new (S.rest source.new) }
+        ensures come { S.given source.new + come self.old ≤ S.given source.old + come self.new }
         ensures ready { OnOk result (IsReady self.new) }
         ensures fault { IfErr result (λ f.
             Explains f self.old.number (cut_left self.old (S.rest source.old))) }

@@ -3,7 +3,7 @@ use sgt_model::{Database, Event, NoMemory, Reply};
 use std::alloc::Global;
 
 /// What a script runs on: it is made from an opening, answers events and keeps their history.
-pub trait Machine: Drop {
+pub(crate) trait Machine: Drop {
     ghost use Rattle.std.specs.Prelude.{◌≡◌, IfOk, OnErr, List, [], ◌∷◌};
     ghost use Rattle.sgt_model.specs.declared.entry.Entry.{Entry};
     ghost use Rattle.sgt_model.specs.Bounds.{AreInRange};
@@ -13,7 +13,7 @@ pub trait Machine: Drop {
     ghost use Rattle.sgt_model.specs.Settings.{Setting};
     ghost use Rattle.sgt_model.specs.Syntax.{Program};
     ghost use Rattle.sgt_model.specs.Values.{settled};
-    ghost use Rattle.sgt_script.specs.Scripts.{setting_of};
+    ghost use Rattle.sgt_script.specs.Scripts.{opened_setting};
 
     /// The procedures that stand before those of an opening, numbered from 0.
     ghost programs: { List Program };
@@ -31,7 +31,7 @@ pub trait Machine: Drop {
     /// `NoMemory` where a growth was refused.
     fn open(alloc: Global, opening: Opening) -> Result<Self, NoMemory>
         requires in_range { AreInRange opening.limits }
-        ensures setting { IfOk result (λ m. setting m ≡ setting_of programs opening) }
+        ensures setting { IfOk result (λ m. setting m ≡ opened_setting programs opening) }
         ensures fresh { IfOk result (λ m. past m ≡ []) };
 
     /// Answers an event, which is one more entry of the history with its reply.

@@ -1,12 +1,13 @@
-ghost use Rattle.std.specs.Prelude.{◌≡◌, ◌≢◌, ℕ, List, false, IsTrue, IsFalse, IfOk, IfErr, OnOk, OnErr, IfSome, Err, Ok, Some, None, [], ◌∷◌, ◌++◌, ◌+◌, ◌^◌, ◌<◌};
+ghost use Rattle.std.specs.Prelude.{◌≡◌, ◌≢◌, ℕ, List, Option, false, IsTrue, IsFalse, IfOk, IfErr, OnOk, OnErr, IfSome, Err, Ok, Some, None, [], ◌∷◌, ◌++◌, ◌+◌, ◌^◌, ◌<◌, ◌≤◌};
 ghost use Rattle.std.specs.Io.KnownBytes.{Appends};
 ghost use Rattle.sgt_model.specs.declared.entry.Entry.{Entry};
 ghost use Rattle.sgt_model.specs.Legality.{Legal};
 ghost use Rattle.sgt_format.specs.ReplyText.{text};
 ghost use Rattle.sgt_format.specs.EventLines.{event_of};
 ghost use Rattle.sgt_format.specs.declared.errors.LineError.{LineError};
-ghost use Rattle.sgt_script.specs.Intake.{cut_left, has_whole_line};
-ghost use Rattle.sgt_script.specs.Scripts.{Answered, NoEvent, AllAnswered, IsOfScript, IsExact, Script, Tells, fault_in, fault_of_opening, replies};
+ghost use Rattle.sgt_script.specs.Intake.{come, cut_left, has_whole_line};
+ghost use Rattle.sgt_script.specs.Scripts.{RunHistory, IsOfScript, IsExact, RunOutput, Script, fault_in, fault_of_opening, replies};
+ghost use Rattle.sgt_script.specs.Answering.{Answered, NoEvent, AllAnswered};
 ghost use Rattle.sgt_format.specs.Openings.{Opens, Refuses};
 ghost use Rattle.sgt_format.specs.declared.errors.OpeningError.{OpeningError};
 
@@ -59,6 +60,8 @@ fn answer_line<S: Source, M: Machine>(
     ensures legal { Legal (M.setting machine.old) (M.past machine.old) →
         Legal (M.setting machine.new) (M.past machine.new) }
     ensures nearer { IfOk result (λ more. IsTrue more → lines.new.within < lines.old.within) }
+    ensures come { S.given source.new + come lines.old ≤ S.given source.old + come lines.new }
+    ensures few { come lines.new ≤ 16777217 }
     ensures writing { result ≢ Err Fault.Writing }
     ensures well { result ≢ Err Fault.Reading →
         S.failures source.new ≡ S.failures source.old }
@@ -122,8 +125,10 @@ fn answer_lines<S: Source, T: Sink, M: Machine>(
     requires reading { S.failures source.old + 1 < 2 ^ 64 }
     requires writing { T.failures sink.old + 1 < 2 ^ 64 }
     requires fresh { M.past machine.old ≡ [] }
+    requires few { come lines.old ≤ 16777217 }
     ensures setting { M.setting machine.new ≡ M.setting machine.old }
     ensures legal { Legal (M.setting machine.new) (M.past machine.new) }
+    ensures bounded { S.given source.new + come lines.old ≤ S.given source.old + 16777217 }
     ensures answered { IsExact result → AllAnswered (lines.old.number + 1)
         (cut_left lines.old (S.rest source.old)) (M.past machine.new) result }
     ensures written { IsExact result →
@@ -156,7 +161,7 @@ fn answer_lines<S: Source, T: Sink, M: Machine>(
 ///
 /// The fault of the first line that spells no event or is too long, or of the input; and `Reading`, `Writing` and `NoMemory`.
 /// The replies to the lines before it are written then, as far as writing goes well.
-pub fn run_opened<S: Source, T: Sink, M: Machine>(
+pub(crate) fn run_opened<S: Source, T: Sink, M: Machine>(
     alloc: Global,
     lines: &mut Lines,
     source: &mut S,
@@ -167,9 +172,12 @@ pub fn run_opened<S: Source, T: Sink, M: Machine>(
     requires writing { T.failures sink.old + 1 < 2 ^ 64 }
     requires fresh { M.past machine.old ≡ [] }
     requires second { lines.old.number ≡ 1 }
-    ensures tells { IsExact result → IfSome (cut_left lines.old (S.rest source.old)) (λ c.
-        (out : List ℕ) × Appends (T.held sink.old) (T.held sink.new) out
-        × Tells (M.setting machine.old) c.given c.ending out result) }
+    requires few { come lines.old ≤ 16777217 }
+    ensures output { IsExact result → IfSome (cut_left lines.old (S.rest source.old)) (λ c.
+        (run : RunHistory) × (run.setting ≡ M.setting machine.old)
+        × (out : List ℕ) × Appends (T.held sink.old) (T.held sink.new) out
+        × RunOutput run c.given c.ending out result) }
+    ensures bounded { S.given source.new + come lines.old ≤ S.given source.old + 16777217 }
     ensures read_well { IsExact result → S.failures source.new ≡ S.failures source.old }
     ensures read_failed { result ≡ Err Fault.Reading →
         S.failures source.new ≡ S.failures source.old + 1 }
@@ -210,7 +218,7 @@ fn opening_of(alloc: Global, lines: &Lines) -> Result<Opening, Fault>
 ///
 /// The first fault of the script; and `Reading`, `Writing` and `NoMemory`. The replies to the lines before it are written
 /// then, as far as writing goes well, and no database.
-pub fn run_with<M: Machine, S: Source, T: Sink>(
+pub(crate) fn run_with<M: Machine, S: Source, T: Sink>(
     alloc: Global,
     source: &mut S,
     sink: &mut T,
@@ -218,8 +226,9 @@ pub fn run_with<M: Machine, S: Source, T: Sink>(
     requires reading { S.failures source.old + 1 < 2 ^ 64 }
     requires writing { T.failures sink.old + 1 < 2 ^ 64 }
     ensures script { IsExact result → IfSome (S.rest source.old) (λ bytes.
-        (out : List ℕ) × Appends (T.held sink.old) (T.held sink.new) out
-        × Script M.programs bytes out result) }
+        (run : Option RunHistory) × (out : List ℕ) × Appends (T.held sink.old) (T.held sink.new) out
+        × Script M.programs bytes run out result) }
+    ensures bounded { S.given source.new ≤ S.given source.old + 16777217 }
     ensures read_well { IsExact result → S.failures source.new ≡ S.failures source.old }
     ensures read_failed { result ≡ Err Fault.Reading →
         S.failures source.new ≡ S.failures source.old + 1 }

@@ -65,7 +65,7 @@ impl<W: Write + Drop> Sink for Writer<W> {
 /// # Errors
 ///
 /// `Failed` where one of the calls failed. A part from the front was written by then.
-pub fn write_all<S: Sink>(sink: &mut S, bytes: &[u8]) -> Result<(), Failed>
+pub(crate) fn write_all<S: Sink>(sink: &mut S, bytes: &[u8]) -> Result<(), Failed>
     requires countable { S.failures sink.old + 1 < 2 ^ 64 }
     ensures bytes { OnOk result (Appends (S.held sink.old) (S.held sink.new) bytes.now) }
     ensures part { OnErr result ((k : ℕ) ×

@@ -1,4 +1,4 @@
-ghost use Rattle.std.specs.Prelude.{◌≡◌, ℕ, List, Option, IfOk, OnOk, OnErr, ◌+◌, ◌^◌, ◌<◌, ◌≤◌, length};
+ghost use Rattle.std.specs.Prelude.{◌≡◌, ℕ, List, Option, IfOk, OnOk, OnErr, min, ◌+◌, ◌-◌, ◌^◌, ◌<◌, ◌≤◌, length};
 ghost use Rattle.std.specs.Io.KnownBytes.{ReadConsumes};
 
 use std::io::Read;
@@ -7,10 +7,13 @@ use std::io::Read;
 #[derive(Clone, Copy, Debug, PartialEq, Eq)]
 pub struct Failed;
 
-/// What gives bytes, and counts its failed calls.
+/// What gives bytes, and counts them and its failed calls.
 pub trait Source: Drop {
     /// The bytes that are left, where they are known. Of other sources nothing is claimed.
     ghost rest: { Self → Option (List ℕ) };
+
+    /// How many bytes it has given. The count stops at 2^64 - 1.
+    ghost given: { Self → ℕ };
 
     /// How many calls have failed.
     ghost failures: { Self → ℕ };
@@ -24,6 +27,8 @@ pub trait Source: Drop {
         requires countable { failures self.old + 1 < 2 ^ 64 }
         ensures within { IfOk result (λ n. n ≤ length room.new) }
         ensures bytes { ReadConsumes (rest self.old) (rest self.new) result room.new }
+        ensures given { IfOk result (λ n. given self.new ≡ min (given self.old + n) (2 ^ 64 - 1)) }
+        ensures none_given { OnErr result (given self.new ≡ given self.old) }
         ensures well { OnOk result (failures self.new ≡ failures self.old) }
         ensures failed { OnErr result (failures self.new ≡ failures self.old + 1) };
 }
@@ -32,28 +37,40 @@ pub trait Source: Drop {
 #[derive(Drop)]
 pub struct Reader<R: Read + Drop> {
     pub inner: R,
+    /// How many bytes were given. The count stops at the greatest of its type.
+    pub given: u64,
     /// How many reads have failed.
     pub failures: u64,
 }
 
 impl<R: Read + Drop> Reader<R> {
-    /// A source with no failures yet.
+    /// A source that has given nothing yet, and has no failures.
     pub fn new(inner: R) -> Self
         ensures inner { result.inner ≡ inner }
+        ensures given { result.given ≡ 0 }
         ensures failures { result.failures ≡ 0 }
     {
-        Reader { inner, failures: 0 }
+        Reader {
+            inner,
+            given: 0,
+            failures: 0,
+        }
     }
 }
 
 impl<R: Read + Drop> Source for Reader<R> {
     ghost rest = { λ s. R.remaining s.inner };
 
+    ghost given = { λ s. s.given };
+
     ghost failures = { λ s. s.failures };
 
     fn read(&mut self, room: &mut [u8]) -> Result<usize, Failed> {
         match self.inner.read(room) {
-            Ok(n) => Ok(n),
+            Ok(n) => {
+                self.given = self.given.saturating_add(n as u64);
+                Ok(n)
+            }
             Err(_) => {
                 self.failures += 1;
                 Err(Failed)

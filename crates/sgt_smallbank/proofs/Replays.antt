@@ -22,8 +22,8 @@ use Rattle.sgt_smallbank.specs.declared.account.Account.{Account}
 use Rattle.sgt_smallbank.specs.declared.errors.OpeningFault.{OpeningFault}
 use Rattle.sgt_smallbank.specs.Texts.{balance, deposit_checking, transact_saving, amalgamate, write_check, procedures}
 use Rattle.sgt_smallbank.specs.Arithmetic.{bank}
-use Rattle.sgt_smallbank.specs.Accounts.{name_key, saving_key, checking_key, with_account, with_accounts, has_values, fault_behind, first_fault}
-use Rattle.sgt_smallbank.specs.Replays.{DoesBank, EachDoesBank, bank_setting, ReplaysDoBank, OpeningsHoldValues}
+use Rattle.sgt_smallbank.specs.Accounts.{name_key, saving_key, checking_key, with_account, with_accounts, is_in_range, fault_behind, first_fault}
+use Rattle.sgt_smallbank.specs.Replays.{AgreesWithBank, RunsAgreeWithBank, bank_setting, ReplayIsBank, OpeningsHoldValues}
 use Rattle.sgt_smallbank.proofs.Banks.{serial_is_bank}
 
 -- ---- one committed transaction
@@ -60,8 +60,8 @@ module _ (opening : Contents) (others : List Program) (limits : Limits) (hold : 
   abbrev the_setting : Setting
   the_setting = bank_setting opening others limits
 
-  does_bank : (c : CommittedRun) (before : List CommittedRun) → IsAdmitted the_setting c.call → Gives (serial (run_of the_setting.rules c.call) (replayed the_setting before)) c.reply → c.call.procedure < 5 → DoesBank the_setting c before
-  does_bank c before admitted gives below =
+  agrees : (c : CommittedRun) (before : List CommittedRun) → IsAdmitted the_setting c.call → Gives (serial (run_of the_setting.rules c.call) (replayed the_setting before)) c.reply → c.call.procedure < 5 → AgreesWithBank the_setting c before
+  agrees c before admitted gives below =
       let m : Contents = replayed the_setting before in
       let one = one_of_five others c.call.procedure below in
       let done = ran (serial (run_of the_setting.rules c.call) m) c.reply gives in
@@ -75,14 +75,14 @@ module _ (opening : Contents) (others : List Program) (limits : Limits) (hold : 
         is_bank = sym banks ∙ (sym runs ∙ (done.gave ∙ ap (Done done.answers) left));
       }
 
-  each_does_bank : (all : List CommittedRun) → AreAdmitted the_setting all → AnswersAgree the_setting all → EachDoesBank the_setting all
-  each_does_bank [] admitted answers = tt
-  each_does_bank (c ∷ before) admitted answers = (each_does_bank before admitted.0 answers.0, does_bank c before admitted.1 answers.1)
+  runs_agree : (all : List CommittedRun) → AreAdmitted the_setting all → AnswersAgree the_setting all → RunsAgreeWithBank the_setting all
+  runs_agree [] admitted answers = tt
+  runs_agree (c ∷ before) admitted answers = (runs_agree before admitted.0 answers.0, agrees c before admitted.1 answers.1)
 
-pub replays_do_bank : ReplaysDoBank
-replays_do_bank opening others limits past hold legal =
+pub replay_is_bank : ReplayIsBank
+replay_is_bank opening others limits past hold legal =
     let s = bank_setting opening others limits in
-    each_does_bank opening others limits hold (committed_runs past) (committed_admitted s past legal) (is_serial s past legal).answers
+    runs_agree opening others limits hold (committed_runs past) (committed_admitted s past legal) (is_serial s past legal).answers
 
 -- ---- what accounts open
 
@@ -97,7 +97,7 @@ none_twice (Some f) second e = absurd (cc)
 hold_put : (m : Contents) (k : Key) (v : ℤ) → IsValue v → HoldValues m → HoldValues (put_in m k v)
 hold_put m k v fits hold other = value_put (key_eq k other) v (m other) fits (hold other)
 
-hold_account : (m : Contents) (a : Account) → has_values a ≡ true → HoldValues m → HoldValues (with_account m a)
+hold_account : (m : Contents) (a : Account) → is_in_range a ≡ true → HoldValues m → HoldValues (with_account m a)
 hold_account m a fits hold =
     let behind_name = (and_parts (is_value a.name) _ fits).1 in
     let customer = and_parts (is_value a.customer) _ behind_name in
@@ -110,7 +110,7 @@ hold_accounts : (earlier accounts : List Account) (m : Contents) → first_fault
 hold_accounts earlier [] m none hold = hold
 hold_accounts earlier (a ∷ accounts) m none hold =
     let parts = none_twice (fault_behind earlier a) (first_fault (earlier ++ a ∷ []) accounts) none in
-    hold_accounts (earlier ++ a ∷ []) accounts (with_account m a) parts.1 (hold_account m a (no_range_fault (has_values a) _ parts.0) hold)
+    hold_accounts (earlier ++ a ∷ []) accounts (with_account m a) parts.1 (hold_account m a (no_range_fault (is_in_range a) _ parts.0) hold)
 
 pub openings_hold_values : OpeningsHoldValues
 openings_hold_values accounts none = hold_accounts [] accounts (λ key. None) none (λ key. tt)

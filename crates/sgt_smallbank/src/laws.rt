@@ -1,6 +1,6 @@
 //! The laws of the five procedures. A body has nothing to do: the law is its contract.
 ghost use Rattle.sgt_smallbank.specs.Arithmetic.{SerialIsBank};
-ghost use Rattle.sgt_smallbank.specs.Replays.{OpeningsHoldValues, ReplaysDoBank};
+ghost use Rattle.sgt_smallbank.specs.Replays.{OpeningsHoldValues, ReplayIsBank};
 
 /// Each of the five procedures does, run at once and alone, what the bank's arithmetic says: the same answers or the same
 /// code, and the same contents afterwards.
@@ -8,10 +8,10 @@ pub fn serial_is_bank()
     ensures { SerialIsBank }
 {}
 
-/// After a legal history each committed transaction of one of the five did what the bank's arithmetic says, on the contents
-/// that those committed before it left, and was told its answers. The contents at the opening have to hold values: those
-/// that accounts open do.
-pub fn replays_do_bank()
+/// After a legal history each committed transaction of one of the five procedures has done what the bank's arithmetic says,
+/// on the contents that those committed before it left, and was told its answers. The opening has to hold values: what
+/// accounts without a fault open does.
+pub fn replay_is_bank()
     ensures opening { OpeningsHoldValues }
-    ensures replay { ReplaysDoBank }
+    ensures replay { ReplayIsBank }
 {}

@@ -15,8 +15,10 @@
 //! WriteCheck is given a negative amount, 3 where the saving would be negative, 4 where Amalgamate is given one name twice,
 //! 5 where a customer has no saving or no checking, and 1000 where a number would be out of range. What each does, to the
 //! cent and with its refusals in their order, stands in `specs/Arithmetic.antt`, and [`serial_is_bank`] says that it does
-//! so. The names of the three tables and of the five procedures, and they alone, are those of SmallBank (Alomari, Cahill,
-//! Fekete and Röhm, *The Cost of Serializability on Platforms That Use Snapshot Isolation*, ICDE 2008).
+//! so. [`replay_is_bank`] says it of every legal history: each committed transaction did its arithmetic on what those
+//! committed before it left, and was told its answers. The names of the three tables and of the five procedures, and they
+//! alone, are those of SmallBank (Alomari, Cahill, Fekete and Röhm, *The Cost of Serializability on Platforms That Use
+//! Snapshot Isolation*, ICDE 2008).
 //!
 //! It runs nothing: it keeps no account and makes no access. A procedure is a text that an engine runs for its
 //! transactions, and the accounts become the rows that the engine begins with.
@@ -47,4 +49,4 @@ mod write_check;
 pub use account::{Account, opening};
 pub use errors::{BadOpening, OpeningFault};
 pub use five_procedures::{PROCEDURES, procedures};
-pub use laws::{replays_do_bank, serial_is_bank};
+pub use laws::{replay_is_bank, serial_is_bank};

@@ -1,5 +1,5 @@
-//! Tests of the crates below the scheduler, in a crate of their own: a crate with tests is proved twice, and these would be
-//! proved again for nothing.
+//! Tests of the other crates, in a crate of their own: a crate with tests is proved twice, and these would be proved again
+//! for nothing.
 //!
 //! It has no function for others to call. What a test shows is in its name.
 #![tactic(auto)]
@@ -7,14 +7,24 @@
 #[cfg(test)]
 mod accesses;
 #[cfg(test)]
+mod engine;
+#[cfg(test)]
 mod formats;
 #[cfg(test)]
 mod graphs;
+#[cfg(test)]
+mod procedures;
 #[cfg(test)]
 mod procedures_as_trees;
 #[cfg(test)]
 mod records;
 #[cfg(test)]
+mod scheduler;
+#[cfg(test)]
 mod smallbank;
+#[cfg(test)]
+mod streams;
+#[cfg(test)]
+mod values;
 #[cfg(test)]
 mod walks;

@@ -184,13 +184,14 @@ fn each_kind_has_its_row(rt: HostRuntime) -> Result<(), Fail> {
 
 /// The procedure that `EVERY_KIND` spells.
 fn every_kind(a: Global) -> Result<Procedure, Fail> {
-    let sum = Expr::Sum(Box::new(a, Expr::Arg(1))?, Box::new(a, Expr::Num(-4))?);
-    let diff = Expr::Diff(Box::new(a, Expr::Reg(1))?, Box::new(a, sum)?);
-    let inner = Statement::If {
-        cond: Cond::Equal(Expr::Num(9), Expr::Num(10)),
-        yes: vec![in a; Statement::Ask { code: 11 }]?,
-        no: vec![in a; Statement::Ask { code: 12 }]?,
-    };
+    let (arg, num) = (Box::new(a, Expr::Arg(1))?, Box::new(a, Expr::Num(-4))?);
+    let sum = Box::new(a, Expr::Sum(arg, num))?;
+    let reg = Box::new(a, Expr::Reg(1))?;
+    let asks = vec![in a; Statement::Ask { code: 6 }, answer(7)]?;
+    let yes = vec![in a; Statement::Ask { code: 11 }]?;
+    let no = vec![in a; Statement::Ask { code: 12 }]?;
+    let cond = Cond::Equal(Expr::Num(9), Expr::Num(10));
+    let inner = vec![in a; Statement::If { cond, yes, no }]?;
     let body = vec![in a;
         Statement::Look {
             reg: 1,
@@ -200,17 +201,17 @@ fn every_kind(a: Global) -> Result<Procedure, Fail> {
         },
         Statement::Let {
             reg: 3,
-            value: diff,
+            value: Expr::Diff(reg, sum),
         },
         Statement::If {
             cond: Cond::Less(Expr::Reg(3), Expr::Num(0)),
-            yes: vec![in a; Statement::Ask { code: 6 }, answer(7)]?,
+            yes: asks,
             no: Vec::new(a),
         },
         Statement::If {
             cond: Cond::AtMost(Expr::Num(8), Expr::Reg(3)),
             yes: Vec::new(a),
-            no: vec![in a; inner]?,
+            no: inner,
         },
         Statement::Put {
             table: 13,

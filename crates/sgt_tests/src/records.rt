@@ -2,8 +2,8 @@
 ghost use Rattle.std.specs.Prelude.{◌≡◌, []};
 ghost use Rattle.sgt_model.specs.Contents.{Key as K};
 
-use sgt_records::{ListRecords, Records, Top};
 use sgt_model::{Database, Key, NoMemory, Tid};
+use sgt_records::{ListRecords, Records, Top};
 use std::process::Abort;
 use std::test::Fail;
 

@@ -4,7 +4,7 @@ use Rattle.sgt_model.specs.Syntax.{empty}
 use Rattle.sgt_model.specs.Ways.{onto}
 use Rattle.sgt_proc.proofs.Ifs.{if_answers}
 use Rattle.sgt_proc.proofs.Caps.{most_of_both}
-use Rattle.sgt_proc.proofs.Texts.{onto_last}
+use Rattle.sgt_proc.proofs.StatementTexts.{onto_last}
 use Rattle.sgt_proc.proofs.answers.+answers.Goals as goal
 
 pub most_answers-loop-statement-preserved : goal.most_answers-loop-statement-preserved

@@ -1,7 +1,7 @@
 use Rattle.std.proofs.Common.{arith}
 use Rattle.sgt_proc.proofs.Caps.{deepest_with}
 use Rattle.sgt_proc.proofs.Ifs.{if_depth}
-use Rattle.sgt_proc.proofs.Lists.{depth_drop}
+use Rattle.sgt_proc.proofs.StatementLists.{depth_drop}
 use Rattle.sgt_proc.proofs.depths.+depth.Goals as goal
 
 pub depth-loop-statement-preserved : goal.depth-loop-statement-preserved

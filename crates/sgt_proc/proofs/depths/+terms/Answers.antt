@@ -1,7 +1,7 @@
 use Rattle.std.proofs.Common.{arith}
 use Rattle.sgt_proc.proofs.Caps.{deepest_with}
 use Rattle.sgt_proc.proofs.Ifs.{if_terms}
-use Rattle.sgt_proc.proofs.Lists.{terms_drop}
+use Rattle.sgt_proc.proofs.StatementLists.{terms_drop}
 use Rattle.sgt_proc.proofs.depths.+terms.Goals as goal
 
 pub terms_depth-loop-statement-preserved : goal.terms_depth-loop-statement-preserved

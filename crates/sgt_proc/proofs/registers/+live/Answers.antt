@@ -3,7 +3,7 @@ use Rattle.sgt_model.specs.Programs.{before, block_of}
 use Rattle.sgt_model.specs.Syntax.{empty}
 use Rattle.sgt_model.specs.Ways.{onto}
 use Rattle.sgt_proc.proofs.Ifs.{if_live}
-use Rattle.sgt_proc.proofs.Texts.{onto_last}
+use Rattle.sgt_proc.proofs.StatementTexts.{onto_last}
 use Rattle.sgt_proc.proofs.registers.+live.Goals as goal
 
 pub is_live-loop-statement-preserved : goal.is_live-loop-statement-preserved

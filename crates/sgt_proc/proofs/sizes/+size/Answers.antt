@@ -1,7 +1,7 @@
 use Rattle.std.proofs.Common.{arith}
 use Rattle.sgt_proc.proofs.Caps.{total_with}
 use Rattle.sgt_proc.proofs.Ifs.{if_size}
-use Rattle.sgt_proc.proofs.Lists.{size_drop}
+use Rattle.sgt_proc.proofs.StatementLists.{size_drop}
 use Rattle.sgt_proc.proofs.sizes.+size.Goals as goal
 
 pub size-loop-statement-preserved : goal.size-loop-statement-preserved

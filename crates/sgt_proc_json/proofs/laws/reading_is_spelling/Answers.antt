@@ -1,5 +1,5 @@
-use Rattle.sgt_proc_json.proofs.Spelled.{read_spelled}
-use Rattle.sgt_proc_json.proofs.Found.{spelled_read}
+use Rattle.sgt_proc_json.proofs.SpelledIsRead.{read_spelled}
+use Rattle.sgt_proc_json.proofs.ReadIsSpelled.{spelled_read}
 use Rattle.sgt_proc_json.proofs.laws.reading_is_spelling.Goals as goal
 
 pub returns : goal.returns

@@ -6,6 +6,6 @@ use Rattle.sgt_proc_json.proofs.read_cond.read_row.Goals.{in_default-via-then-it
 pub returns-in_default-clause-err : goal.returns-in_default-clause-err
 returns-in_default-clause-err c =
     elim c.in_default.branch [
-      | in_default-via-then-items-lt3 w ↦ told_here _ _ c.here-in_default.ensures (no_condition c.args.items.now (search rules))
-      | in_default-via-else-items-lt3+else-items-lt4 w ↦ told_here _ _ c.here-in_default.ensures (no_condition c.args.items.now (search rules))
+      | in_default-via-then-items-lt3 w ↦ told_here _ _ c.here.ensures (no_condition c.args.items.now (search rules))
+      | in_default-via-else-items-lt3+else-items-lt4 w ↦ told_here _ _ c.here.ensures (no_condition c.args.items.now (search rules))
     ]

@@ -5,8 +5,8 @@ use Rattle.serde_json.specs.Find.{as_str}
 use Rattle.serde_json.specs.View.{view}
 use Rattle.sgt_proc_json.specs.Readings.{is_word}
 use Rattle.sgt_proc_json.proofs.Lengths.{told_here, no_statement}
-use Rattle.sgt_proc_json.proofs.Rows.{four_are, if_row, other_row, if_made, handed_on, first_tells, second_tells, third_tells}
-use Rattle.sgt_proc_json.proofs.Blocks.{one_more, all_read}
+use Rattle.sgt_proc_json.proofs.IfRows.{four_are, if_row, other_row, if_made, handed_on, first_tells, second_tells, third_tells}
+use Rattle.sgt_proc_json.proofs.StatementsRead.{one_more, all_read}
 use Rattle.sgt_proc_json.proofs.read_statement.+statement.Goals as goal
 use Rattle.sgt_proc_json.proofs.read_statement.+statement.Goals.{read_row-in_default-via-then-items-lt2, read_row-in_default-via-else-items-lt2+else-items-lt3+else-items-lt4+else-items-lt5+else-items-lt6, read_row-in_default-as_str-via-in-Some+in_default-as_str, read_row-in_default-as_str-via-in_default}
 

@@ -2,7 +2,7 @@ use Rattle.std.proofs.Common.{◌≡◌, drop, length}
 use Rattle.std.specs.Vec.{vec_len, vec_capacity}
 use Rattle.serde_json.specs.View.{items_view}
 use Rattle.sgt_proc_json.specs.Readings.{one, statements}
-use Rattle.sgt_proc_json.proofs.Blocks.{onto_block}
+use Rattle.sgt_proc_json.proofs.StatementsRead.{onto_block}
 use Rattle.sgt_proc_json.proofs.read_statement.+statement.Given as goal
 
 -- the statements so far, in front of what the items left spell

@@ -1,6 +1,6 @@
 use Rattle.serde_json.specs.View.{view}
 use Rattle.sgt_model.specs.Programs.{program_of}
-use Rattle.sgt_proc_json.proofs.Spelled.{read_spelled}
+use Rattle.sgt_proc_json.proofs.SpelledIsRead.{read_spelled}
 use Rattle.sgt_proc_json.proofs.writer.write.Goals as goal
 
 pub returns-clause-reads_back : goal.returns-clause-reads_back

@@ -1,8 +1,9 @@
-use Rattle.std.proofs.Common.{◌≡◌, ◌+◌, List, ℕ, ◌++◌}
+use Rattle.std.proofs.Common.{◌≡◌, ◌≤◌, ◌+◌, List, ℕ, ◌++◌}
 use Rattle.std.specs.Io.KnownBytes.{Appends}
 use Rattle.sgt_model.specs.Legality.{Legal}
-use Rattle.sgt_script.specs.Intake.{cut_left}
-use Rattle.sgt_script.specs.Scripts.{Answered, replies}
+use Rattle.sgt_script.specs.Intake.{come, cut_left}
+use Rattle.sgt_script.specs.Scripts.{replies}
+use Rattle.sgt_script.specs.Answering.{Answered}
 use Rattle.sgt_script.proofs.script.answer_lines.Given as goal
 
 abbrev pub invariant-loop-gathered : goal.invariant-loop-gathered
@@ -11,6 +12,8 @@ invariant-loop-gathered g l = record {
   legal : Legal (g.M.Machine.setting l.machine) (g.M.Machine.past l.machine);
   answered : Answered (l.fn.lines.number + 1) (cut_left l.fn.lines (g.S.Source.rest l.fn.source)) (g.M.Machine.past l.machine) (l.lines.number + 1) (cut_left l.lines (g.S.Source.rest l.source));
   written : (bytes : List ℕ) × Appends (g.T.Sink.held l.fn.sink) (g.T.Sink.held l.sink) bytes × (replies (g.M.Machine.past l.machine) ≡ bytes ++ l.gathered.items);
+  counted : g.S.Source.given l.source + come l.fn.lines ≤ g.S.Source.given l.fn.source + come l.lines;
+  few : come l.lines ≤ 16777217;
   reading : g.S.Source.failures l.source ≡ g.S.Source.failures l.fn.source;
   writing : g.T.Sink.failures l.sink ≡ g.T.Sink.failures l.fn.sink;
 }

@@ -18,13 +18,13 @@ returns-then-not-branch-clause-script g c = λ exact.
 pub returns-in_err-opening-clause-script : goal.returns-in_err-opening-clause-script
 returns-in_err-opening-clause-script g c = λ exact.
     let failed : c.from_residual-in_err-opening.result ≡ Err c.in_err-opening.field-0.0 = search rules in
-    let committed_runs = c.in_err-opening.ensures.fault (subst IsExact failed exact) in
+    let explained = c.in_err-opening.ensures.fault (subst IsExact failed exact) in
     wrote-refused g.M.Machine.programs c.in_ok-lines.lines (g.S.Source.rest c.args.source.now) (g.T.Sink.held c.args.sink.now)
-    c.next_line.new.self.line (cut_left c.next_line.new.self (g.S.Source.rest c.next_line.new.source)) committed_runs.0 c.from_residual-in_err-opening.result
-    c.in_ok-lines.ensures (search rules) committed_runs.1 committed_runs.2 (failed ∙ ap (λ f. Err f) committed_runs.3)
+    c.next_line.new.self.line (cut_left c.next_line.new.self (g.S.Source.rest c.next_line.new.source)) explained.0 c.from_residual-in_err-opening.result
+    c.in_ok-lines.ensures (search rules) explained.1 explained.2 (failed ∙ ap (λ f. Err f) explained.3)
 
 pub returns-clause-script : goal.returns-clause-script
 returns-clause-script g c = λ exact.
     wrote-opened g.M.Machine.programs c.in_ok-lines.lines (g.M.Machine.setting c.in_ok-machine.machine) (g.S.Source.rest c.args.source.now) (g.T.Sink.held c.args.sink.now) (g.T.Sink.held c.run_opened.new.sink)
     c.next_line.new.self.line (cut_left c.next_line.new.self (g.S.Source.rest c.next_line.new.source)) c.in_ok-opening.opening c.run_opened.result
-    c.in_ok-lines.ensures (search rules) c.in_ok-opening.ensures.opening c.in_ok-machine.ensures.setting (c.run_opened.ensures.tells exact)
+    c.in_ok-lines.ensures (search rules) c.in_ok-opening.ensures.opening c.in_ok-machine.ensures.setting (c.run_opened.ensures.output exact)

@@ -1,7 +1,7 @@
 use Rattle.std.proofs.Common.{rules}
 use Rattle.sgt_proc.specs.NumberFlaws.{is_bad}
 use Rattle.sgt_proc.proofs.Ifs.{if_in_block}
-use Rattle.sgt_proc.proofs.Lists.{in_drop}
+use Rattle.sgt_proc.proofs.StatementLists.{in_drop}
 use Rattle.sgt_proc.proofs.numbers.Rule.+text.Goals as goal
 
 pub is_broken_by-returns-then-is_broken_in_text : goal.is_broken_by-returns-then-is_broken_in_text

@@ -1,7 +1,8 @@
-use Rattle.std.proofs.Common.{rules, ◌≡◌, Some, slice_get, w64, refl, ap, sym, subst, ◌∙◌, cond}
+use Rattle.std.proofs.Common.{rules, ◌≡◌, ℤ, Option, IfSome, Some, slice_get, w64, refl, ap, sym, subst, ◌∙◌, cond}
 use Rattle.std.proofs.lemmas.Int.{to_z-of_z}
 use Rattle.std.proofs.lemmas.List.{take_all}
 use Rattle.std.proofs.lemmas.Option.{slice_get_read}
+use Rattle.sgt_model.specs.Numbers.{IsValue}
 use Rattle.sgt_model.specs.Contents.{key_eq, put_in}
 use Rattle.sgt_model.specs.Databases.{Row, contents_of, IsByKey, HasValues}
 use Rattle.sgt_records.specs.Settleds.{settled_in}
@@ -23,4 +24,4 @@ pub invariant_of-result : goal.invariant_of-result
 invariant_of-result c =
     let rows = c.args.opening.now in
     let whole = take_all c.loop-key.key-index rows (rw (← c.rows-key-items.ensures.rows) c.loop-key-test.false) in
-    record { in_range = λ k v h. rows_values rows (subst HasValues c.rows-key-items.ensures.rows c.rows-key-items.ensures.values) k v (ap (λ l. contents_of l k) (sym whole) ∙ (sym (c.loop-key.invariant k) ∙ h)) }
+    record { in_range = λ k. subst (λ (o : Option ℤ). IfSome o IsValue) (ap (λ l. contents_of l k) (sym whole) ∙ sym (c.loop-key.invariant k)) (rows_values rows (subst HasValues c.rows-key-items.ensures.rows c.rows-key-items.ensures.values) k) }

@@ -2,7 +2,7 @@ use Rattle.std.proofs.Common.{rules, ◌≡◌, ◌<◌, ◌≤◌, sym, ◌∙�
 use Rattle.sgt_script.specs.Lines.{AtLongLine, AtLimit}
 use Rattle.sgt_script.specs.Intake.{has_whole_line, IsReady}
 use Rattle.sgt_script.proofs.Breaks.{found-is, long-none}
-use Rattle.sgt_script.proofs.Known.{keeps-trans, come-trans, not-ready}
+use Rattle.sgt_script.proofs.Known.{keeps-trans, not-ready}
 use Rattle.sgt_script.proofs.Given.{keeps-ends, ends-at-long, ends-at-limit}
 use Rattle.sgt_script.proofs.lines.Lines.fill.Goals as goal
 use Rattle.sgt_script.proofs.lines.Lines.fill.Goals.{then-loop-self-test+else-not-self, else-loop-self-test}
@@ -15,7 +15,7 @@ loop-self-preserved g c =
       number = c.read.ensures.number ∙ c.loop-self.invariant.number;
       within = c.read.ensures.same ∙ c.loop-self.invariant.within;
       bytes = keeps-trans _ _ _ c.loop-self.invariant.bytes c.read.ensures.bytes;
-      come = come-trans c.args.self.now c.loop-self.self c.read.new.self _ _ _ c.loop-self.invariant.come c.read.ensures.come;
+      counted = search rules;
       untouched = λ ready. absurd (not-ready c.loop-self.self none going (subst IsReady (sym (c.loop-self.invariant.untouched ready).0) ready));
       well = search rules;
     }
@@ -37,9 +37,6 @@ returns-then-held-self-clause-fault g c =
     let few : c.loop-self.self.within ≤ 65536 = search rules in
     keeps-ends c.args.self.now.within c.loop-self.self.within _ _ AtLimit c.loop-self.invariant.bytes c.loop-self.invariant.within
     (ends-at-limit c.loop-self.self (g.S.Source.rest c.loop-self.source) none few past)
-
-pub returns-then-is_err-clause-come : goal.returns-then-is_err-clause-come
-returns-then-is_err-clause-come g c = come-trans c.args.self.now c.loop-self.self c.read.new.self _ _ _ c.loop-self.invariant.come c.read.ensures.come
 
 pub returns-clause-ready : goal.returns-clause-ready
 returns-clause-ready g c =

@@ -1,0 +1,30 @@
+ghost use Rattle.std.specs.Prelude.{◌≡◌, ◌≢◌, ◌↔◌, ℕ};
+ghost use Rattle.sgt_model.specs.State.{Has};
+ghost use Rattle.sgt_model.specs.Walks.{Member, Reaches, Rising};
+
+use crate::standing::{fallen, next_fall, without};
+use sgt_model::{Tid, Tids};
+
+/// Those that fall with t when it aborts: the live ones other than t that have read from it, directly or through others.
+/// They rise, as the live ones do.
+///
+/// Each pair is of two live ones: the source, and the reader that has read from it. This takes no memory. It goes through the
+/// pairs once more than transactions fall, and for each pair through the live ones.
+///
+/// Bernstein, Hadzilacos and Goodman (1987), chapter 2: cascading abort.
+pub fn fallers(read_from: &[(Tid, Tid)], live: &Tids, t: Tid) -> Tids
+    requires rising { Rising live.now }
+    requires live { Member t live.now }
+    requires live_pairs { (u v : ℕ) → Has read_from.now u v
+        → Member u live.now × Member v live.now }
+    ensures exact { (u : ℕ) → Member u result
+        ↔ (Member u live.now × (u ≢ t) × Reaches (Has read_from.now) t u) }
+    ensures rising { Rising result }
+{
+    let others = without(live, t);
+    let mut standing = others.copied();
+    while let Some(pair) = next_fall(read_from, standing.as_slice()) {
+        standing = without(&standing, pair.1);
+    }
+    fallen(&others, standing.as_slice())
+}

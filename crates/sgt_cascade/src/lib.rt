@@ -1,0 +1,14 @@
+//! Who falls when a transaction aborts: those that have read from it, directly or through others.
+//!
+//! [`fallers`] is exact. It knows numbers alone, keeps nothing and takes no memory.
+//!
+//! ```
+//! let read_from = [(Tid(0), Tid(1)), (Tid(1), Tid(2))];   // 1 has read from 0, and 2 from 1
+//! let fell = fallers(&read_from, &live, Tid(0));          // 1, 2
+//! ```
+#![tactic(auto)]
+
+mod cascade;
+mod standing;
+
+pub use cascade::fallers;

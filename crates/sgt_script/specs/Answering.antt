@@ -1,0 +1,22 @@
+-- How far the lines of a script are answered.
+use Rattle.std.specs.Prelude.{◌≡◌, ℕ, ⊤, List, [], ◌++◌, Option, None, Some}
+use Rattle.sgt_model.specs.declared.entry.Entry.{Entry}
+use Rattle.sgt_model.specs.Histories.{events_of}
+use Rattle.sgt_script.specs.Lines.{Cut}
+use Rattle.sgt_script.specs.Scripts.{End, events, end_of}
+
+-- known lines from number n on begin with those of a history's events; behind them, from number m on, are these
+abbrev pub Answered : ℕ → Option Cut → List Entry → ℕ → Option Cut → Type 0
+Answered n None past m new = ⊤
+Answered n (Some old) past m None = ⊥
+Answered n (Some old) past m (Some new) = (events old.given ≡ events_of past ++ events new.given) × (end_of n old.given old.ending ≡ end_of m new.given new.ending)
+
+-- known lines from number n on give no event, and end so
+abbrev pub NoEvent : ℕ → Option Cut → End → Type 0
+NoEvent n None end = ⊤
+NoEvent n (Some c) end = (events c.given ≡ []) × (end_of n c.given c.ending ≡ end)
+
+-- known lines from number n on have just a history's events, and end so
+abbrev pub AllAnswered : ℕ → Option Cut → List Entry → End → Type 0
+AllAnswered n None past end = ⊤
+AllAnswered n (Some c) past end = (events c.given ≡ events_of past) × (end_of n c.given c.ending ≡ end)
