@@ -8,7 +8,7 @@ use Rattle.sgt_model.specs.Runs.{Run}
 use Rattle.sgt_model.specs.Traces.{Used, trace, Next, Looks, Puts, Ends, Asks, next_at}
 use Rattle.sgt_model.specs.Left.{Left, next_left, after_look, after_store, left_after}
 use Rattle.sgt_model.specs.Accesses.{Access, acts}
-use Rattle.sgt_model.specs.Settings.{Rules, Setting, run_if}
+use Rattle.sgt_model.specs.Settings.{Setting, run_if}
 use Rattle.sgt_model.specs.Progress.{Call, call_of, run_of, if_look, looked, reads, made, next_of}
 use Rattle.sgt_model.specs.Legality.{Legal}
 use Rattle.sgt_model.specs.LiveLeft.{left_if, left_of_call, left_of}
@@ -40,19 +40,16 @@ run_at_start : (p : Option Program) (args : List ℤ) → run_left (left_if p ar
 run_at_start None args = refl
 run_at_start (Some p) args = refl
 
--- what is left of a call goes on as its run does
-module _ (rules : Rules) (c : Call) (values : List (Option ℤ)) (made : ℕ) (used : Used (run_of rules c) values made) where
-  run_is : run_left (left_of_call rules c) ≡ run_of rules c
-  run_is = run_at_start (rules.procedures c.procedure) c.args
+-- what is left of a procedure goes on as its run does
+module _ (p : Option Program) (args : List ℤ) (values : List (Option ℤ)) (made : ℕ) (used : Used (run_if p args) values made) where
+  pub next_if : next_left (left_after (left_if p args) values made) ≡ next_at (trace (run_if p args) values) made
+  next_if = next_after made (run_if p args) (left_if p args) values (run_at_start p args) used
 
-  pub call_next : next_left (left_after (left_of_call rules c) values made) ≡ next_at (trace (run_of rules c) values) made
-  call_next = next_after made (run_of rules c) (left_of_call rules c) values run_is used
+  pub looked_if : (key : Key) (found : Option ℤ) → next_at (trace (run_if p args) values) made ≡ Looks key → left_after (left_if p args) (values ++ found ∷ []) (suc made) ≡ after_look found (left_after (left_if p args) values made)
+  looked_if key found next = look_after made (run_if p args) (left_if p args) values (run_at_start p args) used key found (next_if ∙ next)
 
-  pub call_looked : (key : Key) (found : Option ℤ) → next_at (trace (run_of rules c) values) made ≡ Looks key → left_after (left_of_call rules c) (values ++ found ∷ []) (suc made) ≡ after_look found (left_after (left_of_call rules c) values made)
-  call_looked key found next = look_after made (run_of rules c) (left_of_call rules c) values run_is used key found (call_next ∙ next)
-
-  pub call_stored : (key : Key) (v : ℤ) → next_at (trace (run_of rules c) values) made ≡ Puts key v → left_after (left_of_call rules c) values (suc made) ≡ after_store (left_after (left_of_call rules c) values made)
-  call_stored key v next = store_after made (run_of rules c) (left_of_call rules c) values run_is used key v (call_next ∙ next)
+  pub stored_if : (key : Key) (v : ℤ) → next_at (trace (run_if p args) values) made ≡ Puts key v → left_after (left_if p args) values (suc made) ≡ after_store (left_after (left_if p args) values made)
+  stored_if key v next = store_after made (run_if p args) (left_if p args) values (run_at_start p args) used key v (next_if ∙ next)
 
 -- so it is in a legal history
 module _ (s : Setting) (past : List Entry) (h : Legal s past) (t : ℕ) where
@@ -60,10 +57,10 @@ module _ (s : Setting) (past : List Entry) (h : Legal s past) (t : ℕ) where
   used_so_far = all_used (run_of s.rules (call_of past t)) (acts past t) (plays s past t h)
 
   pub next_is_left : next_left (left_of s.rules past t) ≡ next_of s past t
-  next_is_left = call_next s.rules (call_of past t) (reads past t) (made past t) used_so_far
+  next_is_left = next_if (s.rules.procedures (call_of past t).procedure) (call_of past t).args (reads past t) (made past t) used_so_far
 
   pub left_looked : (key : Key) (found : Option ℤ) → next_of s past t ≡ Looks key → left_after (left_of_call s.rules (call_of past t)) (reads past t ++ found ∷ []) (suc (made past t)) ≡ after_look found (left_of s.rules past t)
-  left_looked = call_looked s.rules (call_of past t) (reads past t) (made past t) used_so_far
+  left_looked = looked_if (s.rules.procedures (call_of past t).procedure) (call_of past t).args (reads past t) (made past t) used_so_far
 
   pub left_stored : (key : Key) (v : ℤ) → next_of s past t ≡ Puts key v → left_after (left_of_call s.rules (call_of past t)) (reads past t) (suc (made past t)) ≡ after_store (left_of s.rules past t)
-  left_stored = call_stored s.rules (call_of past t) (reads past t) (made past t) used_so_far
+  left_stored = stored_if (s.rules.procedures (call_of past t).procedure) (call_of past t).args (reads past t) (made past t) used_so_far
