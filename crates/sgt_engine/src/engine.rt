@@ -1,19 +1,26 @@
-ghost use Rattle.std.specs.Prelude.{◌≡◌, ℕ, Result, Ok, Err, IfOk, OnErr, ◌↔◌, reverse};
+ghost use Rattle.std.specs.Prelude.{◌≡◌, ℕ, true, Result, Ok, Err, IfOk, OnErr, ◌↔◌, reverse};
+ghost use Rattle.std.specs.Result.{IsOk};
+ghost use Rattle.sgt_model.specs.declared.event.Event.TheVariants.{Quit};
+ghost use Rattle.sgt_model.specs.declared.reply.Reply.{Reply as Answer};
 ghost use Rattle.sgt_model.specs.Bounds.{AreInRange};
 ghost use Rattle.sgt_model.specs.Contents.{Key as K};
 ghost use Rattle.sgt_model.specs.Databases.{contents_of, IsByKey};
+ghost use Rattle.sgt_model.specs.Fates.{live};
 ghost use Rattle.sgt_model.specs.Headline.{Headline};
 ghost use Rattle.sgt_model.specs.Legality.{Legal, LegalReply};
 ghost use Rattle.sgt_model.specs.Replay.{replayed, committed_runs};
+ghost use Rattle.sgt_model.specs.StateAfter.{IsStateAfter};
 ghost use Rattle.sgt_model.specs.Values.{settled};
+ghost use Rattle.sgt_sched.specs.Endings.{is_ending};
 ghost use Rattle.sgt_engine.specs.EngineView.{setting_of, made_of, with_entry};
 
+use crate::room::make_room;
 use sgt_access::Accesses;
 use sgt_graph::Graph;
 use sgt_model::{Database, Entry, Event, Key, Limits, MakeError, NoMemory, Reply};
 use sgt_proc::Checked;
 use sgt_records::Records;
-use sgt_sched::Sched;
+use sgt_sched::{Sched, Scheduler};
 use std::alloc::Global;
 use std::marker::Model;
 
@@ -37,12 +44,14 @@ pub struct Engine<R: Records, A: Accesses, G: Graph> {
 
 impl<R: Records, A: Accesses, G: Graph> Model for Engine<R, A, G> {
     ghost use Rattle.std.specs.Coded.{codes};
-    ghost use Rattle.std.specs.Prelude.{reverse};
+    ghost use Rattle.std.specs.Prelude.{◌+◌, ◌≤◌, length, reverse};
+    ghost use Rattle.std.specs.Vec.{vec_len, vec_capacity};
     ghost use Rattle.sgt_model.specs.Codes.{coded_program};
     ghost use Rattle.sgt_model.specs.Databases.{contents_of};
     ghost use Rattle.sgt_model.specs.Legality.{Legal};
     ghost use Rattle.sgt_model.specs.Settings.{setting};
     ghost use Rattle.sgt_model.specs.StateAfter.{IsStateAfter};
+    ghost use Rattle.sgt_sched.specs.LiveList.{numbers};
     ghost use Rattle.sgt_sched.specs.SchedulerView.{state_of};
     ghost use Rattle.sgt_engine.specs.EngineView.{EngineView};
 
@@ -62,7 +71,8 @@ impl<R: Records, A: Accesses, G: Graph> Model for Engine<R, A, G> {
         (reverse e.history.items)
         × IsStateAfter (setting (contents_of e.opening) e.sched.procedures e.sched.limits)
         (reverse e.history.items)
-        (state_of R.chain R.settled A.list G.nodes G.pairs e.sched) };
+        (state_of R.chain R.settled A.list G.nodes G.pairs e.sched)
+        × (vec_len e.history + length (numbers e.sched.live) ≤ vec_capacity e.history) };
 }
 
 impl<R: Records, A: Accesses, G: Graph> Engine<R, A, G> {
@@ -94,22 +104,38 @@ impl<R: Records, A: Accesses, G: Graph> Engine<R, A, G> {
     /// that of chapter 2. That a commit waits for its live predecessors, so that commit order is a serial order, is from
     /// Durner and Neumann (ICDE 2019).
     ///
-    /// `NoMemory` where a growth was refused; then nothing has changed. What it costs does not grow with the history, which is
-    /// never looked at, but for growing a list now and then.
+    /// `NoMemory` where a growth was refused; then nothing has changed. A quit of a live transaction takes no memory, nor does
+    /// any event whose reply ends a live transaction: the room for that entry was taken when it started. What an event costs
+    /// does not grow with the history, which is never looked at, but for growing a list now and then.
     pub fn apply(&mut self, event: Event) -> Result<Reply, NoMemory>
         ensures adds { IfOk result (λ r. self.new ≡ with_entry event r self.old) }
         ensures reply { IfOk result (LegalReply (setting_of self.old) self.old.past event) }
         ensures legal { Legal (setting_of self.new) self.new.past }
         ensures headline { Headline (setting_of self.new) self.new.past }
         ensures refused { OnErr result (self.new ≡ self.old) }
+        ensures no_memory { (r : Answer) → LegalReply (setting_of self.old) self.old.past event r
+            → is_ending r ≡ true
+            → IsOk result }
+        ensures quits { (t : ℕ) → event ≡ Quit t → live self.old.past t ≡ true → IsOk result }
     {
-        self.history.reserve(1)?;
+        make_room(&mut self.history, &self.sched, &event)?;
         let reply = self.sched.call(&event)?;
         self.history.push_reserved(Entry {
             event,
             reply: reply.copied(),
         });
         Ok(reply)
+    }
+
+    /// The scheduler with its layers. It holds just what the history says of the live transactions, how the others ended, and
+    /// the committed values.
+    pub fn sched(&self) -> &Sched<R, A, G>
+        ensures state { IsStateAfter (setting_of self.now) self.now.past
+            (⟦<Sched<R, A, G> as Scheduler>⟧.state result.now) }
+        ensures procedures { result.now.procedures ≡ self.now.procedures }
+        ensures limits { result.now.limits ≡ self.now.limits }
+    {
+        &self.sched
     }
 
     /// The history, oldest entry first. Nothing is ever taken out of it.

@@ -15,6 +15,7 @@
 #![tactic(auto)]
 
 mod engine;
+mod room;
 mod run;
 
 pub use engine::Engine;

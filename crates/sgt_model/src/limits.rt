@@ -1,9 +1,8 @@
 ghost use Rattle.std.specs.Prelude.{◌≡◌, ◌≤◌, ◌↔◌, IsTrue};
 ghost use Rattle.sgt_model.specs.Bounds.{AreInRange};
 
-/// The most transactions that may be live at once. The definitions, the laws and the layers are made for 32; the scheduler
-/// serves one so far.
-pub const MOST_LIVE: u32 = 1;
+/// The most transactions that may be live at once.
+pub const MOST_LIVE: u32 = 32;
 
 /// The most transactions that may be started.
 pub const MOST_BEGINS: u32 = 4_000_000_000;

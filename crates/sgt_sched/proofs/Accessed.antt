@@ -19,6 +19,7 @@ use Rattle.sgt_cycle.specs.Walk.{Walk, NoWalk}
 use Rattle.sgt_records.specs.Tops.{top_from, value_of}
 use Rattle.sgt_sched.specs.LiveList.{numbers, progress_at, changed}
 use Rattle.sgt_sched.specs.SchedulerView.{SchedulerView, state_of, HasUsed, IsKept}
+use Rattle.sgt_sched.specs.Endings.{IsBlocked}
 use Rattle.sgt_sched.specs.Steps.{with_source}
 use Rattle.sgt_sched.proofs.Lists.{numbers-changed, progress_at-changed, progress_at-own}
 
@@ -82,6 +83,13 @@ module _ {R A G : Type 0} {chain : R → Key → List (ℕ × ℤ)} {settled : R
     -- without a walk to a rival nothing blocks
     pub not_blocked : NoWalk (pairs before.graph) t rivals → (rest : List ℕ) → Blocks (state_of chain settled list nodes pairs before) t k kind rest → ⊥
     not_blocked free rest b = free rest (record { distinct = b.distinct; goes = b.pairs; ends = (exact (last_of t rest)).1 (b.rival.apart, b.rival.has_conflicting) })
+
+    -- the same of parts that were seen as others: it is blocked, or not
+    pub blocked_seen : (now : SchedulerView R A G) → before ≡ now → (rest : List ℕ) → Walk (pairs before.graph) t rivals rest → IsBlocked (state_of chain settled list nodes pairs now) t k kind
+    blocked_seen now seen rest w = subst (λ (p : SchedulerView R A G). IsBlocked (state_of chain settled list nodes pairs p) t k kind) seen (rest, blocks_from_walk rest w)
+
+    pub free_seen : (now : SchedulerView R A G) → before ≡ now → NoWalk (pairs before.graph) t rivals → IsBlocked (state_of chain settled list nodes pairs now) t k kind → ⊥
+    free_seen now seen free b = let q = subst (λ (p : SchedulerView R A G). IsBlocked (state_of chain settled list nodes pairs p) t k kind) (sym seen) b in not_blocked free q.0 q.1
 
     -- the parts after an access that was noted
     module _ (records : R) (accesses : A) (graph : G) (change : Progress → Progress) (read_from : List (ℕ × ℕ)) (settled_is : (j : Key) → settled records j ≡ settled before.records j) (list_is : list accesses ≡ list before.accesses ++ record { by = t; key = k; kind = kind } ∷ []) (nodes_are : (u : ℕ) → nodes graph u ≡ nodes before.graph u) (pairs_are : (u v : ℕ) → (pairs graph u v ≡ true) ↔ ((pairs before.graph u v ≡ true) ⊎ ((v ≡ t) × Member u rivals))) where

@@ -3,3 +3,4 @@ pub mod LiveList
 pub mod SchedulerView
 pub mod Admission
 pub mod Steps
+pub mod Endings

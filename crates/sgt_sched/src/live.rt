@@ -1,10 +1,10 @@
-ghost use Rattle.std.specs.Prelude.{◌≡◌, ◌<◌, [], ◌∷◌, ◌++◌, length, OnOk, OnErr, position, find};
+ghost use Rattle.std.specs.Prelude.{◌≡◌, ◌<◌, ◌≤◌, [], ◌∷◌, ◌++◌, length, OnOk, OnErr, position, find};
 ghost use Rattle.std.specs.Option.{option_copied};
 ghost use Rattle.sgt_model.specs.Walks.{Member};
 ghost use Rattle.sgt_sched.specs.LiveList.{numbers, has_number, progress_at, started, looked, stored, changed, without};
 
 use crate::running::Running;
-use sgt_model::{Args, NoMemory, Tid};
+use sgt_model::{Args, NoMemory, Tid, Tids};
 use std::alloc::Global;
 use std::marker::Model;
 
@@ -40,6 +40,18 @@ impl Live {
         ensures { result ≡ length self.now }
     {
         self.running.len()
+    }
+
+    /// Their numbers.
+    pub fn numbers(&self) -> Tids
+        requires few { length self.now ≤ 32 }
+        ensures { result ≡ numbers self.now }
+    {
+        let mut tids = Tids::new();
+        for running in self.running.as_slice() {
+            tids.push(running.tid);
+        }
+        tids
     }
 
     /// The transaction of this number, if it is live.

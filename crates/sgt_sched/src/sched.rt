@@ -1,17 +1,23 @@
-ghost use Rattle.std.specs.Prelude.{◌≡◌, ◌≤◌, ◌<◌, ℕ, true, false, [], length, nat_lt, Result, Ok, Err, IfOk, OnOk, OnErr, ◌⊎◌, ◌↔◌};
-ghost use Rattle.std.specs.Result.{IfErr};
+ghost use Rattle.std.specs.Prelude.{◌≡◌, ◌≤◌, ◌<◌, ℕ, true, false, [], length, nat_lt, Result, Ok, Err, IfOk, OnOk, OnErr, IsTrue, ◌⊎◌, ◌↔◌};
+ghost use Rattle.std.specs.Result.{IfErr, IsOk};
+ghost use Rattle.sgt_model.specs.declared.event.Event.TheVariants.{Step, Commit};
+ghost use Rattle.sgt_model.specs.declared.reply.Reply.{Reply as Answer};
 ghost use Rattle.sgt_model.specs.declared.kind.Kind.TheVariants.{Look, Store};
 ghost use Rattle.sgt_model.specs.Bounds.{AreInRange};
 ghost use Rattle.sgt_model.specs.CallEffects.{AbortsIn, CallEffect, CommitEffect, CommitsIn, MakesLook, MakesStore, QuitEffect, RefusesIn, StartEffect, StepEffect};
 ghost use Rattle.sgt_model.specs.Databases.{contents_of};
+ghost use Rattle.sgt_model.specs.FallsIn.{FallsIn};
 ghost use Rattle.sgt_model.specs.Left.{next_left};
 ghost use Rattle.sgt_sched.specs.LiveList.{progress_at};
 ghost use Rattle.sgt_model.specs.NewState.{IsNew};
 ghost use Rattle.sgt_model.specs.Numbers.{IsValue};
 ghost use Rattle.sgt_model.specs.Sameness.{Same};
+ghost use Rattle.sgt_model.specs.State.{State};
 ghost use Rattle.sgt_model.specs.Traces.{Looks, Puts};
+ghost use Rattle.sgt_model.specs.Walks.{Rising};
 ghost use Rattle.sgt_proc.specs.Nexts.{seen, IsAccess, StoresValue};
 ghost use Rattle.sgt_sched.specs.Admission.{Admits};
+ghost use Rattle.sgt_sched.specs.Endings.{EndsAborted, EndsOne, IsBlocked, is_ending};
 ghost use Rattle.sgt_sched.specs.SchedulerView.{rules_of};
 ghost use Rattle.sgt_sched.specs.Steps.{IsClosed, IsUnended};
 
@@ -22,6 +28,8 @@ use crate::reads::note_read;
 use crate::running::{Running, next_of};
 use crate::scheduler::Scheduler;
 use sgt_access::Accesses;
+use sgt_cascade::fallers;
+use sgt_commit::{decide, finish, unwind};
 use sgt_graph::{Graph, Verdict};
 use sgt_model::{
     Answers, Args, Cause, Database, Event, Fate, Key, Kind, Limits, MakeError, NoMemory, Reply,
@@ -128,12 +136,13 @@ impl<R: Records, A: Accesses, G: Graph> Sched<R, A, G> {
 
     /// Makes the call that an event stands for: `start`, `step`, `commit` or `quit`.
     ///
-    /// `NoMemory` where a growth was refused; then nothing has changed.
+    /// `NoMemory` where a growth was refused; then nothing has changed. An event that ends a live transaction takes no memory.
     pub fn call(&mut self, event: &Event) -> Result<Reply, NoMemory>
         ensures done { IfOk result (λ r. CallEffect (rules_of self.old) event.now (⟦<Self as Scheduler>⟧.state self.old) r (⟦<Self as Scheduler>⟧.state self.new)) }
         ensures procedures { self.new.procedures ≡ self.old.procedures }
         ensures limits { self.new.limits ≡ self.old.limits }
         ensures refused { OnErr result (Same (⟦<Self as Scheduler>⟧.state self.old) (⟦<Self as Scheduler>⟧.state self.new)) }
+        ensures no_memory { EndsOne event.now (⟦<Self as Scheduler>⟧.state self.old) → IsOk result }
     {
         match event {
             Event::Start { procedure, args } => self.start(*procedure, args),
@@ -191,7 +200,7 @@ impl<R: Records, A: Accesses, G: Graph> Sched<R, A, G> {
     /// Answers: `Unknown` where it was never started; `Over` where it has ended; `Ended` where its procedure is at its end,
     /// with nothing done; `Aborted` where its procedure asks a code, and exactly where the access would close a cycle; else
     /// `Looked` with the last value that is not undone, or `Wrote`. `NoMemory` where a growth was refused; then nothing has
-    /// changed.
+    /// changed. A step that ends the transaction takes no memory.
     ///
     /// The procedure is run again over what its looks found, at most 64 accesses.
     pub fn step(&mut self, t: Tid) -> Result<Reply, NoMemory>
@@ -199,6 +208,7 @@ impl<R: Records, A: Accesses, G: Graph> Sched<R, A, G> {
         ensures procedures { self.new.procedures ≡ self.old.procedures }
         ensures limits { self.new.limits ≡ self.old.limits }
         ensures refused { OnErr result (Same (⟦<Self as Scheduler>⟧.state self.old) (⟦<Self as Scheduler>⟧.state self.new)) }
+        ensures no_memory { EndsOne (Step t) (⟦<Self as Scheduler>⟧.state self.old) → IsOk result }
     {
         let next = match self.next(t) {
             Ok(next) => next,
@@ -222,7 +232,7 @@ impl<R: Records, A: Accesses, G: Graph> Sched<R, A, G> {
         ensures limits { self.new.limits ≡ self.old.limits }
     {
         match self.next(t) {
-            Ok(Next::Ends(answers)) => match self.graph.least_pred(t) {
+            Ok(Next::Ends(answers)) => match decide(&self.graph, t) {
                 Some(first) => Reply::Waits(first),
                 None => self.settle(t, answers),
             },
@@ -279,28 +289,39 @@ impl<R: Records, A: Accesses, G: Graph> Sched<R, A, G> {
         }
     }
 
-    // Aborts a live transaction. Those that have read from it would fall with it: as long as at most one transaction is live,
-    // `MOST_LIVE` of sgt_model, there are none. Nothing else in this crate rests on that limit.
+    // Aborts a live transaction, and those that have read from it with it.
     fn abort(&mut self, t: Tid, cause: Cause) -> Reply
         requires live { (⟦<Self as Scheduler>⟧.state self.old).nodes t ≡ true }
         ensures aborts { AbortsIn t cause (⟦<Self as Scheduler>⟧.state self.old) result (⟦<Self as Scheduler>⟧.state self.new) }
         ensures procedures { self.new.procedures ≡ self.old.procedures }
         ensures limits { self.new.limits ≡ self.old.limits }
     {
-        let fate = Fate::Aborted(cause.copied());
-        self.records.undo(t);
-        leave(
-            &mut self.accesses,
-            &mut self.graph,
-            &mut self.live,
-            &mut self.read_from,
-            t,
-        );
-        self.fates[t.0 as usize] = Some(fate);
-        Reply::Aborted {
-            cause,
-            fell: Tids::new(),
+        let fell = self.falling_with(t);
+        self.end_aborted(t, Fate::Aborted(cause.copied()));
+        for reader in fell.as_slice() {
+            self.end_aborted(*reader, Fate::Fell(t));
         }
+        Reply::Aborted { cause, fell }
+    }
+
+    // Those that fall with a live transaction, when it aborts.
+    fn falling_with(&self, t: Tid) -> Tids
+        requires live { (⟦<Self as Scheduler>⟧.state self.now).nodes t ≡ true }
+        ensures { FallsIn (⟦<Self as Scheduler>⟧.state self.now) t result }
+    {
+        fallers(self.read_from.as_slice(), &self.live.numbers(), t)
+    }
+
+    // Takes a live transaction that is aborted, or falls with another, out of all layers. Its readers stay.
+    fn end_aborted(&mut self, t: Tid, fate: Fate)
+        requires live { (⟦<Self as Scheduler>⟧.state self.old).nodes t ≡ true }
+        ensures ends { EndsAborted t fate (⟦<Self as Scheduler>⟧.state self.old) (⟦<Self as Scheduler>⟧.state self.new) }
+        ensures procedures { self.new.procedures ≡ self.old.procedures }
+        ensures limits { self.new.limits ≡ self.old.limits }
+    {
+        unwind(&mut self.records, &mut self.accesses, &mut self.graph, t);
+        leave(&mut self.live, &mut self.read_from, t);
+        self.fates[t.0 as usize] = Some(fate);
     }
 
     // Makes a look of a live transaction, or aborts it where the look would close a cycle.
@@ -312,6 +333,7 @@ impl<R: Records, A: Accesses, G: Graph> Sched<R, A, G> {
         ensures procedures { self.new.procedures ≡ self.old.procedures }
         ensures limits { self.new.limits ≡ self.old.limits }
         ensures refused { OnErr result (Same (⟦<Self as Scheduler>⟧.state self.old) (⟦<Self as Scheduler>⟧.state self.new)) }
+        ensures no_memory { IsBlocked (⟦<Self as Scheduler>⟧.state self.old) t key Look → IsOk result }
     {
         let rivals = self.accesses.rivals(t, key, Kind::Look);
         match self.graph.test(t, &rivals) {
@@ -322,6 +344,7 @@ impl<R: Records, A: Accesses, G: Graph> Sched<R, A, G> {
                 self.accesses.reserve(key)?;
                 self.read_from.reserve(1)?;
                 self.live.look(t, value)?;
+                // Its verdict is that of the test: nothing has changed in the graph since.
                 self.graph.insert(t, &rivals);
                 self.accesses.note(t, key, Kind::Look);
                 note_read(&mut self.read_from, &top, t);
@@ -340,6 +363,7 @@ impl<R: Records, A: Accesses, G: Graph> Sched<R, A, G> {
         ensures procedures { self.new.procedures ≡ self.old.procedures }
         ensures limits { self.new.limits ≡ self.old.limits }
         ensures refused { OnErr result (Same (⟦<Self as Scheduler>⟧.state self.old) (⟦<Self as Scheduler>⟧.state self.new)) }
+        ensures no_memory { IsBlocked (⟦<Self as Scheduler>⟧.state self.old) t key Store → IsOk result }
     {
         let rivals = self.accesses.rivals(t, key, Kind::Store);
         match self.graph.test(t, &rivals) {
@@ -347,6 +371,7 @@ impl<R: Records, A: Accesses, G: Graph> Sched<R, A, G> {
             Verdict::Accepted => {
                 self.records.reserve(key)?;
                 self.accesses.reserve(key)?;
+                // Its verdict is that of the test: nothing has changed in the graph since.
                 self.graph.insert(t, &rivals);
                 self.records.write(t, key, value);
                 self.accesses.note(t, key, Kind::Store);
@@ -364,16 +389,73 @@ impl<R: Records, A: Accesses, G: Graph> Sched<R, A, G> {
         ensures procedures { self.new.procedures ≡ self.old.procedures }
         ensures limits { self.new.limits ≡ self.old.limits }
     {
-        self.records.settle(t);
-        leave(
-            &mut self.accesses,
-            &mut self.graph,
-            &mut self.live,
-            &mut self.read_from,
-            t,
-        );
+        finish(&mut self.records, &mut self.accesses, &mut self.graph, t);
+        leave(&mut self.live, &mut self.read_from, t);
         self.fates[t.0 as usize] = Some(Fate::Committed);
         Reply::Committed(answers)
+    }
+
+    /// Whether the reply to this event would end a live transaction: `Committed` or `Aborted`. The events of which this is true
+    /// take no memory.
+    pub fn ends(&self, event: &Event) -> bool
+        ensures exact { IsTrue result ↔ EndsOne event.now (⟦<Self as Scheduler>⟧.state self.now) }
+        ensures replies { (r : Answer) (after : State)
+            → CallEffect (rules_of self.now) event.now (⟦<Self as Scheduler>⟧.state self.now) r after
+            → is_ending r ≡ result }
+    {
+        match event {
+            Event::Start { .. } => false,
+            Event::Step(t) => self.step_ends(*t),
+            Event::Commit(t) => self.commit_ends(*t),
+            Event::Quit(t) => self.running(*t).is_ok(),
+        }
+    }
+
+    // Whether the next step would end the transaction.
+    fn step_ends(&self, t: Tid) -> bool
+        ensures { IsTrue result ↔ EndsOne (Step t) (⟦<Self as Scheduler>⟧.state self.now) }
+    {
+        let next = match self.next(t) {
+            Ok(next) => next,
+            Err(_) => return false,
+        };
+        match next {
+            Next::Look(key) => self.is_blocked(t, key, Kind::Look),
+            Next::Put(key, _) => self.is_blocked(t, key, Kind::Store),
+            Next::Ends(_) => false,
+            Next::Asks(_) => true,
+        }
+    }
+
+    // Whether an access of a live transaction would close a cycle.
+    fn is_blocked(&self, t: Tid, key: Key, kind: Kind) -> bool
+        requires live { (⟦<Self as Scheduler>⟧.state self.now).nodes t ≡ true }
+        ensures { IsTrue result ↔ IsBlocked (⟦<Self as Scheduler>⟧.state self.now) t key kind }
+    {
+        let rivals = self.accesses.rivals(t, key, kind);
+        match self.graph.test(t, &rivals) {
+            Verdict::Accepted => false,
+            Verdict::Closes(_) => true,
+        }
+    }
+
+    // Whether the transaction can commit.
+    fn commit_ends(&self, t: Tid) -> bool
+        ensures { IsTrue result ↔ EndsOne (Commit t) (⟦<Self as Scheduler>⟧.state self.now) }
+    {
+        match self.next(t) {
+            Ok(Next::Ends(_)) => decide(&self.graph, t).is_none(),
+            Ok(_) => false,
+            Err(_) => false,
+        }
+    }
+
+    /// The numbers of the live transactions, rising.
+    pub fn live(&self) -> Tids
+        ensures live { result ≡ (⟦<Self as Scheduler>⟧.state self.now).live }
+        ensures rising { Rising result }
+    {
+        self.live.numbers()
     }
 
     /// The records: the committed values, and above them what the live transactions have stored.
@@ -381,5 +463,19 @@ impl<R: Records, A: Accesses, G: Graph> Sched<R, A, G> {
         ensures { result.now ≡ self.now.records }
     {
         &self.records
+    }
+
+    /// The accesses of the live transactions.
+    pub fn accesses(&self) -> &A
+        ensures { result.now ≡ self.now.accesses }
+    {
+        &self.accesses
+    }
+
+    /// The graph of the live transactions.
+    pub fn graph(&self) -> &G
+        ensures { result.now ≡ self.now.graph }
+    {
+        &self.graph
     }
 }

@@ -44,9 +44,6 @@ impl Machine for SmallBankEngine {
     }
 
     fn database(&self, alloc: Global) -> Result<Database, NoMemory> {
-        let database = self.engine.database(alloc)?;
-        // The rows of a database are in the order of their keys.
-        let _ = database.rows();
-        Ok(database)
+        self.engine.database(alloc)
     }
 }

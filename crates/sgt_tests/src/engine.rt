@@ -137,7 +137,7 @@ fn an_abort_and_refusals_in_the_middle(rt: HostRuntime) -> Result<(), Fail> {
 #[test]
 fn limits_are_refused(rt: HostRuntime) -> Result<(), Fail> {
     let a = rt.alloc();
-    for (live, begins) in [(2, 10), (0, 10), (1, 0), (1, 4_000_000_001)] {
+    for (live, begins) in [(33, 10), (0, 10), (1, 0), (1, 4_000_000_001)] {
         let limits = Limits { live, begins };
         let made: Result<Engine<ListRecords, OneList, PairGraph>, MakeError> = Engine::new(
             a,

@@ -1,28 +1,35 @@
-use Rattle.std.proofs.Common.{refl, ap, reverse}
+use Rattle.std.proofs.Common.{refl, sym, ap, ◌∙◌, arith, reverse}
+use Rattle.std.proofs.lemmas.Bool.{true≢false}
+use Rattle.std.specs.Result.{is_ok}
+use Rattle.std.specs.Vec.{vec_len, vec_capacity}
 use Rattle.sgt_model.specs.Databases.{contents_of}
 use Rattle.sgt_model.specs.Settings.{setting}
 use Rattle.sgt_model.proofs.Headline.{headline}
 use Rattle.sgt_sched.specs.SchedulerView.{state_of}
 use Rattle.sgt_engine.specs.EngineView.{setting_of}
+use Rattle.sgt_engine.proofs.Ends.{room_left, ends_seen}
 use Rattle.sgt_engine.proofs.Entries.{added, same_setting, kept_entry, legal_reply, legal_same}
 use Rattle.sgt_engine.proofs.engine.Engine.apply.Goals as goal
 
-pub returns-in_err-reserve-clause-headline : goal.returns-in_err-reserve-clause-headline
-returns-in_err-reserve-clause-headline g c =
+pub returns-in_err-make_room-clause-headline : goal.returns-in_err-make_room-clause-headline
+returns-in_err-make_room-clause-headline g c =
     let s = setting (contents_of c.self.inside.opening) c.self.inside.sched.procedures c.self.inside.sched.limits in
-    headline s _ (legal_same s s c.self.inside.history.items _ refl c.reserve.ensures.items c.self.invariant.0)
+    headline s _ (legal_same s s c.self.inside.history.items _ refl c.make_room.ensures.items c.self.invariant.0)
 
 pub returns-in_err-reply-clause-headline : goal.returns-in_err-reply-clause-headline
 returns-in_err-reply-clause-headline g c =
     let s = setting (contents_of c.self.inside.opening) c.self.inside.sched.procedures c.self.inside.sched.limits in
-    headline _ _ (legal_same s _ c.self.inside.history.items _ (same_setting _ _ _ _ _ c.call.ensures.procedures c.call.ensures.limits) c.reserve.ensures.items c.self.invariant.0)
+    headline _ _ (legal_same s _ c.self.inside.history.items _ (same_setting _ _ _ _ _ c.call.ensures.procedures c.call.ensures.limits) c.make_room.ensures.items c.self.invariant.0)
 
 pub invariant_of-self-2 : goal.invariant_of-self-2
 invariant_of-self-2 g c =
     let s = setting (contents_of c.self.inside.opening) c.self.inside.sched.procedures c.self.inside.sched.limits in
-    kept_entry s _ c.self.inside.history.items c.push_reserved.new.self.items (state_of g.R.Records.chain g.R.Records.settled g.A.Accesses.list g.G.Graph.nodes g.G.Graph.pairs c.self.inside.sched) (state_of g.R.Records.chain g.R.Records.settled g.A.Accesses.list g.G.Graph.nodes g.G.Graph.pairs c.call.new.self) c.args.event c.in_ok-reply.reply (same_setting _ _ _ _ _ c.call.ensures.procedures c.call.ensures.limits)
-    (added _ _ _ _ _ _ c.push_reserved.ensures.items c.reserve.ensures.items c.copied.ensures)
-    c.self.invariant c.in_ok-reply.ensures.done
+    let state = state_of g.R.Records.chain g.R.Records.settled g.A.Accesses.list g.G.Graph.nodes g.G.Graph.pairs in
+    let kept = kept_entry s _ c.self.inside.history.items c.push_reserved.new.self.items (state c.self.inside.sched) (state c.call.new.self) c.args.event c.in_ok-reply.reply (same_setting _ _ _ _ _ c.call.ensures.procedures c.call.ensures.limits)
+    (added _ _ _ _ _ _ c.push_reserved.ensures.items c.make_room.ensures.items c.copied.ensures)
+    (c.self.invariant.0, c.self.invariant.1) c.in_ok-reply.ensures.done in
+    let left = room_left (setting (contents_of c.self.inside.opening) c.self.inside.sched.procedures c.self.inside.sched.limits) (reverse c.self.inside.history.items) c.self.invariant.0 (state_of g.R.Records.chain g.R.Records.settled g.A.Accesses.list g.G.Graph.nodes g.G.Graph.pairs c.self.inside.sched) c.self.invariant.1 c.args.event (state_of g.R.Records.chain g.R.Records.settled g.A.Accesses.list g.G.Graph.nodes g.G.Graph.pairs c.call.new.self) c.in_ok-reply.reply (vec_len c.make_room.new.history) (vec_capacity c.make_room.new.history) c.in_ok-reply.ensures.done c.make_room.ensures.ends c.in_ok-make_room.ensures.room in
+    (kept.0, kept.1, omega (arith, left, c.push_reserved.ensures.len, c.push_reserved.ensures.capacity))
 
 pub returns-clause-legal : goal.returns-clause-legal
 returns-clause-legal g c = (invariant_of-self-2 g c).0
@@ -33,4 +40,19 @@ returns-clause-headline g c = headline _ _ (invariant_of-self-2 g c).0
 pub returns-clause-reply : goal.returns-clause-reply
 returns-clause-reply g c =
     let s = setting (contents_of c.self.inside.opening) c.self.inside.sched.procedures c.self.inside.sched.limits in
-    legal_reply s _ (reverse c.self.inside.history.items) _ (state_of g.R.Records.chain g.R.Records.settled g.A.Accesses.list g.G.Graph.nodes g.G.Graph.pairs c.self.inside.sched) (state_of g.R.Records.chain g.R.Records.settled g.A.Accesses.list g.G.Graph.nodes g.G.Graph.pairs c.call.new.self) c.args.event c.in_ok-reply.reply (ap setting_of c.self.view_is) (ap (λ e. e.past) c.self.view_is) c.self.invariant c.in_ok-reply.ensures.done
+    legal_reply s _ (reverse c.self.inside.history.items) _ (state_of g.R.Records.chain g.R.Records.settled g.A.Accesses.list g.G.Graph.nodes g.G.Graph.pairs c.self.inside.sched) (state_of g.R.Records.chain g.R.Records.settled g.A.Accesses.list g.G.Graph.nodes g.G.Graph.pairs c.call.new.self) c.args.event c.in_ok-reply.reply (ap setting_of c.self.view_is) (ap (λ e. e.past) c.self.view_is) (c.self.invariant.0, c.self.invariant.1) c.in_ok-reply.ensures.done
+
+pub returns-in_err-make_room-clause-no_memory : goal.returns-in_err-make_room-clause-no_memory
+returns-in_err-make_room-clause-no_memory g c = λ r legal e.
+    let ends = ends_seen _ c.args.self.now c.self.view_is (state_of g.R.Records.chain g.R.Records.settled g.A.Accesses.list g.G.Graph.nodes g.G.Graph.pairs c.self.inside.sched) c.self.invariant.0 c.self.invariant.1 c.args.event r legal e in
+    absurd (true≢false (sym (c.make_room.ensures.no_memory ends) ∙ ap is_ok c.in_err-make_room.was))
+
+pub returns-in_err-reply-clause-no_memory : goal.returns-in_err-reply-clause-no_memory
+returns-in_err-reply-clause-no_memory g c = λ r legal e.
+    let ends = ends_seen _ c.args.self.now c.self.view_is (state_of g.R.Records.chain g.R.Records.settled g.A.Accesses.list g.G.Graph.nodes g.G.Graph.pairs c.self.inside.sched) c.self.invariant.0 c.self.invariant.1 c.args.event r legal e in
+    absurd (true≢false (sym (c.call.ensures.no_memory ends) ∙ ap is_ok c.in_err-reply.was))
+
+pub push_reserved-requires : goal.push_reserved-requires
+push_reserved-requires g c =
+    let left = room_left (setting (contents_of c.self.inside.opening) c.self.inside.sched.procedures c.self.inside.sched.limits) (reverse c.self.inside.history.items) c.self.invariant.0 (state_of g.R.Records.chain g.R.Records.settled g.A.Accesses.list g.G.Graph.nodes g.G.Graph.pairs c.self.inside.sched) c.self.invariant.1 c.args.event (state_of g.R.Records.chain g.R.Records.settled g.A.Accesses.list g.G.Graph.nodes g.G.Graph.pairs c.call.new.self) c.in_ok-reply.reply (vec_len c.make_room.new.history) (vec_capacity c.make_room.new.history) c.in_ok-reply.ensures.done c.make_room.ensures.ends c.in_ok-make_room.ensures.room in
+    omega (arith, left)

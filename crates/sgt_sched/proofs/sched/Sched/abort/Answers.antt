@@ -1,21 +1,31 @@
-use Rattle.std.proofs.Common.{Some, ap, ◌∙◌, subst, slice_set}
+use Rattle.std.proofs.Common.{sym, ◌∙◌, subst}
 use Rattle.sgt_model.specs.declared.reply.Fate.TheVariants as fate
-use Rattle.sgt_sched.specs.SchedulerView.{state_of, IsKept}
-use Rattle.sgt_sched.proofs.Ended.{kept_after, removes_seen, fates_seen}
-use Rattle.sgt_sched.proofs.Aborted.{aborts_alone}
+use Rattle.sgt_model.specs.FallsIn.{FallsIn}
+use Rattle.sgt_sched.specs.SchedulerView.{state_of}
+use Rattle.sgt_sched.specs.Endings.{EndsAborted}
+use Rattle.sgt_sched.proofs.Aborted.{drops_first, next_node, next_falls, aborts}
 use Rattle.sgt_sched.proofs.sched.Sched.abort.Goals as goal
 
-pub invariant_of-self : goal.invariant_of-self
-invariant_of-self g c =
-    kept_after c.self.invariant c.args.t (ap (λ p. g.G.Graph.nodes p.graph c.args.t) c.self.view_is ∙ c.requires.live) (fate.Aborted c.args.cause) c.undo.new.self c.leave.new.accesses c.leave.new.graph c.undo.ensures.chain c.leave.ensures.accesses c.leave.ensures.nodes c.leave.ensures.pairs
-    c.args.self.now c.self.view_is c.leave.new.live c.leave.new.read_from.items _ c.leave.ensures.live c.leave.ensures.read_from (ap (λ t. slice_set c.self.inside.fates.items t (Some (fate.Aborted c.copied.result))) c.t.view_is ∙ ap (λ why. slice_set c.self.inside.fates.items c.args.t (Some (fate.Aborted why))) c.copied.ensures)
+pub loop-reader-init : goal.loop-reader-init
+loop-reader-init g c =
+    let state = state_of g.R.Records.chain g.R.Records.settled g.A.Accesses.list g.G.Graph.nodes g.G.Graph.pairs in
+    record {
+      falls = subst (λ l. FallsIn (state c.args.self.now) c.args.t l) (sym c.as_slice-reader-items.ensures) c.falling_with-fell.ensures;
+      drops = drops_first c.args.t c.args.cause (state c.args.self.now) (state c.end_aborted.new.self) (subst (λ why. EndsAborted c.args.t (fate.Aborted why) (state c.args.self.now) (state c.end_aborted.new.self)) c.copied.ensures c.end_aborted.ensures.ends);
+      procedures = c.end_aborted.ensures.procedures;
+      limits = c.end_aborted.ensures.limits;
+    }
+
+pub end_aborted-requires-in-loop-reader-clause-live : goal.end_aborted-requires-in-loop-reader-clause-live
+end_aborted-requires-in-loop-reader-clause-live g c = λ κs lives. next_node c.args.t c.args.cause c.as_slice-reader-items.result.now _ _ c.loop-reader.invariant.falls c.loop-reader.reader-index c.reader-item.result c.loop-reader-test.true c.reader-item.is c.loop-reader.invariant.drops
+
+pub loop-reader-preserved : goal.loop-reader-preserved
+loop-reader-preserved g c = record {
+  falls = c.loop-reader.invariant.falls;
+  drops = next_falls c.args.t c.args.cause c.as_slice-reader-items.result.now _ _ c.loop-reader.invariant.falls c.loop-reader.reader-index c.reader-item.result c.loop-reader-test.true c.reader-item.is c.loop-reader.invariant.drops _ c.end_aborted-in-loop-reader.ensures.ends;
+  procedures = c.end_aborted-in-loop-reader.ensures.procedures ∙ c.loop-reader.invariant.procedures;
+  limits = c.end_aborted-in-loop-reader.ensures.limits ∙ c.loop-reader.invariant.limits;
+}
 
 pub returns-clause-aborts : goal.returns-clause-aborts
-returns-clause-aborts g c =
-    let kept = subst (IsKept g.R.Records.chain g.R.Records.settled g.A.Accesses.list g.G.Graph.nodes g.G.Graph.pairs) c.self.view_is c.self.invariant in
-    let node = ap (λ p. g.G.Graph.nodes p.graph c.args.t) c.self.view_is ∙ c.requires.live in
-    let fates_are = ap (λ t. slice_set c.self.inside.fates.items t (Some (fate.Aborted c.copied.result))) c.t.view_is ∙ ap (λ why. slice_set c.self.inside.fates.items c.args.t (Some (fate.Aborted why))) c.copied.ensures in
-    aborts_alone c.args.self.now.limits.live (state_of g.R.Records.chain g.R.Records.settled g.A.Accesses.list g.G.Graph.nodes g.G.Graph.pairs c.args.self.now) _ c.args.t c.args.cause c.new.result kept.in_range.few_live kept.sound c.requires.live c.new.ensures
-    (removes_seen c.self.invariant c.args.t node (fate.Aborted c.args.cause) c.undo.new.self c.leave.new.accesses c.leave.new.graph c.undo.ensures.chain c.leave.ensures.accesses c.leave.ensures.nodes c.leave.ensures.pairs c.args.self.now c.self.view_is c.leave.new.live c.leave.new.read_from.items _ c.leave.ensures.live c.leave.ensures.read_from fates_are)
-    (λ k. c.undo.ensures.settled k ∙ ap (λ p. g.R.Records.settled p.records k) c.self.view_is)
-    (fates_seen c.self.invariant c.args.t node (fate.Aborted c.args.cause) c.undo.new.self c.leave.new.accesses c.leave.new.graph c.undo.ensures.chain c.leave.ensures.accesses c.leave.ensures.nodes c.leave.ensures.pairs c.args.self.now c.self.view_is c.leave.new.live c.leave.new.read_from.items _ c.leave.ensures.live c.leave.ensures.read_from fates_are)
+returns-clause-aborts g c = aborts c.args.t c.args.cause c.falling_with-fell.result c.as_slice-reader-items.result.now c.loop-reader.reader-index _ _ c.as_slice-reader-items.ensures c.loop-reader-test.false c.falling_with-fell.ensures c.loop-reader.invariant.drops

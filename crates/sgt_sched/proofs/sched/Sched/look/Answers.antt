@@ -6,7 +6,7 @@ use Rattle.sgt_sched.specs.LiveProgress.{left_along}
 use Rattle.sgt_sched.specs.LiveList.{progress_at}
 use Rattle.sgt_sched.specs.SchedulerView.{state_of}
 use Rattle.sgt_sched.specs.Steps.{with_source}
-use Rattle.sgt_sched.proofs.Accessed.{rivals_few, rivals_are_nodes, blocks_from_walk}
+use Rattle.sgt_sched.proofs.Accessed.{rivals_few, rivals_are_nodes, blocks_from_walk, free_seen}
 use Rattle.sgt_sched.proofs.Aborted.{refuses_seen}
 use Rattle.sgt_sched.proofs.Looks.{inserted, kept_look, makes_look}
 use Rattle.sgt_sched.proofs.sched.Sched.look.Goals as goal
@@ -42,3 +42,12 @@ returns-in_ok-look-in-Accepted-clause-done g c =
     (inserted _ _ c.args.t c.rivals-rivals.result c.insert.result c.insert.ensures.verdict c.in-Accepted.ensures.verdict c.insert.ensures.pairs)
     (c.value-value.ensures ∙ ap value_of c.top-top.ensures.top) c.in_ok-look-in-Accepted.ensures.ok
     (c.note_read.ensures ∙ ap (with_source c.top-top.result c.args.t) c.reserve-in-Accepted.ensures.items ∙ ap (λ top. with_source top c.args.t c.self.inside.read_from.items) c.top-top.ensures.top))
+
+pub returns-in_err-reserve-in-Accepted-clause-no_memory : goal.returns-in_err-reserve-in-Accepted-clause-no_memory
+returns-in_err-reserve-in-Accepted-clause-no_memory g c = λ b. absurd (free_seen c.self.invariant c.args.t (ap (λ p. g.G.Graph.nodes p.graph c.args.t) c.self.view_is ∙ c.requires.live) c.args.key Look c.rivals-rivals.result c.rivals-rivals.ensures.exact c.args.self.now c.self.view_is c.in-Accepted.ensures.verdict b)
+
+pub returns-in_err-reserve-in-Accepted-2-clause-no_memory : goal.returns-in_err-reserve-in-Accepted-2-clause-no_memory
+returns-in_err-reserve-in-Accepted-2-clause-no_memory g c = λ b. absurd (free_seen c.self.invariant c.args.t (ap (λ p. g.G.Graph.nodes p.graph c.args.t) c.self.view_is ∙ c.requires.live) c.args.key Look c.rivals-rivals.result c.rivals-rivals.ensures.exact c.args.self.now c.self.view_is c.in-Accepted.ensures.verdict b)
+
+pub returns-in_err-look-in-Accepted-clause-no_memory : goal.returns-in_err-look-in-Accepted-clause-no_memory
+returns-in_err-look-in-Accepted-clause-no_memory g c = λ b. absurd (free_seen c.self.invariant c.args.t (ap (λ p. g.G.Graph.nodes p.graph c.args.t) c.self.view_is ∙ c.requires.live) c.args.key Look c.rivals-rivals.result c.rivals-rivals.ensures.exact c.args.self.now c.self.view_is c.in-Accepted.ensures.verdict b)

@@ -7,14 +7,12 @@ use Rattle.sgt_model.proofs.Conditions.{may_settle}
 use Rattle.sgt_sched.proofs.Ended.{kept_after, removes_seen, fates_seen}
 use Rattle.sgt_sched.proofs.sched.Sched.settle.Goals as goal
 
-pub settle-requires : goal.settle-requires
-settle-requires g c = record {
-  first = may_settle c.self.inside.limits.live _ c.self.invariant.sound c.args.t (λ u h. true≢false (sym h ∙ (ap (λ p. g.G.Graph.pairs p.graph u c.args.t) c.self.view_is ∙ c.requires.first u)));
-}
+pub finish-requires : goal.finish-requires
+finish-requires g c = (c.type_bounds.send-R, (c.type_bounds.send-A, (c.type_bounds.send-G, may_settle c.self.inside.limits.live _ c.self.invariant.sound c.args.t (λ u h. true≢false (sym h ∙ (ap (λ p. g.G.Graph.pairs p.graph u c.args.t) c.self.view_is ∙ c.requires.first u))))))
 
 pub invariant_of-self : goal.invariant_of-self
 invariant_of-self g c =
-    kept_after c.self.invariant c.args.t (ap (λ p. g.G.Graph.nodes p.graph c.args.t) c.self.view_is ∙ c.requires.live) fate.Committed c.settle.new.self c.leave.new.accesses c.leave.new.graph c.settle.ensures.chain c.leave.ensures.accesses c.leave.ensures.nodes c.leave.ensures.pairs
+    kept_after c.self.invariant c.args.t (ap (λ p. g.G.Graph.nodes p.graph c.args.t) c.self.view_is ∙ c.requires.live) fate.Committed c.finish.new.records c.finish.new.accesses c.finish.new.graph c.finish.ensures.chain c.finish.ensures.accesses c.finish.ensures.nodes c.finish.ensures.pairs
     c.args.self.now c.self.view_is c.leave.new.live c.leave.new.read_from.items _ c.leave.ensures.live c.leave.ensures.read_from (ap (λ t. slice_set c.self.inside.fates.items t (Some fate.Committed)) c.t.view_is)
 
 pub returns-clause-commits : goal.returns-clause-commits
@@ -25,8 +23,8 @@ returns-clause-commits g c =
       first = λ u h. true≢false (sym h ∙ c.requires.first u);
       reply = refl;
       settles = record {
-        removes = removes_seen c.self.invariant c.args.t node fate.Committed c.settle.new.self c.leave.new.accesses c.leave.new.graph c.settle.ensures.chain c.leave.ensures.accesses c.leave.ensures.nodes c.leave.ensures.pairs c.args.self.now c.self.view_is c.leave.new.live c.leave.new.read_from.items _ c.leave.ensures.live c.leave.ensures.read_from fates_are;
-        settled = λ k. c.settle.ensures.settled k ∙ ap (λ p. option_or (value_in c.args.t (g.R.Records.chain p.records k)) (g.R.Records.settled p.records k)) c.self.view_is;
-        fates = fates_seen c.self.invariant c.args.t node fate.Committed c.settle.new.self c.leave.new.accesses c.leave.new.graph c.settle.ensures.chain c.leave.ensures.accesses c.leave.ensures.nodes c.leave.ensures.pairs c.args.self.now c.self.view_is c.leave.new.live c.leave.new.read_from.items _ c.leave.ensures.live c.leave.ensures.read_from fates_are;
+        removes = removes_seen c.self.invariant c.args.t node fate.Committed c.finish.new.records c.finish.new.accesses c.finish.new.graph c.finish.ensures.chain c.finish.ensures.accesses c.finish.ensures.nodes c.finish.ensures.pairs c.args.self.now c.self.view_is c.leave.new.live c.leave.new.read_from.items _ c.leave.ensures.live c.leave.ensures.read_from fates_are;
+        settled = λ k. c.finish.ensures.settled k ∙ ap (λ p. option_or (value_in c.args.t (g.R.Records.chain p.records k)) (g.R.Records.settled p.records k)) c.self.view_is;
+        fates = fates_seen c.self.invariant c.args.t node fate.Committed c.finish.new.records c.finish.new.accesses c.finish.new.graph c.finish.ensures.chain c.finish.ensures.accesses c.finish.ensures.nodes c.finish.ensures.pairs c.args.self.now c.self.view_is c.leave.new.live c.leave.new.read_from.items _ c.leave.ensures.live c.leave.ensures.read_from fates_are;
       };
     }

@@ -8,7 +8,7 @@ use Rattle.sgt_model.specs.Left.{next_left}
 use Rattle.sgt_sched.specs.LiveProgress.{left_along}
 use Rattle.sgt_sched.specs.LiveList.{progress_at}
 use Rattle.sgt_sched.specs.SchedulerView.{state_of}
-use Rattle.sgt_sched.proofs.Accessed.{rivals_few, rivals_are_nodes, blocks_from_walk}
+use Rattle.sgt_sched.proofs.Accessed.{rivals_few, rivals_are_nodes, blocks_from_walk, free_seen}
 use Rattle.sgt_sched.proofs.Aborted.{refuses_seen}
 use Rattle.sgt_sched.proofs.Looks.{inserted, store_last, store_room, kept_store, makes_store}
 use Rattle.sgt_sched.proofs.Reserved.{kept_reserved}
@@ -59,3 +59,9 @@ invariant_of-self g c = kept_reserved c.self.invariant c.reserve.new.self c.self
 
 pub invariant_of-self-in_err-reserve-in-Accepted-2 : goal.invariant_of-self-in_err-reserve-in-Accepted-2
 invariant_of-self-in_err-reserve-in-Accepted-2 g c = kept_reserved c.self.invariant c.reserve.new.self c.reserve-in-Accepted.new.self c.reserve.ensures.chain c.reserve-in-Accepted.ensures.same
+
+pub returns-in_err-reserve-in-Accepted-clause-no_memory : goal.returns-in_err-reserve-in-Accepted-clause-no_memory
+returns-in_err-reserve-in-Accepted-clause-no_memory g c = λ b. absurd (free_seen c.self.invariant c.args.t (ap (λ p. g.G.Graph.nodes p.graph c.args.t) c.self.view_is ∙ c.requires.live) c.args.key Store c.rivals-rivals.result c.rivals-rivals.ensures.exact c.args.self.now c.self.view_is c.in-Accepted.ensures.verdict b)
+
+pub returns-in_err-reserve-in-Accepted-2-clause-no_memory : goal.returns-in_err-reserve-in-Accepted-2-clause-no_memory
+returns-in_err-reserve-in-Accepted-2-clause-no_memory g c = λ b. absurd (free_seen c.self.invariant c.args.t (ap (λ p. g.G.Graph.nodes p.graph c.args.t) c.self.view_is ∙ c.requires.live) c.args.key Store c.rivals-rivals.result c.rivals-rivals.ensures.exact c.args.self.now c.self.view_is c.in-Accepted.ensures.verdict b)

@@ -1,0 +1,66 @@
+ghost use Rattle.std.specs.Prelude.{◌≡◌, ℕ, false, not, ◌&&◌, nat_eq, IfSome, IsNone};
+ghost use Rattle.std.specs.Option.{option_or};
+ghost use Rattle.sgt_model.specs.Contents.{Key as K};
+ghost use Rattle.sgt_model.specs.AccessList.{forgotten};
+ghost use Rattle.sgt_model.specs.Chains.{without, value_in};
+ghost use Rattle.sgt_model.specs.ChainOrder.{IsFirstIn};
+ghost use Rattle.sgt_graph.specs.Graphs.{IsLeastPred};
+
+use sgt_access::Accesses;
+use sgt_graph::Graph;
+use sgt_model::Tid;
+use sgt_records::Records;
+
+/// Whom a commit of t has to wait for: the least live predecessor, or nobody.
+///
+/// Durner and Neumann (ICDE 2019): a commit waits for its predecessors, so commit order agrees with the order of conflicts.
+pub fn decide<G: Graph>(graph: &G, t: Tid) -> Option<Tid>
+    ensures waits { IfSome result (IsLeastPred (G.pairs graph.now) t) }
+    ensures free { IsNone result → (u : ℕ) → G.pairs graph.now u t ≡ false }
+{
+    graph.least_pred(t)
+}
+
+/// Commits t in the layers: each value of it, the first of its chain, becomes the committed one, and t leaves the chains, the
+/// access list and the graph. This takes no memory.
+pub fn finish<R: Records, A: Accesses, G: Graph>(
+    records: &mut R,
+    accesses: &mut A,
+    graph: &mut G,
+    t: Tid,
+)
+    requires first { (k : K) → IsFirstIn t (R.chain records.old k) }
+    ensures chain { (k : K) → R.chain records.new k ≡ without t (R.chain records.old k) }
+    ensures settled { (k : K) → R.settled records.new k
+        ≡ option_or (value_in t (R.chain records.old k)) (R.settled records.old k) }
+    ensures accesses { A.list accesses.new ≡ forgotten t (A.list accesses.old) }
+    ensures nodes { (u : ℕ) → G.nodes graph.new u ≡ (G.nodes graph.old u && not (nat_eq t u)) }
+    ensures pairs { (u v : ℕ) → G.pairs graph.new u v
+        ≡ (G.pairs graph.old u v && (not (nat_eq t u) && not (nat_eq t v))) }
+{
+    records.settle(t);
+    accesses.forget(t);
+    graph.remove(t);
+}
+
+/// Aborts t in the layers: its values leave the chains, where those written over them stay, and t leaves the access list and
+/// the graph. The committed values stay. This takes no memory.
+///
+/// Bernstein, Hadzilacos and Goodman (1987), chapter 2. No value from before t's writes is written back.
+pub fn unwind<R: Records, A: Accesses, G: Graph>(
+    records: &mut R,
+    accesses: &mut A,
+    graph: &mut G,
+    t: Tid,
+)
+    ensures chain { (k : K) → R.chain records.new k ≡ without t (R.chain records.old k) }
+    ensures settled { (k : K) → R.settled records.new k ≡ R.settled records.old k }
+    ensures accesses { A.list accesses.new ≡ forgotten t (A.list accesses.old) }
+    ensures nodes { (u : ℕ) → G.nodes graph.new u ≡ (G.nodes graph.old u && not (nat_eq t u)) }
+    ensures pairs { (u v : ℕ) → G.pairs graph.new u v
+        ≡ (G.pairs graph.old u v && (not (nat_eq t u) && not (nat_eq t v))) }
+{
+    records.undo(t);
+    accesses.forget(t);
+    graph.remove(t);
+}

@@ -1,0 +1,34 @@
+ghost use Rattle.std.specs.Prelude.{◌≡◌, ◌+◌, ◌≤◌, length, OnOk};
+ghost use Rattle.std.specs.Result.{IsOk};
+ghost use Rattle.std.specs.Vec.{vec_len, vec_capacity};
+ghost use Rattle.sgt_sched.specs.Endings.{EndsOne};
+ghost use Rattle.sgt_sched.specs.SchedulerView.{rules_of};
+
+use sgt_access::Accesses;
+use sgt_graph::Graph;
+use sgt_model::{Entry, Event, NoMemory};
+use sgt_records::Records;
+use sgt_sched::{Sched, Scheduler};
+
+/// Takes the room in the history that an event needs. An event that ends a live transaction has it: the history keeps room for
+/// one end of each. Any other needs room for itself, for those ends, and for the end of one that it may start.
+///
+/// `NoMemory` where a growth was refused; then the room is as it was.
+pub fn make_room<R: Records, A: Accesses, G: Graph>(
+    history: &mut Vec<Entry>,
+    sched: &Sched<R, A, G>,
+    event: &Event,
+) -> Result<(), NoMemory>
+    requires { vec_len history.old + length (⟦<Sched<R, A, G> as Scheduler>⟧.state sched.now).live ≤ vec_capacity history.old }
+    ensures items { history.new.items ≡ history.old.items }
+    ensures ends { vec_len history.new + length (⟦<Sched<R, A, G> as Scheduler>⟧.state sched.now).live ≤ vec_capacity history.new }
+    ensures room { OnOk result ((EndsOne event.now (⟦<Sched<R, A, G> as Scheduler>⟧.state sched.now) → ⊥)
+        → vec_len history.new + (length (⟦<Sched<R, A, G> as Scheduler>⟧.state sched.now).live + 2) ≤ vec_capacity history.new) }
+    ensures no_memory { EndsOne event.now (⟦<Sched<R, A, G> as Scheduler>⟧.state sched.now) → IsOk result }
+{
+    if sched.ends(event) {
+        return Ok(());
+    }
+    history.reserve(sched.live().len() + 2)?;
+    Ok(())
+}
