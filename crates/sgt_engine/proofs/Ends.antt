@@ -9,9 +9,10 @@ use Rattle.sgt_model.specs.declared.reply.Fate.{Fate}
 use Rattle.sgt_model.specs.declared.reply.Reply.{Reply}
 use Rattle.sgt_model.specs.Traces.{Next, Looks, Puts, Ends, Asks}
 use Rattle.sgt_model.specs.Fates.{starts, fate_of, live, live_ones}
-use Rattle.sgt_model.specs.Settings.{Setting}
+use Rattle.sgt_model.specs.Settings.{Setting, takes}
+use Rattle.sgt_model.proofs.LiveLeft.{next_is_left}
 use Rattle.sgt_model.specs.Progress.{next_of}
-use Rattle.sgt_model.specs.LiveProgress.{next_in}
+use Rattle.sgt_model.specs.Left.{next_left}
 use Rattle.sgt_model.specs.Legality.{Legal, LegalReply, StepReply, CommitReply, OfStarted, called_reply}
 use Rattle.sgt_model.specs.State.{State}
 use Rattle.sgt_model.specs.StateAfter.{IsStateAfter}
@@ -35,7 +36,7 @@ module _ (s : Setting) (past : List Entry) (legal : Legal s past) (c : State) (i
   live_unended t alive = record { begun = ap (nat_lt t) i.starts ∙ lt-ltb t (starts past) (live-started past t alive); unended = i.fates t ∙ live-no_fate past t alive }
 
   -- an event that has got its room leaves room for one end of each that is live then
-  pub room_left : (event : Event) (after : State) (r : Reply) (len cap : ℕ) → CallEffect s.rules event c r after → len + length c.live ≤ cap → ((EndsOne s.rules event c → ⊥) → len + (length c.live + 2) ≤ cap) → len + 1 + length after.live ≤ cap
+  pub room_left : (event : Event) (after : State) (r : Reply) (len cap : ℕ) → CallEffect s.rules event c r after → len + length c.live ≤ cap → ((EndsOne event c → ⊥) → len + (length c.live + 2) ≤ cap) → len + 1 + length after.live ≤ cap
   room_left event after r len cap done kept more = both (is_ending r) refl where
     both : (b : Bool) → is_ending r ≡ b → len + 1 + length after.live ≤ cap
     both true e = omega (arith, kept, (call_counts s.rules event c r after unended_listed done).fewer e)
@@ -72,11 +73,11 @@ module _ (s : Setting) (past : List Entry) (legal : Legal s past) (c : State) (i
   commit_ends t (Puts k v) r x e = absurd (quiet r _ x refl e)
   commit_ends t (Asks code) r x e = absurd (quiet r _ x refl e)
 
-  next_same : (t : ℕ) → live past t ≡ true → next_of s past t ≡ next_in s.rules (c.progress t)
-  next_same t l = sym (ap (next_in s.rules) (i.progress t l))
+  next_same : (t : ℕ) → live past t ≡ true → next_of s past t ≡ next_left (c.left t)
+  next_same t l = sym (ap next_left (i.left t l) ∙ next_is_left s past legal t)
 
-  pub legal_ends : (event : Event) (r : Reply) → LegalReply s past event r → is_ending r ≡ true → EndsOne s.rules event c
-  legal_ends (Start p args) r x e = absurd (quiet r _ x (no_start p args (s.rules.procedures p)) e)
+  pub legal_ends : (event : Event) (r : Reply) → LegalReply s past event r → is_ending r ≡ true → EndsOne event c
+  legal_ends (Start p args) r x e = absurd (quiet r _ x (no_start p args (takes s.rules p)) e)
   legal_ends (Step t) r x e =
       let o = opened r _ (nat_lt t (starts past)) (fate_of past t) x e in
       let l = alive t o.0 o.1 in
@@ -90,5 +91,5 @@ module _ (s : Setting) (past : List Entry) (legal : Legal s past) (c : State) (i
       live_unended t (alive t o.0 o.1)
 
 -- the same, as callers see an engine
-pub ends_seen : (before now : EngineView) → before ≡ now → (c : State) → Legal (setting_of before) before.past → IsStateAfter (setting_of before) before.past c → (event : Event) (r : Reply) → LegalReply (setting_of now) now.past event r → is_ending r ≡ true → EndsOne (setting_of before).rules event c
+pub ends_seen : (before now : EngineView) → before ≡ now → (c : State) → Legal (setting_of before) before.past → IsStateAfter (setting_of before) before.past c → (event : Event) (r : Reply) → LegalReply (setting_of now) now.past event r → is_ending r ≡ true → EndsOne event c
 ends_seen before now seen c legal i event r l e = legal_ends (setting_of before) before.past legal c i event r (subst (λ (v : EngineView). LegalReply (setting_of v) v.past event r) (sym seen) l) e

@@ -22,9 +22,9 @@ pub fn make_room<R: Records, A: Accesses, G: Graph>(
     requires { vec_len history.old + length (⟦<Sched<R, A, G> as Scheduler>⟧.state sched.now).live ≤ vec_capacity history.old }
     ensures items { history.new.items ≡ history.old.items }
     ensures ends { vec_len history.new + length (⟦<Sched<R, A, G> as Scheduler>⟧.state sched.now).live ≤ vec_capacity history.new }
-    ensures room { OnOk result ((EndsOne (rules_of sched.now) event.now (⟦<Sched<R, A, G> as Scheduler>⟧.state sched.now) → ⊥)
+    ensures room { OnOk result ((EndsOne event.now (⟦<Sched<R, A, G> as Scheduler>⟧.state sched.now) → ⊥)
         → vec_len history.new + (length (⟦<Sched<R, A, G> as Scheduler>⟧.state sched.now).live + 2) ≤ vec_capacity history.new) }
-    ensures no_memory { EndsOne (rules_of sched.now) event.now (⟦<Sched<R, A, G> as Scheduler>⟧.state sched.now) → IsOk result }
+    ensures no_memory { EndsOne event.now (⟦<Sched<R, A, G> as Scheduler>⟧.state sched.now) → IsOk result }
 {
     // Whether it ends one is worked out only where the growth was refused.
     if history.reserve(sched.live().len() + 2).is_ok() || sched.ends(event) {

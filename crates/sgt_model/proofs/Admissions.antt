@@ -10,7 +10,7 @@ use Rattle.sgt_model.specs.declared.reply.Reply.{Reply}
 use Rattle.sgt_model.specs.declared.entry.Entry.{Entry}
 use Rattle.sgt_model.specs.Numbers.{IsValue, is_value}
 use Rattle.sgt_model.specs.Fates.{is_start, starts, subject}
-use Rattle.sgt_model.specs.Settings.{Setting}
+use Rattle.sgt_model.specs.Settings.{Setting, takes}
 use Rattle.sgt_model.specs.Progress.{Call, call_at, call_in, call_of}
 use Rattle.sgt_model.specs.Legality.{Legal}
 use Rattle.sgt_model.specs.Replay.{CommittedRun, committed_run_in, committed_runs}
@@ -21,7 +21,7 @@ use Rattle.sgt_model.proofs.StoredValues.{is_value-fact}
 
 -- the setting has the call's procedure, which takes so many arguments as these, and each is a value
 pub record IsAdmitted (s : Setting) (c : Call) : Type 0 where
-  pub known : s.rules.procedures c.procedure ≡ Some (length c.args)
+  pub known : takes s.rules c.procedure ≡ Some (length c.args)
   pub values : All IsValue c.args
 
 values_fit : (args : List ℤ) → list_all is_value args ≡ true → All IsValue args

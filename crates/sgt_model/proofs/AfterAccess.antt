@@ -1,5 +1,5 @@
 -- The state after a look or a store is the state after the longer history.
-use Rattle.std.proofs.Common.{◌≡◌, ◌≢◌, ℕ, suc, length, ◌+◌, ℤ, Bool, true, false, cond, ◌&&◌, ◌⊎◌, List, [], ◌∷◌, ◌++◌, Option, Some, None, refl, sym, ap, ap₂, inl, inr, ◌∙◌, arith}
+use Rattle.std.proofs.Common.{◌≡◌, ◌≢◌, ℕ, suc, ℤ, Bool, true, false, cond, ◌&&◌, ◌⊎◌, List, [], ◌∷◌, ◌++◌, Option, Some, None, refl, sym, ap, ap₂, inl, inr, ◌∙◌}
 use Rattle.std.specs.Prelude.{◌↔◌}
 use Rattle.std.proofs.lemmas.Bool.{cases_eq}
 use Rattle.std.proofs.lemmas.List.{append-nil}
@@ -10,16 +10,18 @@ use Rattle.sgt_model.specs.declared.entry.Entry.{Entry}
 use Rattle.sgt_model.specs.declared.kind.Kind.{Kind}
 use Rattle.sgt_model.specs.declared.kind.Kind.TheVariants.{Look, Store}
 use Rattle.sgt_model.specs.Contents.{Key, key_eq}
+use Rattle.sgt_model.specs.Traces.{Looks, Puts}
+use Rattle.sgt_model.specs.Left as left
 use Rattle.sgt_model.specs.Accesses.{Access, access_of, act_in, acts}
 use Rattle.sgt_model.specs.Fates.{aborted, committed, is_commit, live}
 use Rattle.sgt_model.specs.Values.{newest_store, value_or}
 use Rattle.sgt_model.specs.Pairs.{FollowsIn, Precedes, has_conflicting}
 use Rattle.sgt_model.specs.Settings.{Setting}
-use Rattle.sgt_model.specs.Progress.{looked, made, reads}
+use Rattle.sgt_model.specs.Progress.{call_of, next_of, reads, made}
 use Rattle.sgt_model.specs.Legality.{Legal}
 use Rattle.sgt_model.specs.AccessList.{listed_in, access_list}
 use Rattle.sgt_model.specs.Chains.{chain_of, store_into, write_last}
-use Rattle.sgt_model.specs.LiveProgress.{Progress, progress_of}
+use Rattle.sgt_model.specs.LiveLeft.{left_of_call, left_of}
 use Rattle.sgt_model.specs.State.{Has, State}
 use Rattle.sgt_model.specs.StateAfter.{IsStateAfter, LivePair, LiveRead}
 use Rattle.sgt_model.specs.Blocks.{IsRival}
@@ -27,6 +29,7 @@ use Rattle.sgt_model.specs.Found.{found}
 use Rattle.sgt_model.specs.Changes.{LooksAt, Notes, StoresInto}
 use Rattle.sgt_model.proofs.Facts.{live-no_fate, live-stands}
 use Rattle.sgt_model.proofs.Plays.{act_own, act_other}
+use Rattle.sgt_model.proofs.LiveLeft.{left_by, left_looked, left_stored}
 use Rattle.sgt_model.proofs.Verdict.{source_from, source_live, source_to, listed_in-state, listed_live}
 
 -- the entry of a look that was made
@@ -37,10 +40,6 @@ look_entry t k v = record { event = Step t; reply = reply.Looked k v }
 abbrev pub store_entry : ℕ → Key → ℤ → Entry
 store_entry t k v = record { event = Step t; reply = reply.Wrote k v }
 
--- of the same call, reads and count
-pub progress_path : (p q : Progress) → p.call ≡ q.call → p.read ≡ q.read → p.made ≡ q.made → p ≡ q
-progress_path p q e f g = λ i. record { call = e i; read = f i; made = g i }
-
 -- the accesses of another, and of t
 
 acts_other : (a : Access) (u : ℕ) (l : List Access) → u ≢ a.by → act_in (Some a) u l ≡ l
@@ -48,9 +47,6 @@ acts_other a u l n = act_other (Some a) a u l refl (λ z. n (sym z))
 
 acts_own : (a : Access) (u : ℕ) (l : List Access) → u ≡ a.by → act_in (Some a) u l ≡ a ∷ l
 acts_own a u l e = act_own (Some a) a u l refl (sym e)
-
-one_more : (n : ℕ) → suc n ≡ n + 1
-one_more n = omega arith
 
 module _ (s : Setting) (past : List Entry) (h : Legal s past) (before after : State) (i : IsStateAfter s past before) (t : ℕ) (k : Key) (alive : live past t ≡ true) where
   -- the pairs, after an access
@@ -76,8 +72,8 @@ module _ (s : Setting) (past : List Entry) (h : Legal s past) (before after : St
   not_committed : committed past t ≡ false
   not_committed = ap is_commit (live-no_fate past t alive)
 
-  pub after_look : LooksAt t k before after → IsStateAfter s (look_entry t k (found before k) ∷ past) after
-  after_look l = record {
+  pub after_look : next_of s past t ≡ Looks k → LooksAt t k before after → IsStateAfter s (look_entry t k (found before k) ∷ past) after
+  after_look next l = record {
     lives = l.notes.live ∙ i.lives;
     nodes = λ u. l.notes.nodes u ∙ i.nodes u;
     pairs = pairs_after Look (look_entry t k (found before k)) (λ u. refl) (λ u. refl) (λ u v. ((λ x. x), (λ x. x))) l.notes;
@@ -87,7 +83,7 @@ module _ (s : Setting) (past : List Entry) (h : Legal s past) (before after : St
     read_from = λ u v. (to u v, from u v);
     fates = λ u. l.notes.fates u ∙ i.fates u;
     starts = l.notes.starts ∙ i.starts;
-    progress = λ u u_live. elim (cases_eq u t) [ inl e ↦ own u e u_live | inr n ↦ other u n u_live ];
+    left = λ u u_live. elim (cases_eq u t) [ inl e ↦ own u e u_live | inr n ↦ other u n u_live ];
   }
     where
       a : Access
@@ -99,16 +95,16 @@ module _ (s : Setting) (past : List Entry) (h : Legal s past) (before after : St
       from : (u v : ℕ) → LiveRead (look_entry t k (found before k) ∷ past) v u → Has after.read_from u v
       from u v q = (l.read_from u v).1 (elim q.read [ inl now ↦ inr (sym now.1.1, (λ z. now.0 (sym (z ∙ now.1.1))), source_to s past h before i k u q.source_live now.1.2) | inr old ↦ inl ((i.read_from u v).1 (record { reader_live = q.reader_live; source_live = q.source_live; read = old })) ])
 
-      other : (u : ℕ) → u ≢ t → live past u ≡ true → after.progress u ≡ progress_of (look_entry t k (found before k) ∷ past) u
+      other : (u : ℕ) → u ≢ t → live past u ≡ true → after.left u ≡ left_of s.rules (look_entry t k (found before k) ∷ past) u
       other u n u_live =
           let same = sym (acts_other a u (acts past u) n) in
-          l.notes.progress u n ∙ (i.progress u u_live ∙ progress_path (progress_of past u) (progress_of (look_entry t k (found before k) ∷ past) u) refl (ap looked same) (ap length same))
+          l.notes.left u n ∙ (i.left u u_live ∙ ap (left_by s (call_of past u)) same)
 
-      own : (u : ℕ) → u ≡ t → live past u ≡ true → after.progress u ≡ progress_of (look_entry t k (found before k) ∷ past) u
+      own : (u : ℕ) → u ≡ t → live past u ≡ true → after.left u ≡ left_of s.rules (look_entry t k (found before k) ∷ past) u
       own u e u_live =
           let more = sym (acts_own a u (acts past u) e) in
-          let was : before.progress t ≡ progress_of past u = ap before.progress (sym e) ∙ i.progress u u_live in
-          ap after.progress e ∙ (l.own_progress ∙ progress_path _ (progress_of (look_entry t k (found before k) ∷ past) u) (ap (λ (r : Progress). r.call) was) (ap (λ (r : Progress). r.read ++ found before k ∷ []) was ∙ ap looked more) (ap (λ (r : Progress). r.made + 1) was ∙ (sym (one_more (made past u)) ∙ ap length more)))
+          let was : before.left t ≡ left_of s.rules past u = ap before.left (sym e) ∙ i.left u u_live in
+          ap after.left e ∙ (l.own_left ∙ (ap (left.after_look (found before k)) was ∙ (sym (left_looked s past h u k (found before k) (ap (next_of s past) e ∙ next)) ∙ ap (left_by s (call_of past u)) more)))
 
   stored_chain : (b : Bool) (v : ℤ) (c : List (ℕ × ℤ)) → cond b (write_last t v c) c ≡ store_into (cond (b && true) (Some (record { by = t; key = k; kind = Store; value = Some v })) None) c
   stored_chain true v c = refl
@@ -118,8 +114,8 @@ module _ (s : Setting) (past : List Entry) (h : Legal s past) (before after : St
   not_settled true a n = refl
   not_settled false a n = refl
 
-  pub after_store : (v : ℤ) → StoresInto t k v before after → IsStateAfter s (store_entry t k v ∷ past) after
-  after_store w l = record {
+  pub after_store : (v : ℤ) → next_of s past t ≡ Puts k v → StoresInto t k v before after → IsStateAfter s (store_entry t k v ∷ past) after
+  after_store w next l = record {
     lives = l.notes.live ∙ i.lives;
     nodes = λ u. l.notes.nodes u ∙ i.nodes u;
     pairs = pairs_after Store (store_entry t k w) (λ u. refl) (λ u. refl) (λ u v. ((λ x. x), (λ x. x))) l.notes;
@@ -129,7 +125,7 @@ module _ (s : Setting) (past : List Entry) (h : Legal s past) (before after : St
     read_from = λ u v. (to u v, from u v);
     fates = λ u. l.notes.fates u ∙ i.fates u;
     starts = l.notes.starts ∙ i.starts;
-    progress = λ u u_live. elim (cases_eq u t) [ inl e ↦ own u e u_live | inr n ↦ other u n u_live ];
+    left = λ u u_live. elim (cases_eq u t) [ inl e ↦ own u e u_live | inr n ↦ other u n u_live ];
   }
     where
       a : Access
@@ -144,13 +140,13 @@ module _ (s : Setting) (past : List Entry) (h : Legal s past) (before after : St
           is_no_look : Store ≡ Look → ⊥
           is_no_look z = cc
 
-      other : (u : ℕ) → u ≢ t → live past u ≡ true → after.progress u ≡ progress_of (store_entry t k w ∷ past) u
+      other : (u : ℕ) → u ≢ t → live past u ≡ true → after.left u ≡ left_of s.rules (store_entry t k w ∷ past) u
       other u n u_live =
           let same = sym (acts_other a u (acts past u) n) in
-          l.notes.progress u n ∙ (i.progress u u_live ∙ progress_path (progress_of past u) (progress_of (store_entry t k w ∷ past) u) refl (ap looked same) (ap length same))
+          l.notes.left u n ∙ (i.left u u_live ∙ ap (left_by s (call_of past u)) same)
 
-      own : (u : ℕ) → u ≡ t → live past u ≡ true → after.progress u ≡ progress_of (store_entry t k w ∷ past) u
+      own : (u : ℕ) → u ≡ t → live past u ≡ true → after.left u ≡ left_of s.rules (store_entry t k w ∷ past) u
       own u e u_live =
           let more = sym (acts_own a u (acts past u) e) in
-          let was : before.progress t ≡ progress_of past u = ap before.progress (sym e) ∙ i.progress u u_live in
-          ap after.progress e ∙ (l.own_progress ∙ progress_path _ (progress_of (store_entry t k w ∷ past) u) (ap (λ (r : Progress). r.call) was) (ap (λ (r : Progress). r.read) was ∙ (sym (append-nil (reads past u)) ∙ ap looked more)) (ap (λ (r : Progress). r.made + 1) was ∙ (sym (one_more (made past u)) ∙ ap length more)))
+          let was : before.left t ≡ left_of s.rules past u = ap before.left (sym e) ∙ i.left u u_live in
+          ap after.left e ∙ (l.own_left ∙ (ap left.after_store was ∙ (sym (left_stored s past h u k w (ap (next_of s past) e ∙ next)) ∙ (ap (λ values. left.left_after (left_of_call s.rules (call_of past u)) values (suc (made past u))) (sym (append-nil (reads past u))) ∙ ap (left_by s (call_of past u)) more))))

@@ -1,5 +1,5 @@
 -- The state after an entry that ends some transactions, or nothing, is the state after the longer history.
-use Rattle.std.proofs.Common.{◌≡◌, ℕ, ◌+◌, ℤ, Bool, true, false, cond, not, ◌&&◌, ◌||◌, List, [], ◌∷◌, ◌++◌, length, Option, Some, None, is_none, nat_eq, nat_lt, refl, sym, ap, ap₂, subst, inl, inr, ◌∙◌}
+use Rattle.std.proofs.Common.{◌≡◌, ℕ, ◌+◌, ℤ, Bool, true, false, cond, not, ◌&&◌, ◌||◌, List, [], ◌∷◌, ◌++◌, Option, Some, None, is_none, nat_eq, nat_lt, refl, sym, ap, ap₂, subst, inl, inr, ◌∙◌}
 use Rattle.std.proofs.Math.Path.{fun_ext}
 use Rattle.std.proofs.lemmas.Bool.{and_from, and_parts, eqb-true, not-true}
 use Rattle.std.proofs.lemmas.List.{append-nil}
@@ -19,11 +19,11 @@ use Rattle.sgt_model.specs.Values.{newest_store, settled, stores, value_or}
 use Rattle.sgt_model.specs.ReadFrom.{ReadFrom}
 use Rattle.sgt_model.specs.Pairs.{Precedes}
 use Rattle.sgt_model.specs.Settings.{Setting}
-use Rattle.sgt_model.specs.Progress.{call_in, call_of, looked}
+use Rattle.sgt_model.specs.Progress.{call_in, call_of}
 use Rattle.sgt_model.specs.Legality.{Legal}
 use Rattle.sgt_model.specs.AccessList.{listed_in, access_list}
 use Rattle.sgt_model.specs.Chains.{chain_of, store_into, value_in}
-use Rattle.sgt_model.specs.LiveProgress.{progress_of}
+use Rattle.sgt_model.specs.LiveLeft.{left_of}
 use Rattle.sgt_model.specs.State.{Has, State}
 use Rattle.sgt_model.specs.StateAfter.{IsStateAfter, LivePair, LiveRead}
 use Rattle.sgt_model.specs.Changes.{Drops, Removes, Settles}
@@ -33,7 +33,7 @@ use Rattle.sgt_model.proofs.Plays.{act_none}
 use Rattle.sgt_model.proofs.Counted.{chain-removed, filter-both, filter-same, access_list-removed}
 use Rattle.sgt_model.proofs.Chains.{chain-value, newest-split, newest-value, stored_value}
 use Rattle.sgt_model.proofs.Verdict.{live_before_committed}
-use Rattle.sgt_model.proofs.AfterAccess.{progress_path}
+use Rattle.sgt_model.proofs.LiveLeft.{left_by}
 
 -- an entry that ends those that are gone, and does nothing else
 pub record EndsAll (gone : ℕ → Bool) (e : Entry) (past : List Entry) : Type 0 where
@@ -89,8 +89,8 @@ module _ (s : Setting) (past : List Entry) (gone : ℕ → Bool) (e : Entry) (x 
       no_some a q = cc
   read_was t u (inr r) = r
 
-  progress_same : (u : ℕ) → progress_of past u ≡ progress_of (e ∷ past) u
-  progress_same u = progress_path (progress_of past u) (progress_of (e ∷ past) u) call (ap looked accesses) (ap length accesses)
+  left_same : (u : ℕ) → left_of s.rules past u ≡ left_of s.rules (e ∷ past) u
+  left_same u = ap₂ (left_by s) call accesses
     where
       call : call_of past u ≡ call_of (e ∷ past) u
       call = sym (ap (λ o. unwrap_or o (call_of past u)) (x.no_call u))
@@ -109,7 +109,7 @@ module _ (s : Setting) (past : List Entry) (gone : ℕ → Bool) (e : Entry) (x 
     read_from = λ u v. (read_to u v, read_from u v);
     fates = same_fates;
     starts = r.starts ∙ (i.starts ∙ sym starts_same);
-    progress = λ u q. let w = live_was u q in r.progress u w.1 ∙ (i.progress u w.0 ∙ progress_same u);
+    left = λ u q. let w = live_was u q in r.left u w.1 ∙ (i.left u w.0 ∙ left_same u);
   }
     where
       live_ones_after : filter (λ u. not (gone u)) (live_ones past) ≡ live_ones (e ∷ past)
@@ -163,7 +163,7 @@ removes_none c = record {
   chain = λ k. filter_all (c.chain k);
   read_from = λ u v. ((λ q. (q, refl, refl)), (λ q. q.0));
   starts = refl;
-  progress = λ u g. refl;
+  left = λ u g. refl;
 }
 
 pub after_nothing : (s : Setting) (past : List Entry) (e : Entry) (c : State) → EndsAll no_one e past → IsStateAfter s past c → IsStateAfter s (e ∷ past) c

@@ -1,5 +1,5 @@
 -- The state after a start is the state after the longer history.
-use Rattle.std.proofs.Common.{◌≡◌, ◌≢◌, ℕ, ◌+◌, ◌<◌, ◌≤◌, ℤ, Bool, true, false, cond, ◌&&◌, ◌||◌, ◌⊎◌, List, [], ◌∷◌, ◌++◌, length, Some, None, is_none, nat_eq, nat_lt, refl, sym, ap, ap₂, inl, inr, ◌∙◌, arith}
+use Rattle.std.proofs.Common.{◌≡◌, ◌≢◌, ℕ, ◌+◌, ◌<◌, ◌≤◌, ℤ, Bool, true, false, cond, ◌&&◌, ◌||◌, ◌⊎◌, List, [], ◌∷◌, ◌++◌, Some, None, is_none, nat_eq, nat_lt, refl, sym, ap, ap₂, inl, inr, ◌∙◌, arith}
 use Rattle.std.proofs.lemmas.Bool.{eq-eqb, ne_eqb, cases_eq, cases_lt, lt-ltb, le-ltb}
 use Rattle.std.proofs.lemmas.List.{append-nil}
 use Rattle.std.proofs.lemmas.List.Elements.{filter-append}
@@ -7,14 +7,15 @@ use Rattle.std.specs.Option.{unwrap_or}
 use Rattle.sgt_model.specs.declared.event.Event.TheVariants.{Start}
 use Rattle.sgt_model.specs.declared.reply.Reply.TheVariants as reply
 use Rattle.sgt_model.specs.declared.entry.Entry.{Entry}
+use Rattle.sgt_model.specs.Accesses.{acts}
 use Rattle.sgt_model.specs.Fates.{begun, fate_of, live, live_ones, starts}
 use Rattle.sgt_model.specs.ReadFrom.{ReadFrom}
 use Rattle.sgt_model.specs.Pairs.{Precedes}
 use Rattle.sgt_model.specs.Settings.{Setting}
-use Rattle.sgt_model.specs.Progress.{Call, call_of, looked}
+use Rattle.sgt_model.specs.Progress.{Call, call_of}
 use Rattle.sgt_model.specs.Legality.{Legal}
 use Rattle.sgt_model.specs.AccessList.{access_list}
-use Rattle.sgt_model.specs.LiveProgress.{progress_of}
+use Rattle.sgt_model.specs.LiveLeft.{left_of_call, left_of}
 use Rattle.sgt_model.specs.State.{State}
 use Rattle.sgt_model.specs.StateAfter.{IsStateAfter, LivePair, LiveRead}
 use Rattle.sgt_model.specs.Changes.{Starts}
@@ -23,7 +24,7 @@ use Rattle.sgt_model.proofs.Sources.{read-precedes}
 use Rattle.sgt_model.proofs.Plays.{acts_unstarted}
 use Rattle.sgt_model.proofs.Room.{begun_below}
 use Rattle.sgt_model.proofs.Counted.{filter_listed, AgreeOn, chain-agree, legal-agree, access_list-agree}
-use Rattle.sgt_model.proofs.AfterAccess.{progress_path}
+use Rattle.sgt_model.proofs.LiveLeft.{left_by}
 
 -- the entry of a start
 abbrev pub start_entry : ℕ → List ℤ → ℕ → Entry
@@ -70,7 +71,7 @@ module _ (s : Setting) (past : List Entry) (h : Legal s past) (p : ℕ) (args : 
   was_live : (u : ℕ) → u < starts past → live (start_entry p args (starts past) ∷ past) u ≡ true → live past u ≡ true
   was_live u lt l = sym (started_same u lt) ∙ l
 
-  pub after_start : (before after : State) → IsStateAfter s past before → Starts (record { procedure = p; args = args }) before after → IsStateAfter s (start_entry p args (starts past) ∷ past) after
+  pub after_start : (before after : State) → IsStateAfter s past before → Starts (left_of_call s.rules (record { procedure = p; args = args })) before after → IsStateAfter s (start_entry p args (starts past) ∷ past) after
   after_start before after i x = record {
     lives = x.live ∙ (ap₂ (λ l n. l ++ n ∷ []) i.lives i.starts ∙ live_ones_after);
     nodes = λ u. x.nodes u ∙ (ap₂ (λ b n. b || nat_eq u n) (i.nodes u) i.starts ∙ sym (live_is u));
@@ -81,7 +82,7 @@ module _ (s : Setting) (past : List Entry) (h : Legal s past) (p : ℕ) (args : 
     read_from = λ u v. ((λ q. read_to u v ((i.read_from u v).0 ((x.read_from u v).0 q))), (λ q. (x.read_from u v).1 ((i.read_from u v).1 (read_back u v q q.read))));
     fates = λ u. x.fates u ∙ i.fates u;
     starts = x.starts ∙ ap (λ n. n + 1) i.starts;
-    progress = λ u l. progress u l (cases_lt u (starts past));
+    left = λ u l. still_left u l (cases_lt u (starts past));
   }
     where
       or_true : (b : Bool) → (b || true) ≡ true
@@ -113,15 +114,15 @@ module _ (s : Setting) (past : List Entry) (h : Legal s past) (p : ℕ) (args : 
       own_call true c d z = refl
       own_call false c d z = absurd (cc)
 
-      progress : (u : ℕ) → live (start_entry p args (starts past) ∷ past) u ≡ true → (u < starts past) ⊎ (starts past ≤ u) → after.progress u ≡ progress_of (start_entry p args (starts past) ∷ past) u
-      progress u l (inl lt) =
+      still_left : (u : ℕ) → live (start_entry p args (starts past) ∷ past) u ≡ true → (u < starts past) ⊎ (starts past ≤ u) → after.left u ≡ left_of s.rules (start_entry p args (starts past) ∷ past) u
+      still_left u l (inl lt) =
           let call : call_of (start_entry p args (starts past) ∷ past) u ≡ call_of past u = other_call (nat_eq (starts past) u) (record { procedure = p; args = args }) (call_of past u) (ne_eqb (starts past) u (λ e. absurd (omega (arith, e)))) in
-          x.progress u (λ e. absurd (omega (arith, e, i.starts))) ∙ (i.progress u (was_live u lt l) ∙ progress_path (progress_of past u) (progress_of (start_entry p args (starts past) ∷ past) u) (sym call) refl refl)
-      progress u l (inr le) =
+          x.left u (λ e. absurd (omega (arith, e, i.starts))) ∙ (i.left u (was_live u lt l) ∙ ap (λ c. left_by s c (acts past u)) (sym call))
+      still_left u l (inr le) =
           let is : u ≡ starts past = at_end (live-started (start_entry p args (starts past) ∷ past) u l) le in
           let call : call_of (start_entry p args (starts past) ∷ past) u ≡ record { procedure = p; args = args } = own_call (nat_eq (starts past) u) (record { procedure = p; args = args }) (call_of past u) (eq-eqb (starts past) u (sym is)) in
           let unused = acts_unstarted s past u h le in
-          ap after.progress (is ∙ sym i.starts) ∙ (x.own_progress ∙ progress_path (record { call = record { procedure = p; args = args }; read = []; made = 0 }) (progress_of (start_entry p args (starts past) ∷ past) u) (sym call) (ap looked (sym unused)) (ap length (sym unused)))
+          ap after.left (is ∙ sym i.starts) ∙ (x.own_left ∙ (ap (left_by s (record { procedure = p; args = args })) (sym unused) ∙ ap (λ c. left_by s c (acts past u)) (sym call)))
         where
           at_end : u < starts past + 1 → starts past ≤ u → u ≡ starts past
           at_end lt le = omega arith

@@ -21,7 +21,7 @@ use Rattle.sgt_model.specs.Fates.{is_start, starts, subject, ending_in, fate_of,
 use Rattle.sgt_model.specs.Values.{visible}
 use Rattle.sgt_model.specs.Falls.{Falls}
 use Rattle.sgt_model.specs.Closes.{Closes}
-use Rattle.sgt_model.specs.Settings.{Setting}
+use Rattle.sgt_model.specs.Settings.{Setting, takes}
 use Rattle.sgt_model.specs.Progress.{call_in, next_of}
 use Rattle.sgt_model.specs.Legality.{args_fit, called_reply, Aborts, Refuses, StepReply, NoneLive, CommitReply, OfStarted, OfLive, LegalReply}
 use Rattle.sgt_model.specs.Replay.{committed_run_in}
@@ -69,7 +69,7 @@ pub record Begins (s : Setting) (past : List Entry) (event : Event) (r : Reply) 
   pub count : ℕ
   pub event_is : event ≡ Start procedure args
   pub reply_is : r ≡ reply.Started (starts past)
-  pub known : s.rules.procedures procedure ≡ Some count
+  pub known : takes s.rules procedure ≡ Some count
   pub fit : args_fit count args ≡ true
   pub not_spent : nat_eq (starts past) s.rules.limits.begins ≡ false
   pub not_full : nat_eq (length (live_ones past)) s.rules.limits.live ≡ false
@@ -131,13 +131,13 @@ idle_at {s} {past} {event} e i = subst (λ x. Effect s past event x) (sym e) (id
 
 -- a start
 
-begin_at : (s : Setting) (past : List Entry) (p : ℕ) (args : List ℤ) (count : ℕ) → s.rules.procedures p ≡ Some count → (fit spent full : Bool) → args_fit count args ≡ fit → nat_eq (starts past) s.rules.limits.begins ≡ spent → nat_eq (length (live_ones past)) s.rules.limits.live ≡ full → Effect s past (Start p args) (cond fit (cond spent reply.Spent (cond full reply.Full (reply.Started (starts past)))) reply.BadArgs)
+begin_at : (s : Setting) (past : List Entry) (p : ℕ) (args : List ℤ) (count : ℕ) → takes s.rules p ≡ Some count → (fit spent full : Bool) → args_fit count args ≡ fit → nat_eq (starts past) s.rules.limits.begins ≡ spent → nat_eq (length (live_ones past)) s.rules.limits.live ≡ full → Effect s past (Start p args) (cond fit (cond spent reply.Spent (cond full reply.Full (reply.Started (starts past)))) reply.BadArgs)
 begin_at s past p args count known false spent full f n l = idle (record { no_start = refl; no_access = refl; ends_none = tt })
 begin_at s past p args count known true true full f n l = idle (record { no_start = refl; no_access = refl; ends_none = tt })
 begin_at s past p args count known true false true f n l = idle (record { no_start = refl; no_access = refl; ends_none = tt })
 begin_at s past p args count known true false false f n l = begins (record { procedure = p; args = args; count = count; event_is = refl; reply_is = refl; known = known; fit = f; not_spent = n; not_full = l })
 
-start_at : (s : Setting) (past : List Entry) (p : ℕ) (args : List ℤ) (o : Option ℕ) → s.rules.procedures p ≡ o → Effect s past (Start p args) (called_reply s past o args)
+start_at : (s : Setting) (past : List Entry) (p : ℕ) (args : List ℤ) (o : Option ℕ) → takes s.rules p ≡ o → Effect s past (Start p args) (called_reply s past o args)
 start_at s past p args None known = idle (record { no_start = refl; no_access = refl; ends_none = tt })
 start_at s past p args (Some count) known = begin_at s past p args count known (args_fit count args) (nat_eq (starts past) s.rules.limits.begins) (nat_eq (length (live_ones past)) s.rules.limits.live) refl refl refl
 
@@ -187,7 +187,7 @@ commit_at s past t r (Asks code) e alive h = idle_at h (record { no_start = refl
 
 -- each legal reply has one of the effects
 pub effect : (s : Setting) (past : List Entry) (event : Event) (r : Reply) → LegalReply s past event r → Effect s past event r
-effect s past (Start p args) r h = subst (λ x. Effect s past (Start p args) x) (sym h) (start_at s past p args (s.rules.procedures p) refl)
+effect s past (Start p args) r h = subst (λ x. Effect s past (Start p args) x) (sym h) (start_at s past p args (takes s.rules p) refl)
 effect s past (Step t) r h = of_live s past (Step t) t r (StepReply s past t (next_of s past t) r) (step_at s past t r (next_of s past t) refl) h
 effect s past (Commit t) r h = of_live s past (Commit t) t r (CommitReply past t (next_of s past t) r) (commit_at s past t r (next_of s past t) refl) h
 effect s past (Quit t) r h = of_live s past (Quit t) t r (Aborts past t cause.Quit r) (quit_at s past t r) h

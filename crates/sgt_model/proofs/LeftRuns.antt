@@ -159,7 +159,7 @@ store_first l key v values made next = ap (λ n. after_next n l values (λ then 
 
 -- the laws, for what is left that a run is of
 
-next_after : (made : ℕ) (r : Run) (l : Left) (values : List (Option ℤ)) → run_left l ≡ r → Used r values made → next_left (left_after l values made) ≡ next_at (trace r values) made
+pub next_after : (made : ℕ) (r : Run) (l : Left) (values : List (Option ℤ)) → run_left l ≡ r → Used r values made → next_left (left_after l values made) ≡ next_at (trace r values) made
 next_after zero r l [] same used = next_is l r same ∙ next_of_trace r
 next_after zero r l (v ∷ values) same used = absurd used
 next_after (suc made) (looks k go) l [] same used = absurd used
@@ -172,7 +172,7 @@ next_after (suc made) (puts k v rest) l values same used =
 next_after (suc made) (ends answers) l values same used = absurd used
 next_after (suc made) (asks code) l values same used = absurd used
 
-look_after : (made : ℕ) (r : Run) (l : Left) (values : List (Option ℤ)) → run_left l ≡ r → Used r values made → (key : Key) (found : Option ℤ) → next_left (left_after l values made) ≡ Looks key → left_after l (values ++ found ∷ []) (suc made) ≡ after_look found (left_after l values made)
+pub look_after : (made : ℕ) (r : Run) (l : Left) (values : List (Option ℤ)) → run_left l ≡ r → Used r values made → (key : Key) (found : Option ℤ) → next_left (left_after l values made) ≡ Looks key → left_after l (values ++ found ∷ []) (suc made) ≡ after_look found (left_after l values made)
 look_after zero r l [] same used key found next = look_first l key found [] 0 next
 look_after zero r l (v ∷ values) same used key found next = absurd used
 look_after (suc made) (looks k go) l [] same used key found next = absurd used
@@ -191,7 +191,7 @@ look_after (suc made) (puts k w rest) l values same used key found next =
 look_after (suc made) (ends answers) l values same used key found next = absurd used
 look_after (suc made) (asks code) l values same used key found next = absurd used
 
-store_after : (made : ℕ) (r : Run) (l : Left) (values : List (Option ℤ)) → run_left l ≡ r → Used r values made → (key : Key) (v : ℤ) → next_left (left_after l values made) ≡ Puts key v → left_after l values (suc made) ≡ after_store (left_after l values made)
+pub store_after : (made : ℕ) (r : Run) (l : Left) (values : List (Option ℤ)) → run_left l ≡ r → Used r values made → (key : Key) (v : ℤ) → next_left (left_after l values made) ≡ Puts key v → left_after l values (suc made) ≡ after_store (left_after l values made)
 store_after zero r l [] same used key v next = store_first l key v [] 0 next
 store_after zero r l (w ∷ values) same used key v next = absurd used
 store_after (suc made) (looks k go) l [] same used key v next = absurd used

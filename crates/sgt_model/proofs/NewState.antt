@@ -45,7 +45,7 @@ state_new s c n = record {
   read_from = λ u t. ((λ q. absurd (subst (λ l. Has l u t) n.read_from q)), (λ p. absurd p.read));
   fates = n.fates;
   starts = n.starts;
-  progress = λ t l. absurd (both_ways (live [] t) (none t) l);
+  left = λ t l. absurd (both_ways (live [] t) (none t) l);
 }
   where
     none : (t : ℕ) → live [] t ≡ false

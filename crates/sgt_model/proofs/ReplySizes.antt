@@ -20,7 +20,7 @@ use Rattle.sgt_model.specs.Traces.{Next, Looks, Puts, Ends, Asks}
 use Rattle.sgt_model.specs.Walks.{PathOf, Member, Distinct, Rising}
 use Rattle.sgt_model.specs.Fates.{concerns, subject, ending_in, starts, fate_of, begun, live, live_ones}
 use Rattle.sgt_model.specs.Pairs.{Pair}
-use Rattle.sgt_model.specs.Settings.{Setting}
+use Rattle.sgt_model.specs.Settings.{Setting, takes}
 use Rattle.sgt_model.specs.Progress.{next_of}
 use Rattle.sgt_model.specs.Legality.{args_fit, started_reply, called_reply, start_reply, Aborts, Refuses, Makes, StepReply, CommitReply, OfStarted, LegalReply, Legal}
 use Rattle.sgt_model.specs.ReplySizes.{CauseNamesAtMost, FateNamesAtMost, ReplyNamesAtMost, RepliesNameFew}
@@ -65,7 +65,7 @@ ending_names most event (reply.Committed answers) t f few e = go (concerns event
 ending_names most event _ t f few e = absurd (cc)
 
 start_names : (most : ℕ) (s : Setting) (past : List Entry) (p : ℕ) (args : List ℤ) → ReplyNamesAtMost most (start_reply s past p args)
-start_names most s past p args = called (s.rules.procedures p)
+start_names most s past p args = called (takes s.rules p)
   where
     one_of : (b c : Bool) → ReplyNamesAtMost most (cond b reply.Spent (cond c reply.Full (reply.Started (starts past))))
     one_of true c = tt

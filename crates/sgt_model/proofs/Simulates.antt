@@ -17,10 +17,10 @@ use Rattle.sgt_model.specs.Contents.{Key}
 use Rattle.sgt_model.specs.Traces.{Asks, Ends, Looks, Next, Puts}
 use Rattle.sgt_model.specs.Fates.{fate_of, live, live_ones, starts}
 use Rattle.sgt_model.specs.Closes.{Closes}
-use Rattle.sgt_model.specs.Settings.{Setting}
+use Rattle.sgt_model.specs.Settings.{Setting, takes}
 use Rattle.sgt_model.specs.Progress.{next_of}
 use Rattle.sgt_model.specs.Legality.{args_fit, called_reply, Aborts, CommitReply, Legal, LegalReply, OfStarted, Refuses, StepReply}
-use Rattle.sgt_model.specs.LiveProgress.{next_in}
+use Rattle.sgt_model.specs.Left.{next_left}
 use Rattle.sgt_model.specs.State.{State}
 use Rattle.sgt_model.specs.StateAfter.{IsStateAfter}
 use Rattle.sgt_model.specs.Blocks.{Blocks}
@@ -28,6 +28,7 @@ use Rattle.sgt_model.specs.CallEffects.{AbortsIn, CommitEffect, CommitOn, IfOpen
 use Rattle.sgt_model.proofs.Effects.{Idle, ends_none-no_end, no_start-no_call}
 use Rattle.sgt_model.proofs.Facts.{live_from, member_from}
 use Rattle.sgt_model.proofs.Verdict.{blocks_from_closes, closes_from_blocks, falls_from, found-visible, least_from, none_from}
+use Rattle.sgt_model.proofs.LiveLeft.{next_is_left}
 use Rattle.sgt_model.proofs.AfterAccess.{after_look, after_store}
 use Rattle.sgt_model.proofs.AfterEnd.{Of, after_abort, after_commit, after_nothing, gone_with, no_one, of_quit, of_step}
 use Rattle.sgt_model.proofs.AfterStart.{after_start}
@@ -77,13 +78,13 @@ module _ (s : Setting) (past : List Entry) (h : Legal s past) (before after : St
   free_of : (k : Key) (kind : Kind) → live past t ≡ true → ((rest : List ℕ) → Blocks before t k kind rest → ⊥) → (rest : List ℕ) → Closes past t k kind rest → ⊥
   free_of k kind alive free rest c = free rest (blocks_from_closes s past h before i t k kind rest alive c)
 
-  step_on : (n : Next) (r : Reply) → live past t ≡ true → StepOn t n before r after → StepReply s past t n r × IsStateAfter s (entry (Step t) r ∷ past) after
-  step_on (Looks k) r alive (inl x) = let y = refused_in k Look r alive x in (inl y.0, y.1)
-  step_on (Looks k) r alive (inr x) = (inr (record { free = free_of k Look alive x.free; is = x.reply ∙ ap (reply.Looked k) (found-visible s past h before i k) }), subst (λ z. IsStateAfter s (entry (Step t) z ∷ past) after) (sym x.reply) (after_look s past h before after i t k alive x.looks))
-  step_on (Puts k v) r alive (inl x) = let y = refused_in k Store r alive x in (inl y.0, y.1)
-  step_on (Puts k v) r alive (inr x) = (inr (record { free = free_of k Store alive x.free; is = x.reply }), subst (λ z. IsStateAfter s (entry (Step t) z ∷ past) after) (sym x.reply) (after_store s past h before after i t k alive v x.stores))
-  step_on (Ends answers) r alive x = stayed s past (Step t) reply.Ended r before after refl i x
-  step_on (Asks code) r alive x = aborted_in (Step t) (cause.Asked code) r (of_step t) alive x
+  step_on : (n : Next) (r : Reply) → next_of s past t ≡ n → live past t ≡ true → StepOn t n before r after → StepReply s past t n r × IsStateAfter s (entry (Step t) r ∷ past) after
+  step_on (Looks k) r next alive (inl x) = let y = refused_in k Look r alive x in (inl y.0, y.1)
+  step_on (Looks k) r next alive (inr x) = (inr (record { free = free_of k Look alive x.free; is = x.reply ∙ ap (reply.Looked k) (found-visible s past h before i k) }), subst (λ z. IsStateAfter s (entry (Step t) z ∷ past) after) (sym x.reply) (after_look s past h before after i t k alive next x.looks))
+  step_on (Puts k v) r next alive (inl x) = let y = refused_in k Store r alive x in (inl y.0, y.1)
+  step_on (Puts k v) r next alive (inr x) = (inr (record { free = free_of k Store alive x.free; is = x.reply }), subst (λ z. IsStateAfter s (entry (Step t) z ∷ past) after) (sym x.reply) (after_store s past h before after i t k alive v next x.stores))
+  step_on (Ends answers) r next alive x = stayed s past (Step t) reply.Ended r before after refl i x
+  step_on (Asks code) r next alive x = aborted_in (Step t) (cause.Asked code) r (of_step t) alive x
 
   commit_on : (n : Next) (r : Reply) → live past t ≡ true → CommitOn t n before r after → CommitReply past t n r × IsStateAfter s (entry (Commit t) r ∷ past) after
   commit_on (Ends answers) r alive (inl x) = let y = stayed s past (Commit t) (reply.Waits x.on) r before after refl i x.stays in (inl (record { before = x.on; least = least_from s past h before i t x.on x.least; is = y.0 }), y.1)
@@ -101,14 +102,14 @@ module _ (s : Setting) (past : List Entry) (h : Legal s past) (before after : St
   opened : (event : Event) (r : Reply) (OnContents OnPast : Type 0) → (live past t ≡ true → OnContents → OnPast × IsStateAfter s (entry event r ∷ past) after) → IfOpen (nat_lt t before.starts) (before.fates t) before r after OnContents → OfStarted (nat_lt t (starts past)) (fate_of past t) r OnPast × IsStateAfter s (entry event r ∷ past) after
   opened event r A B go x = if_open event r A B go (nat_lt t (starts past)) (fate_of past t) refl refl (subst (λ n. IfOpen (nat_lt t n) (fate_of past t) before r after A) i.starts (subst (λ o. IfOpen (nat_lt t before.starts) o before r after A) (i.fates t) x))
 
-  next_same : live past t ≡ true → next_in s.rules (before.progress t) ≡ next_of s past t
-  next_same alive = ap (next_in s.rules) (i.progress t alive)
+  next_same : live past t ≡ true → next_left (before.left t) ≡ next_of s past t
+  next_same alive = ap next_left (i.left t alive) ∙ next_is_left s past h t
 
-  pub step_simulates : (r : Reply) → StepEffect s.rules t before r after → LegalReply s past (Step t) r × IsStateAfter s (entry (Step t) r ∷ past) after
-  step_simulates r x = opened (Step t) r (StepOn t (next_in s.rules (before.progress t)) before r after) (StepReply s past t (next_of s past t) r) (λ alive y. step_on (next_of s past t) r alive (subst (λ n. StepOn t n before r after) (next_same alive) y)) x
+  pub step_simulates : (r : Reply) → StepEffect t before r after → LegalReply s past (Step t) r × IsStateAfter s (entry (Step t) r ∷ past) after
+  step_simulates r x = opened (Step t) r (StepOn t (next_left (before.left t)) before r after) (StepReply s past t (next_of s past t) r) (λ alive y. step_on (next_of s past t) r refl alive (subst (λ n. StepOn t n before r after) (next_same alive) y)) x
 
-  pub commit_simulates : (r : Reply) → CommitEffect s.rules t before r after → LegalReply s past (Commit t) r × IsStateAfter s (entry (Commit t) r ∷ past) after
-  commit_simulates r x = opened (Commit t) r (CommitOn t (next_in s.rules (before.progress t)) before r after) (CommitReply past t (next_of s past t) r) (λ alive y. commit_on (next_of s past t) r alive (subst (λ n. CommitOn t n before r after) (next_same alive) y)) x
+  pub commit_simulates : (r : Reply) → CommitEffect t before r after → LegalReply s past (Commit t) r × IsStateAfter s (entry (Commit t) r ∷ past) after
+  commit_simulates r x = opened (Commit t) r (CommitOn t (next_left (before.left t)) before r after) (CommitReply past t (next_of s past t) r) (λ alive y. commit_on (next_of s past t) r alive (subst (λ n. CommitOn t n before r after) (next_same alive) y)) x
 
   pub quit_simulates : (r : Reply) → QuitEffect t before r after → LegalReply s past (Quit t) r × IsStateAfter s (entry (Quit t) r ∷ past) after
   quit_simulates r x = opened (Quit t) r (AbortsIn t cause.Quit before r after) (Aborts past t cause.Quit r) (λ alive y. aborted_in (Quit t) cause.Quit r (of_quit t) alive y) x
@@ -131,14 +132,14 @@ module _ (s : Setting) (past : List Entry) (h : Legal s past) (before after : St
   called (Some count) = refl
 
   pub start_simulates : (r : Reply) → StartEffect s.rules p args before r after → LegalReply s past (Start p args) r × IsStateAfter s (entry (Start p args) r ∷ past) after
-  start_simulates r x = (answer ∙ called (s.rules.procedures p), elim (start_cases (starts past) (length (live_ones past)) (s.rules.procedures p)) [ inl e ↦ begins (answer ∙ e) | inr q ↦ idle r (ap quiet answer ∙ q) x.does ])
+  start_simulates r x = (answer ∙ called (takes s.rules p), elim (start_cases (starts past) (length (live_ones past)) (takes s.rules p)) [ inl e ↦ begins (answer ∙ e) | inr q ↦ idle r (ap quiet answer ∙ q) x.does ])
     where
-      answer : r ≡ taken_reply s.rules.limits (starts past) (length (live_ones past)) (s.rules.procedures p) args
-      answer = x.reply ∙ ap₂ (λ n l. taken_reply s.rules.limits n (length l) (s.rules.procedures p) args) i.starts i.lives
+      answer : r ≡ taken_reply s.rules.limits (starts past) (length (live_ones past)) (takes s.rules p) args
+      answer = x.reply ∙ ap₂ (λ n l. taken_reply s.rules.limits n (length l) (takes s.rules p) args) i.starts i.lives
 
       begins : r ≡ reply.Started (starts past) → IsStateAfter s (entry (Start p args) r ∷ past) after
-      begins e = subst (λ z. IsStateAfter s (entry (Start p args) z ∷ past) after) (sym e) (after_start s past h p args before after i (subst (λ z. StartOn p args before z after) e x.does))
+      begins e = subst (λ z. IsStateAfter s (entry (Start p args) z ∷ past) after) (sym e) (after_start s past h p args before after i (subst (λ z. StartOn (s.rules.procedures p) args before z after) e x.does))
 
-      idle : (z : Reply) → quiet z ≡ true → StartOn p args before z after → IsStateAfter s (entry (Start p args) z ∷ past) after
+      idle : (z : Reply) → quiet z ≡ true → StartOn (s.rules.procedures p) args before z after → IsStateAfter s (entry (Start p args) z ∷ past) after
       idle (reply.Started t) q d = absurd (cc)
       idle z q d = after_quiet s past (Start p args) z after q (subst (λ c. IsStateAfter s past c) (sym d) i)

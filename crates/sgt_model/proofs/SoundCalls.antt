@@ -9,7 +9,7 @@ use Rattle.sgt_model.specs.declared.kind.Kind.TheVariants.{Look, Store}
 use Rattle.sgt_model.specs.Contents.{Key, key_eq}
 use Rattle.sgt_model.specs.Walks.{Member}
 use Rattle.sgt_model.specs.Pairs.{one_stores}
-use Rattle.sgt_model.specs.Progress.{Call}
+use Rattle.sgt_model.specs.Left.{Left}
 use Rattle.sgt_model.specs.AccessList.{ListedAccess, is_conflicting, lists_conflicting}
 use Rattle.sgt_model.specs.Chains.{without, write_last, writes_in}
 use Rattle.sgt_model.specs.ChainOrder.{InOrder}
@@ -132,7 +132,7 @@ module _ (most : ℕ) (before after : State) (sound : Sound most before) where
           one true e ih q = elim (or_cases (nat_eq x.0 u) (writes_in u (filter (λ w. not (gone w.0)) l)) q) [ inl now ↦ (ap (λ y. not (gone y)) (sym (eqb-true x.0 u now)) ∙ e, or_left (nat_eq x.0 u) (writes_in u l) now) | inr z ↦ ((ih z).0, or_right (nat_eq x.0 u) (writes_in u l) (ih z).1) ]
           one false e ih q = ((ih q).0, or_right (nat_eq x.0 u) (writes_in u l) (ih q).1)
 
-  pub sound_starts : (call : Call) → length before.live < most → Starts call before after → Sound most after
+  pub sound_starts : (at_start : Left) → length before.live < most → Starts at_start before after → Sound most after
   sound_starts call room x = record {
     begun = λ u q. elim (or_cases (before.nodes u) (nat_eq u before.starts) (sym (x.nodes u) ∙ q)) [ inl old ↦ (let b = sound.begun u old in let e = x.starts in omega arith) | inr new ↦ (let is = eqb-true u before.starts new in let e = x.starts in omega arith) ];
     listed = λ u. ((λ q. subst (λ l. Member u l) (sym x.live) (elim (or_cases (before.nodes u) (nat_eq u before.starts) (sym (x.nodes u) ∙ q)) [ inl old ↦ member_added u before.live before.starts (inl ((sound.listed u).0 old)) | inr new ↦ member_added u before.live before.starts (inr (eqb-true u before.starts new)) ])), (λ m. x.nodes u ∙ elim (member_append u before.live before.starts (subst (λ l. Member u l) x.live m)) [ inl old ↦ or_left (before.nodes u) (nat_eq u before.starts) ((sound.listed u).1 old) | inr new ↦ or_right (before.nodes u) (nat_eq u before.starts) (eq-eqb u before.starts new) ]));

@@ -11,10 +11,12 @@ use Rattle.sgt_model.specs.declared.limits.Limits.{Limits}
 use Rattle.sgt_model.specs.declared.kind.Kind.{Kind}
 use Rattle.sgt_model.specs.declared.kind.Kind.TheVariants.{Look, Store}
 use Rattle.sgt_model.specs.Contents.{Key}
+use Rattle.sgt_model.specs.Syntax.{Program}
 use Rattle.sgt_model.specs.Traces.{Next, Looks, Puts, Ends, Asks}
-use Rattle.sgt_model.specs.Settings.{Rules}
+use Rattle.sgt_model.specs.Settings.{Rules, takes}
 use Rattle.sgt_model.specs.Legality.{args_fit}
-use Rattle.sgt_model.specs.LiveProgress.{next_in}
+use Rattle.sgt_model.specs.Left.{next_left}
+use Rattle.sgt_model.specs.LiveLeft.{left_if}
 use Rattle.sgt_model.specs.State.{State}
 use Rattle.sgt_model.specs.Blocks.{Blocks}
 use Rattle.sgt_model.specs.Found.{found}
@@ -67,8 +69,8 @@ StepOn t (Ends answers) before r after = Stays reply.Ended before r after
 StepOn t (Asks code) before r after = AbortsIn t (cause.Asked code) before r after
 
 -- a step of any transaction
-abbrev pub StepEffect : Rules → ℕ → State → Reply → State → Type 0
-StepEffect rules t before r after = IfOpen (nat_lt t before.starts) (before.fates t) before r after (StepOn t (next_in rules (before.progress t)) before r after)
+abbrev pub StepEffect : ℕ → State → Reply → State → Type 0
+StepEffect t before r after = IfOpen (nat_lt t before.starts) (before.fates t) before r after (StepOn t (next_left (before.left t)) before r after)
 
 -- a commit
 
@@ -97,8 +99,8 @@ CommitOn t (Puts k v) before r after = Stays reply.NotEnded before r after
 CommitOn t (Asks code) before r after = Stays reply.NotEnded before r after
 
 -- a commit of any transaction
-abbrev pub CommitEffect : Rules → ℕ → State → Reply → State → Type 0
-CommitEffect rules t before r after = IfOpen (nat_lt t before.starts) (before.fates t) before r after (CommitOn t (next_in rules (before.progress t)) before r after)
+abbrev pub CommitEffect : ℕ → State → Reply → State → Type 0
+CommitEffect t before r after = IfOpen (nat_lt t before.starts) (before.fates t) before r after (CommitOn t (next_left (before.left t)) before r after)
 
 -- a quit
 
@@ -119,21 +121,21 @@ taken_reply limits begun living (Some count) args = cond (args_fit count args) (
 
 -- the one reply to a start, from the state: the tests of `start_reply`, in the same order
 abbrev pub start_answer : Rules → State → ℕ → List ℤ → Reply
-start_answer rules c p args = taken_reply rules.limits c.starts (length c.live) (rules.procedures p) args
+start_answer rules c p args = taken_reply rules.limits c.starts (length c.live) (takes rules p) args
 
 -- what a start with this reply does
-abbrev pub StartOn : ℕ → List ℤ → State → Reply → State → Type 0
-StartOn p args before (reply.Started t) after = Starts (record { procedure = p; args = args }) before after
+abbrev pub StartOn : Option Program → List ℤ → State → Reply → State → Type 0
+StartOn p args before (reply.Started t) after = Starts (left_if p args) before after
 StartOn p args before _ after = after ≡ before
 
 -- any start
 pub record StartEffect (rules : Rules) (p : ℕ) (args : List ℤ) (before : State) (r : Reply) (after : State) : Type 0 where
   pub reply : r ≡ start_answer rules before p args
-  pub does : StartOn p args before r after
+  pub does : StartOn (rules.procedures p) args before r after
 
 -- what the call of an event answers and does
 abbrev pub CallEffect : Rules → Event → State → Reply → State → Type 0
 CallEffect rules (Start p args) before r after = StartEffect rules p args before r after
-CallEffect rules (Step t) before r after = StepEffect rules t before r after
-CallEffect rules (Commit t) before r after = CommitEffect rules t before r after
+CallEffect rules (Step t) before r after = StepEffect t before r after
+CallEffect rules (Commit t) before r after = CommitEffect t before r after
 CallEffect rules (Quit t) before r after = QuitEffect t before r after

@@ -7,7 +7,7 @@ use Rattle.sgt_model.specs.declared.reply.Fate.TheVariants as fate
 use Rattle.sgt_model.specs.declared.kind.Kind.{Kind}
 use Rattle.sgt_model.specs.declared.kind.Kind.TheVariants.{Look, Store}
 use Rattle.sgt_model.specs.Contents.{Key, key_eq}
-use Rattle.sgt_model.specs.Progress.{Call}
+use Rattle.sgt_model.specs.Left.{Left, after_look, after_store}
 use Rattle.sgt_model.specs.Chains.{write_last, value_in}
 use Rattle.sgt_model.specs.State.{State, Has}
 use Rattle.sgt_model.specs.Blocks.{IsRival}
@@ -22,24 +22,24 @@ pub record Notes (t : ℕ) (k : Key) (kind : Kind) (before after : State) : Type
   pub settled : (j : Key) → after.settled j ≡ before.settled j
   pub fates : (u : ℕ) → after.fates u ≡ before.fates u
   pub starts : after.starts ≡ before.starts
-  pub progress : (u : ℕ) → u ≢ t → after.progress u ≡ before.progress u
+  pub left : (u : ℕ) → u ≢ t → after.left u ≡ before.left u
 
 -- t looks at the key
 pub record LooksAt (t : ℕ) (k : Key) (before after : State) : Type 0 where
   pub notes : Notes t k Look before after
   pub chain : (j : Key) → after.chain j ≡ before.chain j
   pub read_from : (u v : ℕ) → Has after.read_from u v ↔ (Has before.read_from u v ⊎ ((v ≡ t) × (u ≢ t) × SourceIs (top before k) u))
-  pub own_progress : after.progress t ≡ record (before.progress t) { read = (before.progress t).read ++ found before k ∷ []; made = (before.progress t).made + 1 }
+  pub own_left : after.left t ≡ after_look (found before k) (before.left t)
 
 -- t stores a value
 pub record StoresInto (t : ℕ) (k : Key) (v : ℤ) (before after : State) : Type 0 where
   pub notes : Notes t k Store before after
   pub chain : (j : Key) → after.chain j ≡ cond (key_eq k j) (write_last t v (before.chain j)) (before.chain j)
   pub read_from : (u w : ℕ) → Has after.read_from u w ↔ Has before.read_from u w
-  pub own_progress : after.progress t ≡ record (before.progress t) { made = (before.progress t).made + 1 }
+  pub own_left : after.left t ≡ after_store (before.left t)
 
--- a transaction is started, with the next number
-pub record Starts (call : Call) (before after : State) : Type 0 where
+-- a transaction is started, with the next number; all that it has to do is left of it
+pub record Starts (at_start : Left) (before after : State) : Type 0 where
   pub live : after.live ≡ before.live ++ before.starts ∷ []
   pub nodes : (u : ℕ) → after.nodes u ≡ (before.nodes u || nat_eq u before.starts)
   pub pairs : (u v : ℕ) → after.pairs u v ≡ before.pairs u v
@@ -49,8 +49,8 @@ pub record Starts (call : Call) (before after : State) : Type 0 where
   pub read_from : (u v : ℕ) → Has after.read_from u v ↔ Has before.read_from u v
   pub fates : (u : ℕ) → after.fates u ≡ before.fates u
   pub starts : after.starts ≡ before.starts + 1
-  pub progress : (u : ℕ) → u ≢ before.starts → after.progress u ≡ before.progress u
-  pub own_progress : after.progress before.starts ≡ record { call = call; read = []; made = 0 }
+  pub left : (u : ℕ) → u ≢ before.starts → after.left u ≡ before.left u
+  pub own_left : after.left before.starts ≡ at_start
 
 -- some transactions leave each layer
 pub record Removes (gone : ℕ → Bool) (before after : State) : Type 0 where
@@ -61,7 +61,7 @@ pub record Removes (gone : ℕ → Bool) (before after : State) : Type 0 where
   pub chain : (k : Key) → after.chain k ≡ filter (λ w. not (gone w.0)) (before.chain k)
   pub read_from : (u v : ℕ) → Has after.read_from u v ↔ (Has before.read_from u v × (gone u ≡ false) × (gone v ≡ false))
   pub starts : after.starts ≡ before.starts
-  pub progress : (u : ℕ) → gone u ≡ false → after.progress u ≡ before.progress u
+  pub left : (u : ℕ) → gone u ≡ false → after.left u ≡ before.left u
 
 -- t commits: its values become the committed ones
 pub record Settles (t : ℕ) (before after : State) : Type 0 where

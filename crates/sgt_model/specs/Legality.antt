@@ -21,7 +21,7 @@ use Rattle.sgt_model.specs.Values.{visible}
 use Rattle.sgt_model.specs.Falls.{Falls}
 use Rattle.sgt_model.specs.Pairs.{Pair}
 use Rattle.sgt_model.specs.Closes.{Closes}
-use Rattle.sgt_model.specs.Settings.{Setting}
+use Rattle.sgt_model.specs.Settings.{Setting, takes}
 use Rattle.sgt_model.specs.Progress.{next_of}
 
 -- a start
@@ -41,7 +41,7 @@ called_reply s past (Some count) args = cond (args_fit count args) (started_repl
 
 -- the one reply to a start: no such procedure, bad arguments, all numbers spent, full, or started with the next number
 abbrev pub start_reply : Setting → List Entry → ℕ → List ℤ → Reply
-start_reply s past p args = called_reply s past (s.rules.procedures p) args
+start_reply s past p args = called_reply s past (takes s.rules p) args
 
 -- a step
 

@@ -2,13 +2,15 @@
 pub mod Numbers
 pub mod Contents
 pub mod Databases
--- procedures: what a run does, what the text says, and what it means
+-- procedures: what a run does, what the text says and what it means, and what is left to do
 pub mod Runs
 pub mod Traces
 pub mod Syntax
 pub mod Programs
 pub mod Ways
 pub mod Meaning
+pub mod Executions
+pub mod Left
 pub mod Codes
 -- histories: accesses, fates, values, who read from whom, conflicts
 pub mod Walks
@@ -28,6 +30,7 @@ pub mod Legality
 pub mod OneReply
 -- what is true of legal histories
 pub mod Replay
+pub mod ExecutedReplay
 pub mod CommitOrder
 pub mod Aborts
 pub mod Headline
@@ -38,7 +41,7 @@ pub mod ReplySizes
 pub mod AccessList
 pub mod Chains
 pub mod ChainOrder
-pub mod LiveProgress
+pub mod LiveLeft
 pub mod State
 pub mod StateAfter
 -- what a scheduler decides and does, from its state
@@ -52,7 +55,3 @@ pub mod Soundness
 pub mod NewState
 pub mod Sameness
 pub mod Refinement
--- what the statements of a procedure mean, and what is left of them
-pub mod Executions
-pub mod Left
-pub mod ExecutedReplay

@@ -11,7 +11,7 @@ use Rattle.sgt_model.specs.declared.kind.Kind.TheVariants.{Look, Store}
 use Rattle.sgt_model.specs.Runs.{Run}
 use Rattle.sgt_model.specs.Traces.{trace, Next, next_at}
 use Rattle.sgt_model.specs.Accesses.{Access, acts}
-use Rattle.sgt_model.specs.Settings.{Rules, Setting}
+use Rattle.sgt_model.specs.Settings.{Rules, Setting, run_if}
 
 -- a procedure with its arguments
 pub record Call : Type 0 where
@@ -35,7 +35,7 @@ call_of (e ∷ past) t = unwrap_or (call_in e.event e.reply t) (call_of past t)
 
 -- what that call does
 abbrev pub run_of : Rules → Call → Run
-run_of r c = r.runs c.procedure c.args
+run_of r c = run_if (r.procedures c.procedure) c.args
 
 -- a look's value, and nothing of a store
 abbrev pub if_look : Kind → Option ℤ → List (Option ℤ)

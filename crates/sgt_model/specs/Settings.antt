@@ -7,11 +7,9 @@ use Rattle.sgt_model.specs.Syntax.{Program}
 use Rattle.sgt_model.specs.Runs.{Run}
 use Rattle.sgt_model.specs.Meaning.{wrong, run_with}
 
--- the rules by which events are answered: the procedures and the limits. Of a procedure they say by its number how many
--- arguments it takes, or that there is none, and what it does with given arguments
+-- the rules by which events are answered: by its number each procedure, or that there is none, and the limits
 pub record Rules : Type 0 where
-  pub procedures : ℕ → Option ℕ
-  pub runs : ℕ → List ℤ → Run
+  pub procedures : ℕ → Option Program
   pub limits : Limits
 
 -- the opening contents, and the rules
@@ -20,21 +18,21 @@ pub record Setting : Type 0 where
   pub rules : Rules
 
 -- how many arguments procedure n takes, if there is one
-abbrev pub args_in : List Program → ℕ → Option ℕ
-args_in programs n = option_map (λ (p : Program). p.args) (slice_get programs n)
+abbrev pub takes : Rules → ℕ → Option ℕ
+takes r n = option_map (λ (p : Program). p.args) (r.procedures n)
 
 -- the run of a procedure, if there is one
 abbrev pub run_if : Option Program → List ℤ → Run
 run_if None args = wrong
 run_if (Some p) args = run_with p args
 
--- what procedure n does, numbered from 0
+-- what procedure n of a list does, numbered from 0
 abbrev pub runs_in : List Program → ℕ → List ℤ → Run
 runs_in programs n = run_if (slice_get programs n)
 
--- the rules of these procedures and limits
+-- the rules of these procedures, numbered from 0, and limits
 abbrev pub rules_from : List Program → Limits → Rules
-rules_from programs limits = record { procedures = args_in programs; runs = runs_in programs; limits = limits }
+rules_from programs limits = record { procedures = slice_get programs; limits = limits }
 
 -- the setting of these opening contents, procedures and limits
 abbrev pub setting : Contents → List Program → Limits → Setting

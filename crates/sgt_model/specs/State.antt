@@ -3,10 +3,10 @@ use Rattle.std.specs.Prelude.{◌≡◌, ℕ, ℤ, Bool, true, ◌⊎◌, List, 
 use Rattle.sgt_model.specs.declared.reply.Fate.{Fate}
 use Rattle.sgt_model.specs.Contents.{Key}
 use Rattle.sgt_model.specs.AccessList.{ListedAccess}
-use Rattle.sgt_model.specs.LiveProgress.{Progress}
+use Rattle.sgt_model.specs.Left.{Left}
 
 -- the live ones, the graph's nodes and pairs, the access list, the chain and the committed value of each key, who read
--- from whom (source and reader), the fates, how many were started, and how far each has come
+-- from whom (source and reader), the fates, how many were started, and what is left of each
 pub record State : Type 0 where
   pub live : List ℕ
   pub nodes : ℕ → Bool
@@ -17,7 +17,7 @@ pub record State : Type 0 where
   pub read_from : List (ℕ × ℕ)
   pub fates : ℕ → Option Fate
   pub starts : ℕ
-  pub progress : ℕ → Progress
+  pub left : ℕ → Left
 
 -- the two numbers are a member of the list
 abbrev pub Has : List (ℕ × ℕ) → ℕ → ℕ → Type 0

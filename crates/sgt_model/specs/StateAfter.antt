@@ -9,7 +9,7 @@ use Rattle.sgt_model.specs.Pairs.{Pair}
 use Rattle.sgt_model.specs.Settings.{Setting}
 use Rattle.sgt_model.specs.AccessList.{access_list}
 use Rattle.sgt_model.specs.Chains.{chain_of}
-use Rattle.sgt_model.specs.LiveProgress.{progress_of}
+use Rattle.sgt_model.specs.LiveLeft.{left_of}
 use Rattle.sgt_model.specs.State.{State, Has}
 
 -- a conflict pair of two live transactions
@@ -35,4 +35,4 @@ pub record IsStateAfter (s : Setting) (past : List Entry) (c : State) : Type 0 w
   pub read_from : (u t : ℕ) → Has c.read_from u t ↔ LiveRead past t u
   pub fates : (t : ℕ) → c.fates t ≡ fate_of past t
   pub starts : c.starts ≡ starts past
-  pub progress : (t : ℕ) → live past t ≡ true → c.progress t ≡ progress_of past t
+  pub left : (t : ℕ) → live past t ≡ true → c.left t ≡ left_of s.rules past t

@@ -9,8 +9,8 @@
 //! order, and each of its aborts has its cause.
 //!
 //! It is no engine: nothing here schedules, keeps transactions, or checks and runs procedures. What runs here makes,
-//! compares and copies plain values. The functions of `laws` and `refinement` do nothing at all: each is a law, which its
-//! contract says and any caller may use.
+//! compares and copies plain values. The functions of `laws`, `left` and `refinement` do nothing at all: each
+//! is a law, which its contract says and any caller may use.
 //!
 //! The definitions that contracts cite stand in `specs/`, to be read in the order of `specs/Lib.antt`. A history is read
 //! there with its newest entry first. They follow Bernstein, Hadzilacos and Goodman, *Concurrency Control and Recovery in

@@ -8,7 +8,7 @@ use Rattle.sgt_model.specs.Contents.{Key, key_eq}
 use Rattle.sgt_model.specs.Walks.{Member, AtMost, Rising, last_of}
 use Rattle.sgt_model.specs.Pairs.{one_stores}
 use Rattle.sgt_model.specs.AccessList.{ListedAccess, is_conflicting, lists_conflicting, is_listed}
-use Rattle.sgt_model.specs.LiveProgress.{Progress}
+use Rattle.sgt_sched.specs.LiveProgress.{Progress, left_along}
 use Rattle.sgt_model.specs.State.{Has}
 use Rattle.sgt_model.specs.Found.{top_value, SourceIs}
 use Rattle.sgt_model.specs.Blocks.{Blocks}
@@ -116,7 +116,7 @@ module _ {R A G : Type 0} {chain : R → Key → List (ℕ × ℤ)} {settled : R
         settled = settled_is;
         fates = λ u. refl;
         starts = refl;
-        progress = λ u h. progress_at-changed t u change before.live h;
+        left = λ u h. ap (left_along before.procedures) (progress_at-changed t u change before.live h);
       }
 
       -- t's course is the changed one

@@ -11,8 +11,9 @@ use Rattle.sgt_model.specs.declared.reply.Reply.{Reply}
 use Rattle.sgt_model.specs.declared.reply.Reply.TheVariants as reply
 use Rattle.sgt_model.specs.Legality.{args_fit}
 use Rattle.sgt_model.specs.Traces.{Next, Looks, Puts, Ends, Asks}
-use Rattle.sgt_model.specs.Settings.{Rules}
-use Rattle.sgt_model.specs.LiveProgress.{next_in}
+use Rattle.sgt_model.specs.Settings.{Rules, takes}
+use Rattle.sgt_model.specs.Syntax.{Program}
+use Rattle.sgt_model.specs.Left.{next_left}
 use Rattle.sgt_model.specs.State.{State}
 use Rattle.sgt_model.specs.Walks.{Member}
 use Rattle.sgt_model.specs.Changes.{Removes}
@@ -67,10 +68,10 @@ start_quiet limits begun living (Some count) args = fits (args_fit count args) w
   fits false = refl
 
 -- the replies to an event that ends a live transaction end one, and to the others none does
-pub replies_agree : (rules : Rules) (event : Event) (c : State) (r : Reply) (after : State) → CallEffect rules event c r after → Agrees r (EndsOne rules event c)
-replies_agree rules (Start p args) c r after x = quiet r _ _ x.reply (start_quiet rules.limits c.starts (length c.live) (rules.procedures p) args) (λ e. e)
-replies_agree rules (Step t) c r after x = open_agrees t c r after _ (StepEnds t (next_in rules (c.progress t)) c) (step_agrees t (next_in rules (c.progress t)) c r after) (nat_lt t c.starts) (c.fates t) refl refl x
-replies_agree rules (Commit t) c r after x = open_agrees t c r after _ (CommitEnds t (next_in rules (c.progress t)) c) (commit_agrees t (next_in rules (c.progress t)) c r after) (nat_lt t c.starts) (c.fates t) refl refl x
+pub replies_agree : (rules : Rules) (event : Event) (c : State) (r : Reply) (after : State) → CallEffect rules event c r after → Agrees r (EndsOne event c)
+replies_agree rules (Start p args) c r after x = quiet r _ _ x.reply (start_quiet rules.limits c.starts (length c.live) (takes rules p) args) (λ e. e)
+replies_agree rules (Step t) c r after x = open_agrees t c r after _ (StepEnds t (next_left (c.left t)) c) (step_agrees t (next_left (c.left t)) c r after) (nat_lt t c.starts) (c.fates t) refl refl x
+replies_agree rules (Commit t) c r after x = open_agrees t c r after _ (CommitEnds t (next_left (c.left t)) c) (commit_agrees t (next_left (c.left t)) c r after) (nat_lt t c.starts) (c.fates t) refl refl x
 replies_agree rules (Quit t) c r after x =
     let a = open_agrees t c r after _ (Unit {0}) (λ y. loud r _ _ (y.reply) refl tt) (nat_lt t c.starts) (c.fates t) refl refl x in
     ((λ u. a.0 (u, tt)), (λ none. a.1 (λ u. none u.0)))
@@ -132,13 +133,13 @@ open_count t before r after X count false o e f x = stays_count _ r before after
 open_count t before r after X count true (Some fate) e f x = stays_count _ r before after refl x
 open_count t before r after X count true None e f x = count (record { begun = e; unended = f }) x
 
-start_count : (p : ℕ) (args : List _) (before : State) (r : Reply) (after : State) → is_ending r ≡ false → StartOn p args before r after → Counts r before after
+start_count : (p : Option Program) (args : List _) (before : State) (r : Reply) (after : State) → is_ending r ≡ false → StartOn p args before r after → Counts r before after
 start_count p args before (reply.Started t) after isnt x = record { most = subst (λ l. length l ≤ length before.live + 1) (sym x.live) (omega (arith, length-append before.live (before.starts ∷ []))); fewer = λ e. absurd (true≢false (sym e)) }
 start_count p args before r after isnt x = same_count r r before after refl isnt (ap (λ (c : State). c.live) x)
 
 -- of every call, where those that were started and have not ended are the live ones
 pub call_counts : (rules : Rules) (event : Event) (before : State) (r : Reply) (after : State) → ((t : ℕ) → IsUnended before t → Member t before.live) → CallEffect rules event before r after → Counts r before after
-call_counts rules (Start p args) before r after live x = start_count p args before r after (ap is_ending x.reply ∙ start_quiet rules.limits before.starts (length before.live) (rules.procedures p) args) x.does
-call_counts rules (Step t) before r after live x = open_count t before r after _ (λ u. step_count t (next_in rules (before.progress t)) before r after (live t u)) (nat_lt t before.starts) (before.fates t) refl refl x
-call_counts rules (Commit t) before r after live x = open_count t before r after _ (λ u. commit_count t (next_in rules (before.progress t)) before r after (live t u)) (nat_lt t before.starts) (before.fates t) refl refl x
+call_counts rules (Start p args) before r after live x = start_count (rules.procedures p) args before r after (ap is_ending x.reply ∙ start_quiet rules.limits before.starts (length before.live) (takes rules p) args) x.does
+call_counts rules (Step t) before r after live x = open_count t before r after _ (λ u. step_count t (next_left (before.left t)) before r after (live t u)) (nat_lt t before.starts) (before.fates t) refl refl x
+call_counts rules (Commit t) before r after live x = open_count t before r after _ (λ u. commit_count t (next_left (before.left t)) before r after (live t u)) (nat_lt t before.starts) (before.fates t) refl refl x
 call_counts rules (Quit t) before r after live x = open_count t before r after _ (λ u. abort_count t _ r before after (live t u)) (nat_lt t before.starts) (before.fates t) refl refl x

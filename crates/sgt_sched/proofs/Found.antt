@@ -6,7 +6,7 @@ use Rattle.sgt_model.specs.Contents.{Key}
 use Rattle.sgt_model.specs.Walks.{Member}
 use Rattle.sgt_model.specs.AccessList.{ListedAccess}
 use Rattle.sgt_model.specs.Syntax.{Program}
-use Rattle.sgt_model.specs.LiveProgress.{Progress}
+use Rattle.sgt_sched.specs.LiveProgress.{Progress}
 use Rattle.sgt_sched.specs.LiveList.{numbers, has_number, progress_at}
 use Rattle.sgt_sched.specs.SchedulerView.{SchedulerView, fate_at, HasUsed, IsKept, state_of}
 use Rattle.sgt_sched.specs.Steps.{IsUnended}

@@ -5,6 +5,8 @@ pub mod Found
 pub mod Ended
 pub mod Aborted
 pub mod Accessed
+pub mod Left
 pub mod Looks
+pub mod Reserved
 pub mod Stepped
 pub mod Endings

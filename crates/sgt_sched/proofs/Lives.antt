@@ -3,7 +3,7 @@ use Rattle.std.proofs.Common.{◌≡◌, ℕ, zero, suc, ◌<◌, ◌≤◌, ◌
 use Rattle.std.specs.List.{position_or_len}
 use Rattle.std.proofs.lemmas.Bool.{ltb-true, ltb-false, eqb-false}
 use Rattle.std.proofs.lemmas.Option.{same_Some, slice_get_read}
-use Rattle.sgt_model.specs.LiveProgress.{Progress}
+use Rattle.sgt_sched.specs.LiveProgress.{Progress}
 use Rattle.sgt_model.specs.Walks.{Member}
 use Rattle.sgt_sched.specs.LiveList.{numbers, has_number, progress_at, changed}
 

@@ -1,15 +1,17 @@
 -- What a start does to what is held.
 use Rattle.std.proofs.Common.{◌≡◌, ℕ, zero, suc, ℤ, ◌<◌, arith, Bool, true, false, ◌||◌, inl, inr, nat_eq, List, [], ◌∷◌, ◌++◌, length, Option, None, refl, sym, ap, ◌∙◌, subst}
+use Rattle.std.specs.Prelude.{slice_get}
 use Rattle.std.proofs.lemmas.List.{length-append, length-map}
 use Rattle.std.proofs.lemmas.Bool.{false_from_ne_true, or_cases, or_left, or_right, eqb-true, eqb-false}
 use Rattle.sgt_model.specs.declared.reply.Fate.{Fate}
 use Rattle.sgt_model.specs.Contents.{Key}
 use Rattle.sgt_model.specs.Walks.{Member, AtMost, Rising}
 use Rattle.sgt_model.specs.AccessList.{ListedAccess}
-use Rattle.sgt_model.specs.LiveProgress.{Progress}
+use Rattle.sgt_sched.specs.LiveProgress.{Progress, left_along}
 use Rattle.sgt_model.specs.declared.limits.Limits.{Limits}
 use Rattle.sgt_model.specs.Syntax.{Program}
-use Rattle.sgt_model.specs.Settings.{Rules, args_in}
+use Rattle.sgt_model.specs.Settings.{Rules, rules_from, takes}
+use Rattle.sgt_model.specs.LiveLeft.{left_if}
 use Rattle.sgt_model.specs.declared.reply.Reply.{Reply}
 use Rattle.sgt_model.specs.declared.reply.Reply.TheVariants as reply
 use Rattle.sgt_model.specs.CallEffects.{start_answer, taken_reply, StartOn, StartEffect}
@@ -22,7 +24,7 @@ use Rattle.sgt_sched.specs.SchedulerView.{SchedulerView, fate_at, rules_of, stat
 use Rattle.sgt_sched.proofs.Lists.{numbers-added, progress_at-added, progress_at-new, fate_at-added, fate_at-past, rising-added}
 
 -- a start that is let in names a procedure
-named : (programs : List Program) (procedure : ℕ) (limits : Limits) (begun living t : ℕ) (args : List ℤ) → reply.Started t ≡ taken_reply limits begun living (args_in programs procedure) args → procedure < length programs
+named : (programs : List Program) (procedure : ℕ) (limits : Limits) (begun living t : ℕ) (args : List ℤ) → reply.Started t ≡ taken_reply limits begun living (takes (rules_from programs limits) procedure) args → procedure < length programs
 named [] zero limits begun living t args e = absurd (cc)
 named [] (suc n) limits begun living t args e = absurd (cc)
 named (p ∷ rest) zero limits begun living t args e = omega arith
@@ -53,7 +55,7 @@ module _ {R A G : Type 0} {chain : R → Key → List (ℕ × ℤ)} {settled : R
   not_live m = next_no_node before.limits.live (state_of chain settled list nodes pairs before) kept.sound ((kept.sound.listed (length before.fates)).1 m)
 
   -- what is held starts it
-  pub starts : Starts (record { procedure = procedure; args = args }) (state_of chain settled list nodes pairs before) (state_of chain settled list nodes pairs after_start)
+  pub starts : Starts (left_if (slice_get before.procedures procedure) args) (state_of chain settled list nodes pairs before) (state_of chain settled list nodes pairs after_start)
   starts = record {
     live = numbers-added before.live (length before.fates) (started procedure args);
     nodes = nodes_are;
@@ -64,8 +66,8 @@ module _ {R A G : Type 0} {chain : R → Key → List (ℕ × ℤ)} {settled : R
     read_from = λ u v. ((λ h. h), (λ h. h));
     fates = fate_at-added before.fates;
     starts = length-append before.fates (None ∷ []);
-    progress = λ u h. progress_at-added before.live (length before.fates) u (started procedure args) h;
-    own_progress = progress_at-new before.live (length before.fates) (started procedure args) not_live;
+    left = λ u h. ap (left_along before.procedures) (progress_at-added before.live (length before.fates) u (started procedure args) h);
+    own_left = ap (left_along before.procedures) (progress_at-new before.live (length before.fates) (started procedure args) not_live);
   }
 
   -- what holds at every moment holds afterwards
@@ -73,7 +75,7 @@ module _ {R A G : Type 0} {chain : R → Key → List (ℕ × ℤ)} {settled : R
   kept_start named room more = record {
     in_range = kept.in_range;
     begun = omega (arith, length-append before.fates (None ∷ []));
-    sound = sound_starts before.limits.live _ _ kept.sound (record { procedure = procedure; args = args }) (few before.live room) starts;
+    sound = sound_starts before.limits.live _ _ kept.sound (left_if (slice_get before.procedures procedure) args) (few before.live room) starts;
     rising = subst Rising (sym starts.live) (rising-added (length before.fates) (numbers before.live) kept.rising (λ u m. kept.sound.begun u ((kept.sound.listed u).1 m)));
     unended = λ u. ((λ h. elim (or_cases (nodes before.graph u) (nat_eq u (length before.fates)) (sym (nodes_are u) ∙ h)) [ inl old ↦ was u old | inr new ↦ is_new u (eqb-true u (length before.fates) new) ]), (λ h. nodes_are u ∙ back u h.0 h.1));
     used = λ u h. elim (or_cases (nodes before.graph u) (nat_eq u (length before.fates)) (sym (nodes_are u) ∙ h)) [ inl old ↦ used_before u old | inr new ↦ used_now u (eqb-true u (length before.fates) new) ];
@@ -97,10 +99,10 @@ module _ {R A G : Type 0} {chain : R → Key → List (ℕ × ℤ)} {settled : R
       both false e = or_left _ (nat_eq u (length before.fates)) ((kept.unended u).1 (omega (arith, h, length-append before.fates (None ∷ []), eqb-false u (length before.fates) e), sym (fate_at-added before.fates u) ∙ f))
 
     used_before : (u : ℕ) → nodes before.graph u ≡ true → HasUsed before.procedures (progress_at (before.live ++ (length before.fates, started procedure args) ∷ []) u)
-    used_before u h = subst (HasUsed before.procedures) (sym (starts.progress u (λ e. next_no_node before.limits.live (state_of chain settled list nodes pairs before) kept.sound (subst (λ x. nodes before.graph x ≡ true) e h)))) (kept.used u h)
+    used_before u h = subst (HasUsed before.procedures) (sym (progress_at-added before.live (length before.fates) u (started procedure args) (λ e. next_no_node before.limits.live (state_of chain settled list nodes pairs before) kept.sound (subst (λ x. nodes before.graph x ≡ true) e h)))) (kept.used u h)
 
     used_now : (u : ℕ) → u ≡ length before.fates → HasUsed before.procedures (progress_at (before.live ++ (length before.fates, started procedure args) ∷ []) u)
-    used_now u e = subst (HasUsed before.procedures) (sym (ap (progress_at after_start.live) e ∙ starts.own_progress)) (record { named = named; used = tt })
+    used_now u e = subst (HasUsed before.procedures) (sym (ap (progress_at after_start.live) e ∙ progress_at-new before.live (length before.fates) (started procedure args) not_live)) (record { named = named; used = tt })
 
 module _ {R A G : Type 0} {chain : R → Key → List (ℕ × ℤ)} {settled : R → Key → Option ℤ} {list : A → List ListedAccess} {nodes : G → ℕ → Bool} {pairs : G → ℕ → ℕ → Bool} {before : SchedulerView R A G} (kept : IsKept chain settled list nodes pairs before) (procedure : ℕ) (args : List ℤ) (t : ℕ) (next : t ≡ length before.fates) where
   -- the next number is no node
@@ -116,9 +118,9 @@ module _ {R A G : Type 0} {chain : R → Key → List (ℕ × ℤ)} {settled : R
   }
 
   -- the parts after a start, with its effect
-  pub start_done : (graph : G) (live : List (ℕ × Progress)) (fates : List (Option Fate)) → ((u : ℕ) → nodes graph u ≡ (nodes before.graph u || nat_eq u t)) → ((u v : ℕ) → pairs graph u v ≡ pairs before.graph u v) → live ≡ before.live ++ (t, started procedure args) ∷ [] → fates ≡ before.fates ++ None ∷ [] → procedure < length before.procedures → length (numbers before.live) < before.limits.live → length before.fates < before.limits.begins → IsKept chain settled list nodes pairs (record { procedures = before.procedures; limits = before.limits; records = before.records; accesses = before.accesses; graph = graph; live = live; read_from = before.read_from; fates = fates }) × Starts (record { procedure = procedure; args = args }) (state_of chain settled list nodes pairs before) (state_of chain settled list nodes pairs (record { procedures = before.procedures; limits = before.limits; records = before.records; accesses = before.accesses; graph = graph; live = live; read_from = before.read_from; fates = fates }))
+  pub start_done : (graph : G) (live : List (ℕ × Progress)) (fates : List (Option Fate)) → ((u : ℕ) → nodes graph u ≡ (nodes before.graph u || nat_eq u t)) → ((u v : ℕ) → pairs graph u v ≡ pairs before.graph u v) → live ≡ before.live ++ (t, started procedure args) ∷ [] → fates ≡ before.fates ++ None ∷ [] → procedure < length before.procedures → length (numbers before.live) < before.limits.live → length before.fates < before.limits.begins → IsKept chain settled list nodes pairs (record { procedures = before.procedures; limits = before.limits; records = before.records; accesses = before.accesses; graph = graph; live = live; read_from = before.read_from; fates = fates }) × Starts (left_if (slice_get before.procedures procedure) args) (state_of chain settled list nodes pairs before) (state_of chain settled list nodes pairs (record { procedures = before.procedures; limits = before.limits; records = before.records; accesses = before.accesses; graph = graph; live = live; read_from = before.read_from; fates = fates }))
   start_done graph live fates nodes_are pairs_are live_is fates_is named room more =
-      subst (λ (p : SchedulerView R A G). IsKept chain settled list nodes pairs p × Starts (record { procedure = procedure; args = args }) (state_of chain settled list nodes pairs before) (state_of chain settled list nodes pairs p)) same
+      subst (λ (p : SchedulerView R A G). IsKept chain settled list nodes pairs p × Starts (left_if (slice_get before.procedures procedure) args) (state_of chain settled list nodes pairs before) (state_of chain settled list nodes pairs p)) same
       (kept_start kept procedure args graph nodes_now pairs_are named (subst (λ n. n < before.limits.live) (length-map before.live _) room) more, starts kept procedure args graph nodes_now pairs_are) where
         nodes_now : (u : ℕ) → nodes graph u ≡ (nodes before.graph u || nat_eq u (length before.fates))
         nodes_now u = nodes_are u ∙ ap (λ n. nodes before.graph u || nat_eq u n) next
@@ -133,8 +135,8 @@ module _ {R A G : Type 0} {chain : R → Key → List (ℕ × ℤ)} {settled : R
         same = λ i. record { procedures = before.procedures; limits = before.limits; records = before.records; accesses = before.accesses; graph = graph; live = live_now i; read_from = before.read_from; fates = fates_now i }
 
 -- the effect of a start, where the parts before it were seen as others
-pub start_effect : {P : Type 0} (held : P → State) (rules : Rules) (procedure : ℕ) (args : List ℤ) (before now after : P) (r : Reply) → before ≡ now → r ≡ start_answer rules (held now) procedure args → StartOn procedure args (held before) r (held after) → StartEffect rules procedure args (held now) r (held after)
+pub start_effect : {P : Type 0} (held : P → State) (rules : P → Rules) (procedure : ℕ) (args : List ℤ) (before now after : P) (r : Reply) → before ≡ now → r ≡ start_answer (rules now) (held now) procedure args → StartOn ((rules before).procedures procedure) args (held before) r (held after) → StartEffect (rules now) procedure args (held now) r (held after)
 start_effect held rules procedure args before now after r same reply does = record {
   reply = reply;
-  does = subst (λ p. StartOn procedure args (held p) r (held after)) same does;
+  does = subst (λ p. StartOn ((rules p).procedures procedure) args (held p) r (held after)) same does;
 }

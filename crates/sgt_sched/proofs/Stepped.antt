@@ -5,7 +5,7 @@ use Rattle.sgt_model.specs.declared.reply.Fate.{Fate}
 use Rattle.sgt_model.specs.declared.reply.Reply.{Reply}
 use Rattle.sgt_model.specs.Traces.{Next}
 use Rattle.sgt_model.specs.Settings.{Rules}
-use Rattle.sgt_model.specs.LiveProgress.{next_in}
+use Rattle.sgt_model.specs.Left.{next_left}
 use Rattle.sgt_model.specs.State.{State}
 use Rattle.sgt_model.specs.CallEffects.{IfOpen, StepOn, StepEffect, CallEffect}
 
@@ -15,8 +15,8 @@ if_unended b ended before r after X begun none x =
     subst (λ c. IfOpen c ended before r after X) (sym begun) (subst (λ o. IfOpen true o before r after X) (sym none) x)
 
 -- a step, by what comes next
-pub steps_on : (rules : Rules) (t : ℕ) (before : State) (r : Reply) (after : State) (n : Next) → nat_lt t before.starts ≡ true → before.fates t ≡ None → n ≡ next_in rules (before.progress t) → StepOn t n before r after → StepEffect rules t before r after
-steps_on rules t before r after n begun none next done = if_unended _ _ before r after _ begun none (subst (λ m. StepOn t m before r after) next done)
+pub steps_on : (t : ℕ) (before : State) (r : Reply) (after : State) (n : Next) → nat_lt t before.starts ≡ true → before.fates t ≡ None → n ≡ next_left (before.left t) → StepOn t n before r after → StepEffect t before r after
+steps_on t before r after n begun none next done = if_unended _ _ before r after _ begun none (subst (λ m. StepOn t m before r after) next done)
 
 -- a call on an event, which is this one
 pub called : (rules : Rules) (before : State) (r : Reply) (after : State) (event is : Event) → event ≡ is → CallEffect rules is before r after → CallEffect rules event before r after

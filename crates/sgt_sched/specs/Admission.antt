@@ -16,4 +16,4 @@ pub record HasRoom (limits : Limits) (c : State) (t : ℕ) : Type 0 where
 -- with this number, for which there is room; or the start is answered so, and does nothing
 abbrev pub Admits : Rules → State → ℕ → List ℤ → Result ℕ Reply → Type 0
 Admits rules c procedure args (Ok t) = (reply.Started t ≡ start_answer rules c procedure args) × HasRoom rules.limits c t
-Admits rules c procedure args (Err r) = (r ≡ start_answer rules c procedure args) × StartOn procedure args c r c
+Admits rules c procedure args (Err r) = (r ≡ start_answer rules c procedure args) × StartOn (rules.procedures procedure) args c r c

@@ -9,8 +9,7 @@ use Rattle.sgt_model.specs.declared.reply.Reply.{Reply}
 use Rattle.sgt_model.specs.declared.reply.Reply.TheVariants as reply
 use Rattle.sgt_model.specs.Contents.{Key}
 use Rattle.sgt_model.specs.Traces.{Next, Looks, Puts, Ends, Asks}
-use Rattle.sgt_model.specs.Settings.{Rules}
-use Rattle.sgt_model.specs.LiveProgress.{next_in}
+use Rattle.sgt_model.specs.Left.{next_left}
 use Rattle.sgt_model.specs.State.{State}
 use Rattle.sgt_model.specs.Blocks.{Blocks}
 use Rattle.sgt_model.specs.Changes.{Removes}
@@ -45,8 +44,8 @@ CommitEnds t (Ends answers) c = (u : ℕ) → c.pairs u t ≡ true → ⊥
 CommitEnds t _ c = ⊥
 
 -- the event ends a live transaction
-abbrev pub EndsOne : Rules → Event → State → Type 0
-EndsOne rules (Start p args) c = ⊥
-EndsOne rules (Step t) c = IsUnended c t × StepEnds t (next_in rules (c.progress t)) c
-EndsOne rules (Commit t) c = IsUnended c t × CommitEnds t (next_in rules (c.progress t)) c
-EndsOne rules (Quit t) c = IsUnended c t
+abbrev pub EndsOne : Event → State → Type 0
+EndsOne (Start p args) c = ⊥
+EndsOne (Step t) c = IsUnended c t × StepEnds t (next_left (c.left t)) c
+EndsOne (Commit t) c = IsUnended c t × CommitEnds t (next_left (c.left t)) c
+EndsOne (Quit t) c = IsUnended c t

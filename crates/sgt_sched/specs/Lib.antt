@@ -1,3 +1,4 @@
+pub mod LiveProgress
 pub mod LiveList
 pub mod SchedulerView
 pub mod Admission

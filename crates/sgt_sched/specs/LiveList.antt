@@ -1,6 +1,6 @@
 -- The live transactions with how far each has come, as a list.
 use Rattle.std.specs.Prelude.{ℕ, ℤ, Bool, ◌+◌, not, cond, nat_eq, List, [], ◌∷◌, ◌++◌, map, filter, Option}
-use Rattle.sgt_model.specs.LiveProgress.{Progress}
+use Rattle.sgt_sched.specs.LiveProgress.{Progress}
 
 -- their numbers
 abbrev pub numbers : List (ℕ × Progress) → List ℕ

@@ -9,7 +9,7 @@ use Rattle.sgt_model.specs.Traces.{Used}
 use Rattle.sgt_model.specs.Settings.{Rules, rules_from, runs_in}
 use Rattle.sgt_model.specs.Walks.{Rising}
 use Rattle.sgt_model.specs.AccessList.{ListedAccess}
-use Rattle.sgt_model.specs.LiveProgress.{Progress}
+use Rattle.sgt_sched.specs.LiveProgress.{Progress, left_along}
 use Rattle.sgt_model.specs.State.{State}
 use Rattle.sgt_model.specs.Soundness.{Sound}
 use Rattle.sgt_sched.specs.LiveList.{numbers, progress_at}
@@ -55,7 +55,7 @@ module _ {R A G : Type 0} (chain : R → Key → List (ℕ × ℤ)) (settled : R
     read_from = p.read_from;
     fates = fate_at p.fates;
     starts = length p.fates;
-    progress = progress_at p.live;
+    left = λ t. left_along p.procedures (progress_at p.live t);
   }
 
   -- what holds at every moment: the limits are in their ranges and kept; the state is sound; the live ones rise; the graph's

@@ -17,7 +17,7 @@ pub struct Live {
 
 impl Model for Live {
     ghost use Rattle.std.specs.Prelude.{ℕ, List};
-    ghost use Rattle.sgt_model.specs.LiveProgress.{Progress};
+    ghost use Rattle.sgt_sched.specs.LiveProgress.{Progress};
 
     ghost Value = { List (ℕ × Progress) };
 

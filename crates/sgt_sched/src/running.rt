@@ -22,7 +22,7 @@ pub struct Running {
 
 impl Model for Running {
     ghost use Rattle.std.specs.Prelude.{ℕ};
-    ghost use Rattle.sgt_model.specs.LiveProgress.{Progress};
+    ghost use Rattle.sgt_sched.specs.LiveProgress.{Progress};
 
     ghost Value = { ℕ × Progress };
 

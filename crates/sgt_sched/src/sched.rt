@@ -7,7 +7,8 @@ ghost use Rattle.sgt_model.specs.Bounds.{AreInRange};
 ghost use Rattle.sgt_model.specs.CallEffects.{AbortsIn, CallEffect, CommitEffect, CommitsIn, MakesLook, MakesStore, QuitEffect, RefusesIn, StartEffect, StepEffect};
 ghost use Rattle.sgt_model.specs.Databases.{contents_of};
 ghost use Rattle.sgt_model.specs.FallsIn.{FallsIn};
-ghost use Rattle.sgt_model.specs.LiveProgress.{next_in};
+ghost use Rattle.sgt_model.specs.Left.{next_left};
+ghost use Rattle.sgt_sched.specs.LiveList.{progress_at};
 ghost use Rattle.sgt_model.specs.NewState.{IsNew};
 ghost use Rattle.sgt_model.specs.Numbers.{IsValue};
 ghost use Rattle.sgt_model.specs.Sameness.{Same};
@@ -141,7 +142,7 @@ impl<R: Records, A: Accesses, G: Graph> Sched<R, A, G> {
         ensures procedures { self.new.procedures ≡ self.old.procedures }
         ensures limits { self.new.limits ≡ self.old.limits }
         ensures refused { OnErr result (Same (⟦<Self as Scheduler>⟧.state self.old) (⟦<Self as Scheduler>⟧.state self.new)) }
-        ensures no_memory { EndsOne (rules_of self.old) event.now (⟦<Self as Scheduler>⟧.state self.old) → IsOk result }
+        ensures no_memory { EndsOne event.now (⟦<Self as Scheduler>⟧.state self.old) → IsOk result }
     {
         match event {
             Event::Start { procedure, args } => self.start(*procedure, args),
@@ -203,11 +204,11 @@ impl<R: Records, A: Accesses, G: Graph> Sched<R, A, G> {
     ///
     /// The procedure is run again over what its looks found, at most 64 accesses.
     pub fn step(&mut self, t: Tid) -> Result<Reply, NoMemory>
-        ensures done { IfOk result (λ r. StepEffect (rules_of self.old) t (⟦<Self as Scheduler>⟧.state self.old) r (⟦<Self as Scheduler>⟧.state self.new)) }
+        ensures done { IfOk result (λ r. StepEffect t (⟦<Self as Scheduler>⟧.state self.old) r (⟦<Self as Scheduler>⟧.state self.new)) }
         ensures procedures { self.new.procedures ≡ self.old.procedures }
         ensures limits { self.new.limits ≡ self.old.limits }
         ensures refused { OnErr result (Same (⟦<Self as Scheduler>⟧.state self.old) (⟦<Self as Scheduler>⟧.state self.new)) }
-        ensures no_memory { EndsOne (rules_of self.old) (Step t) (⟦<Self as Scheduler>⟧.state self.old) → IsOk result }
+        ensures no_memory { EndsOne (Step t) (⟦<Self as Scheduler>⟧.state self.old) → IsOk result }
     {
         let next = match self.next(t) {
             Ok(next) => next,
@@ -226,7 +227,7 @@ impl<R: Records, A: Accesses, G: Graph> Sched<R, A, G> {
     /// Answers: `Unknown` where it was never started; `Over` where it has ended; `NotEnded` where its procedure is not at its
     /// end; `Waits` with the least live predecessor, where there is one; else `Committed` with the procedure's answers.
     pub fn commit(&mut self, t: Tid) -> Reply
-        ensures done { CommitEffect (rules_of self.old) t (⟦<Self as Scheduler>⟧.state self.old) result (⟦<Self as Scheduler>⟧.state self.new) }
+        ensures done { CommitEffect t (⟦<Self as Scheduler>⟧.state self.old) result (⟦<Self as Scheduler>⟧.state self.new) }
         ensures procedures { self.new.procedures ≡ self.old.procedures }
         ensures limits { self.new.limits ≡ self.old.limits }
     {
@@ -258,7 +259,7 @@ impl<R: Records, A: Accesses, G: Graph> Sched<R, A, G> {
     fn running(&self, t: Tid) -> Result<&Running, Reply>
         ensures live { OnOk result ((⟦<Self as Scheduler>⟧.state self.now).nodes t ≡ true) }
         ensures unended { OnOk result (IsUnended (⟦<Self as Scheduler>⟧.state self.now) t) }
-        ensures progress { IfOk result (λ running. running.now ≡ (t, (⟦<Self as Scheduler>⟧.state self.now).progress t)) }
+        ensures progress { IfOk result (λ running. running.now ≡ (t, progress_at self.now.live t)) }
         ensures closed { IfErr result (IsClosed (⟦<Self as Scheduler>⟧.state self.now) t) }
     {
         if let Some(running) = self.live.get(t) {
@@ -276,10 +277,10 @@ impl<R: Records, A: Accesses, G: Graph> Sched<R, A, G> {
         ensures live { OnOk result ((⟦<Self as Scheduler>⟧.state self.now).nodes t ≡ true) }
         ensures unended { OnOk result (IsUnended (⟦<Self as Scheduler>⟧.state self.now) t) }
         ensures next { IfOk result (λ next.
-            seen next ≡ next_in (rules_of self.now) ((⟦<Self as Scheduler>⟧.state self.now).progress t)) }
+            seen next ≡ next_left ((⟦<Self as Scheduler>⟧.state self.now).left t)) }
         ensures in_range { IfOk result StoresValue }
         ensures few { IfOk result (λ next.
-            IsAccess next → ((⟦<Self as Scheduler>⟧.state self.now).progress t).made < 64) }
+            IsAccess next → (progress_at self.now.live t).made < 64) }
         ensures closed { IfErr result (IsClosed (⟦<Self as Scheduler>⟧.state self.now) t) }
     {
         match self.running(t) {
@@ -326,8 +327,8 @@ impl<R: Records, A: Accesses, G: Graph> Sched<R, A, G> {
     // Makes a look of a live transaction, or aborts it where the look would close a cycle.
     fn look(&mut self, t: Tid, key: Key) -> Result<Reply, NoMemory>
         requires live { (⟦<Self as Scheduler>⟧.state self.old).nodes t ≡ true }
-        requires next { next_in (rules_of self.old) ((⟦<Self as Scheduler>⟧.state self.old).progress t) ≡ Looks key }
-        requires few { ((⟦<Self as Scheduler>⟧.state self.old).progress t).made < 64 }
+        requires next { next_left ((⟦<Self as Scheduler>⟧.state self.old).left t) ≡ Looks key }
+        requires few { (progress_at self.old.live t).made < 64 }
         ensures done { IfOk result (λ r. RefusesIn t key Look (⟦<Self as Scheduler>⟧.state self.old) r (⟦<Self as Scheduler>⟧.state self.new) ⊎ MakesLook t key (⟦<Self as Scheduler>⟧.state self.old) r (⟦<Self as Scheduler>⟧.state self.new)) }
         ensures procedures { self.new.procedures ≡ self.old.procedures }
         ensures limits { self.new.limits ≡ self.old.limits }
@@ -355,8 +356,8 @@ impl<R: Records, A: Accesses, G: Graph> Sched<R, A, G> {
     // Makes a store of a live transaction, or aborts it where the store would close a cycle.
     fn store(&mut self, t: Tid, key: Key, value: i64) -> Result<Reply, NoMemory>
         requires live { (⟦<Self as Scheduler>⟧.state self.old).nodes t ≡ true }
-        requires next { next_in (rules_of self.old) ((⟦<Self as Scheduler>⟧.state self.old).progress t) ≡ Puts key value }
-        requires few { ((⟦<Self as Scheduler>⟧.state self.old).progress t).made < 64 }
+        requires next { next_left ((⟦<Self as Scheduler>⟧.state self.old).left t) ≡ Puts key value }
+        requires few { (progress_at self.old.live t).made < 64 }
         requires in_range { IsValue value }
         ensures done { IfOk result (λ r. RefusesIn t key Store (⟦<Self as Scheduler>⟧.state self.old) r (⟦<Self as Scheduler>⟧.state self.new) ⊎ MakesStore t key value (⟦<Self as Scheduler>⟧.state self.old) r (⟦<Self as Scheduler>⟧.state self.new)) }
         ensures procedures { self.new.procedures ≡ self.old.procedures }
@@ -397,7 +398,7 @@ impl<R: Records, A: Accesses, G: Graph> Sched<R, A, G> {
     /// Whether the reply to this event would end a live transaction: `Committed` or `Aborted`. The events of which this is true
     /// take no memory.
     pub fn ends(&self, event: &Event) -> bool
-        ensures exact { IsTrue result ↔ EndsOne (rules_of self.now) event.now (⟦<Self as Scheduler>⟧.state self.now) }
+        ensures exact { IsTrue result ↔ EndsOne event.now (⟦<Self as Scheduler>⟧.state self.now) }
         ensures replies { (r : Answer) (after : State)
             → CallEffect (rules_of self.now) event.now (⟦<Self as Scheduler>⟧.state self.now) r after
             → is_ending r ≡ result }
@@ -412,7 +413,7 @@ impl<R: Records, A: Accesses, G: Graph> Sched<R, A, G> {
 
     // Whether the next step would end the transaction.
     fn step_ends(&self, t: Tid) -> bool
-        ensures { IsTrue result ↔ EndsOne (rules_of self.now) (Step t) (⟦<Self as Scheduler>⟧.state self.now) }
+        ensures { IsTrue result ↔ EndsOne (Step t) (⟦<Self as Scheduler>⟧.state self.now) }
     {
         let next = match self.next(t) {
             Ok(next) => next,
@@ -440,7 +441,7 @@ impl<R: Records, A: Accesses, G: Graph> Sched<R, A, G> {
 
     // Whether the transaction can commit.
     fn commit_ends(&self, t: Tid) -> bool
-        ensures { IsTrue result ↔ EndsOne (rules_of self.now) (Commit t) (⟦<Self as Scheduler>⟧.state self.now) }
+        ensures { IsTrue result ↔ EndsOne (Commit t) (⟦<Self as Scheduler>⟧.state self.now) }
     {
         match self.next(t) {
             Ok(Next::Ends(_)) => decide(&self.graph, t).is_none(),

@@ -1,6 +1,6 @@
 use Rattle.std.proofs.Common.{subst, sym, ◌<◌}
 use Rattle.std.proofs.lemmas.Result.{IfOk-weaker}
-use Rattle.sgt_model.specs.LiveProgress.{Progress}
+use Rattle.sgt_sched.specs.LiveProgress.{Progress}
 use Rattle.sgt_sched.specs.LiveList.{looked}
 use Rattle.sgt_sched.proofs.Lives.{found_at, changed_at, has_place}
 use Rattle.sgt_sched.proofs.live.Live.look.Goals as goal

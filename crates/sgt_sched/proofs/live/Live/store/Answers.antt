@@ -1,5 +1,5 @@
 use Rattle.std.proofs.Common.{subst, sym, ◌<◌}
-use Rattle.sgt_model.specs.LiveProgress.{Progress}
+use Rattle.sgt_sched.specs.LiveProgress.{Progress}
 use Rattle.sgt_sched.specs.LiveList.{stored}
 use Rattle.sgt_sched.proofs.Lives.{found_at, changed_at, has_place}
 use Rattle.sgt_sched.proofs.live.Live.store.Goals as goal

@@ -1,9 +1,11 @@
 use Rattle.std.proofs.Common.{inl, inr, ap, ◌∙◌, ◌++◌, ◌∷◌, []}
 use Rattle.sgt_model.specs.declared.kind.Kind.TheVariants.{Look}
 use Rattle.sgt_records.specs.Tops.{value_of}
+use Rattle.sgt_model.specs.Left.{next_left}
+use Rattle.sgt_sched.specs.LiveProgress.{left_along}
 use Rattle.sgt_sched.specs.LiveList.{progress_at}
 use Rattle.sgt_sched.specs.SchedulerView.{state_of}
-use Rattle.sgt_sched.specs.Steps.{next_along, with_source}
+use Rattle.sgt_sched.specs.Steps.{with_source}
 use Rattle.sgt_sched.proofs.Accessed.{rivals_few, rivals_are_nodes, blocks_from_walk, free_seen}
 use Rattle.sgt_sched.proofs.Aborted.{refuses_seen}
 use Rattle.sgt_sched.proofs.Looks.{inserted, kept_look, makes_look}
@@ -21,7 +23,7 @@ insert-requires-clause-preds g c = rivals_are_nodes c.self.invariant c.args.t (a
 pub invariant_of-self-in-Accepted : goal.invariant_of-self-in-Accepted
 invariant_of-self-in-Accepted g c =
     kept_look c.self.view_is c.self.invariant c.args.t (ap (λ p. g.G.Graph.nodes p.graph c.args.t) c.self.view_is ∙ c.requires.live) c.args.key c.rivals-rivals.result c.in-Accepted.ensures.verdict c.rivals-rivals.ensures.exact
-    (ap (λ p. next_along p.procedures (progress_at p.live c.args.t)) c.self.view_is ∙ c.requires.next) c.note.new.self c.insert.new.self c.look.new.self c.note_read.new.read_from.items c.value-value.result
+    (ap (λ p. next_left (left_along p.procedures (progress_at p.live c.args.t))) c.self.view_is ∙ c.requires.next) c.note.new.self c.insert.new.self c.look.new.self c.note_read.new.read_from.items c.value-value.result
     (c.note.ensures.noted ∙ ap (λ l. l ++ record { by = c.args.t; key = c.args.key; kind = Look } ∷ []) c.reserve.ensures.same) c.insert.ensures.nodes
     (inserted _ _ c.args.t c.rivals-rivals.result c.insert.result c.insert.ensures.verdict c.in-Accepted.ensures.verdict c.insert.ensures.pairs)
     (c.value-value.ensures ∙ ap value_of c.top-top.ensures.top) c.in_ok-look-in-Accepted.ensures.ok
@@ -35,7 +37,7 @@ returns-in-Closes-clause-done g c =
 pub returns-in_ok-look-in-Accepted-clause-done : goal.returns-in_ok-look-in-Accepted-clause-done
 returns-in_ok-look-in-Accepted-clause-done g c =
     inr (makes_look c.self.view_is c.self.invariant c.args.t (ap (λ p. g.G.Graph.nodes p.graph c.args.t) c.self.view_is ∙ c.requires.live) c.args.key c.rivals-rivals.result c.in-Accepted.ensures.verdict c.rivals-rivals.ensures.exact
-    (ap (λ p. next_along p.procedures (progress_at p.live c.args.t)) c.self.view_is ∙ c.requires.next) c.note.new.self c.insert.new.self c.look.new.self c.note_read.new.read_from.items c.value-value.result
+    (ap (λ p. next_left (left_along p.procedures (progress_at p.live c.args.t))) c.self.view_is ∙ c.requires.next) c.note.new.self c.insert.new.self c.look.new.self c.note_read.new.read_from.items c.value-value.result
     (c.note.ensures.noted ∙ ap (λ l. l ++ record { by = c.args.t; key = c.args.key; kind = Look } ∷ []) c.reserve.ensures.same) c.insert.ensures.nodes
     (inserted _ _ c.args.t c.rivals-rivals.result c.insert.result c.insert.ensures.verdict c.in-Accepted.ensures.verdict c.insert.ensures.pairs)
     (c.value-value.ensures ∙ ap value_of c.top-top.ensures.top) c.in_ok-look-in-Accepted.ensures.ok
