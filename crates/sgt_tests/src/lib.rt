@@ -7,6 +7,8 @@
 #[cfg(test)]
 mod accesses;
 #[cfg(test)]
+mod cascades;
+#[cfg(test)]
 mod engine;
 #[cfg(test)]
 mod formats;

@@ -36,6 +36,47 @@ fn store_and_look(a: Global, key: Key) -> Result<Procedure, NoMemory> {
     Ok(Procedure { args: 1, body })
 }
 
+/// Compares a reply with the one that is wanted.
+fn expect(rt: &impl Abort, reply: Reply, wanted: Reply) {
+    assert_eq!(rt; reply, wanted);
+}
+
+/// It commits.
+fn commits<R: Records, A: Accesses, G: Graph>(
+    rt: &impl Abort,
+    sched: &mut Sched<R, A, G>,
+    key: Key,
+    nine: &Args,
+) -> Result<(), NoMemory> {
+    let (t, value) = (Tid(0), Some(9));
+    expect(rt, sched.start(0, nine)?, Reply::Started(t));
+    expect(rt, sched.start(0, nine)?, Reply::Full);
+    expect(rt, sched.step(t)?, Reply::Wrote { key, value: 9 });
+    expect(rt, sched.commit(t), Reply::NotEnded);
+    expect(rt, sched.step(t)?, Reply::Looked { key, value });
+    expect(rt, sched.step(t)?, Reply::Ended);
+    assert_eq!(rt; sched.records().committed(key), None);
+    Ok(())
+}
+
+/// It is quit after its store, and leaves nothing.
+fn is_quit<R: Records, A: Accesses, G: Graph>(
+    rt: &impl Abort,
+    sched: &mut Sched<R, A, G>,
+    key: Key,
+    nine: &Args,
+) -> Result<(), NoMemory> {
+    let t = Tid(1);
+    expect(rt, sched.start(0, nine)?, Reply::Started(t));
+    expect(rt, sched.step(t)?, Reply::Wrote { key, value: 9 });
+    let (cause, fell) = (Cause::Quit, Tids::new());
+    expect(rt, sched.quit(t), Reply::Aborted { cause, fell });
+    expect(rt, sched.start(0, nine)?, Reply::Spent);
+    expect(rt, sched.quit(Tid(2)), Reply::Unknown);
+    assert_eq!(rt; sched.records().committed(key), Some(9));
+    Ok(())
+}
+
 /// One transaction that commits, and one that is quit after its store.
 fn commits_and_quits<R: Records, A: Accesses, G: Graph>(
     rt: &impl Abort,
@@ -45,25 +86,11 @@ fn commits_and_quits<R: Records, A: Accesses, G: Graph>(
     let (Some(nine), Some(answers)) = (Args::from_slice(&[9]), Answers::from_slice(&[9])) else {
         panic!(rt; "there is room for one");
     };
-    assert_eq!(rt; sched.start(0, &Args::new())?, Reply::BadArgs);
-    assert_eq!(rt; sched.start(0, &nine)?, Reply::Started(Tid(0)));
-    assert_eq!(rt; sched.start(0, &nine)?, Reply::Full);
-    assert_eq!(rt; sched.step(Tid(0))?, Reply::Wrote { key, value: 9 });
-    assert_eq!(rt; sched.commit(Tid(0)), Reply::NotEnded);
-    let value = Some(9);
-    assert_eq!(rt; sched.step(Tid(0))?, Reply::Looked { key, value });
-    assert_eq!(rt; sched.step(Tid(0))?, Reply::Ended);
-    assert_eq!(rt; sched.records().committed(key), None);
-    assert_eq!(rt; sched.commit(Tid(0)), Reply::Committed(answers));
-    assert_eq!(rt; sched.step(Tid(0))?, Reply::Over(Fate::Committed));
-    let (cause, fell) = (Cause::Quit, Tids::new());
-    assert_eq!(rt; sched.start(0, &nine)?, Reply::Started(Tid(1)));
-    assert_eq!(rt; sched.step(Tid(1))?, Reply::Wrote { key, value: 9 });
-    assert_eq!(rt; sched.quit(Tid(1)), Reply::Aborted { cause, fell });
-    assert_eq!(rt; sched.start(0, &nine)?, Reply::Spent);
-    assert_eq!(rt; sched.quit(Tid(2)), Reply::Unknown);
-    assert_eq!(rt; sched.records().committed(key), value);
-    Ok(())
+    expect(rt, sched.start(0, &Args::new())?, Reply::BadArgs);
+    commits(rt, &mut sched, key, &nine)?;
+    expect(rt, sched.commit(Tid(0)), Reply::Committed(answers));
+    expect(rt, sched.step(Tid(0))?, Reply::Over(Fate::Committed));
+    is_quit(rt, &mut sched, key, &nine)
 }
 
 #[test]
