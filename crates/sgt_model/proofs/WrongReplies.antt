@@ -18,6 +18,7 @@ use Rattle.sgt_model.specs.Pairs.{Pair, has_conflicting}
 use Rattle.sgt_model.specs.Legality.{Refuses, Makes, MustWait, MayCommit, LegalReply}
 use Rattle.sgt_model.proofs.Computed.{pair, pair-so, so-pair, free_test, free-so, closes-so, each-so, all-so}
 use Rattle.sgt_model.proofs.BankExample.{bank, entry, bank_put, bank_copy, bank_twice, bank_look_twice, bank_put_over, bank_tell}
+use Rattle.sgt_model.proofs.ExamplesDeepCascades.{three_levels}
 
 -- where an access closes no walk it is not refused
 not_refused : {past : List Entry} {t : ℕ} {k : Key} {kind : Kind} {why : Cause} {fell : List ℕ} (given : Reply) (set : List ℕ) → free_test past t k kind set ≡ true → (given ≡ reply.Aborted why fell → ⊥) → Refuses past t k kind (reply.Aborted why fell) ⊎ Makes past t k kind given (reply.Aborted why fell) → ⊥
@@ -288,3 +289,50 @@ ends_too_early (inr h) = cc h.is
 begins_with_another : LegalReply bank_copy ring (Step 2) (reply.Aborted (cause.Cycle (1 ∷ 0 ∷ [])) []) → ⊥
 begins_with_another (inl h) = cc h.aborts.is
 begins_with_another (inr h) = cc h.is
+
+-- of three levels of readers all fall, and no other
+
+-- the readers' readers, and theirs
+three_levels_falls : (u : ℕ) → Member u (1 ∷ 2 ∷ 3 ∷ []) → (fell : List ℕ) → LegalReply bank_copy three_levels (Quit 0) (reply.Aborted cause.Quit fell) → Member u fell
+three_levels_falls u m fell h =
+    let named : h.fell ≡ fell = cc h.is in
+    let fallen = each-so three_levels 0 (1 ∷ 2 ∷ 3 ∷ []) ((1 ∷ []) ∷ (1 ∷ 2 ∷ []) ∷ (1 ∷ 2 ∷ 3 ∷ []) ∷ []) refl u m in
+    subst (λ l. Member u l) named (h.falls.all u fallen.0 fallen.1 fallen.2)
+
+three_levels_direct_readers_only : LegalReply bank_copy three_levels (Quit 0) (reply.Aborted cause.Quit (1 ∷ [])) → ⊥
+three_levels_direct_readers_only h = one_of_two (three_levels_falls 2 (inr (inl refl)) (1 ∷ []) h)
+
+third_of_two : Member 3 (1 ∷ 2 ∷ []) → ⊥
+third_of_two (inl e) = omega arith
+third_of_two (inr (inl e)) = omega arith
+third_of_two (inr (inr m)) = m
+
+three_levels_leaves_the_last_out : LegalReply bank_copy three_levels (Quit 0) (reply.Aborted cause.Quit (1 ∷ 2 ∷ [])) → ⊥
+three_levels_leaves_the_last_out h = third_of_two (three_levels_falls 3 (inr (inr (inl refl))) (1 ∷ 2 ∷ []) h)
+
+second_of_two : Member 2 (1 ∷ 3 ∷ []) → ⊥
+second_of_two (inl e) = omega arith
+second_of_two (inr (inl e)) = omega arith
+second_of_two (inr (inr m)) = m
+
+three_levels_leaves_one_out : LegalReply bank_copy three_levels (Quit 0) (reply.Aborted cause.Quit (1 ∷ 3 ∷ [])) → ⊥
+three_levels_leaves_one_out h = second_of_two (three_levels_falls 2 (inr (inl refl)) (1 ∷ 3 ∷ []) h)
+
+fourth_of_three : Member 4 (1 ∷ 2 ∷ 3 ∷ []) → ⊥
+fourth_of_three (inl e) = omega arith
+fourth_of_three (inr (inl e)) = omega arith
+fourth_of_three (inr (inr (inl e))) = omega arith
+fourth_of_three (inr (inr (inr m))) = m
+
+three_levels_overwriters_fall : LegalReply bank_copy three_levels (Quit 0) (reply.Aborted cause.Quit (1 ∷ 2 ∷ 3 ∷ 4 ∷ [])) → ⊥
+three_levels_overwriters_fall h =
+    let named : h.fell ≡ 1 ∷ 2 ∷ 3 ∷ 4 ∷ [] = cc h.is in
+    let fallen = h.falls.each 4 (subst (λ l. Member 4 l) (sym named) (inr (inr (inr (inl refl))))) in
+    fourth_of_three (all-so three_levels 0 (1 ∷ 2 ∷ 3 ∷ []) (0 ∷ 1 ∷ 2 ∷ 3 ∷ []) refl 4 fallen.0 fallen.1 fallen.2)
+
+three_levels_out_of_order : LegalReply bank_copy three_levels (Quit 0) (reply.Aborted cause.Quit (1 ∷ 3 ∷ 2 ∷ [])) → ⊥
+three_levels_out_of_order h =
+    let named : h.fell ≡ 1 ∷ 3 ∷ 2 ∷ [] = cc h.is in
+    let rises : Rising (1 ∷ 3 ∷ 2 ∷ []) = subst (λ l. Rising l) named h.falls.rising in
+    let less : 3 < 2 = rises.1.0 in
+    omega arith
