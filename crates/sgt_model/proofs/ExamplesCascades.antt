@@ -9,7 +9,7 @@ use Rattle.sgt_model.specs.declared.entry.Entry.{Entry}
 use Rattle.sgt_model.specs.Values.{settled}
 use Rattle.sgt_model.specs.Legality.{Legal, LegalReply}
 use Rattle.sgt_model.proofs.Computed.{made_by, aborts_by, refused_by, commits_by, waits_by}
-use Rattle.sgt_model.proofs.BankExample.{bank, entry, bank_copy, bank_twice}
+use Rattle.sgt_model.proofs.ExampleSettings.{small_bank, entry, small_bank_copy, small_bank_twice}
 
 -- a reader of a reader falls too
 abbrev pub two_level_cascade : List Entry
@@ -36,7 +36,7 @@ two_level_cascade =
     ∷ entry (Start 1 (pos 1 ∷ pos 10 ∷ [])) (reply.Started 0)
     ∷ []
 
-two_level_cascade-legal : Legal (bank 8 100) two_level_cascade
+two_level_cascade-legal : Legal (small_bank 8 100) two_level_cascade
 two_level_cascade-legal = (
   (
     (
@@ -99,7 +99,7 @@ two_level_cascade-legal = (
   refl,
 )
 
-two_level_cascade-checking : settled (bank 8 100).opening two_level_cascade (2, pos 101) ≡ Some (pos 1000)
+two_level_cascade-checking : settled (small_bank 8 100).opening two_level_cascade (2, pos 101) ≡ Some (pos 1000)
 two_level_cascade-checking = refl
 
 -- three that look at each other's records in a ring: the last to store would close a cycle
@@ -119,7 +119,7 @@ ring_of_three =
     ∷ entry (Start 5 (pos 101 ∷ pos 102 ∷ [])) (reply.Started 0)
     ∷ []
 
-ring_of_three-legal : Legal bank_copy ring_of_three
+ring_of_three-legal : Legal small_bank_copy ring_of_three
 ring_of_three-legal = (
   (
     (
@@ -158,13 +158,13 @@ ring_of_three-legal = (
   inr (commits_by refl),
 )
 
-ring_of_three-first : settled bank_copy.opening ring_of_three (2, pos 101) ≡ Some (pos 1000)
+ring_of_three-first : settled small_bank_copy.opening ring_of_three (2, pos 101) ≡ Some (pos 1000)
 ring_of_three-first = refl
 
-ring_of_three-second : settled bank_copy.opening ring_of_three (2, pos 102) ≡ Some (pos 1000)
+ring_of_three-second : settled small_bank_copy.opening ring_of_three (2, pos 102) ≡ Some (pos 1000)
 ring_of_three-second = refl
 
-ring_of_three-third : settled bank_copy.opening ring_of_three (2, pos 103) ≡ Some (pos 200)
+ring_of_three-third : settled small_bank_copy.opening ring_of_three (2, pos 103) ≡ Some (pos 200)
 ring_of_three-third = refl
 
 -- a store over what another has read would close a cycle, and the reader falls
@@ -179,7 +179,7 @@ cycle_and_cascade =
     ∷ entry (Start 5 ([])) (reply.Started 0)
     ∷ []
 
-cycle_and_cascade-legal : Legal bank_twice cycle_and_cascade
+cycle_and_cascade-legal : Legal small_bank_twice cycle_and_cascade
 cycle_and_cascade-legal = (
   (
     (
@@ -203,7 +203,7 @@ cycle_and_cascade-legal = (
   refl,
 )
 
-cycle_and_cascade-record : settled bank_twice.opening cycle_and_cascade (3, pos 7) ≡ None
+cycle_and_cascade-record : settled small_bank_twice.opening cycle_and_cascade (3, pos 7) ≡ None
 cycle_and_cascade-record = refl
 
 -- a procedure asks a code where a look finds nothing
@@ -215,7 +215,7 @@ asked =
     ∷ entry (Start 0 (pos 9 ∷ [])) (reply.Started 0)
     ∷ []
 
-asked-legal : Legal (bank 8 100) asked
+asked-legal : Legal (small_bank 8 100) asked
 asked-legal = (
   (
     (
@@ -242,7 +242,7 @@ asking_is_no_end =
     ∷ entry (Start 0 (pos 9 ∷ [])) (reply.Started 0)
     ∷ []
 
-asking_is_no_end-legal : Legal (bank 8 100) asking_is_no_end
+asking_is_no_end-legal : Legal (small_bank 8 100) asking_is_no_end
 asking_is_no_end-legal = (
   (
     (
@@ -279,7 +279,7 @@ several_walks =
     ∷ entry (Start 5 (pos 101 ∷ pos 103 ∷ [])) (reply.Started 0)
     ∷ []
 
-several_walks-legal : Legal bank_copy several_walks
+several_walks-legal : Legal small_bank_copy several_walks
 several_walks-legal = (
   (
     (
@@ -306,11 +306,11 @@ several_walks-legal = (
   inr (made_by (1 ∷ []) refl),
 )
 
-several_walks-first : LegalReply bank_copy several_walks (Step 2) (reply.Aborted (cause.Cycle (2 ∷ 0 ∷ [])) [])
+several_walks-first : LegalReply small_bank_copy several_walks (Step 2) (reply.Aborted (cause.Cycle (2 ∷ 0 ∷ [])) [])
 several_walks-first = inl (refused_by (0 ∷ []) [] [] (2 ∷ []) refl refl refl refl)
 
-several_walks-second : LegalReply bank_copy several_walks (Step 2) (reply.Aborted (cause.Cycle (2 ∷ 1 ∷ [])) [])
+several_walks-second : LegalReply small_bank_copy several_walks (Step 2) (reply.Aborted (cause.Cycle (2 ∷ 1 ∷ [])) [])
 several_walks-second = inl (refused_by (1 ∷ []) [] [] (2 ∷ []) refl refl refl refl)
 
-several_walks-longest : LegalReply bank_copy several_walks (Step 2) (reply.Aborted (cause.Cycle (2 ∷ 0 ∷ 1 ∷ [])) [])
+several_walks-longest : LegalReply small_bank_copy several_walks (Step 2) (reply.Aborted (cause.Cycle (2 ∷ 0 ∷ 1 ∷ [])) [])
 several_walks-longest = inl (refused_by (0 ∷ 1 ∷ []) [] [] (2 ∷ []) refl refl refl refl)

@@ -9,7 +9,7 @@ use Rattle.sgt_model.specs.declared.entry.Entry.{Entry}
 use Rattle.sgt_model.specs.Values.{settled}
 use Rattle.sgt_model.specs.Legality.{Legal}
 use Rattle.sgt_model.proofs.Computed.{made_by, aborts_by, refused_by, commits_by, waits_by}
-use Rattle.sgt_model.proofs.BankExample.{entry, bank_copy}
+use Rattle.sgt_model.proofs.ExampleSettings.{entry, small_bank_copy}
 
 -- each of 1, 2 and 3 has looked at what the one before it stored; 4 has stored over what 0 stored, and read from nobody
 abbrev pub three_levels : List Entry
@@ -42,7 +42,7 @@ three_level_cascade =
     ∷ entry (Commit 4) (reply.Waits 0)
     ∷ three_levels
 
-three_level_cascade-legal : Legal bank_copy three_level_cascade
+three_level_cascade-legal : Legal small_bank_copy three_level_cascade
 three_level_cascade-legal = (
   (
     (
@@ -108,13 +108,13 @@ three_level_cascade-legal = (
   inr (commits_by refl),
 )
 
-three_level_cascade-first : settled bank_copy.opening three_level_cascade (2, pos 101) ≡ Some (pos 300)
+three_level_cascade-first : settled small_bank_copy.opening three_level_cascade (2, pos 101) ≡ Some (pos 300)
 three_level_cascade-first = refl
 
-three_level_cascade-second : settled bank_copy.opening three_level_cascade (2, pos 102) ≡ Some (pos 200)
+three_level_cascade-second : settled small_bank_copy.opening three_level_cascade (2, pos 102) ≡ Some (pos 200)
 three_level_cascade-second = refl
 
-three_level_cascade-third : settled bank_copy.opening three_level_cascade (2, pos 103) ≡ Some (pos 300)
+three_level_cascade-third : settled small_bank_copy.opening three_level_cascade (2, pos 103) ≡ Some (pos 300)
 three_level_cascade-third = refl
 
 -- the first looks at what the third stored, which would close a cycle, and three levels of readers fall
@@ -142,7 +142,7 @@ three_level_cycle =
     ∷ entry (Start 3 (pos 1 ∷ pos 3 ∷ [])) (reply.Started 0)
     ∷ []
 
-three_level_cycle-legal : Legal bank_copy three_level_cycle
+three_level_cycle-legal : Legal small_bank_copy three_level_cycle
 three_level_cycle-legal = (
   (
     (
@@ -205,5 +205,5 @@ three_level_cycle-legal = (
   refl,
 )
 
-three_level_cycle-first : settled bank_copy.opening three_level_cycle (2, pos 101) ≡ Some (pos 1000)
+three_level_cycle-first : settled small_bank_copy.opening three_level_cycle (2, pos 101) ≡ Some (pos 1000)
 three_level_cycle-first = refl

@@ -9,7 +9,7 @@ use Rattle.sgt_model.specs.declared.entry.Entry.{Entry}
 use Rattle.sgt_model.specs.Values.{settled}
 use Rattle.sgt_model.specs.Legality.{Legal}
 use Rattle.sgt_model.proofs.Computed.{made_by, aborts_by, refused_by, commits_by, waits_by}
-use Rattle.sgt_model.proofs.BankExample.{bank, entry, bank_look_twice, bank_put_and_tell, bank_put_over, bank_tell}
+use Rattle.sgt_model.proofs.ExampleSettings.{small_bank, entry, small_bank_look_twice, small_bank_put_and_tell, small_bank_put_over, small_bank_tell}
 
 -- a look finds what is not committed, and its transaction waits for the source
 abbrev pub dirty_read_waits : List Entry
@@ -27,7 +27,7 @@ dirty_read_waits =
     ∷ entry (Start 1 (pos 1 ∷ pos 100 ∷ [])) (reply.Started 0)
     ∷ []
 
-dirty_read_waits-legal : Legal (bank 8 100) dirty_read_waits
+dirty_read_waits-legal : Legal (small_bank 8 100) dirty_read_waits
 dirty_read_waits-legal = (
   (
     (
@@ -63,7 +63,7 @@ dirty_read_waits-legal = (
   inr (commits_by refl),
 )
 
-dirty_read_waits-checking : settled (bank 8 100).opening dirty_read_waits (2, pos 101) ≡ Some (pos 1100)
+dirty_read_waits-checking : settled (small_bank 8 100).opening dirty_read_waits (2, pos 101) ≡ Some (pos 1100)
 dirty_read_waits-checking = refl
 
 -- the reader falls with its source
@@ -81,7 +81,7 @@ quit_takes_reader =
     ∷ entry (Start 1 (pos 1 ∷ pos 100 ∷ [])) (reply.Started 0)
     ∷ []
 
-quit_takes_reader-legal : Legal (bank 8 100) quit_takes_reader
+quit_takes_reader-legal : Legal (small_bank 8 100) quit_takes_reader
 quit_takes_reader-legal = (
   (
     (
@@ -114,7 +114,7 @@ quit_takes_reader-legal = (
   refl,
 )
 
-quit_takes_reader-checking : settled (bank 8 100).opening quit_takes_reader (2, pos 101) ≡ Some (pos 1000)
+quit_takes_reader-checking : settled (small_bank 8 100).opening quit_takes_reader (2, pos 101) ≡ Some (pos 1000)
 quit_takes_reader-checking = refl
 
 -- a look finds the own value
@@ -127,7 +127,7 @@ own_write_read_back =
     ∷ entry (Start 5 ([])) (reply.Started 0)
     ∷ []
 
-own_write_read_back-legal : Legal bank_put_and_tell own_write_read_back
+own_write_read_back-legal : Legal small_bank_put_and_tell own_write_read_back
 own_write_read_back-legal = (
   (
     (
@@ -145,7 +145,7 @@ own_write_read_back-legal = (
   inr (commits_by refl),
 )
 
-own_write_read_back-record : settled bank_put_and_tell.opening own_write_read_back (3, pos 7) ≡ Some (pos 4)
+own_write_read_back-record : settled small_bank_put_and_tell.opening own_write_read_back (3, pos 7) ≡ Some (pos 4)
 own_write_read_back-record = refl
 
 -- a second look at what another stored in between would close a cycle
@@ -161,7 +161,7 @@ repeated_read =
     ∷ entry (Start 5 ([])) (reply.Started 0)
     ∷ []
 
-repeated_read-legal : Legal bank_look_twice repeated_read
+repeated_read-legal : Legal small_bank_look_twice repeated_read
 repeated_read-legal = (
   (
     (
@@ -188,7 +188,7 @@ repeated_read-legal = (
   inr (commits_by refl),
 )
 
-repeated_read-checking : settled bank_look_twice.opening repeated_read (2, pos 101) ≡ Some (pos 1001)
+repeated_read-checking : settled small_bank_look_twice.opening repeated_read (2, pos 101) ≡ Some (pos 1001)
 repeated_read-checking = refl
 
 -- a look past an aborted store finds the one before, and falls with that one
@@ -204,7 +204,7 @@ read_past_aborted =
     ∷ entry (Start 5 (pos 1 ∷ [])) (reply.Started 0)
     ∷ []
 
-read_past_aborted-legal : Legal bank_tell read_past_aborted
+read_past_aborted-legal : Legal small_bank_tell read_past_aborted
 read_past_aborted-legal = (
   (
     (
@@ -231,7 +231,7 @@ read_past_aborted-legal = (
   aborts_by (2 ∷ []) ((2 ∷ []) ∷ []) (0 ∷ 2 ∷ []) refl refl refl,
 )
 
-read_past_aborted-record : settled bank_tell.opening read_past_aborted (3, pos 7) ≡ None
+read_past_aborted-record : settled small_bank_tell.opening read_past_aborted (3, pos 7) ≡ None
 read_past_aborted-record = refl
 
 -- who stored over another's value before looking has read from nobody: it stays when the other quits
@@ -246,7 +246,7 @@ own_store_over_anothers =
     ∷ entry (Start 5 (pos 1 ∷ [])) (reply.Started 0)
     ∷ []
 
-own_store_over_anothers-legal : Legal bank_put_over own_store_over_anothers
+own_store_over_anothers-legal : Legal small_bank_put_over own_store_over_anothers
 own_store_over_anothers-legal = (
   (
     (
@@ -270,5 +270,5 @@ own_store_over_anothers-legal = (
   inr (commits_by refl),
 )
 
-own_store_over_anothers-record : settled bank_put_over.opening own_store_over_anothers (3, pos 7) ≡ Some (pos 4)
+own_store_over_anothers-record : settled small_bank_put_over.opening own_store_over_anothers (3, pos 7) ≡ Some (pos 4)
 own_store_over_anothers-record = refl

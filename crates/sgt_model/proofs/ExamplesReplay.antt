@@ -9,7 +9,7 @@ use Rattle.sgt_model.specs.Values.{settled}
 use Rattle.sgt_model.specs.Legality.{Legal}
 use Rattle.sgt_model.specs.Replay.{CommittedRun, committed_runs, replayed, AnswersAgree}
 use Rattle.sgt_model.proofs.Computed.{made_by, aborts_by, commits_by, waits_by}
-use Rattle.sgt_model.proofs.BankExample.{bank, entry}
+use Rattle.sgt_model.proofs.ExampleSettings.{small_bank, entry}
 
 -- two deposits commit; a check is written between them, and quit
 abbrev pub two_deposits : List Entry
@@ -33,7 +33,7 @@ two_deposits =
     ∷ entry (Start 1 (pos 1 ∷ pos 100 ∷ [])) (reply.Started 0)
     ∷ []
 
-two_deposits-legal : Legal (bank 8 100) two_deposits
+two_deposits-legal : Legal (small_bank 8 100) two_deposits
 two_deposits-legal = (
   (
     (
@@ -98,16 +98,16 @@ two_deposits-committed : committed_runs two_deposits ≡ the_deposits
 two_deposits-committed = refl
 
 -- run again, each gives the answers that it was told
-two_deposits-answers : AnswersAgree (bank 8 100) the_deposits
+two_deposits-answers : AnswersAgree (small_bank 8 100) the_deposits
 two_deposits-answers = ((tt, (_, refl)), (_, refl))
 
 -- and the balance at the end is the committed one
-two_deposits-replayed : replayed (bank 8 100) the_deposits (2, pos 101) ≡ Some (pos 1150)
+two_deposits-replayed : replayed (small_bank 8 100) the_deposits (2, pos 101) ≡ Some (pos 1150)
 two_deposits-replayed = refl
 
-two_deposits-settled : settled (bank 8 100).opening two_deposits (2, pos 101) ≡ Some (pos 1150)
+two_deposits-settled : settled (small_bank 8 100).opening two_deposits (2, pos 101) ≡ Some (pos 1150)
 two_deposits-settled = refl
 
 -- no other record changed
-two_deposits-saving : replayed (bank 8 100) the_deposits (1, pos 101) ≡ settled (bank 8 100).opening two_deposits (1, pos 101)
+two_deposits-saving : replayed (small_bank 8 100) the_deposits (1, pos 101) ≡ settled (small_bank 8 100).opening two_deposits (1, pos 101)
 two_deposits-saving = refl

@@ -7,7 +7,7 @@ use Rattle.sgt_model.specs.declared.reply.Fate.TheVariants as fate
 use Rattle.sgt_model.specs.declared.entry.Entry.{Entry}
 use Rattle.sgt_model.specs.Legality.{Legal}
 use Rattle.sgt_model.proofs.Computed.{made_by, commits_by, waits_by}
-use Rattle.sgt_model.proofs.BankExample.{bank, entry, bank_twice}
+use Rattle.sgt_model.proofs.ExampleSettings.{small_bank, entry, small_bank_twice}
 
 -- limits of one live and two started
 abbrev pub limits_and_fates : List Entry
@@ -25,7 +25,7 @@ limits_and_fates =
     ∷ entry (Start 0 (pos 1 ∷ [])) (reply.Started 0)
     ∷ []
 
-limits_and_fates-legal : Legal (bank 1 2) limits_and_fates
+limits_and_fates-legal : Legal (small_bank 1 2) limits_and_fates
 limits_and_fates-legal = (
   (
     (
@@ -70,7 +70,7 @@ tests_in_order =
     ∷ entry (Start 0 (pos 1 ∷ [])) (reply.Started 0)
     ∷ []
 
-tests_in_order-legal : Legal (bank 1 1) tests_in_order
+tests_in_order-legal : Legal (small_bank 1 1) tests_in_order
 tests_in_order-legal = (
   (
     (
@@ -93,7 +93,7 @@ start_refused =
     ∷ entry (Start 0 []) reply.BadArgs
     ∷ []
 
-start_refused-legal : Legal (bank 8 100) start_refused
+start_refused-legal : Legal (small_bank 8 100) start_refused
 start_refused-legal = (((tt, refl), refl), refl)
 
 -- that the procedure is not at its end is tested before predecessors are
@@ -108,7 +108,7 @@ not_ended_before_waits =
     ∷ entry (Start 5 []) (reply.Started 0)
     ∷ []
 
-not_ended_before_waits-legal : Legal bank_twice not_ended_before_waits
+not_ended_before_waits-legal : Legal small_bank_twice not_ended_before_waits
 not_ended_before_waits-legal = (
   (
     (

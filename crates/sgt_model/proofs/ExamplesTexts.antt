@@ -15,7 +15,7 @@ use Rattle.sgt_model.specs.Values.{settled}
 use Rattle.sgt_model.specs.Settings.{Setting, setting}
 use Rattle.sgt_model.specs.Legality.{Legal}
 use Rattle.sgt_model.proofs.Computed.{made_by, commits_by, waits_by}
-use Rattle.sgt_model.proofs.BankExample.{opening, entry}
+use Rattle.sgt_model.proofs.ExampleSettings.{opening, entry}
 
 -- draw the amount, the second argument, from the checking of a customer, the first: where it is at most what is there, and
 -- else nothing; answer what was drawn. The store and the answer stand behind the If

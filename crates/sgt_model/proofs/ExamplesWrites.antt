@@ -8,7 +8,7 @@ use Rattle.sgt_model.specs.declared.entry.Entry.{Entry}
 use Rattle.sgt_model.specs.Values.{settled}
 use Rattle.sgt_model.specs.Legality.{Legal}
 use Rattle.sgt_model.proofs.Computed.{made_by, aborts_by, refused_by, commits_by, waits_by}
-use Rattle.sgt_model.proofs.BankExample.{bank, entry, bank_put}
+use Rattle.sgt_model.proofs.ExampleSettings.{small_bank, entry, small_bank_put}
 
 -- who looked first commits first
 abbrev pub reader_before_writer : List Entry
@@ -27,7 +27,7 @@ reader_before_writer =
     ∷ entry (Start 0 (pos 1 ∷ [])) (reply.Started 0)
     ∷ []
 
-reader_before_writer-legal : Legal (bank 8 100) reader_before_writer
+reader_before_writer-legal : Legal (small_bank 8 100) reader_before_writer
 reader_before_writer-legal = (
   (
     (
@@ -66,7 +66,7 @@ reader_before_writer-legal = (
   inr (commits_by refl),
 )
 
-reader_before_writer-checking : settled (bank 8 100).opening reader_before_writer (2, pos 101) ≡ Some (pos 1050)
+reader_before_writer-checking : settled (small_bank 8 100).opening reader_before_writer (2, pos 101) ≡ Some (pos 1050)
 reader_before_writer-checking = refl
 
 -- of two that looked at a record the second to store would close a cycle
@@ -85,7 +85,7 @@ lost_update =
     ∷ entry (Start 4 (pos 1 ∷ pos 100 ∷ [])) (reply.Started 0)
     ∷ []
 
-lost_update-legal : Legal (bank 8 100) lost_update
+lost_update-legal : Legal (small_bank 8 100) lost_update
 lost_update-legal = (
   (
     (
@@ -121,7 +121,7 @@ lost_update-legal = (
   inr (commits_by refl),
 )
 
-lost_update-checking : settled (bank 8 100).opening lost_update (2, pos 101) ≡ Some (pos 900)
+lost_update-checking : settled (small_bank 8 100).opening lost_update (2, pos 101) ≡ Some (pos 900)
 lost_update-checking = refl
 
 -- a pair holds past an aborted store in between
@@ -139,7 +139,7 @@ pair_past_aborted =
     ∷ entry (Start 5 (pos 1 ∷ [])) (reply.Started 0)
     ∷ []
 
-pair_past_aborted-legal : Legal bank_put pair_past_aborted
+pair_past_aborted-legal : Legal small_bank_put pair_past_aborted
 pair_past_aborted-legal = (
   (
     (
@@ -172,7 +172,7 @@ pair_past_aborted-legal = (
   inr (commits_by refl),
 )
 
-pair_past_aborted-record : settled bank_put.opening pair_past_aborted (3, pos 7) ≡ Some (pos 3)
+pair_past_aborted-record : settled small_bank_put.opening pair_past_aborted (3, pos 7) ≡ Some (pos 3)
 pair_past_aborted-record = refl
 
 -- an abort takes out its own value alone
@@ -186,7 +186,7 @@ undo_beneath_overwriter =
     ∷ entry (Start 5 (pos 1 ∷ [])) (reply.Started 0)
     ∷ []
 
-undo_beneath_overwriter-legal : Legal bank_put undo_beneath_overwriter
+undo_beneath_overwriter-legal : Legal small_bank_put undo_beneath_overwriter
 undo_beneath_overwriter-legal = (
   (
     (
@@ -207,7 +207,7 @@ undo_beneath_overwriter-legal = (
   inr (commits_by refl),
 )
 
-undo_beneath_overwriter-record : settled bank_put.opening undo_beneath_overwriter (3, pos 7) ≡ Some (pos 2)
+undo_beneath_overwriter-record : settled small_bank_put.opening undo_beneath_overwriter (3, pos 7) ≡ Some (pos 2)
 undo_beneath_overwriter-record = refl
 
 -- of two live predecessors the one with the smaller number is named, and so after an abort
@@ -227,7 +227,7 @@ waits_for_the_least =
     ∷ entry (Start 5 (pos 1 ∷ [])) (reply.Started 0)
     ∷ []
 
-waits_for_the_least-legal : Legal bank_put waits_for_the_least
+waits_for_the_least-legal : Legal small_bank_put waits_for_the_least
 waits_for_the_least-legal = (
   (
     (
@@ -266,5 +266,5 @@ waits_for_the_least-legal = (
   inr (commits_by refl),
 )
 
-waits_for_the_least-record : settled bank_put.opening waits_for_the_least (3, pos 7) ≡ Some (pos 3)
+waits_for_the_least-record : settled small_bank_put.opening waits_for_the_least (3, pos 7) ≡ Some (pos 3)
 waits_for_the_least-record = refl

@@ -17,7 +17,7 @@ use Rattle.sgt_model.specs.Fates.{live}
 use Rattle.sgt_model.specs.Pairs.{Pair, has_conflicting}
 use Rattle.sgt_model.specs.Legality.{Refuses, Makes, MustWait, MayCommit, LegalReply}
 use Rattle.sgt_model.proofs.Computed.{pair, pair-so, so-pair, free_test, free-so, closes-so, each-so, all-so}
-use Rattle.sgt_model.proofs.BankExample.{bank, entry, bank_put, bank_copy, bank_twice, bank_look_twice, bank_put_over, bank_tell}
+use Rattle.sgt_model.proofs.ExampleSettings.{small_bank, entry, small_bank_put, small_bank_copy, small_bank_twice, small_bank_look_twice, small_bank_put_over, small_bank_tell}
 use Rattle.sgt_model.proofs.ExamplesDeepCascades.{three_levels}
 
 -- where an access closes no walk it is not refused
@@ -42,7 +42,7 @@ dirty_reader =
     ∷ entry (Start 1 (pos 1 ∷ pos 100 ∷ [])) (reply.Started 0)
     ∷ []
 
-aborts_on_conflict : LegalReply (bank 8 100) dirty_reader (Step 1) (reply.Aborted (cause.Cycle (1 ∷ 0 ∷ [])) []) → ⊥
+aborts_on_conflict : LegalReply (small_bank 8 100) dirty_reader (Step 1) (reply.Aborted (cause.Cycle (1 ∷ 0 ∷ [])) []) → ⊥
 aborts_on_conflict h = not_refused (reply.Looked (2, pos 101) (Some (pos 1100))) (1 ∷ []) refl (λ e. cc e) h
 
 -- `reads-committed`: the look finds the newest value
@@ -50,7 +50,7 @@ abbrev tells : Reply → ℤ → Bool
 tells (reply.Looked k (Some v)) w = int_eq v w
 tells _ w = false
 
-reads_committed : LegalReply (bank 8 100) dirty_reader (Step 1) (reply.Looked (2, pos 101) (Some (pos 1000))) → ⊥
+reads_committed : LegalReply (small_bank 8 100) dirty_reader (Step 1) (reply.Looked (2, pos 101) (Some (pos 1000))) → ⊥
 reads_committed (inl h) = cc h.aborts.is
 reads_committed (inr h) = true≢false (ap (λ r. tells r (pos 1000)) h.is)
 
@@ -68,7 +68,7 @@ early_writer =
     ∷ entry (Start 0 (pos 1 ∷ [])) (reply.Started 0)
     ∷ []
 
-commits_at_once : LegalReply (bank 8 100) early_writer (Commit 1) (reply.Committed (pos 1050 ∷ [])) → ⊥
+commits_at_once : LegalReply (small_bank 8 100) early_writer (Commit 1) (reply.Committed (pos 1050 ∷ [])) → ⊥
 commits_at_once h = not_committed 0 refl h
 
 -- `last-writer-only`: the first of three writers is still live, when the second is aborted
@@ -83,11 +83,11 @@ three_writers =
     ∷ entry (Start 5 (pos 1 ∷ [])) (reply.Started 0)
     ∷ []
 
-last_writer_only : LegalReply bank_put three_writers (Commit 2) (reply.Committed []) → ⊥
+last_writer_only : LegalReply small_bank_put three_writers (Commit 2) (reply.Committed []) → ⊥
 last_writer_only h = not_committed 0 refl h
 
 -- and it is the first that has to be waited for
-waits_for_another : LegalReply bank_put three_writers (Commit 2) (reply.Waits 1) → ⊥
+waits_for_another : LegalReply small_bank_put three_writers (Commit 2) (reply.Waits 1) → ⊥
 waits_for_another (inl h) = let b : h.before ≡ 1 = cc h.is in cc (subst (λ u. live three_writers u ≡ true) b h.least.is_live)
 waits_for_another (inr h) = cc h.is
 
@@ -102,7 +102,7 @@ undone_beneath =
     ∷ entry (Start 5 (pos 1 ∷ [])) (reply.Started 0)
     ∷ []
 
-before_image : LegalReply bank_tell undone_beneath (Step 2) (reply.Looked (3, pos 7) None) → ⊥
+before_image : LegalReply small_bank_tell undone_beneath (Step 2) (reply.Looked (3, pos 7) None) → ⊥
 before_image (inl h) = cc h.aborts.is
 before_image (inr h) = cc h.is
 
@@ -115,7 +115,7 @@ overwritten =
     ∷ entry (Start 5 (pos 1 ∷ [])) (reply.Started 0)
     ∷ []
 
-overwriters_fall : LegalReply bank_put overwritten (Quit 0) (reply.Aborted cause.Quit (1 ∷ [])) → ⊥
+overwriters_fall : LegalReply small_bank_put overwritten (Quit 0) (reply.Aborted cause.Quit (1 ∷ [])) → ⊥
 overwriters_fall h =
     let named : h.fell ≡ 1 ∷ [] = cc h.is in
     let fallen = h.falls.each 1 (subst (λ l. Member 1 l) (sym named) (inl refl)) in
@@ -147,7 +147,7 @@ one_of_two : Member 2 (1 ∷ []) → ⊥
 one_of_two (inl e) = omega arith
 one_of_two (inr m) = m
 
-direct_readers_only : LegalReply (bank 8 100) two_levels (Quit 0) (reply.Aborted cause.Quit (1 ∷ [])) → ⊥
+direct_readers_only : LegalReply (small_bank 8 100) two_levels (Quit 0) (reply.Aborted cause.Quit (1 ∷ [])) → ⊥
 direct_readers_only h =
     let named : h.fell ≡ 1 ∷ [] = cc h.is in
     let fallen = each-so two_levels 0 (1 ∷ 2 ∷ []) ((1 ∷ []) ∷ (1 ∷ 2 ∷ []) ∷ []) refl 2 (inr (inl refl)) in
@@ -164,7 +164,7 @@ looked_before =
     ∷ entry (Start 5 []) (reply.Started 0)
     ∷ []
 
-cached_read : (v : Option ℤ) → LegalReply bank_look_twice looked_before (Step 0) (reply.Looked (2, pos 101) v) → ⊥
+cached_read : (v : Option ℤ) → LegalReply small_bank_look_twice looked_before (Step 0) (reply.Looked (2, pos 101) v) → ⊥
 cached_read v (inl h) = cc h.aborts.is
 cached_read v (inr h) = h.free (1 ∷ []) (closes-so looked_before 0 (2, pos 101) Look (1 ∷ []) refl)
 
@@ -178,11 +178,11 @@ one_committed =
     ∷ entry (Start 0 (pos 1 ∷ [])) (reply.Started 0)
     ∷ []
 
-keeps_committed_places : LegalReply (bank 1 2) one_committed (Start 0 (pos 2 ∷ [])) reply.Full → ⊥
+keeps_committed_places : LegalReply (small_bank 1 2) one_committed (Start 0 (pos 2 ∷ [])) reply.Full → ⊥
 keeps_committed_places h = cc h
 
 -- a start past the limit
-starts_too_many : LegalReply (bank 1 1) one_committed (Start 0 (pos 2 ∷ [])) (reply.Started 1) → ⊥
+starts_too_many : LegalReply (small_bank 1 1) one_committed (Start 0 (pos 2 ∷ [])) (reply.Started 1) → ⊥
 starts_too_many h = cc h
 
 -- who looked at its own store has read from nobody, whose value it ever stored over
@@ -195,14 +195,14 @@ stored_over =
     ∷ entry (Start 5 (pos 1 ∷ [])) (reply.Started 0)
     ∷ []
 
-own_readers_fall : LegalReply bank_put_over stored_over (Quit 0) (reply.Aborted cause.Quit (1 ∷ [])) → ⊥
+own_readers_fall : LegalReply small_bank_put_over stored_over (Quit 0) (reply.Aborted cause.Quit (1 ∷ [])) → ⊥
 own_readers_fall h =
     let named : h.fell ≡ 1 ∷ [] = cc h.is in
     let fallen = h.falls.each 1 (subst (λ l. Member 1 l) (sym named) (inl refl)) in
     all-so stored_over 0 [] (0 ∷ []) refl 1 fallen.0 fallen.1 fallen.2
 
 -- the fallen are listed rising
-falls_out_of_order : LegalReply (bank 8 100) two_levels (Quit 0) (reply.Aborted cause.Quit (2 ∷ 1 ∷ [])) → ⊥
+falls_out_of_order : LegalReply (small_bank 8 100) two_levels (Quit 0) (reply.Aborted cause.Quit (2 ∷ 1 ∷ [])) → ⊥
 falls_out_of_order h =
     let named : h.fell ≡ 2 ∷ 1 ∷ [] = cc h.is in
     let rises : Rising (2 ∷ 1 ∷ []) = subst (λ l. Rising l) named h.falls.rising in
@@ -220,7 +220,7 @@ two_live_writers =
     ∷ entry (Start 5 (pos 1 ∷ [])) (reply.Started 0)
     ∷ []
 
-waits_for_the_greater : LegalReply bank_put two_live_writers (Commit 2) (reply.Waits 1) → ⊥
+waits_for_the_greater : LegalReply small_bank_put two_live_writers (Commit 2) (reply.Waits 1) → ⊥
 waits_for_the_greater (inl h) =
     let named : h.before ≡ 1 = cc h.is in
     let least : h.before ≤ 0 = h.least.least 0 refl (pair-so two_live_writers 0 2 refl) in
@@ -236,7 +236,7 @@ half_done =
     ∷ entry (Start 5 []) (reply.Started 0)
     ∷ []
 
-waits_before_its_end : LegalReply bank_twice half_done (Commit 1) (reply.Waits 0) → ⊥
+waits_before_its_end : LegalReply small_bank_twice half_done (Commit 1) (reply.Waits 0) → ⊥
 waits_before_its_end h = cc h
 
 -- the answers are those of the procedure
@@ -252,11 +252,11 @@ abbrev answers_with : Reply → ℤ → Bool
 answers_with (reply.Committed (v ∷ [])) w = int_eq v w
 answers_with _ w = false
 
-wrong_answers : LegalReply (bank 8 100) at_its_end (Commit 0) (reply.Committed (pos 1000 ∷ [])) → ⊥
+wrong_answers : LegalReply (small_bank 8 100) at_its_end (Commit 0) (reply.Committed (pos 1000 ∷ [])) → ⊥
 wrong_answers (inl h) = cc h.is
 wrong_answers (inr h) = true≢false (ap (λ r. answers_with r (pos 1000)) h.is)
 
-no_answers : LegalReply (bank 8 100) at_its_end (Commit 0) (reply.Committed []) → ⊥
+no_answers : LegalReply (small_bank 8 100) at_its_end (Commit 0) (reply.Committed []) → ⊥
 no_answers (inl h) = cc h.is
 no_answers (inr h) = cc h.is
 
@@ -273,33 +273,33 @@ ring =
     ∷ entry (Start 5 (pos 101 ∷ pos 102 ∷ [])) (reply.Started 0)
     ∷ []
 
-leaves_one_out : LegalReply bank_copy ring (Step 2) (reply.Aborted (cause.Cycle (2 ∷ 0 ∷ [])) []) → ⊥
+leaves_one_out : LegalReply small_bank_copy ring (Step 2) (reply.Aborted (cause.Cycle (2 ∷ 0 ∷ [])) []) → ⊥
 leaves_one_out (inl h) =
     let named : h.rest ≡ 0 ∷ [] = cc h.aborts.is in
     let goes : PathOf (Pair ring) 2 (0 ∷ []) = subst (λ l. PathOf (Pair ring) 2 l) named h.closes.pairs in
     both_ways (pair ring 2 0) refl (so-pair ring 2 0 goes.0)
 leaves_one_out (inr h) = cc h.is
 
-ends_too_early : LegalReply bank_copy ring (Step 2) (reply.Aborted (cause.Cycle (2 ∷ 1 ∷ [])) []) → ⊥
+ends_too_early : LegalReply small_bank_copy ring (Step 2) (reply.Aborted (cause.Cycle (2 ∷ 1 ∷ [])) []) → ⊥
 ends_too_early (inl h) =
     let named : h.rest ≡ 1 ∷ [] = cc h.aborts.is in
     cc (subst (λ l. has_conflicting ring (last_of 2 l) (2, pos 101) Store ≡ true) named h.closes.conflict)
 ends_too_early (inr h) = cc h.is
 
-begins_with_another : LegalReply bank_copy ring (Step 2) (reply.Aborted (cause.Cycle (1 ∷ 0 ∷ [])) []) → ⊥
+begins_with_another : LegalReply small_bank_copy ring (Step 2) (reply.Aborted (cause.Cycle (1 ∷ 0 ∷ [])) []) → ⊥
 begins_with_another (inl h) = cc h.aborts.is
 begins_with_another (inr h) = cc h.is
 
 -- of three levels of readers all fall, and no other
 
 -- the readers' readers, and theirs
-three_levels_falls : (u : ℕ) → Member u (1 ∷ 2 ∷ 3 ∷ []) → (fell : List ℕ) → LegalReply bank_copy three_levels (Quit 0) (reply.Aborted cause.Quit fell) → Member u fell
+three_levels_falls : (u : ℕ) → Member u (1 ∷ 2 ∷ 3 ∷ []) → (fell : List ℕ) → LegalReply small_bank_copy three_levels (Quit 0) (reply.Aborted cause.Quit fell) → Member u fell
 three_levels_falls u m fell h =
     let named : h.fell ≡ fell = cc h.is in
     let fallen = each-so three_levels 0 (1 ∷ 2 ∷ 3 ∷ []) ((1 ∷ []) ∷ (1 ∷ 2 ∷ []) ∷ (1 ∷ 2 ∷ 3 ∷ []) ∷ []) refl u m in
     subst (λ l. Member u l) named (h.falls.all u fallen.0 fallen.1 fallen.2)
 
-three_levels_direct_readers_only : LegalReply bank_copy three_levels (Quit 0) (reply.Aborted cause.Quit (1 ∷ [])) → ⊥
+three_levels_direct_readers_only : LegalReply small_bank_copy three_levels (Quit 0) (reply.Aborted cause.Quit (1 ∷ [])) → ⊥
 three_levels_direct_readers_only h = one_of_two (three_levels_falls 2 (inr (inl refl)) (1 ∷ []) h)
 
 third_of_two : Member 3 (1 ∷ 2 ∷ []) → ⊥
@@ -307,7 +307,7 @@ third_of_two (inl e) = omega arith
 third_of_two (inr (inl e)) = omega arith
 third_of_two (inr (inr m)) = m
 
-three_levels_leaves_the_last_out : LegalReply bank_copy three_levels (Quit 0) (reply.Aborted cause.Quit (1 ∷ 2 ∷ [])) → ⊥
+three_levels_leaves_the_last_out : LegalReply small_bank_copy three_levels (Quit 0) (reply.Aborted cause.Quit (1 ∷ 2 ∷ [])) → ⊥
 three_levels_leaves_the_last_out h = third_of_two (three_levels_falls 3 (inr (inr (inl refl))) (1 ∷ 2 ∷ []) h)
 
 second_of_two : Member 2 (1 ∷ 3 ∷ []) → ⊥
@@ -315,7 +315,7 @@ second_of_two (inl e) = omega arith
 second_of_two (inr (inl e)) = omega arith
 second_of_two (inr (inr m)) = m
 
-three_levels_leaves_one_out : LegalReply bank_copy three_levels (Quit 0) (reply.Aborted cause.Quit (1 ∷ 3 ∷ [])) → ⊥
+three_levels_leaves_one_out : LegalReply small_bank_copy three_levels (Quit 0) (reply.Aborted cause.Quit (1 ∷ 3 ∷ [])) → ⊥
 three_levels_leaves_one_out h = second_of_two (three_levels_falls 2 (inr (inl refl)) (1 ∷ 3 ∷ []) h)
 
 fourth_of_three : Member 4 (1 ∷ 2 ∷ 3 ∷ []) → ⊥
@@ -324,13 +324,13 @@ fourth_of_three (inr (inl e)) = omega arith
 fourth_of_three (inr (inr (inl e))) = omega arith
 fourth_of_three (inr (inr (inr m))) = m
 
-three_levels_overwriters_fall : LegalReply bank_copy three_levels (Quit 0) (reply.Aborted cause.Quit (1 ∷ 2 ∷ 3 ∷ 4 ∷ [])) → ⊥
+three_levels_overwriters_fall : LegalReply small_bank_copy three_levels (Quit 0) (reply.Aborted cause.Quit (1 ∷ 2 ∷ 3 ∷ 4 ∷ [])) → ⊥
 three_levels_overwriters_fall h =
     let named : h.fell ≡ 1 ∷ 2 ∷ 3 ∷ 4 ∷ [] = cc h.is in
     let fallen = h.falls.each 4 (subst (λ l. Member 4 l) (sym named) (inr (inr (inr (inl refl))))) in
     fourth_of_three (all-so three_levels 0 (1 ∷ 2 ∷ 3 ∷ []) (0 ∷ 1 ∷ 2 ∷ 3 ∷ []) refl 4 fallen.0 fallen.1 fallen.2)
 
-three_levels_out_of_order : LegalReply bank_copy three_levels (Quit 0) (reply.Aborted cause.Quit (1 ∷ 3 ∷ 2 ∷ [])) → ⊥
+three_levels_out_of_order : LegalReply small_bank_copy three_levels (Quit 0) (reply.Aborted cause.Quit (1 ∷ 3 ∷ 2 ∷ [])) → ⊥
 three_levels_out_of_order h =
     let named : h.fell ≡ 1 ∷ 3 ∷ 2 ∷ [] = cc h.is in
     let rises : Rising (1 ∷ 3 ∷ 2 ∷ []) = subst (λ l. Rising l) named h.falls.rising in

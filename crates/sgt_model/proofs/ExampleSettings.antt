@@ -120,34 +120,34 @@ abbrev pub five : List Program
 five = balance ∷ deposit_checking ∷ transact_saving ∷ amalgamate ∷ write_check ∷ []
 
 -- the bank with these limits and no other procedures
-abbrev pub bank : ℕ → ℕ → Setting
-bank most_live most_started = setting opening five (record { live = most_live; begins = most_started })
+abbrev pub small_bank : ℕ → ℕ → Setting
+small_bank most_live most_started = setting opening five (record { live = most_live; begins = most_started })
 
 -- the bank with others, from number 5 on
-abbrev pub bank_with : Contents → List Program → Setting
-bank_with m others = setting m (five ++ others) (record { live = 8; begins = 100 })
+abbrev pub small_bank_with : Contents → List Program → Setting
+small_bank_with m others = setting m (five ++ others) (record { live = 8; begins = 100 })
 
 abbrev pub entry : Event → Reply → Entry
 entry event r = record { event = event; reply = r }
 
 -- the banks of the examples
-abbrev pub bank_put : Setting
-bank_put = bank_with opening (put_arg ∷ [])
+abbrev pub small_bank_put : Setting
+small_bank_put = small_bank_with opening (put_arg ∷ [])
 
-abbrev pub bank_copy : Setting
-bank_copy = bank_with opening_of_three (copy ∷ [])
+abbrev pub small_bank_copy : Setting
+small_bank_copy = small_bank_with opening_of_three (copy ∷ [])
 
-abbrev pub bank_twice : Setting
-bank_twice = bank_with opening (put_twice ∷ tell ∷ [])
+abbrev pub small_bank_twice : Setting
+small_bank_twice = small_bank_with opening (put_twice ∷ tell ∷ [])
 
-abbrev pub bank_look_twice : Setting
-bank_look_twice = bank_with opening (look_twice ∷ [])
+abbrev pub small_bank_look_twice : Setting
+small_bank_look_twice = small_bank_with opening (look_twice ∷ [])
 
-abbrev pub bank_put_and_tell : Setting
-bank_put_and_tell = bank_with opening (put_and_tell ∷ [])
+abbrev pub small_bank_put_and_tell : Setting
+small_bank_put_and_tell = small_bank_with opening (put_and_tell ∷ [])
 
-abbrev pub bank_tell : Setting
-bank_tell = bank_with opening (put_arg ∷ tell ∷ [])
+abbrev pub small_bank_tell : Setting
+small_bank_tell = small_bank_with opening (put_arg ∷ tell ∷ [])
 
-abbrev pub bank_put_over : Setting
-bank_put_over = bank_with opening (put_arg ∷ put_and_tell ∷ [])
+abbrev pub small_bank_put_over : Setting
+small_bank_put_over = small_bank_with opening (put_arg ∷ put_and_tell ∷ [])
