@@ -1,5 +1,5 @@
 //! The serialization graph: its nodes are the live transactions, and a pair leads from one to another that has to commit after
-//! it, since both touched the same key and one of them wrote it.
+//! it, since both accessed the same key and one of them wrote it.
 //!
 //! [`Graph`] is what a scheduler asks of it, and [`PairGraph`] the plain body, two lists. A graph never has a cycle: new pairs
 //! into a transaction are accepted where they close none, and else refused with a walk that shows the cycle. No call takes

@@ -1,4 +1,4 @@
--- What an access does to what is held, where nothing blocks it.
+-- What an access does to the state, where nothing blocks it.
 use Rattle.std.proofs.Common.{◌≡◌, ◌≢◌, ℕ, ℤ, arith, Bool, true, false, ◌&&◌, cond, nat_eq, ◌⊎◌, inl, inr, List, [], ◌∷◌, ◌++◌, Option, Some, None, refl, sym, ap, ◌∙◌, subst}
 use Rattle.std.specs.Prelude.{◌↔◌}
 use Rattle.std.proofs.lemmas.Bool.{and_from, or_cases, or_left, or_right, eqb-true, eqb-false}
@@ -23,7 +23,7 @@ use Rattle.sgt_sched.specs.Endings.{IsBlocked}
 use Rattle.sgt_sched.specs.Steps.{with_source}
 use Rattle.sgt_sched.proofs.Lists.{numbers-changed, progress_at-changed, progress_at-own}
 
--- who is listed touches some key
+-- who is listed has accessed some key
 store_conflicts : (kind : Kind) → one_stores kind Store ≡ true
 store_conflicts Look = refl
 store_conflicts Store = refl
@@ -32,7 +32,7 @@ listed_conflicting : (list : List ListedAccess) (t : ℕ) → is_listed list t �
 listed_conflicting [] t h = absurd (cc)
 listed_conflicting (a ∷ rest) t h = elim (or_cases (nat_eq a.by t) (is_listed rest t) h) [ inl here ↦ (a.key, or_left (is_conflicting t a.key Store a) _ (and_from (nat_eq a.by t) (key_eq a.key a.key && one_stores a.kind Store) here (and_from (key_eq a.key a.key) (one_stores a.kind Store) (key_eq-refl a.key) (store_conflicts a.kind)))) | inr there ↦ (let r = listed_conflicting rest t there in (r.0, or_right (is_conflicting t r.0 Store a) _ r.1)) ]
 
--- a look's source, as what is held tells it
+-- a look's source, as the state tells it
 pub read_added : (o : Option (ℕ × ℤ)) (s : Option ℤ) (t : ℕ) (reads : List (ℕ × ℕ)) (u v : ℕ) → Has (with_source (top_from o s) t reads) u v ↔ (Has reads u v ⊎ ((v ≡ t) × (u ≢ t) × SourceIs o u))
 read_added None None t reads u v = ((λ h. inl h), (λ h. elim h [ inl old ↦ old | inr new ↦ absurd new.2 ]))
 read_added None (Some x) t reads u v = ((λ h. inl h), (λ h. elim h [ inl old ↦ old | inr new ↦ absurd new.2 ]))
@@ -56,7 +56,7 @@ read_added (Some w) s t reads u v = both (nat_eq w.0 t) refl where
   both true e = subst (λ c. Has (cond c reads (reads ++ (w.0, t) ∷ [])) u v ↔ (Has reads u v ⊎ ((v ≡ t) × (u ≢ t) × (w.0 ≡ u)))) (sym e) ((λ h. inl h), (λ h. elim h [ inl old ↦ old | inr new ↦ absurd (new.1 (sym new.2 ∙ eqb-true w.0 t e)) ]))
   both false e = subst (λ c. Has (cond c reads (reads ++ (w.0, t) ∷ [])) u v ↔ (Has reads u v ⊎ ((v ≡ t) × (u ≢ t) × (w.0 ≡ u)))) (sym e) ((λ h. elim (added reads h) [ inl old ↦ inl old | inr new ↦ inr (sym new.1, (λ i. eqb-false w.0 t e (new.0 ∙ i)), new.0) ]), (λ h. elim h [ inl old ↦ old_stays reads old | inr new ↦ new_there reads new.2 (sym new.0) ]))
 
--- what a look finds, as what is held tells it
+-- what a look finds, as the state tells it
 pub value_of-from : (o : Option (ℕ × ℤ)) (s : Option ℤ) → value_of (top_from o s) ≡ top_value o s
 value_of-from None None = refl
 value_of-from None (Some v) = refl
@@ -106,7 +106,7 @@ module _ {R A G : Type 0} {chain : R → Key → List (ℕ × ℤ)} {settled : R
         fates = before.fates;
       }
 
-      -- what is held notes the access
+      -- the state has the access
       pub notes : Notes t k kind (state_of chain settled list nodes pairs before) (state_of chain settled list nodes pairs after_access)
       notes = record {
         live = numbers-changed t change before.live;
@@ -119,11 +119,11 @@ module _ {R A G : Type 0} {chain : R → Key → List (ℕ × ℤ)} {settled : R
         left = λ u h. ap (left_along before.procedures) (progress_at-changed t u change before.live h);
       }
 
-      -- t's course is the changed one
+      -- t's progress is the changed one
       pub own_progress_is : progress_at (changed t change before.live) t ≡ change (progress_at before.live t)
       own_progress_is = progress_at-own t change before.live ((kept.sound.listed t).0 live_t)
 
-      -- what holds at every moment holds afterwards, where it does of what is held and of t's course
+      -- what holds at every moment holds afterwards, where it does of the state and of t's progress
       pub kept_access : HasUsed before.procedures (change (progress_at before.live t)) → Sound before.limits.live (state_of chain settled list nodes pairs after_access) → IsKept chain settled list nodes pairs after_access
       kept_access used sound = record {
         in_range = kept.in_range;

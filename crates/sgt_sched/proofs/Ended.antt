@@ -1,4 +1,4 @@
--- What an end does to what is held: a transaction leaves each layer, with a fate.
+-- What an end does to the state: a transaction leaves each layer, with a fate.
 use Rattle.std.proofs.Common.{◌≡◌, ℕ, ℤ, ◌<◌, ◌≤◌, Bool, true, false, not, ◌&&◌, cond, nat_eq, inl, inr, List, [], ◌∷◌, length, Option, Some, None, refl, sym, ap, ◌∙◌, subst, slice_set}
 use Rattle.std.proofs.lemmas.List.{length-set}
 use Rattle.std.proofs.lemmas.Bool.{and_parts, and_from, true≢false}
@@ -68,7 +68,7 @@ module _ {R A G : Type 0} {chain : R → Key → List (ℕ × ℤ)} {settled : R
   pub fates_end : (u : ℕ) → fate_at after_end.fates u ≡ cond (nat_eq t u) (Some f) (fate_at before.fates u)
   fates_end u = fate_at-set before.fates t u f begun
 
-  -- what is held loses t
+  -- the state loses t
   pub removes : Removes (λ u. nat_eq t u) (state_of chain settled list nodes pairs before) (state_of chain settled list nodes pairs after_end)
   removes = record {
     live = numbers-without t before.live;
@@ -136,7 +136,7 @@ module _ {R A G : Type 0} {chain : R → Key → List (ℕ × ℤ)} {settled : R
     pub kept_after : IsKept chain settled list nodes pairs after_parts
     kept_after = subst (IsKept chain settled list nodes pairs) is_after kept_end
 
-    -- what is held loses t, from what callers saw
+    -- the state loses t, from what callers saw
     pub removes_seen : Removes (λ u. nat_eq t u) (state_of chain settled list nodes pairs now) (state_of chain settled list nodes pairs after_parts)
     removes_seen =
         subst (λ (p : SchedulerView R A G). Removes (λ u. nat_eq t u) (state_of chain settled list nodes pairs p) (state_of chain settled list nodes pairs after_parts)) seen

@@ -1,4 +1,4 @@
--- What a start does to what is held.
+-- What a start does to the state.
 use Rattle.std.proofs.Common.{◌≡◌, ℕ, zero, suc, ℤ, ◌<◌, arith, Bool, true, false, ◌||◌, inl, inr, nat_eq, List, [], ◌∷◌, ◌++◌, length, Option, None, refl, sym, ap, ◌∙◌, subst}
 use Rattle.std.specs.Prelude.{slice_get}
 use Rattle.std.proofs.lemmas.List.{length-append, length-map}
@@ -54,7 +54,7 @@ module _ {R A G : Type 0} {chain : R → Key → List (ℕ × ℤ)} {settled : R
   not_live : Member (length before.fates) (numbers before.live) → ⊥
   not_live m = next_no_node before.limits.live (state_of chain settled list nodes pairs before) kept.sound ((kept.sound.listed (length before.fates)).1 m)
 
-  -- what is held starts it
+  -- the state starts it
   pub starts : Starts (left_if (slice_get before.procedures procedure) args) (state_of chain settled list nodes pairs before) (state_of chain settled list nodes pairs after_start)
   starts = record {
     live = numbers-added before.live (length before.fates) (started procedure args);

@@ -43,8 +43,8 @@ use std::marker::Model;
 /// A scheduler of transactions by serialization graph testing, over records, a list of accesses and a graph that it knows
 /// by their contracts alone.
 ///
-/// A step looks at one key or stores one. Each other live transaction that has touched the key, where one of the two
-/// touches stores, has to commit first: a pair leads from it to the one that steps. Where these pairs would close a cycle,
+/// A step looks at one key or stores one. Each other live transaction that has accessed the key, where one of the two
+/// accesses stores, has to commit first: a pair leads from it to the one that steps. Where these pairs would close a cycle,
 /// the step is refused and its transaction aborts (Bernstein, Hadzilacos and Goodman 1987, chapter 4). A look finds the
 /// last value that is not undone, committed or not; an abort takes out the transaction's own values, and takes along those
 /// that have read from it (chapter 2). A commit waits for the transaction's live predecessors, so commit order agrees with
