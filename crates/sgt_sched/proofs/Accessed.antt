@@ -119,11 +119,11 @@ module _ {R A G : Type 0} {chain : R → Key → List (ℕ × ℤ)} {settled : R
         progress = λ u h. progress_at-changed t u change before.live h;
       }
 
-      -- t's course is the changed one
+      -- t's progress is the changed one
       pub own_progress_is : progress_at (changed t change before.live) t ≡ change (progress_at before.live t)
       own_progress_is = progress_at-own t change before.live ((kept.sound.listed t).0 live_t)
 
-      -- what holds at every moment holds afterwards, where it does of what is held and of t's course
+      -- what holds at every moment holds afterwards, where it does of what is held and of t's progress
       pub kept_access : HasUsed before.procedures (change (progress_at before.live t)) → Sound before.limits.live (state_of chain settled list nodes pairs after_access) → IsKept chain settled list nodes pairs after_access
       kept_access used sound = record {
         in_range = kept.in_range;

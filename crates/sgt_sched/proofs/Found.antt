@@ -11,7 +11,7 @@ use Rattle.sgt_sched.specs.LiveList.{numbers, has_number, progress_at}
 use Rattle.sgt_sched.specs.SchedulerView.{SchedulerView, fate_at, HasUsed, IsKept, state_of}
 use Rattle.sgt_sched.specs.Steps.{IsUnended}
 
--- one that is found has that number, and its course
+-- one that is found has that number, and its progress
 pub found_member : (live : List (ℕ × Progress)) (t : ℕ) (r : ℕ × Progress) → find (has_number t) live ≡ Some r → Member t (numbers live) × (r ≡ (t, progress_at live t))
 found_member [] t r e = absurd (cc)
 found_member (q ∷ rest) t r e = both (nat_eq q.0 t) refl (found_member rest t r) where

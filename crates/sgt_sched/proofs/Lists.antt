@@ -1,4 +1,4 @@
--- Courses, fates and reads, as one of them is added, changed or dropped.
+-- Progress, fates and reads, as one of them is added, changed or dropped.
 use Rattle.std.proofs.Common.{◌≡◌, ◌≢◌, ℕ, zero, suc, ◌<◌, ◌≤◌, lt_trans, arith, Bool, true, false, not, cond, ◌⊎◌, inl, inr, nat_eq, List, [], ◌∷◌, ◌++◌, length, filter, Option, Some, None, refl, sym, ap, ◌∙◌, slice_set}
 use Rattle.std.proofs.lemmas.Bool.{false_from_ne_true, eqb-true, eqb-false, eq-eqb}
 use Rattle.sgt_model.specs.declared.reply.Fate.{Fate}
@@ -20,14 +20,14 @@ nat_eq-swap t u = both (nat_eq t u) refl where
   both true e = e ∙ sym (eq-eqb u t (sym (eqb-true t u e)))
   both false e = e ∙ sym (other u t (λ h. eqb-false t u e (sym h)))
 
--- a course that is added, as the last
+-- progress that is added, as the last
 
 -- one more at the end
 pub numbers-added : (live : List (ℕ × Progress)) (t : ℕ) (c : Progress) → numbers (live ++ (t, c) ∷ []) ≡ numbers live ++ t ∷ []
 numbers-added [] t c = refl
 numbers-added (r ∷ rest) t c = ap (λ l. r.0 ∷ l) (numbers-added rest t c)
 
--- the others keep their courses
+-- the others keep their progress
 pub progress_at-added : (live : List (ℕ × Progress)) (t u : ℕ) (c : Progress) → u ≢ t → progress_at (live ++ (t, c) ∷ []) u ≡ progress_at live u
 progress_at-added [] t u c h = ap (λ b. cond b c (progress_at [] u)) (other t u (λ e. h (sym e)))
 progress_at-added (r ∷ rest) t u c h = ap (λ d. cond (nat_eq r.0 u) r.1 d) (progress_at-added rest t u c h)
@@ -37,7 +37,7 @@ pub progress_at-new : (live : List (ℕ × Progress)) (t : ℕ) (c : Progress) �
 progress_at-new [] t c h = ap (λ b. cond b c (progress_at [] t)) (eq-eqb t t refl)
 progress_at-new (r ∷ rest) t c h = ap (λ b. cond b r.1 (progress_at (rest ++ (t, c) ∷ []) t)) (other r.0 t (λ e. h (inl (sym e)))) ∙ progress_at-new rest t c (λ m. h (inr m))
 
--- a course that is changed
+-- progress that is changed
 
 -- a change keeps the numbers
 pub numbers-changed : (t : ℕ) (f : Progress → Progress) (live : List (ℕ × Progress)) → numbers (changed t f live) ≡ numbers live
@@ -47,7 +47,7 @@ numbers-changed t f (r ∷ rest) = both (nat_eq r.0 t) refl (numbers-changed t f
   both true e h = rw e refl
   both false e h = rw e (ap (λ l. r.0 ∷ l) h)
 
--- and the courses of the others
+-- and the progress of the others
 pub progress_at-changed : (t u : ℕ) (f : Progress → Progress) (live : List (ℕ × Progress)) → u ≢ t → progress_at (changed t f live) u ≡ progress_at live u
 progress_at-changed t u f [] h = refl
 progress_at-changed t u f (r ∷ rest) h = both (nat_eq r.0 t) refl (progress_at-changed t u f rest h) where
@@ -57,7 +57,7 @@ progress_at-changed t u f (r ∷ rest) h = both (nat_eq r.0 t) refl (progress_at
       ap (λ b. progress_at (cond b ((r.0, f r.1) ∷ rest) (r ∷ changed t f rest)) u) e ∙ (ap (λ b. cond b (f r.1) (progress_at rest u)) no ∙ sym (ap (λ b. cond b r.1 (progress_at rest u)) no))
   both false e rec = ap (λ b. progress_at (cond b ((r.0, f r.1) ∷ rest) (r ∷ changed t f rest)) u) e ∙ ap (λ c. cond (nat_eq r.0 u) r.1 c) rec
 
--- the changed one has the changed course
+-- the changed one has the changed progress
 pub progress_at-own : (t : ℕ) (f : Progress → Progress) (live : List (ℕ × Progress)) → Member t (numbers live) → progress_at (changed t f live) t ≡ f (progress_at live t)
 progress_at-own t f [] m = absurd m
 progress_at-own t f (r ∷ rest) m = both (nat_eq r.0 t) refl (progress_at-own t f rest) where
@@ -68,7 +68,7 @@ progress_at-own t f (r ∷ rest) m = both (nat_eq r.0 t) refl (progress_at-own t
     later (inl h) = absurd (eqb-false r.0 t e (sym h))
     later (inr h) = h
 
--- a course that is dropped
+-- progress that is dropped
 
 -- dropping one drops its number
 pub numbers-without : (t : ℕ) (live : List (ℕ × Progress)) → numbers (without t live) ≡ filter (λ u. not (nat_eq t u)) (numbers live)
@@ -78,7 +78,7 @@ numbers-without t (r ∷ rest) = ap (λ b. numbers (cond (not b) (r ∷ without 
   both true h = h
   both false h = ap (λ l. r.0 ∷ l) h
 
--- and keeps the courses of the others
+-- and keeps the progress of the others
 pub progress_at-without : (t u : ℕ) (live : List (ℕ × Progress)) → nat_eq t u ≡ false → progress_at (without t live) u ≡ progress_at live u
 progress_at-without t u [] h = refl
 progress_at-without t u (r ∷ rest) h = both (nat_eq r.0 t) refl (progress_at-without t u rest h) where

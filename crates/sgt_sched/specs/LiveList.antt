@@ -10,7 +10,7 @@ numbers live = map (λ (r : ℕ × Progress). r.0) live
 abbrev pub has_number : ℕ → ℕ × Progress → Bool
 has_number t r = nat_eq r.0 t
 
--- the course of a procedure that was just started
+-- the progress of a procedure that was just started
 abbrev pub started : ℕ → List ℤ → Progress
 started procedure args = record { call = record { procedure = procedure; args = args }; read = []; made = 0 }
 
@@ -27,7 +27,7 @@ looked value c = record { call = c.call; read = c.read ++ value ∷ []; made = c
 abbrev pub stored : Progress → Progress
 stored c = record { call = c.call; read = c.read; made = c.made + 1 }
 
--- t's course is changed
+-- t's progress is changed
 abbrev pub changed : ℕ → (Progress → Progress) → List (ℕ × Progress) → List (ℕ × Progress)
 changed t change [] = []
 changed t change (r ∷ rest) = cond (nat_eq r.0 t) ((r.0, change r.1) ∷ rest) (r ∷ changed t change rest)
