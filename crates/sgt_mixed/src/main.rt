@@ -98,6 +98,14 @@ fn apply_all(engine: &mut ListEngine) -> Result<(), NoMemory> {
     Ok(())
 }
 
+/// Quits those who are live, which takes no memory. Who falls before its turn is over then.
+fn quit_all(engine: &mut ListEngine) {
+    let live = engine.sched().live();
+    for t in live.as_slice() {
+        let _ = engine.apply(Event::Quit(*t));
+    }
+}
+
 /// Tells what the history has.
 fn tell<R: AllocGlobal + Print>(rt: &R, history: &[Entry]) -> io::Result<()> {
     let counts = Counts::of(history);
@@ -143,5 +151,7 @@ fn main(rt: HostRuntime) -> io::Result<()> {
     }
     tell(&rt, engine.history())?;
     println!(rt; "live at the end {}", engine.sched().live().len())?;
+    quit_all(&mut engine);
+    println!(rt; "live when all have quit {}", engine.sched().live().len())?;
     println!(rt; "committed total {}", total(&engine))
 }
