@@ -124,7 +124,6 @@ module _ {R A G : Type 0} {chain : R → Key → List (ℕ × ℤ)} {settled : R
       own_progress_is = progress_at-own t change before.live ((kept.sound.listed t).0 live_t)
 
       -- what holds at every moment holds afterwards, where it does of the state and of t's progress
-      -- what holds at every moment holds afterwards, where it does of what is held and of t's progress
       pub kept_access : HasUsed before.procedures (change (progress_at before.live t)) → Sound before.limits.live (state_of chain settled list nodes pairs after_access) → IsKept chain settled list nodes pairs after_access
       kept_access used sound = record {
         in_range = kept.in_range;
