@@ -1,9 +1,9 @@
-//! Runs scripts as the gate does, and compares: each `NAME.jsonl` has to write what the file `NAME.out` beside it holds. They
-//! are the examples at the top of the repository, worked rows in `data/rows`, and scripts that end in a fault in `data/faults`.
+//! Runs scripts as the gate does, and compares: each `NAME.jsonl` has to write what the file `NAME.out` beside it holds. Below
+//! `data` stand the examples, worked rows, and scripts that end in a fault.
 //!
 //! It tells of each script whether it does, and the fault that it ends in. What it has to tell stands in `stdout`, so a
-//! script that is new, gone or wrong stops the gate. The gate runs it within a copy of `data`, where a link leads to the
-//! examples; of links the toolchain admits those alone whose name begins so.
+//! script that is new, gone or wrong stops the gate. The gate runs it within a copy of `data` and lets it see nothing else, so
+//! the examples at the top of the repository stand there once more; `.ci/run` compares the two.
 #![tactic(auto)]
 
 use sgt_script::{Reader, Writer, run_script};
@@ -12,20 +12,11 @@ use std::io::Print;
 use std::rt::Files;
 use std::{fs, io};
 
-/// The folders of scripts, from where the program is run, each with what it is told as.
-const FOLDERS: [(&str, &str); 3] = [
-    ("bazel-examples", "examples"),
-    ("faults", "faults"),
-    ("rows", "rows"),
-];
+/// The folders of scripts, from where the program is run.
+const FOLDERS: [&str; 3] = ["examples", "faults", "rows"];
 
 /// Runs a script of a folder, and tells what that shows.
-fn compare<R: Files + AllocGlobal + Print>(
-    rt: &R,
-    folder: &str,
-    told: &str,
-    name: &str,
-) -> io::Result<()> {
+fn compare<R: Files + AllocGlobal + Print>(rt: &R, folder: &str, name: &str) -> io::Result<()> {
     let alloc = rt.alloc();
     let script = fs::read(rt, format!(in alloc; "{folder}/{name}.jsonl")?)?;
     let wanted = fs::read(rt, format!(in alloc; "{folder}/{name}.out")?)?;
@@ -39,8 +30,8 @@ fn compare<R: Files + AllocGlobal + Print>(
         "differs"
     };
     match ended {
-        Ok(()) => println!(rt; "{told}/{name}: {verdict}"),
-        Err(fault) => println!(rt; "{told}/{name}: {verdict}, {fault}"),
+        Ok(()) => println!(rt; "{folder}/{name}: {verdict}"),
+        Err(fault) => println!(rt; "{folder}/{name}: {verdict}, {fault}"),
     }
 }
 
@@ -62,9 +53,9 @@ fn scripts_of<R: Files + AllocGlobal + Clone + Drop>(
 }
 
 fn main(rt: HostRuntime) -> io::Result<()> {
-    for (folder, told) in FOLDERS {
+    for folder in FOLDERS {
         for name in &scripts_of(&rt, folder)? {
-            compare(&rt, folder, told, name.as_str())?;
+            compare(&rt, folder, name.as_str())?;
         }
     }
     Ok(())
