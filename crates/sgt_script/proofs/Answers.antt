@@ -52,7 +52,7 @@ abbrev pub Output : Setting → Option Cut → Option (List ℕ) → Option (Lis
 Output s known held held' end = IfSome known (λ c. (run : RunHistory) × (run.setting ≡ s) × (out : List ℕ) × Appends held held' out × RunOutput run c.given c.ending out end)
 
 -- a run whose lines are all answered, with what it wrote
-pub output-all : (s : Setting) (n : ℕ) (known : Option Cut) (past : List Entry) (end : End) (last : List ℕ) (held held' : Option (List ℕ)) → n ≡ 2 → Legal s past → AllAnswered n known past end → Closing s past end last → Appends held held' (replies past ++ last) → Output s known held held' end
+pub output-all : (s : Setting) (n : ℕ) (known : Option Cut) (past : List Entry) (end : End) (last : List ℕ) (held held' : Option (List ℕ)) → n ≡ 2 → Legal s past → AllAnswered n known past end → Closing (settled s.opening past) end last → Appends held held' (replies past ++ last) → Output s known held held' end
 output-all s n None past end last held held' second legal all closing written = tt
 output-all s n (Some c) past end last held held' second legal all closing written = (
   record { setting = s; past = past },

@@ -5,4 +5,4 @@ pub mod Cuts
 pub mod Given
 pub mod Answers
 pub mod Runs
-pub mod BankRuns
+pub mod RunLaws

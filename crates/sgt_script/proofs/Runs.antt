@@ -1,5 +1,5 @@
 -- Laws of a script's run from its first line.
-use Rattle.std.proofs.Common.{◌≡◌, ◌≢◌, ℕ, List, [], ◌∷◌, refl, ap, sym, ◌∙◌, append-nil, subst}
+use Rattle.std.proofs.Common.{◌≡◌, ◌≢◌, ℕ, List, [], refl, ap, sym, ◌∙◌, append-nil, subst}
 use Rattle.std.specs.Prelude.{Option, None, Some, IfSome}
 use Rattle.std.specs.Io.KnownBytes.{Appends}
 use Rattle.sgt_model.specs.Syntax.{Program}
@@ -10,11 +10,8 @@ use Rattle.sgt_format.specs.declared.errors.OpeningError.{OpeningError}
 use Rattle.sgt_format.specs.declared.errors.OpeningError.TheVariants as opening_error
 use Rattle.sgt_script.specs.Lines.{Cut, Ending, cut}
 use Rattle.sgt_script.specs.Intake.{Intake, before_input, cut_left, Gives, EndsAs, Explains}
-use Rattle.sgt_script.specs.Scripts.{RunHistory, End, HeadlineOf, Script, ScriptOf, RunOutput, no_opening, fault_of_opening, opened_setting, IsExact}
+use Rattle.sgt_script.specs.Scripts.{RunHistory, End, Script, ScriptOf, RunOutput, no_opening, fault_of_opening, opened_setting, IsExact}
 use Rattle.sgt_script.proofs.Answers.{Output}
-use Rattle.sgt_model.specs.declared.entry.Entry.{Entry}
-use Rattle.sgt_model.specs.Legality.{Legal}
-use Rattle.sgt_model.specs.Headline.{Headline}
 use Rattle.sgt_script.specs.declared.fault.Fault.{Fault}
 use Rattle.sgt_script.specs.declared.fault.Fault.TheVariants as fault
 use Rattle.sgt_script.specs.Lines.{AtLongLine, AtLimit}
@@ -82,14 +79,3 @@ wrote-fault programs i rest held (fault.ProcFlaw n k) start explained exact = ab
 pub wrote-no-line : (programs : List Program) (i : Intake) (rest held : Option (List ℕ)) (f : Fault) (r : End) → i ≡ before_input → r ≡ Err f → Explains f i.number (cut_left i rest) → IsExact r → Wrote programs rest held held r
 wrote-no-line programs i rest held f r start is explained exact =
     subst (Wrote programs rest held held) (sym is) (wrote-fault programs i rest held f start explained (subst IsExact is exact))
-
--- of every execution of a script the headline holds
-headline-of : ((s : Setting) (past : List Entry) → Legal s past → Headline s past) → (programs : List Program) (ls : List (List ℕ)) (ending : Ending) (run : Option RunHistory) (out : List ℕ) (r : End) → ScriptOf programs ls ending run out r → HeadlineOf run
-headline-of law programs ls ending None out r script = tt
-headline-of law programs [] ending (Some run) out r script = absurd script
-headline-of law programs (line ∷ later) ending (Some run) out r script = law run.setting run.past script.output.legal
-
--- what a run wrote, with the headline beside it
-pub with-headline : ((s : Setting) (past : List Entry) → Legal s past → Headline s past) → (programs : List Program) (rest held held' : Option (List ℕ)) (r : End) → Wrote programs rest held held' r → IfSome rest (λ bytes. (run : Option RunHistory) × (out : List ℕ) × Appends held held' out × Script programs bytes run out r × HeadlineOf run)
-with-headline law programs None held held' r wrote = tt
-with-headline law programs (Some bytes) held held' r (run, out, appended, script) = (run, out, appended, script, headline-of law programs (cut bytes).given (cut bytes).ending run out r script)

@@ -1,13 +1,11 @@
 -- What the run of a script writes, and how it ends.
-use Rattle.std.specs.Prelude.{◌≡◌, ◌≢◌, ℕ, ◌+◌, ⊤, List, [], ◌∷◌, ◌++◌, Option, None, Some, IfSome, Result, Ok, Err}
+use Rattle.std.specs.Prelude.{◌≡◌, ◌≢◌, ℕ, ◌+◌, ⊤, List, [], ◌∷◌, ◌++◌, Option, None, Some, Result, Ok, Err}
 use Rattle.sgt_model.specs.declared.event.Event.{Event}
 use Rattle.sgt_model.specs.declared.entry.Entry.{Entry}
-use Rattle.sgt_model.specs.Contents.{Key}
+use Rattle.sgt_model.specs.Contents.{Key, Contents}
 use Rattle.sgt_model.specs.Databases.{Row, IsByKey, contents_of}
 use Rattle.sgt_model.specs.Syntax.{Program}
 use Rattle.sgt_model.specs.Settings.{Setting, setting}
-use Rattle.sgt_model.specs.Replay.{committed_runs}
-use Rattle.sgt_model.specs.Headline.{Headline}
 use Rattle.sgt_model.specs.Legality.{Legal}
 use Rattle.sgt_model.specs.Values.{settled}
 use Rattle.sgt_model.specs.Histories.{events_of}
@@ -15,7 +13,6 @@ use Rattle.sgt_format.specs.EventLines.{event_of}
 use Rattle.sgt_format.specs.Openings.{Opens, Refuses}
 use Rattle.sgt_proc.specs.Flaws.{number}
 use Rattle.sgt_smallbank.specs.Accounts.{number_of}
-use Rattle.sgt_smallbank.specs.Replays.{RunsAgreeWithBank}
 use Rattle.sgt_format.specs.ReplyText.{text}
 use Rattle.sgt_format.specs.DatabaseText.{database_text}
 use Rattle.sgt_format.specs.declared.opening.Opening.{Opening}
@@ -68,10 +65,10 @@ abbrev pub replies : List Entry → List ℕ
 replies [] = []
 replies (e ∷ past) = replies past ++ text e.reply
 
--- what stands behind the replies: the committed database where the run ends well, and nothing at a fault
-abbrev pub Closing : Setting → List Entry → End → List ℕ → Type 0
-Closing s past (Ok _) last = (rows : List Row) × IsByKey rows × ((k : Key) → contents_of rows k ≡ settled s.opening past k) × (last ≡ database_text rows)
-Closing s past (Err fault) last = last ≡ []
+-- what stands behind the replies: the database of these contents where the run ends well, and nothing at a fault
+abbrev pub Closing : Contents → End → List ℕ → Type 0
+Closing m (Ok _) last = (rows : List Row) × IsByKey rows × ((k : Key) → contents_of rows k ≡ m k) × (last ≡ database_text rows)
+Closing m (Err fault) last = last ≡ []
 
 -- the execution of a script: what it started from, and the history of the events answered
 pub record RunHistory : Type 0 where
@@ -84,7 +81,7 @@ pub record RunOutput (run : RunHistory) (later : List (List ℕ)) (ending : Endi
   pub legal : Legal run.setting run.past
   pub events_are : events_of run.past ≡ events later
   pub end_is : end ≡ end_of 2 later ending
-  pub closing : Closing run.setting run.past end last
+  pub closing : Closing (settled run.setting.opening run.past) end last
   pub text : out ≡ replies run.past ++ last
 
 -- the fault of line 1 where it is refused as an opening
@@ -135,14 +132,6 @@ ScriptOf programs (line ∷ later) ending (Some run) out end = Opened programs l
 -- what a script's run over these bytes writes, and how it ends
 abbrev pub Script : List Program → List ℕ → Option RunHistory → List ℕ → End → Type 0
 Script programs bytes run out end = ScriptOf programs (cut bytes).given (cut bytes).ending run out end
-
--- of the execution, if there is one, the headline holds
-abbrev pub HeadlineOf : Option RunHistory → Type 0
-HeadlineOf run = IfSome run (λ r. Headline r.setting r.past)
-
--- of the execution, if there is one, the committed transactions agree with the bank
-abbrev pub BankOf : Option RunHistory → Type 0
-BankOf run = IfSome run (λ r. RunsAgreeWithBank r.setting (committed_runs r.past))
 
 -- a fault of the script itself, and not of its reader, its writer or the memory
 abbrev pub IsOfScript : Fault → Type 0
