@@ -7,14 +7,14 @@ use Rattle.sgt_model.specs.Contents.{Key}
 use Rattle.sgt_model.specs.Databases.{Row, IsByKey, contents_of}
 use Rattle.sgt_model.specs.Values.{settled}
 use Rattle.sgt_format.specs.DatabaseText.{database_text}
-use Rattle.sgt_script.specs.declared.fault.Fault.{Fault}
+use Rattle.sgt_stream.specs.declared.fault.Fault.{Fault}
 use Rattle.sgt_model.specs.Legality.{Legal}
 use Rattle.sgt_model.specs.Settings.{Setting}
-use Rattle.sgt_script.specs.declared.fault.Fault.TheVariants as fault
+use Rattle.sgt_stream.specs.declared.fault.Fault.TheVariants as fault
 use Rattle.sgt_model.specs.declared.entry.Entry.{Entry}
 use Rattle.std.specs.Io.KnownBytes.{Appends}
 use Rattle.sgt_format.specs.ReplyText.{text}
-use Rattle.sgt_script.specs.Lines.{Cut}
+use Rattle.sgt_stream.specs.Lines.{Cut}
 use Rattle.sgt_script.specs.Scripts.{RunHistory, RunOutput, events, replies, End, end_of, Closing, IsExact, IsOfScript}
 use Rattle.sgt_script.specs.Answering.{Answered, AllAnswered}
 use Rattle.sgt_model.specs.Histories.{events_of}

@@ -12,7 +12,7 @@ use Rattle.sgt_smallbank.specs.Texts.{procedures}
 use Rattle.sgt_smallbank.specs.Replays.{RunsAgreeWithBank, ReplayIsBank, OpeningsHoldValues}
 use Rattle.sgt_format.specs.Openings.{Opens}
 use Rattle.sgt_format.specs.declared.opening.Opening.{Opening}
-use Rattle.sgt_script.specs.Lines.{Ending, cut}
+use Rattle.sgt_stream.specs.Lines.{Ending, cut}
 use Rattle.sgt_script.specs.Scripts.{RunHistory, End, HeadlineOf, BankOf, Script, ScriptOf}
 
 module _ (accounts : OpeningsHoldValues) (law : ReplayIsBank) where

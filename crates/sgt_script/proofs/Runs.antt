@@ -8,16 +8,16 @@ use Rattle.sgt_format.specs.Openings.{Opens, Refuses}
 use Rattle.sgt_format.specs.declared.opening.Opening.{Opening}
 use Rattle.sgt_format.specs.declared.errors.OpeningError.{OpeningError}
 use Rattle.sgt_format.specs.declared.errors.OpeningError.TheVariants as opening_error
-use Rattle.sgt_script.specs.Lines.{Cut, Ending, cut}
-use Rattle.sgt_script.specs.Intake.{Intake, before_input, cut_left, Gives, EndsAs, Explains}
+use Rattle.sgt_stream.specs.Lines.{Cut, Ending, cut}
+use Rattle.sgt_stream.specs.Intake.{Intake, before_input, cut_left, Gives, EndsAs, Explains}
 use Rattle.sgt_script.specs.Scripts.{RunHistory, End, HeadlineOf, Script, ScriptOf, RunOutput, no_opening, fault_of_opening, opened_setting, IsExact}
 use Rattle.sgt_script.proofs.Answers.{Output}
 use Rattle.sgt_model.specs.declared.entry.Entry.{Entry}
 use Rattle.sgt_model.specs.Legality.{Legal}
 use Rattle.sgt_model.specs.Headline.{Headline}
-use Rattle.sgt_script.specs.declared.fault.Fault.{Fault}
-use Rattle.sgt_script.specs.declared.fault.Fault.TheVariants as fault
-use Rattle.sgt_script.specs.Lines.{AtLongLine, AtLimit}
+use Rattle.sgt_stream.specs.declared.fault.Fault.{Fault}
+use Rattle.sgt_stream.specs.declared.fault.Fault.TheVariants as fault
+use Rattle.sgt_stream.specs.Lines.{AtLongLine, AtLimit}
 use Rattle.std.specs.Prelude.{Err, ◌+◌}
 
 -- what a run wrote over bytes that are known

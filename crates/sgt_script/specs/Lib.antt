@@ -1,5 +1,2 @@
-pub mod Lines
-pub mod Buffers
-pub mod Intake
 pub mod Scripts
 pub mod Answering

@@ -23,9 +23,9 @@ use Rattle.sgt_format.specs.declared.errors.LineError.{LineError}
 use Rattle.sgt_format.specs.declared.errors.LineError.TheVariants as line_error
 use Rattle.sgt_format.specs.declared.errors.OpeningError.{OpeningError}
 use Rattle.sgt_format.specs.declared.errors.OpeningError.TheVariants as opening_error
-use Rattle.sgt_script.specs.declared.fault.Fault.{Fault}
-use Rattle.sgt_script.specs.declared.fault.Fault.TheVariants as fault
-use Rattle.sgt_script.specs.Lines.{Ending, AtEnd, AtLongLine, AtLimit, cut}
+use Rattle.sgt_stream.specs.declared.fault.Fault.{Fault}
+use Rattle.sgt_stream.specs.declared.fault.Fault.TheVariants as fault
+use Rattle.sgt_stream.specs.Lines.{Ending, AtEnd, AtLongLine, AtLimit, cut}
 
 -- an event in front of the later ones; where a line spells none, no later line counts
 abbrev pub and_later : Result Event LineError → List Event → List Event

@@ -3,13 +3,11 @@ ghost use Rattle.std.specs.Io.KnownBytes.{Appends};
 ghost use Rattle.sgt_smallbank.specs.Texts.{procedures};
 ghost use Rattle.sgt_script.specs.Scripts.{BankOf, RunHistory, HeadlineOf, IsExact, Script};
 
-use crate::fault::Fault;
 use crate::script::run_with;
-use crate::sink::Sink;
 use crate::small_bank::SmallBankEngine;
-use crate::source::Source;
 use sgt_model::headline_holds;
 use sgt_smallbank::replay_is_bank;
+use sgt_stream::{Fault, Sink, Source};
 use std::alloc::Global;
 
 /// Runs a script on the program's engine: line 1 opens, each later line is an event and is answered, and the committed

@@ -5,21 +5,18 @@ ghost use Rattle.sgt_model.specs.Legality.{Legal};
 ghost use Rattle.sgt_format.specs.ReplyText.{text};
 ghost use Rattle.sgt_format.specs.EventLines.{event_of};
 ghost use Rattle.sgt_format.specs.declared.errors.LineError.{LineError};
-ghost use Rattle.sgt_script.specs.Intake.{come, cut_left, has_whole_line};
+ghost use Rattle.sgt_stream.specs.Intake.{come, cut_left, has_whole_line};
 ghost use Rattle.sgt_script.specs.Scripts.{RunHistory, IsOfScript, IsExact, RunOutput, Script, fault_in, fault_of_opening, replies};
 ghost use Rattle.sgt_script.specs.Answering.{Answered, NoEvent, AllAnswered};
 ghost use Rattle.sgt_format.specs.Openings.{Opens, Refuses};
 ghost use Rattle.sgt_format.specs.declared.errors.OpeningError.{OpeningError};
 
-use crate::fault::Fault;
-use crate::lines::Lines;
 use crate::machine::Machine;
-use crate::sink::{Sink, write_all};
-use crate::source::Source;
 use sgt_format::{
     LineError, Opening, OpeningError, append_database, append_reply, read_event, read_opening,
 };
 use sgt_model::Event;
+use sgt_stream::{Fault, Lines, Sink, Source, write_all};
 use std::alloc::Global;
 
 /// The event of the line given last.
