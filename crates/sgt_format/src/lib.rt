@@ -7,7 +7,7 @@
 //! go out with it.
 //!
 //! ```
-//! let opening = read_opening(alloc, b"{\"limits\":[1,10],\"accounts\":[[1,101,500,1000]],\"procedures\":[]}")?;
+//! let opening = read_opening(alloc, 1, b"{\"limits\":[1,10],\"accounts\":[[1,101,500,1000]],\"procedures\":[]}")?;
 //! let event = read_event(alloc, b"[\"start\",0,[1]]")?;
 //! append_reply(&mut lines, &Reply::Started(Tid(0)))?; // adds "started 0\n"
 //! append_database(&mut lines, &opening.database)?; // adds "0/1 101\n1/101 500\n2/101 1000\n"

@@ -13,10 +13,11 @@ use Rattle.sgt_smallbank.specs.Replays.{RunsAgreeWithBank, ReplayIsBank, Opening
 use Rattle.sgt_format.specs.Openings.{Opens}
 use Rattle.sgt_format.specs.declared.opening.Opening.{Opening}
 use Rattle.sgt_stream.specs.Lines.{Ending, cut}
-use Rattle.sgt_script.specs.Scripts.{RunHistory, End, HeadlineOf, BankOf, Script, ScriptOf}
+use Rattle.sgt_stream.specs.Ends.{End}
+use Rattle.sgt_script.specs.Scripts.{RunHistory, HeadlineOf, BankOf, Script, ScriptOf}
 
 module _ (accounts : OpeningsHoldValues) (law : ReplayIsBank) where
-  opening-holds : (line : List ℕ) (opening : Opening) → Opens line opening → HoldValues (contents_of opening.database)
+  opening-holds : (line : List ℕ) (opening : Opening) → Opens 1 line opening → HoldValues (contents_of opening.database)
   opening-holds line opening o k = subst (λ v. IfSome v IsValue) (sym (o.opens.contents k)) (accounts o.sheet.accounts o.opens.no_fault k)
 
   bank-of : (ls : List (List ℕ)) (ending : Ending) (run : Option RunHistory) (out : List ℕ) (r : End) → ScriptOf procedures ls ending run out r → BankOf run

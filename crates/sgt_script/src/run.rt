@@ -1,7 +1,8 @@
 ghost use Rattle.std.specs.Prelude.{◌≡◌, ◌≢◌, ℕ, List, Option, IfSome, Err, ◌+◌, ◌^◌, ◌<◌, ◌≤◌};
 ghost use Rattle.std.specs.Io.KnownBytes.{Appends};
 ghost use Rattle.sgt_smallbank.specs.Texts.{procedures};
-ghost use Rattle.sgt_script.specs.Scripts.{BankOf, RunHistory, HeadlineOf, IsExact, Script};
+ghost use Rattle.sgt_stream.specs.Ends.{IsExact};
+ghost use Rattle.sgt_script.specs.Scripts.{BankOf, RunHistory, HeadlineOf, Script};
 
 use crate::script::run_with;
 use crate::small_bank::SmallBankEngine;

@@ -4,7 +4,8 @@
 //! A reader is a [`Source`] and a writer a [`Sink`], two small traits with bodies over any `Read` and `Write`, that count
 //! their failed calls; a source counts the bytes that it gives, too. [`Lines`] cuts what a source gives into lines within the
 //! limits, and keeps a piece of fixed size, however long the input is. `specs/Lines.antt` says what the lines of a text are.
-//! It knows no JSON: what a line spells is said elsewhere.
+//! [`opening_of`]
+//! takes a line as the opening of a run. What a line spells is said in `sgt_format`.
 //!
 //! ```
 //! let mut source = Reader::new(rt.reader());
@@ -18,10 +19,12 @@
 mod buffer;
 mod fault;
 mod lines;
+mod opening;
 mod sink;
 mod source;
 
 pub use fault::Fault;
 pub use lines::Lines;
+pub use opening::opening_of;
 pub use sink::{Sink, Writer, write_all};
 pub use source::{Failed, Reader, Source};
