@@ -1,6 +1,6 @@
-//! The formats of `sgt`, both ways. A line of JSON becomes an event or an opening, and a reply or a database becomes its
-//! text. What a line means and which text a reply has stand in `specs/`: `ReplyText`, `DatabaseText`, `EventLines` and
-//! `Openings`, over `Decimals`, `Trees` and `Procedures`. The contracts give exactly these, and each error exactly where it
+//! The formats of `sgt`, both ways. A line of JSON becomes an opening, an event or a job, and a reply or a database becomes its
+//! text. What a line means and which text a reply has stand in `specs/`: `ReplyText`, `DatabaseText`, `EventLines`,
+//! `JobLines` and `Openings`, over `Decimals`, `Trees` and `Procedures`. The contracts give exactly these, and each error exactly where it
 //! applies.
 //!
 //! It knows nothing of how lines are cut from a stream, nor of how an engine runs. Lines come in without their byte 10, and
@@ -14,18 +14,22 @@
 //! ```
 #![tactic(auto)]
 
+mod call;
 mod database_text;
 mod decimal_text;
 mod errors;
 mod event_line;
+mod job_line;
 mod opening;
 mod procedures;
 mod reply_text;
 mod sheet;
 mod tree;
 
+pub use call::JobCall;
 pub use database_text::append_database;
 pub use errors::{LineError, OpeningError};
 pub use event_line::read_event;
+pub use job_line::read_job;
 pub use opening::{Opening, read_opening};
 pub use reply_text::{append_reply, reply_line};
