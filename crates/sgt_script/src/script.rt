@@ -4,29 +4,27 @@ ghost use Rattle.sgt_model.specs.declared.entry.Entry.{Entry};
 ghost use Rattle.sgt_model.specs.Legality.{Legal};
 ghost use Rattle.sgt_format.specs.ReplyText.{text};
 ghost use Rattle.sgt_format.specs.EventLines.{event_of};
-ghost use Rattle.sgt_format.specs.declared.errors.LineError.{LineError};
+ghost use Rattle.sgt_format.specs.declared.errors.LineError.{LineError as E};
 ghost use Rattle.sgt_stream.specs.Intake.{come, cut_left, has_whole_line};
 ghost use Rattle.sgt_stream.specs.Ends.{IsOfInput, IsExact, fault_in};
 ghost use Rattle.sgt_script.specs.Scripts.{RunHistory, RunOutput, Script, replies};
 ghost use Rattle.sgt_script.specs.Answering.{Answered, NoEvent, AllAnswered};
 
 use crate::machine::Machine;
-use sgt_format::{LineError, append_database, append_reply, read_event};
+use sgt_format::{append_database, append_reply, read_event};
 use sgt_model::Event;
-use sgt_stream::{Fault, Lines, Sink, Source, opening_of, write_all};
+use sgt_stream::{Fault, Lines, Sink, Source, line_fault, opening_of, write_all};
 use std::alloc::Global;
 
 /// The event of the line given last.
 fn event_of(alloc: Global, lines: &Lines) -> Result<Event, Fault>
     ensures event { IfOk result (λ e. event_of lines.now.line ≡ Ok e) }
     ensures fault { IfErr result (λ f. f ≢ Fault.NoMemory →
-        (e : LineError) × (event_of lines.now.line ≡ Err e) × (f ≡ fault_in lines.now.number e)) }
+        (e : E) × (event_of lines.now.line ≡ Err e) × (f ≡ fault_in lines.now.number e)) }
 {
     match read_event(alloc, lines.line()) {
         Ok(event) => Ok(event),
-        Err(LineError::NotJson) => Err(Fault::NotJson(lines.number())),
-        Err(LineError::BadLine) => Err(Fault::BadLine(lines.number())),
-        Err(LineError::NoMemory) => Err(Fault::NoMemory),
+        Err(error) => Err(line_fault(lines.number(), error)),
     }
 }
 

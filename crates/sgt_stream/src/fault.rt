@@ -34,6 +34,15 @@ pub enum Fault {
     /// The input is longer than 16,777,216 bytes.
     #[error("input too long")]
     TooLong,
+    /// There are more than 1,000,000 jobs.
+    #[error("too many jobs")]
+    TooManyJobs,
+    /// A thread could not be started for each worker.
+    #[error("workers not started")]
+    Spawn,
+    /// What the workers were told is not what the history says.
+    #[error("receipts differ")]
+    Mismatch,
     /// A read failed.
     #[error("reading failed")]
     Reading,

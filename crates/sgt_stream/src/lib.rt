@@ -18,12 +18,14 @@
 
 mod buffer;
 mod fault;
+mod line_errors;
 mod lines;
 mod opening;
 mod sink;
 mod source;
 
 pub use fault::Fault;
+pub use line_errors::line_fault;
 pub use lines::Lines;
 pub use opening::opening_of;
 pub use sink::{Sink, Writer, write_all};
