@@ -19,8 +19,9 @@ use Rattle.sgt_smallbank.specs.Replays.{CommitsAreBank, ReplayIsBank, OpeningsHo
 use Rattle.sgt_format.specs.Openings.{Opens}
 use Rattle.sgt_format.specs.ReplyText.{text}
 use Rattle.sgt_format.specs.declared.opening.Opening.{Opening}
-use Rattle.sgt_script.specs.Lines.{Ending, cut}
-use Rattle.sgt_script.specs.Scripts.{RunHistory, End, Closing, RunOutput, Script, ScriptOf, replies}
+use Rattle.sgt_stream.specs.Lines.{Ending, cut}
+use Rattle.sgt_stream.specs.Ends.{End}
+use Rattle.sgt_script.specs.Scripts.{RunHistory, Closing, RunOutput, Script, ScriptOf, replies}
 use Rattle.sgt_script.specs.RunLaws.{line_telling, results_left, replies_telling, IsSerialText, RunLaws}
 
 -- one more reply, which tells what it tells
@@ -46,7 +47,7 @@ serial-text run later ending out end output replay = record {
 }
 
 module _ (headline : HeadlineHolds) (accounts : OpeningsHoldValues) (bank : ReplayIsBank) where
-  opening-holds : (line : List ℕ) (opening : Opening) → Opens line opening → HoldValues (contents_of opening.database)
+  opening-holds : (line : List ℕ) (opening : Opening) → Opens 1 line opening → HoldValues (contents_of opening.database)
   opening-holds line opening o k = subst (λ v. IfSome v IsValue) (sym (o.opens.contents k)) (accounts o.sheet.accounts o.opens.no_fault k)
 
   run-laws : (ls : List (List ℕ)) (ending : Ending) (run : Option RunHistory) (out : List ℕ) (end : End) → ScriptOf procedures ls ending run out end → IfSome run (λ r. RunLaws r out end)

@@ -8,13 +8,14 @@ use Rattle.sgt_format.specs.Openings.{Opens, Refuses}
 use Rattle.sgt_format.specs.declared.opening.Opening.{Opening}
 use Rattle.sgt_format.specs.declared.errors.OpeningError.{OpeningError}
 use Rattle.sgt_format.specs.declared.errors.OpeningError.TheVariants as opening_error
-use Rattle.sgt_script.specs.Lines.{Cut, Ending, cut}
-use Rattle.sgt_script.specs.Intake.{Intake, before_input, cut_left, Gives, EndsAs, Explains}
-use Rattle.sgt_script.specs.Scripts.{RunHistory, End, Script, ScriptOf, RunOutput, no_opening, fault_of_opening, opened_setting, IsExact}
+use Rattle.sgt_stream.specs.Lines.{Cut, Ending, cut}
+use Rattle.sgt_stream.specs.Intake.{Intake, before_input, cut_left, Gives, EndsAs, Explains}
+use Rattle.sgt_stream.specs.Ends.{End, no_opening, fault_of_opening, IsExact}
+use Rattle.sgt_script.specs.Scripts.{RunHistory, Script, ScriptOf, RunOutput, opened_setting}
 use Rattle.sgt_script.proofs.Answers.{Output}
-use Rattle.sgt_script.specs.declared.fault.Fault.{Fault}
-use Rattle.sgt_script.specs.declared.fault.Fault.TheVariants as fault
-use Rattle.sgt_script.specs.Lines.{AtLongLine, AtLimit}
+use Rattle.sgt_stream.specs.declared.fault.Fault.{Fault}
+use Rattle.sgt_stream.specs.declared.fault.Fault.TheVariants as fault
+use Rattle.sgt_stream.specs.Lines.{AtLongLine, AtLimit}
 use Rattle.std.specs.Prelude.{Err, ◌+◌}
 
 -- what a run wrote over bytes that are known
@@ -33,7 +34,7 @@ wrote-nothing programs i (Some bytes) held ending r start ends is =
     (None, [], appends-none held, subst (λ (c : Cut). ScriptOf programs c.given c.ending None [] r) (sym (subst (λ (j : Intake). EndsAs ending (cut_left j (Some bytes))) start ends)) (refl, is))
 
 -- line 1 is refused
-pub wrote-refused : (programs : List Program) (i : Intake) (rest held : Option (List ℕ)) (line : List ℕ) (new : Option Cut) (e : OpeningError) (r : End) → i ≡ before_input → Gives (cut_left i rest) line new → Refuses line e → e ≢ opening_error.NoMemory → r ≡ Err (fault_of_opening e) → Wrote programs rest held held r
+pub wrote-refused : (programs : List Program) (i : Intake) (rest held : Option (List ℕ)) (line : List ℕ) (new : Option Cut) (e : OpeningError) (r : End) → i ≡ before_input → Gives (cut_left i rest) line new → Refuses 1 line e → e ≢ opening_error.NoMemory → r ≡ Err (fault_of_opening e) → Wrote programs rest held held r
 wrote-refused programs i None held line new e r start gives refuses known is = tt
 wrote-refused programs i (Some bytes) held line None e r start gives refuses known is = absurd (subst (λ (j : Intake). Gives (cut_left j (Some bytes)) line None) start gives)
 wrote-refused programs i (Some bytes) held line (Some c) e r start gives refuses known is =
@@ -46,7 +47,7 @@ wrote-refused programs i (Some bytes) held line (Some c) e r start gives refuses
     )
 
 -- line 1 opens
-pub wrote-opened : (programs : List Program) (i : Intake) (s : Setting) (rest held held' : Option (List ℕ)) (line : List ℕ) (new : Option Cut) (o : Opening) (r : End) → i ≡ before_input → Gives (cut_left i rest) line new → Opens line o → s ≡ opened_setting programs o → Output s new held held' r → Wrote programs rest held held' r
+pub wrote-opened : (programs : List Program) (i : Intake) (s : Setting) (rest held held' : Option (List ℕ)) (line : List ℕ) (new : Option Cut) (o : Opening) (r : End) → i ≡ before_input → Gives (cut_left i rest) line new → Opens 1 line o → s ≡ opened_setting programs o → Output s new held held' r → Wrote programs rest held held' r
 wrote-opened programs i s None held held' line new o r start gives opens is output = tt
 wrote-opened programs i s (Some bytes) held held' line None o r start gives opens is output = absurd (subst (λ (j : Intake). Gives (cut_left j (Some bytes)) line None) start gives)
 wrote-opened programs i s (Some bytes) held held' line (Some c) o r start gives opens is (run, from, out, wrote, output) =

@@ -10,7 +10,8 @@ use Rattle.sgt_model.specs.Aborts.{AbortsHaveCause}
 use Rattle.sgt_model.specs.CommitOrder.{CommitsInOrder}
 use Rattle.sgt_smallbank.specs.Replays.{CommitsAreBank}
 use Rattle.sgt_format.specs.ReplyText.{text}
-use Rattle.sgt_script.specs.Scripts.{RunHistory, End, Closing}
+use Rattle.sgt_stream.specs.Ends.{End}
+use Rattle.sgt_script.specs.Scripts.{RunHistory, Closing}
 
 -- the line that tells the first of these results to a transaction that commits. A code has no such line
 abbrev pub result_line : List RunResult → List ℕ

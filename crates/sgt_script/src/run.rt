@@ -1,16 +1,15 @@
 ghost use Rattle.std.specs.Prelude.{◌≡◌, ◌≢◌, ℕ, List, Option, IfSome, Err, ◌+◌, ◌^◌, ◌<◌, ◌≤◌};
 ghost use Rattle.std.specs.Io.KnownBytes.{Appends};
 ghost use Rattle.sgt_smallbank.specs.Texts.{procedures};
+ghost use Rattle.sgt_stream.specs.Ends.{IsExact};
 ghost use Rattle.sgt_script.specs.RunLaws.{RunLaws};
-ghost use Rattle.sgt_script.specs.Scripts.{RunHistory, IsExact, Script};
+ghost use Rattle.sgt_script.specs.Scripts.{RunHistory, Script};
 
-use crate::fault::Fault;
 use crate::script::run_with;
-use crate::sink::Sink;
 use crate::small_bank::SmallBankEngine;
-use crate::source::Source;
 use sgt_model::headline_holds;
 use sgt_smallbank::replay_is_bank;
+use sgt_stream::{Fault, Sink, Source};
 use std::alloc::Global;
 
 /// Runs a script on the program's engine: line 1 opens, each later line is an event and is answered, and the committed

@@ -1,0 +1,6 @@
+//! A feed of jobs.
+#![tactic(auto)]
+
+mod job;
+
+pub use job::Job;
