@@ -1,11 +1,11 @@
 -- Keys in order, and accesses in the order of their keys.
-use Rattle.std.proofs.Common.{◌≡◌, ℕ, ◌+◌, ◌-◌, ◌<◌, ◌≤◌, Bool, true, false, ◌&&◌, nat_eq, Some, List, length, get_or, take, drop, arith, refl, sym, ap, subst, ◌∙◌, ⊎_elim}
+use Rattle.std.proofs.Common.{◌≡◌, ℕ, ◌+◌, ◌-◌, ◌≤◌, Bool, true, false, ◌&&◌, nat_eq, Some, List, length, get_or, take, drop, arith, refl, sym, ap, subst, ◌∙◌, ⊎_elim}
 use Rattle.std.specs.declared.cmp.Ordering.{Ordering}
 use Rattle.std.specs.declared.cmp.Ordering.TheVariants.{Less, Equal, Greater}
 use Rattle.std.specs.Ordering.{nat_cmp, int_cmp, int_eq, is_lt, is_le, is_some_and, ordering_reverse, ordering_index, partial_ordering_then}
 use Rattle.std.specs.Cmp.{IsTotalOrder, IsStrictWeakOrder, Some-then}
 use Rattle.std.specs.List.{insert, AllWithin}
-use Rattle.std.specs.List.Sorted.{IsPartitionedBy, IsSortedBy}
+use Rattle.std.specs.List.Sorted.{IsPartitionedBy}
 use Rattle.std.proofs.lemmas.Bool.{true≢false, cases_lt, cases_eq, and_parts, eqb-true}
 use Rattle.std.proofs.lemmas.Bool.Decides.{Decides-int_eq}
 use Rattle.std.proofs.lemmas.List.{take_all, get_or-drop, length-drop}
@@ -122,17 +122,17 @@ by_key_inserted xs i a within sorted before after k d low high =
     let long = length-insert xs i a within in
     ⊎_elim
     (λ below. ⊎_elim
-      (λ deep. rw (get_or-insert_below xs i a d (k + 1) deep within, get_or-insert_below xs i a d k below within) (sorted k d low (omega arith)))
-      (λ edge. rw (at_place (k + 1) (omega arith), get_or-insert_below xs i a d k below within) (before k d low below))
-      (cases_lt (k + 1) i))
+    (λ deep. rw (get_or-insert_below xs i a d (k + 1) deep within, get_or-insert_below xs i a d k below within) (sorted k d low (omega arith)))
+    (λ edge. rw (at_place (k + 1) (omega arith), get_or-insert_below xs i a d k below within) (before k d low below))
+    (cases_lt (k + 1) i))
     (λ from. ⊎_elim
-      (λ same. rw (get_or-insert_above xs i a d k from within, at_place k same) (access_order.one_way a (get_or xs k d) (after k d from (omega arith))))
-      (λ apart.
-      let back : (k - 1) + 1 ≡ k = omega arith in
-      let one : get_or (insert xs i a) k d ≡ get_or xs (k - 1) d = ap (λ n. get_or (insert xs i a) n d) (sym back) ∙ get_or-insert_above xs i a d (k - 1) (omega arith) within in
-      let two : get_or (insert xs i a) (k + 1) d ≡ get_or xs ((k - 1) + 1) d = get_or-insert_above xs i a d k from within ∙ ap (λ n. get_or xs n d) (sym back) in
-      rw (two, one) (sorted (k - 1) d (omega arith) (omega arith)))
-      (cases_eq k i))
+    (λ same. rw (get_or-insert_above xs i a d k from within, at_place k same) (access_order.one_way a (get_or xs k d) (after k d from (omega arith))))
+    (λ apart.
+    let back : (k - 1) + 1 ≡ k = omega arith in
+    let one : get_or (insert xs i a) k d ≡ get_or xs (k - 1) d = ap (λ n. get_or (insert xs i a) n d) (sym back) ∙ get_or-insert_above xs i a d (k - 1) (omega arith) within in
+    let two : get_or (insert xs i a) (k + 1) d ≡ get_or xs ((k - 1) + 1) d = get_or-insert_above xs i a d k from within ∙ ap (λ n. get_or xs n d) (sym back) in
+    rw (two, one) (sorted (k - 1) d (omega arith) (omega arith)))
+    (cases_eq k i))
     (cases_lt k i)
   where
     at_place : (n : ℕ) → n ≡ i → get_or (insert xs i a) n d ≡ a

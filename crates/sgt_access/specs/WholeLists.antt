@@ -6,7 +6,7 @@ use Rattle.sgt_access.specs.declared.whole_list.Calls.TheOpen.{Calls-F}
 
 -- what one more call leaves, by the list that those before it left
 abbrev pub left_step : Calls-F (List ListedAccess) → List ListedAccess
-left_step Calls-F.None = []
+left_step Calls-F.Empty = []
 left_step (Calls-F.Note before access) = before.value ++ access ∷ []
 left_step (Calls-F.Forget before t) = forgotten t before.value
 

@@ -1,7 +1,7 @@
 use crate::access::Access;
 use crate::accesses::Accesses;
-use crate::places::{count_before, count_through};
 use crate::conflicts::rivals_among;
+use crate::places::{count_before, count_through};
 use crate::whole_list::WholeList;
 use sgt_model::{Key, Kind, NoMemory, Tid, Tids};
 use std::alloc::Global;

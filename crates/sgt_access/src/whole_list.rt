@@ -10,7 +10,7 @@ use std::snapshot::Snapshot;
 /// The calls that a list has had. A snapshot has no bytes: what came before is there for proofs alone.
 #[derive(Drop)]
 pub enum Calls {
-    None,
+    Empty,
     Note {
         before: Snapshot<Calls>,
         access: Access,
@@ -44,7 +44,7 @@ impl WholeList {
         ensures { result ≡ [] }
     {
         WholeList {
-            calls: Snapshot::of(&Calls::None),
+            calls: Snapshot::of(&Calls::Empty),
         }
     }
 
@@ -52,7 +52,7 @@ impl WholeList {
     pub fn note(&mut self, access: Access)
         ensures { self.new ≡ self.old ++ access ∷ [] }
     {
-        let before = mem::replace(&mut self.calls, Snapshot::of(&Calls::None));
+        let before = mem::replace(&mut self.calls, Snapshot::of(&Calls::Empty));
         self.calls = Snapshot::of(&Calls::Note { before, access });
     }
 
@@ -60,7 +60,7 @@ impl WholeList {
     pub fn forget(&mut self, t: Tid)
         ensures { self.new ≡ forgotten t self.old }
     {
-        let before = mem::replace(&mut self.calls, Snapshot::of(&Calls::None));
+        let before = mem::replace(&mut self.calls, Snapshot::of(&Calls::Empty));
         self.calls = Snapshot::of(&Calls::Forget { before, t });
     }
 }

@@ -1,5 +1,4 @@
 use Rattle.std.proofs.Common.{rules, get_or}
-use Rattle.std.specs.List.Sorted.{IsPartitionPoint}
 use Rattle.std.specs.Ordering.{is_le}
 use Rattle.std.proofs.lemmas.List.Sorted.{IsPartitionPoint-from_clause}
 use Rattle.sgt_model.specs.AccessList.{ListedAccess}

@@ -1,6 +1,5 @@
-use Rattle.std.proofs.Common.{◌≡◌, true, rules, arith, ℕ, nat_eq, length, drop, take, List, sym, subst, ap, ◌∙◌}
+use Rattle.std.proofs.Common.{◌≡◌, true, nat_eq, length, take, sym, subst, ap, ◌∙◌}
 use Rattle.std.specs.List.{AllWithin}
-use Rattle.sgt_model.specs.Contents.{Key}
 use Rattle.sgt_model.specs.Databases.{key_lt}
 use Rattle.sgt_model.specs.AccessList.{ListedAccess, lists_conflicting, is_listed}
 use Rattle.sgt_access.proofs.KeyOrder.{rest_of}

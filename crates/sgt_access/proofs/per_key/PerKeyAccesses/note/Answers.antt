@@ -12,8 +12,8 @@ invariant_of-self c =
     let items : c.insert.new.self.items ≡ insert c.self.inside.by_key.items place a = search rules in
     let same = c.as_slice.ensures.value in
     rw (c.note.ensures, items) (
-      stands_noted c.self.inside.whole c.self.inside.by_key.items place a c.self.invariant
-      (subst (λ xs. place ≤ length xs) same c.count_through-place.ensures.within)
-      (subst (λ xs. AllWithin (λ (x : ListedAccess). key_lt a.key x.key ≡ false) xs 0 place) same c.count_through-place.ensures.through)
-      (subst (λ xs. AllWithin (λ (x : ListedAccess). key_lt a.key x.key ≡ true) xs place (length xs)) same c.count_through-place.ensures.after)
+    stands_noted c.self.inside.whole c.self.inside.by_key.items place a c.self.invariant
+    (subst (λ xs. place ≤ length xs) same c.count_through-place.ensures.within)
+    (subst (λ xs. AllWithin (λ (x : ListedAccess). key_lt a.key x.key ≡ false) xs 0 place) same c.count_through-place.ensures.through)
+    (subst (λ xs. AllWithin (λ (x : ListedAccess). key_lt a.key x.key ≡ true) xs place (length xs)) same c.count_through-place.ensures.after)
     )
