@@ -15,6 +15,8 @@ mod formats;
 #[cfg(test)]
 mod graphs;
 #[cfg(test)]
+mod mixed_list;
+#[cfg(test)]
 mod procedures;
 #[cfg(test)]
 mod procedures_as_trees;
