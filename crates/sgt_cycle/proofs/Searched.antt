@@ -131,7 +131,7 @@ module _ (links : List (ℕ × ℕ)) (targets : List ℕ) where
   }
 
 -- what is closed under the steps and holds of the first number of a path, holds of its last
-closed_path : (step : ℕ → ℕ → Type 0) (inside : ℕ → Type 0) → ((a b : ℕ) → inside a → step a b → inside b)
+pub closed_path : (step : ℕ → ℕ → Type 0) (inside : ℕ → Type 0) → ((a b : ℕ) → inside a → step a b → inside b)
     → (t : ℕ) (path : List ℕ) → inside t → PathOf step t path → inside (last_of t path)
 closed_path step inside closed t [] i p = i
 closed_path step inside closed t (u ∷ path) i p = closed_path step inside closed u path (closed t u i p.0) p.1

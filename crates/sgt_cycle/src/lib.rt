@@ -13,7 +13,10 @@
 #![tactic(auto)]
 
 mod list;
+pub mod places;
+mod rows;
 mod search;
 mod walks;
 
+pub use rows::walk_rows;
 pub use walks::{is_walk, walk};

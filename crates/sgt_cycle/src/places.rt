@@ -1,0 +1,67 @@
+//! A set of places from 0 to 31, as the bits of a number: place `i` is in the set where bit `i` is 1.
+ghost use Rattle.std.specs.Prelude.{◌≡◌, ℕ, ◌<◌, ◌≤◌, true, false, not, ◌||◌, ◌&&◌, ◌↔◌, nat_eq, IsTrue, IfSome, IsNone};
+ghost use Rattle.sgt_cycle.specs.Places.{is_set};
+
+/// The place alone.
+pub fn only(place: u8) -> u32
+    requires { place < 32 }
+    ensures { (i : ℕ) → is_set result i ≡ nat_eq i place }
+{
+    1 << place
+}
+
+/// Whether a place is in the set.
+pub fn has(set: u32, place: u8) -> bool
+    requires { place < 32 }
+    ensures { result ≡ is_set set place }
+{
+    set & (1 << place) != 0
+}
+
+/// All places but this.
+pub fn others(place: u8) -> u32
+    requires { place < 32 }
+    ensures { (i : ℕ) → i < 32 → is_set result i ≡ not (nat_eq i place) }
+{
+    !(1 << place)
+}
+
+/// The places of both sets together.
+pub fn joined(set: u32, other: u32) -> u32
+    ensures { (i : ℕ) → is_set result i ≡ (is_set set i || is_set other i) }
+{
+    set | other
+}
+
+/// The places that both sets have.
+pub fn common(set: u32, other: u32) -> u32
+    ensures { (i : ℕ) → is_set result i ≡ (is_set set i && is_set other i) }
+{
+    set & other
+}
+
+/// The places of the first set that are not in the second.
+pub fn minus(set: u32, other: u32) -> u32
+    ensures places { (i : ℕ) → is_set result i ≡ (is_set set i && not (is_set other i)) }
+    ensures at_most { result ≤ set }
+{
+    set & !other
+}
+
+/// The least place of the set.
+pub fn least(set: u32) -> Option<u8>
+    ensures some { IfSome result (λ i. (i < 32) × (is_set set i ≡ true)) }
+    ensures none { IsNone result → (i : ℕ) → is_set set i ≡ false }
+{
+    if set == 0 {
+        return None;
+    }
+    Some(set.trailing_zeros() as u8)
+}
+
+/// Whether some place is in both sets.
+pub fn meets(set: u32, other: u32) -> bool
+    ensures { IsTrue result ↔ ((i : ℕ) × (is_set set i ≡ true) × (is_set other i ≡ true)) }
+{
+    least(common(set, other)).is_some()
+}

@@ -1,0 +1,33 @@
+ghost use Rattle.std.specs.Prelude.{◌≡◌, ◌<◌, IfSome, IsNone};
+ghost use Rattle.sgt_cycle.specs.Places.{is_bit, places};
+ghost use Rattle.sgt_cycle.specs.Walk.{IsWalk, NoWalk};
+
+use crate::places::{common, has, least, minus, only, others};
+use arrayvec::ArrayVec;
+use sgt_model::Bounded;
+
+/// A walk along the rows from the source to one of the targets, through no place twice; None where there is none. Row `i` has
+/// the places to which a step leads from place `i`. It takes no memory, and comes to each place at most once.
+///
+/// Depth first (Tarjan, "Depth-first search and linear graph algorithms", 1972).
+pub fn walk_rows(rows: &[u32; 32], source: u8, targets: u32) -> Option<Bounded<u8, 32>>
+    requires place { source < 32 }
+    ensures some { IfSome result (IsWalk (is_bit rows.now) source (places targets)) }
+    ensures none { IsNone result → NoWalk (is_bit rows.now) source (places targets) }
+{
+    let mut path: ArrayVec<u8, 32> = ArrayVec::new();
+    path.push(source);
+    let mut fresh = others(source);
+    while let Some(here) = path.pop() {
+        if has(targets, here) {
+            path.push(here);
+            return Bounded::from_slice(path.as_slice());
+        }
+        if let Some(next) = least(common(rows[usize::from(here)], fresh)) {
+            path.push(here);
+            path.push(next);
+            fresh = minus(fresh, only(next));
+        }
+    }
+    None
+}
