@@ -1,0 +1,4 @@
+-- what the outcomes of jobs say of a history
+pub mod Places
+pub mod Outcomes
+pub mod Reports
