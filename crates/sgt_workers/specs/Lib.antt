@@ -2,3 +2,7 @@
 pub mod Places
 pub mod Outcomes
 pub mod Reports
+-- what a history says of each transaction, in one table
+pub mod Lives
+-- how many transactions a reply starts and ends
+pub mod LiveCount

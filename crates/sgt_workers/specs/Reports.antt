@@ -1,5 +1,5 @@
 -- What the outcomes of all jobs say together.
-use Rattle.std.specs.Prelude.{◌≡◌, ℕ, ◌+◌, ◌≤◌, ◌<◌, Bool, true, false, List, [], ◌∷◌, ◌++◌, length, reverse, take, Option, Some, None, slice_get}
+use Rattle.std.specs.Prelude.{◌≡◌, ℕ, ◌+◌, ◌≤◌, ◌<◌, Bool, true, false, List, [], ◌∷◌, length, reverse, take, slice_get}
 use Rattle.std.specs.List.{AllZip, count_by, flat_map}
 use Rattle.std.specs.Option.{option_and_then, option_to_list}
 use Rattle.sgt_model.specs.declared.entry.Entry.{Entry}
