@@ -9,6 +9,8 @@ mod accesses;
 #[cfg(test)]
 mod cascades;
 #[cfg(test)]
+mod cursor;
+#[cfg(test)]
 mod engine;
 #[cfg(test)]
 mod formats;
