@@ -2,3 +2,4 @@ pub mod Tops
 pub mod Validity
 pub mod Settleds
 pub mod Pendings
+pub mod Places

@@ -15,8 +15,11 @@
 //! ```
 #![tactic(auto)]
 
+mod chain;
 mod committed;
+mod index;
 mod list_records;
+mod record;
 mod records;
 mod top;
 mod write;
