@@ -7,3 +7,4 @@ pub mod ChainPlaces
 pub mod RecordPlaces
 pub mod ChainsKept
 pub mod EntriesRead
+pub mod LiveWritesLeft

@@ -3,3 +3,4 @@ pub mod Validity
 pub mod Settleds
 pub mod Pendings
 pub mod Places
+pub mod LiveWrites

@@ -7,9 +7,11 @@ ghost use Rattle.sgt_model.specs.Contents.{Key as K, key_eq};
 ghost use Rattle.sgt_model.specs.Databases.{contents_of, IsByKey};
 ghost use Rattle.sgt_model.specs.Chains.{without, write_last, value_in, writes_in};
 ghost use Rattle.sgt_records.specs.Tops.{top_of, value_of};
+ghost use Rattle.sgt_records.specs.LiveWrites.{is_live};
 ghost use Rattle.sgt_records.specs.Places.{key_chain, committed_of, is_kept, IsIndex};
 
 use crate::chain::Chain;
+use crate::live_write::LiveWrite;
 use crate::record::Record;
 use crate::top::Top;
 use sgt_model::{Database, Key, NoMemory, Tid};
@@ -90,7 +92,7 @@ impl Index {
         ensures again { result ≡ writes_in t (key_chain self.old.records self.old.chains key) }
         ensures chain { (k : K) → key_chain self.new.records self.new.chains k
             ≡ cond (key_eq key k) (write_last t value (key_chain self.old.records self.old.chains k))
-                (key_chain self.old.records self.old.chains k) }
+            (key_chain self.old.records self.old.chains k) }
         ensures settled { (k : K) → committed_of self.new.records k ≡ committed_of self.old.records k }
     {
         match self.records.get_mut(&key) {
@@ -103,7 +105,7 @@ impl Index {
     pub fn undo(&mut self, t: Tid, key: Key)
         ensures chain { (k : K) → key_chain self.new.records self.new.chains k
             ≡ cond (key_eq key k) (without t (key_chain self.old.records self.old.chains k))
-                (key_chain self.old.records self.old.chains k) }
+            (key_chain self.old.records self.old.chains k) }
         ensures settled { (k : K) → committed_of self.new.records k ≡ committed_of self.old.records k }
     {
         if let Some(record) = self.records.get_mut(&key) {
@@ -115,14 +117,45 @@ impl Index {
     pub fn settle(&mut self, t: Tid, key: Key)
         ensures chain { (k : K) → key_chain self.new.records self.new.chains k
             ≡ cond (key_eq key k) (without t (key_chain self.old.records self.old.chains k))
-                (key_chain self.old.records self.old.chains k) }
+            (key_chain self.old.records self.old.chains k) }
         ensures settled { (k : K) → committed_of self.new.records k
             ≡ cond (key_eq key k)
-                (option_or (value_in t (key_chain self.old.records self.old.chains k)) (committed_of self.old.records k))
-                (committed_of self.old.records k) }
+            (option_or (value_in t (key_chain self.old.records self.old.chains k)) (committed_of self.old.records k))
+            (committed_of self.old.records k) }
     {
         if let Some(record) = self.records.get_mut(&key) {
             record.settle(&mut self.chains, t);
+        }
+    }
+
+    /// Takes t's values out of the chains of the keys that it has written.
+    pub fn undo_all(&mut self, writes: &[LiveWrite], t: Tid)
+        ensures chain { (k : K) → key_chain self.new.records self.new.chains k
+            ≡ cond (is_live t k writes.now) (without t (key_chain self.old.records self.old.chains k))
+            (key_chain self.old.records self.old.chains k) }
+        ensures settled { (k : K) → committed_of self.new.records k ≡ committed_of self.old.records k }
+    {
+        for write in writes {
+            if write.by == t {
+                self.undo(t, write.key);
+            }
+        }
+    }
+
+    /// Takes t's values out of the chains of the keys that it has written, and makes them the committed ones.
+    pub fn settle_all(&mut self, writes: &[LiveWrite], t: Tid)
+        ensures chain { (k : K) → key_chain self.new.records self.new.chains k
+            ≡ cond (is_live t k writes.now) (without t (key_chain self.old.records self.old.chains k))
+            (key_chain self.old.records self.old.chains k) }
+        ensures settled { (k : K) → committed_of self.new.records k
+            ≡ cond (is_live t k writes.now)
+            (option_or (value_in t (key_chain self.old.records self.old.chains k)) (committed_of self.old.records k))
+            (committed_of self.old.records k) }
+    {
+        for write in writes {
+            if write.by == t {
+                self.settle(t, write.key);
+            }
         }
     }
 

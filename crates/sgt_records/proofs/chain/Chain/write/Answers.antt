@@ -1,4 +1,4 @@
-use Rattle.std.proofs.Common.{rules, sym, ◌∙◌, arith, ap, subst, ◌<◌, length}
+use Rattle.std.proofs.Common.{sym, ◌∙◌, arith, ap, subst, ◌<◌, length}
 use Rattle.std.specs.Option.{is_some}
 use Rattle.sgt_records.proofs.ChainPlaces.{has_value, room_left}
 use Rattle.sgt_records.proofs.chain.Chain.write.Goals as goal

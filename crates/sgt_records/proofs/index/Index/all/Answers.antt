@@ -1,4 +1,4 @@
-use Rattle.std.proofs.Common.{rules, ◌≡◌, ℤ, ◌∷◌, ◌++◌, [], Option, IfSome, Some, map, w64, ap, sym, subst, ◌∙◌, cond}
+use Rattle.std.proofs.Common.{rules, ◌≡◌, ℤ, ◌∷◌, [], Option, IfSome, Some, map, w64, ap, sym, subst, ◌∙◌, cond}
 use Rattle.std.proofs.lemmas.Int.{to_z-of_z}
 use Rattle.std.proofs.lemmas.List.{map-append}
 use Rattle.std.proofs.lemmas.Map.Iter.{btree_map_turn, iter_end}

@@ -3,7 +3,7 @@ use Rattle.std.proofs.lemmas.Int.{to_z-of_z}
 use Rattle.std.proofs.lemmas.List.{take_all}
 use Rattle.std.proofs.lemmas.Option.{slice_get_read}
 use Rattle.sgt_model.specs.Numbers.{IsValue}
-use Rattle.sgt_model.specs.Contents.{key_eq, put_in}
+use Rattle.sgt_model.specs.Contents.{key_eq}
 use Rattle.sgt_model.specs.Databases.{Row, contents_of, IsByKey, HasValues}
 use Rattle.sgt_records.specs.Places.{committed_of}
 use Rattle.sgt_records.proofs.RowsRead.{row_more, rows_values}
@@ -30,6 +30,8 @@ pub invariant_of-result : goal.invariant_of-result
 invariant_of-result c =
     let rows = c.args.opening.now in
     let whole = take_all c.loop-key.key-index rows (rw (← c.rows-key-items.ensures.rows) c.loop-key-test.false) in
-    record { is_index = index_none c.loop-key.records c.new.result c.loop-key.invariant.none
-        (λ k. subst (λ (o : Option ℤ). IfSome o IsValue) (ap (λ l. contents_of l k) (sym whole) ∙ sym (c.loop-key.invariant.values k)) (rows_values rows (subst HasValues c.rows-key-items.ensures.rows c.rows-key-items.ensures.values) k))
-        (λ k. chain_empty) }
+    record {
+      is_index = index_none c.loop-key.records c.new.result c.loop-key.invariant.none
+          (λ k. subst (λ (o : Option ℤ). IfSome o IsValue) (ap (λ l. contents_of l k) (sym whole) ∙ sym (c.loop-key.invariant.values k)) (rows_values rows (subst HasValues c.rows-key-items.ensures.rows c.rows-key-items.ensures.values) k))
+          (λ k. chain_empty);
+    }

@@ -1,4 +1,4 @@
-use Rattle.std.proofs.Common.{rules, ◌≡◌, Some, sym, subst, ◌∙◌, ℤ, Option, IfSome}
+use Rattle.std.proofs.Common.{rules, ◌≡◌, Some, sym, subst, ℤ, Option, IfSome}
 use Rattle.std.specs.BTreeMap.{get, Updates}
 use Rattle.sgt_model.specs.Numbers.{IsValue}
 use Rattle.sgt_model.specs.Databases.{key_cmp}
@@ -24,9 +24,11 @@ invariant_of-self c =
     let told : Updates key_cmp records (c.get_mut.follows.lender new) c.args.key (Some new) = (c.get_mut.follows.holds new).3 (search rules) in
     let chain = chain_there records chains c.args.key old is c.args.self.now.is_index in
     let value = value_there records chains c.args.key old is c.args.self.now.is_index in
-    record { is_index = index_told records (c.get_mut.follows.lender new) c.args.key new told chains c.settle.new.chains c.args.self.now.is_index old.place (place_is records chains c.args.key old is c.args.self.now.is_index) c.settle.ensures.moves
-      (subst IsChain (sym c.settle.ensures.left) (chain_left c.args.t _ chain))
-      (subst (λ (o : Option ℤ). IfSome o IsValue) (sym c.settle.ensures.committed) (value_settled c.args.t _ _ chain.values value)) }
+    record {
+      is_index = index_told records (c.get_mut.follows.lender new) c.args.key new told chains c.settle.new.chains c.args.self.now.is_index old.place (place_is records chains c.args.key old is c.args.self.now.is_index) c.settle.ensures.moves
+          (subst IsChain (sym c.settle.ensures.left) (chain_left c.args.t _ chain))
+          (subst (λ (o : Option ℤ). IfSome o IsValue) (sym c.settle.ensures.committed) (value_settled c.args.t _ _ chain.values value));
+    }
 
 pub returns-in-Some-clause-chain : goal.returns-in-Some-clause-chain
 returns-in-Some-clause-chain c =

@@ -1,4 +1,4 @@
-use Rattle.std.proofs.Common.{rules, ◌≡◌, ℤ, Option, IfSome, Some, sym, subst}
+use Rattle.std.proofs.Common.{rules, ◌≡◌, IfSome, Some, sym, subst}
 use Rattle.std.specs.BTreeMap.{get}
 use Rattle.sgt_model.specs.Numbers.{IsValue}
 use Rattle.sgt_model.specs.Databases.{key_cmp}

@@ -24,9 +24,11 @@ invariant_of-self c =
     let told : Updates key_cmp records (c.get_mut.follows.lender new) c.args.key (Some new) = (c.get_mut.follows.holds new).3 (search rules) in
     let chain = chain_there records chains c.args.key old is c.args.self.now.is_index in
     let value = value_there records chains c.args.key old is c.args.self.now.is_index in
-    record { is_index = index_told records (c.get_mut.follows.lender new) c.args.key new told chains c.take_out.new.chains c.args.self.now.is_index old.place (place_is records chains c.args.key old is c.args.self.now.is_index) c.take_out.ensures.moves
-      (subst IsChain (sym c.take_out.ensures.left) (chain_left c.args.t _ chain))
-      (subst (λ (o : Option ℤ). IfSome o IsValue) (sym c.take_out.ensures.committed) value) }
+    record {
+      is_index = index_told records (c.get_mut.follows.lender new) c.args.key new told chains c.take_out.new.chains c.args.self.now.is_index old.place (place_is records chains c.args.key old is c.args.self.now.is_index) c.take_out.ensures.moves
+          (subst IsChain (sym c.take_out.ensures.left) (chain_left c.args.t _ chain))
+          (subst (λ (o : Option ℤ). IfSome o IsValue) (sym c.take_out.ensures.committed) value);
+    }
 
 pub returns-in-Some-clause-chain : goal.returns-in-Some-clause-chain
 returns-in-Some-clause-chain c =

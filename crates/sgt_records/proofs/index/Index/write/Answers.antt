@@ -21,9 +21,11 @@ invariant_of-self c =
     let told : Updates key_cmp records (c.get_mut.follows.lender new) c.args.key (Some new) = (c.get_mut.follows.holds new).3 (search rules) in
     let chain = chain_there records chains c.args.key old is c.args.self.now.is_index in
     let value = value_there records chains c.args.key old is c.args.self.now.is_index in
-    record { is_index = index_told records (c.get_mut.follows.lender new) c.args.key new told chains c.write.new.chains c.args.self.now.is_index old.place (place_is records chains c.args.key old is c.args.self.now.is_index) c.write.ensures.moves
-      (subst IsChain (sym last) (chain_written c.args.t c.args.value _ chain c.requires.in_range (subst (λ l. writes_in c.args.t l ≡ false → length l < 32) (ap (chain_at chains) (place_is records chains c.args.key old is c.args.self.now.is_index)) c.requires.room)))
-      (subst (λ (o : Option ℤ). IfSome o IsValue) (sym c.write.ensures.committed) value) }
+    record {
+      is_index = index_told records (c.get_mut.follows.lender new) c.args.key new told chains c.write.new.chains c.args.self.now.is_index old.place (place_is records chains c.args.key old is c.args.self.now.is_index) c.write.ensures.moves
+          (subst IsChain (sym last) (chain_written c.args.t c.args.value _ chain c.requires.in_range (subst (λ l. writes_in c.args.t l ≡ false → length l < 32) (ap (chain_at chains) (place_is records chains c.args.key old is c.args.self.now.is_index)) c.requires.room)))
+          (subst (λ (o : Option ℤ). IfSome o IsValue) (sym c.write.ensures.committed) value);
+    }
 
 pub returns-clause-chain : goal.returns-clause-chain
 returns-clause-chain c =
