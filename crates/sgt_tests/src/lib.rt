@@ -21,6 +21,8 @@ mod procedures_as_trees;
 #[cfg(test)]
 mod records;
 #[cfg(test)]
+mod records_replay;
+#[cfg(test)]
 mod scheduler;
 #[cfg(test)]
 mod smallbank;
