@@ -25,6 +25,8 @@ mod procedures_as_trees;
 #[cfg(test)]
 mod records;
 #[cfg(test)]
+mod records_replay;
+#[cfg(test)]
 mod scheduler;
 #[cfg(test)]
 mod smallbank;
