@@ -23,6 +23,8 @@ mod records;
 #[cfg(test)]
 mod scheduler;
 #[cfg(test)]
+mod sessions;
+#[cfg(test)]
 mod smallbank;
 #[cfg(test)]
 mod streams;
