@@ -3,7 +3,7 @@ ghost use Rattle.std.specs.Prelude.{◌≡◌, [], IfOk};
 ghost use Rattle.sgt_engine.specs.EngineView.{setting_of};
 
 use sgt_access::OneList;
-use sgt_engine::{Engine, run_list};
+use sgt_engine::{Engine, Ran, run_list};
 use sgt_graph::PairGraph;
 use sgt_model::{
     Answers, Args, Database, Entry, Event, Key, Limits, MakeError, NoMemory, Reply, Tid,
@@ -85,8 +85,9 @@ fn starts<N: Named, W: Wait>(
     session: &mut Session<N>,
     event: Event,
 ) -> Option<Tid> {
-    match session.call(rt, shared, event).ok()?.reply {
-        Reply::Started(t) => Some(t),
+    let receipt = session.call(rt, shared, event).ok()?;
+    match &receipt.reply {
+        Reply::Started(t) => Some(*t),
         _ => None,
     }
 }
@@ -137,7 +138,9 @@ fn meet<N: Named + Send + Sync, R: Threads + Wait + Abort + Sync>(
     requires empty { engine.past ≡ [] }
     requires blank { (blank.name ≡ N.name) × (blank.parts ≡ N.parts) × (blank.parts ≡ 2) × (N.sessions ≡ 2) }
 {
-    let Ok((shared, mut sessions)) = ListShared::<N>::new(alloc, engine, blank, 2) else {
+    let Ok((shared, mut sessions)) = Shared::<N, ListRecords, OneList, PairGraph>::new(
+        alloc, engine, blank, 2,
+    ) else {
         return fail("no memory");
     };
     let (Some(second), Some(first)) = (sessions.pop(), sessions.pop()) else {
@@ -220,7 +223,9 @@ fn keep_one_back<N: Named, R: Wait + Abort>(
     requires empty { engine.past ≡ [] }
     requires blank { (blank.name ≡ N.name) × (blank.parts ≡ N.parts) × (blank.parts ≡ 2) × (N.sessions ≡ 2) }
 {
-    let Ok((shared, mut sessions)) = ListShared::<N>::new(alloc, engine, blank, 2) else {
+    let Ok((shared, mut sessions)) = Shared::<N, ListRecords, OneList, PairGraph>::new(
+        alloc, engine, blank, 2,
+    ) else {
         return fail("no memory");
     };
     let Some(mut kept) = sessions.pop() else {
@@ -268,17 +273,15 @@ fn event_for(x: u64) -> Event {
 }
 
 /// Lets a transaction go its whole way: to its commit, or until it is aborted or has fallen.
-fn runs<N: Named, W: Wait>(
+fn goes<N: Named, W: Wait>(
     rt: &W,
     shared: &ListShared<N>,
     session: &mut Session<N>,
-    event: Event,
+    t: Tid,
 ) -> Result<(), NoMemory> {
-    let Some(t) = starts(rt, shared, session, event) else {
-        return Ok(());
-    };
     for _ in 0..100 {
-        match session.call(rt, shared, Event::Step(t))?.reply {
+        let receipt = session.call(rt, shared, Event::Step(t))?;
+        match &receipt.reply {
             Reply::Looked { .. } | Reply::Wrote { .. } => {}
             Reply::Ended => {
                 session.commit(rt, shared, t)?;
@@ -287,8 +290,16 @@ fn runs<N: Named, W: Wait>(
             _ => return Ok(()),
         }
     }
-    session.call(rt, shared, Event::Quit(t))?;
-    Ok(())
+    Err(NoMemory)
+}
+
+/// One transaction. Where memory is wanting it is quit, so that nobody waits for it.
+fn runs<N: Named, W: Wait>(rt: &W, shared: &ListShared<N>, session: &mut Session<N>, event: Event) {
+    if let Some(t) = starts(rt, shared, session, event) {
+        if goes(rt, shared, session, t).is_err() {
+            let _ = session.call(rt, shared, Event::Quit(t));
+        }
+    }
 }
 
 /// 200 transactions, one after another.
@@ -302,7 +313,7 @@ fn works<N: Named, W: Wait>(
     let mut x = drawn(seeds.fetch_add(1, Ordering::SeqCst));
     for _ in 0..200 {
         x = drawn(x);
-        let _ = runs(rt, shared, &mut session, event_for(x));
+        runs(rt, shared, &mut session, event_for(x));
     }
     session
 }
@@ -318,7 +329,9 @@ fn press<N: Named + Send + Sync, R: Threads + Wait + Abort + Sync>(
     requires empty { engine.past ≡ [] }
     requires blank { (blank.name ≡ N.name) × (blank.parts ≡ N.parts) × (blank.parts ≡ 8) × (N.sessions ≡ 8) }
 {
-    let Ok((shared, sessions)) = ListShared::<N>::new(alloc, engine, blank, 8) else {
+    let Ok((shared, sessions)) = Shared::<N, ListRecords, OneList, PairGraph>::new(
+        alloc, engine, blank, 8,
+    ) else {
         return fail("no memory");
     };
     let seeds = AtomicU64::new(1);
@@ -332,22 +345,21 @@ fn press<N: Named + Send + Sync, R: Threads + Wait + Abort + Sync>(
 
 /// Nothing is live, the money is what was put in and taken out, and one after another the same comes out.
 fn pressed<R: Abort>(rt: &R, alloc: Global, engine: &ListEngine) -> Result<(), Fail> {
-    let starts = engine
-        .history()
-        .iter()
-        .filter(|entry| is_start(entry))
-        .count();
-    assert_eq!(rt; starts, 1600);
+    assert_eq!(rt; starts_in(engine.history()), 1600);
     assert!(rt; engine.sched().live().is_empty());
-    let alone = run_list(
+    let events = one_after_another(alloc, engine.history())?;
+    let alone: Ran<ListRecords, OneList, PairGraph> = run_list(
         alloc,
         five_accounts(alloc)?,
         procedures(alloc)?,
         LIMITS,
-        one_after_another(alloc, engine.history())?.as_slice(),
+        events.as_slice(),
     )?;
-    let alone: ListEngine = alone.engine;
-    assert!(rt; same_answers(engine.history(), alone.history()));
+    let alone = alone.engine;
+    assert_eq!(rt;
+        answers_in(alloc, engine.history())?,
+        answers_in(alloc, alone.history())?
+    );
     assert_eq!(rt;
         engine.database(alloc)?.rows(),
         alone.database(alloc)?.rows()
@@ -360,8 +372,15 @@ fn pressed<R: Abort>(rt: &R, alloc: Global, engine: &ListEngine) -> Result<(), F
     Ok(())
 }
 
-fn is_start(entry: &Entry) -> bool {
-    matches!(entry.reply, Reply::Started(_))
+/// How many transactions were started.
+fn starts_in(history: &[Entry]) -> u32 {
+    let mut starts = 0u32;
+    for entry in history {
+        if matches!(entry.reply, Reply::Started(_)) {
+            starts = starts.wrapping_add(1);
+        }
+    }
+    starts
 }
 
 /// What a start puts in, once it commits.
@@ -431,24 +450,15 @@ fn add_course(events: &mut Vec<Event>, course: &Course, t: Tid) -> Result<(), No
     Ok(())
 }
 
-/// The commits of both histories have the same answers, in their order.
-fn same_answers(one: &[Entry], other: &[Entry]) -> bool {
-    let mut rest = other.iter().filter(|entry| is_commit(entry));
-    for entry in one.iter().filter(|entry| is_commit(entry)) {
-        match rest.next() {
-            Some(same) => {
-                if same.reply != entry.reply {
-                    return false;
-                }
-            }
-            None => return false,
+/// The replies of the commits, in their order.
+fn answers_in(alloc: Global, history: &[Entry]) -> Result<Vec<Reply>, NoMemory> {
+    let mut answers = Vec::new(alloc);
+    for entry in history {
+        if matches!(entry.reply, Reply::Committed(_)) {
+            answers.push(entry.reply.copied())?;
         }
     }
-    rest.next().is_none()
-}
-
-fn is_commit(entry: &Entry) -> bool {
-    matches!(entry.reply, Reply::Committed(_))
+    Ok(answers)
 }
 
 #[test]
