@@ -1,52 +1,84 @@
 -- The history keeps room for one end of each live transaction; and which legal replies end one.
-use Rattle.std.proofs.Common.{◌≡◌, ℕ, ◌+◌, ◌≤◌, arith, Bool, true, false, inl, inr, List, length, nat_lt, Option, Some, None, refl, sym, ap, ◌∙◌, subst}
-use Rattle.std.proofs.lemmas.Bool.{true≢false, ltb-true, lt-ltb}
+use Rattle.std.proofs.Common.{◌≡◌, ℕ, ◌+◌, ◌≤◌, arith, Bool, true, false, ◌&&◌, cond, nat_eq, ℤ, inl, inr, List, length, nat_lt, Option, Some, None, refl, sym, ap, ap₂, ◌∙◌, subst}
+use Rattle.std.proofs.lemmas.Bool.{true≢false, and_parts}
+use Rattle.std.specs.Option.{is_none}
 use Rattle.sgt_model.specs.declared.entry.Entry.{Entry}
 use Rattle.sgt_model.specs.declared.event.Event.{Event}
 use Rattle.sgt_model.specs.declared.event.Event.TheVariants.{Start, Step, Commit, Quit}
 use Rattle.sgt_model.specs.declared.kind.Kind.TheVariants.{Look, Store}
 use Rattle.sgt_model.specs.declared.reply.Fate.{Fate}
 use Rattle.sgt_model.specs.declared.reply.Reply.{Reply}
+use Rattle.sgt_model.specs.declared.reply.Reply.TheVariants as reply
 use Rattle.sgt_model.specs.Traces.{Next, Looks, Puts, Ends, Asks}
 use Rattle.sgt_model.specs.Fates.{starts, fate_of, live, live_ones}
 use Rattle.sgt_model.specs.Settings.{Setting, takes}
-use Rattle.sgt_model.proofs.LiveLeft.{next_is_left}
 use Rattle.sgt_model.specs.Progress.{next_of}
 use Rattle.sgt_model.specs.Left.{next_left}
-use Rattle.sgt_model.specs.Legality.{Legal, LegalReply, StepReply, CommitReply, OfStarted, called_reply}
+use Rattle.sgt_model.specs.Legality.{Legal, LegalReply, StepReply, CommitReply, OfStarted, args_fit, started_reply, called_reply}
 use Rattle.sgt_model.specs.State.{State}
 use Rattle.sgt_model.specs.StateAfter.{IsStateAfter}
 use Rattle.sgt_model.specs.CallEffects.{CallEffect}
+use Rattle.sgt_model.specs.Refinement.{NextsAgree, StatesAreSound, VerdictsAgree}
 use Rattle.sgt_model.specs.Walks.{Member}
-use Rattle.sgt_model.proofs.Facts.{live_from, live-started, live-no_fate}
-use Rattle.sgt_model.proofs.StateSound.{state_is_sound}
-use Rattle.sgt_model.proofs.Verdict.{blocks_from_closes}
 use Rattle.sgt_sched.specs.Steps.{IsUnended}
-use Rattle.sgt_sched.specs.Endings.{is_ending, StepEnds, CommitEnds, EndsOne}
+use Rattle.sgt_sched.specs.Endings.{is_ending, StepEnds, CommitEnds, EndsOne, RepliesEndWhere, CallsCount}
 use Rattle.sgt_engine.specs.EngineView.{EngineView, setting_of}
-use Rattle.sgt_sched.proofs.Endings.{call_counts, replies_agree, start_quiet}
 
-module _ (s : Setting) (past : List Entry) (legal : Legal s past) (c : State) (i : IsStateAfter s past c) where
+-- what is true of a state that belongs to a legal history, and of calls on it
+pub record StateLaws : Type 0 where
+  pub sound : StatesAreSound
+  pub verdicts : VerdictsAgree
+  pub nexts : NextsAgree
+  pub replies : RepliesEndWhere
+  pub counts : CallsCount
+
+-- who is live
+live_from : (past : List Entry) (t : ℕ) → nat_lt t (starts past) ≡ true → fate_of past t ≡ None → live past t ≡ true
+live_from past t started unended = ap₂ (λ a b. a && is_none b) started unended
+
+live-started : (past : List Entry) (t : ℕ) → live past t ≡ true → nat_lt t (starts past) ≡ true
+live-started past t alive = (and_parts (nat_lt t (starts past)) (is_none (fate_of past t)) alive).0
+
+no_fate : (fate : Option Fate) → is_none fate ≡ true → fate ≡ None
+no_fate None none = refl
+no_fate (Some fate) none = absurd (cc)
+
+live-no_fate : (past : List Entry) (t : ℕ) → live past t ≡ true → fate_of past t ≡ None
+live-no_fate past t alive = no_fate (fate_of past t) (and_parts (nat_lt t (starts past)) (is_none (fate_of past t)) alive).1
+
+-- a start ends nothing
+start_quiet : (s : Setting) (past : List Entry) (taken : Option ℕ) (args : List ℤ) → is_ending (called_reply s past taken args) ≡ false
+start_quiet s past None args = refl
+start_quiet s past (Some count) args = fits (args_fit count args) where
+  full : (b : Bool) → is_ending (cond b reply.Full (reply.Started (starts past))) ≡ false
+  full true = refl
+  full false = refl
+
+  spent : (b : Bool) → is_ending (cond b reply.Spent (cond (nat_eq (length (live_ones past)) s.rules.limits.live) reply.Full (reply.Started (starts past)))) ≡ false
+  spent true = refl
+  spent false = full (nat_eq (length (live_ones past)) s.rules.limits.live)
+
+  fits : (b : Bool) → is_ending (cond b (started_reply s past) reply.BadArgs) ≡ false
+  fits true = spent (nat_eq (starts past) s.rules.limits.begins)
+  fits false = refl
+
+module _ (laws : StateLaws) (s : Setting) (past : List Entry) (legal : Legal s past) (c : State) (i : IsStateAfter s past c) where
   -- who was started and has not ended is listed as live
   pub unended_listed : (t : ℕ) → IsUnended c t → Member t c.live
-  unended_listed t u = ((state_is_sound s past legal c i).listed t).0 (i.nodes t ∙ live_from past t (ltb-true t (starts past) (ap (nat_lt t) (sym i.starts) ∙ u.begun)) (sym (i.fates t) ∙ u.unended))
+  unended_listed t u = ((laws.sound s past legal c i).listed t).0 (i.nodes t ∙ live_from past t (ap (nat_lt t) (sym i.starts) ∙ u.begun) (sym (i.fates t) ∙ u.unended))
 
   -- who is live was started, and has not ended
   pub live_unended : (t : ℕ) → live past t ≡ true → IsUnended c t
-  live_unended t alive = record { begun = ap (nat_lt t) i.starts ∙ lt-ltb t (starts past) (live-started past t alive); unended = i.fates t ∙ live-no_fate past t alive }
+  live_unended t alive = record { begun = ap (nat_lt t) i.starts ∙ live-started past t alive; unended = i.fates t ∙ live-no_fate past t alive }
 
   -- an event that has got its room leaves room for one end of each that is live then
   pub room_left : (event : Event) (after : State) (r : Reply) (len cap : ℕ) → CallEffect s.rules event c r after → len + length c.live ≤ cap → ((EndsOne event c → ⊥) → len + (length c.live + 2) ≤ cap) → len + 1 + length after.live ≤ cap
   room_left event after r len cap done kept more = both (is_ending r) refl where
     both : (b : Bool) → is_ending r ≡ b → len + 1 + length after.live ≤ cap
-    both true e = omega (arith, kept, (call_counts s.rules event c r after unended_listed done).fewer e)
-    both false e = omega (arith, more (λ ends. true≢false (sym ((replies_agree s.rules event c r after done).0 ends) ∙ e)), (call_counts s.rules event c r after unended_listed done).most)
+    both true e = omega (arith, kept, (laws.counts s.rules event c r after unended_listed done).fewer e)
+    both false e = omega (arith, more (λ ends. true≢false (sym ((laws.replies s.rules event c r after done).0 ends) ∙ e)), (laws.counts s.rules event c r after unended_listed done).most)
 
   -- a legal reply that ends a transaction is one to an event that ends it
-  no_start : (p : ℕ) (args : List _) (taken : Option ℕ) → is_ending (called_reply s past taken args) ≡ false
-  no_start p args None = refl
-  no_start p args (Some count) = start_quiet s.rules.limits (starts past) (length (live_ones past)) (Some count) args
-
   quiet : (r answer : Reply) → r ≡ answer → is_ending answer ≡ false → is_ending r ≡ true → ⊥
   quiet r answer is isnt e = true≢false (sym e ∙ (ap is_ending is ∙ isnt))
 
@@ -55,13 +87,10 @@ module _ (s : Setting) (past : List Entry) (legal : Legal s past) (c : State) (i
   opened r X true (Some f) x e = absurd (quiet r _ x refl e)
   opened r X true None x e = (refl, refl, x)
 
-  alive : (t : ℕ) → nat_lt t (starts past) ≡ true → fate_of past t ≡ None → live past t ≡ true
-  alive t b o = live_from past t (ltb-true t (starts past) b) o
-
   step_ends : (t : ℕ) (n : Next) (r : Reply) → live past t ≡ true → StepReply s past t n r → is_ending r ≡ true → StepEnds t n c
-  step_ends t (Looks k) r l (inl x) e = (x.rest, blocks_from_closes s past legal c i t k Look x.rest l x.closes)
+  step_ends t (Looks k) r l (inl x) e = (x.rest, (laws.verdicts s past legal c i t k Look x.rest l).1 x.closes)
   step_ends t (Looks k) r l (inr x) e = absurd (quiet r _ x.is refl e)
-  step_ends t (Puts k v) r l (inl x) e = (x.rest, blocks_from_closes s past legal c i t k Store x.rest l x.closes)
+  step_ends t (Puts k v) r l (inl x) e = (x.rest, (laws.verdicts s past legal c i t k Store x.rest l).1 x.closes)
   step_ends t (Puts k v) r l (inr x) e = absurd (quiet r _ x.is refl e)
   step_ends t (Ends answers) r l x e = absurd (quiet r _ x refl e)
   step_ends t (Asks code) r l x e = tt
@@ -74,22 +103,22 @@ module _ (s : Setting) (past : List Entry) (legal : Legal s past) (c : State) (i
   commit_ends t (Asks code) r x e = absurd (quiet r _ x refl e)
 
   next_same : (t : ℕ) → live past t ≡ true → next_of s past t ≡ next_left (c.left t)
-  next_same t l = sym (ap next_left (i.left t l) ∙ next_is_left s past legal t)
+  next_same t l = sym (laws.nexts s past legal c i t l)
 
   pub legal_ends : (event : Event) (r : Reply) → LegalReply s past event r → is_ending r ≡ true → EndsOne event c
-  legal_ends (Start p args) r x e = absurd (quiet r _ x (no_start p args (takes s.rules p)) e)
+  legal_ends (Start p args) r x e = absurd (quiet r _ x (start_quiet s past (takes s.rules p) args) e)
   legal_ends (Step t) r x e =
       let o = opened r _ (nat_lt t (starts past)) (fate_of past t) x e in
-      let l = alive t o.0 o.1 in
+      let l = live_from past t o.0 o.1 in
       (live_unended t l, subst (λ n. StepEnds t n c) (next_same t l) (step_ends t (next_of s past t) r l o.2 e))
   legal_ends (Commit t) r x e =
       let o = opened r _ (nat_lt t (starts past)) (fate_of past t) x e in
-      let l = alive t o.0 o.1 in
+      let l = live_from past t o.0 o.1 in
       (live_unended t l, subst (λ n. CommitEnds t n c) (next_same t l) (commit_ends t (next_of s past t) r o.2 e))
   legal_ends (Quit t) r x e =
       let o = opened r _ (nat_lt t (starts past)) (fate_of past t) x e in
-      live_unended t (alive t o.0 o.1)
+      live_unended t (live_from past t o.0 o.1)
 
 -- the same, as callers see an engine
-pub ends_seen : (before now : EngineView) → before ≡ now → (c : State) → Legal (setting_of before) before.past → IsStateAfter (setting_of before) before.past c → (event : Event) (r : Reply) → LegalReply (setting_of now) now.past event r → is_ending r ≡ true → EndsOne event c
-ends_seen before now seen c legal i event r l e = legal_ends (setting_of before) before.past legal c i event r (subst (λ (v : EngineView). LegalReply (setting_of v) v.past event r) (sym seen) l) e
+pub ends_seen : StateLaws → (before now : EngineView) → before ≡ now → (c : State) → Legal (setting_of before) before.past → IsStateAfter (setting_of before) before.past c → (event : Event) (r : Reply) → LegalReply (setting_of now) now.past event r → is_ending r ≡ true → EndsOne event c
+ends_seen laws before now seen c legal i event r l e = legal_ends laws (setting_of before) before.past legal c i event r (subst (λ (v : EngineView). LegalReply (setting_of v) v.past event r) (sym seen) l) e

@@ -22,11 +22,11 @@ use sgt_access::Accesses;
 use sgt_graph::Graph;
 use sgt_model::{
     Database, Entry, Event, Key, Limits, MakeError, NoMemory, Reply, calls_simulate,
-    headline_holds, replay_is_serial,
+    headline_holds, nexts_agree, replay_is_serial, states_are_sound, verdicts_agree,
 };
 use sgt_proc::Checked;
 use sgt_records::Records;
-use sgt_sched::{Sched, Scheduler};
+use sgt_sched::{Sched, Scheduler, endings_agree};
 use std::alloc::Global;
 use std::marker::Model;
 
@@ -127,8 +127,14 @@ impl<R: Records, A: Accesses, G: Graph> Engine<R, A, G> {
             → IsOk result }
         ensures quits { (t : ℕ) → event ≡ Quit t → live self.old.past t ≡ true → IsOk result }
     {
-        headline_holds();
+        // The laws that the proof rests on, which do nothing when it runs: of calls and states, and of legal histories.
         calls_simulate();
+        states_are_sound();
+        verdicts_agree();
+        nexts_agree();
+        endings_agree();
+        headline_holds();
+
         make_room(&mut self.history, &self.sched, &event)?;
         let reply = self.sched.call(&event)?;
         self.history.push_reserved(Entry {

@@ -9,6 +9,8 @@ use Rattle.sgt_model.specs.Fates.{live}
 use Rattle.sgt_model.specs.Values.{visible}
 use Rattle.sgt_model.specs.Closes.{Closes}
 use Rattle.sgt_model.specs.Settings.{Setting}
+use Rattle.sgt_model.specs.Progress.{next_of}
+use Rattle.sgt_model.specs.Left.{next_left}
 use Rattle.sgt_model.specs.Legality.{LegalReply}
 use Rattle.sgt_model.specs.Laws.{InEach}
 use Rattle.sgt_model.specs.State.{State}
@@ -42,6 +44,10 @@ VerdictsAgree = InEachState (λ s past c. (t : ℕ) (k : Key) (kind : Kind) (res
 -- a look finds the visible value
 abbrev pub FoundIsVisible : Type 0
 FoundIsVisible = InEachState (λ s past c. (k : Key) → found c k ≡ visible s.opening past k)
+
+-- what a live transaction does next is what the state says of what is left of it
+abbrev pub NextsAgree : Type 0
+NextsAgree = InEachState (λ s past c. (t : ℕ) → live past t ≡ true → next_left (c.left t) ≡ next_of s past t)
 
 -- the state after a legal history is sound
 abbrev pub StatesAreSound : Type 0

@@ -70,7 +70,7 @@ pub use left::{left_goes_on, next_is_of_left};
 pub use limits::{Limits, MOST_BEGINS, MOST_LIVE};
 pub use procedure::{Cond, Expr, Procedure, Statement};
 pub use refinement::{
-    calls_simulate, found_is_visible, new_is_empty, states_are_sound, verdicts_agree,
+    calls_simulate, found_is_visible, new_is_empty, nexts_agree, states_are_sound, verdicts_agree,
 };
 pub use reply::{Cause, Fate, Reply};
 pub use tid::{Tid, Tids};

@@ -19,19 +19,15 @@ use Rattle.sgt_model.specs.Walks.{Member}
 use Rattle.sgt_model.specs.Changes.{Removes}
 use Rattle.sgt_model.specs.CallEffects.{Stays, IfOpen, AbortsIn, StepOn, CommitOn, CallEffect, StartOn, room_reply, taken_reply}
 use Rattle.sgt_sched.specs.Steps.{IsUnended}
-use Rattle.sgt_sched.specs.Endings.{is_ending, StepEnds, CommitEnds, EndsOne}
+use Rattle.sgt_sched.specs.Endings.{is_ending, StepEnds, CommitEnds, EndsOne, EndsWhere, Counts}
 
--- whether the reply ends a live transaction is decided by the state
-abbrev pub Agrees : Reply → Type 0 → Type 0
-Agrees r X = (X → is_ending r ≡ true) × ((X → ⊥) → is_ending r ≡ false)
-
-quiet : (r answer : Reply) (X : Type 0) → r ≡ answer → is_ending answer ≡ false → (X → ⊥) → Agrees r X
+quiet : (r answer : Reply) (X : Type 0) → r ≡ answer → is_ending answer ≡ false → (X → ⊥) → EndsWhere r X
 quiet r answer X is isnt none = ((λ x. absurd (none x)), (λ _. ap is_ending is ∙ isnt))
 
-loud : (r answer : Reply) (X : Type 0) → r ≡ answer → is_ending answer ≡ true → X → Agrees r X
+loud : (r answer : Reply) (X : Type 0) → r ≡ answer → is_ending answer ≡ true → X → EndsWhere r X
 loud r answer X is so x = ((λ _. ap is_ending is ∙ so), (λ none. absurd (none x)))
 
-step_agrees : (t : ℕ) (n : Next) (c : State) (r : Reply) (after : State) → StepOn t n c r after → Agrees r (StepEnds t n c)
+step_agrees : (t : ℕ) (n : Next) (c : State) (r : Reply) (after : State) → StepOn t n c r after → EndsWhere r (StepEnds t n c)
 step_agrees t (Looks k) c r after (inl x) = loud r _ _ x.aborts.reply refl (x.rest, x.blocks)
 step_agrees t (Looks k) c r after (inr x) = quiet r _ _ x.reply refl (λ b. x.free b.0 b.1)
 step_agrees t (Puts k v) c r after (inl x) = loud r _ _ x.aborts.reply refl (x.rest, x.blocks)
@@ -39,7 +35,7 @@ step_agrees t (Puts k v) c r after (inr x) = quiet r _ _ x.reply refl (λ b. x.f
 step_agrees t (Ends answers) c r after x = quiet r _ _ x.reply refl (λ e. e)
 step_agrees t (Asks code) c r after x = loud r _ _ x.reply refl tt
 
-commit_agrees : (t : ℕ) (n : Next) (c : State) (r : Reply) (after : State) → CommitOn t n c r after → Agrees r (CommitEnds t n c)
+commit_agrees : (t : ℕ) (n : Next) (c : State) (r : Reply) (after : State) → CommitOn t n c r after → EndsWhere r (CommitEnds t n c)
 commit_agrees t (Ends answers) c r after (inl x) = quiet r _ _ x.stays.reply refl (λ free. free x.on x.least.pair)
 commit_agrees t (Ends answers) c r after (inr x) = loud r _ _ x.reply refl x.first
 commit_agrees t (Looks k) c r after x = quiet r _ _ x.reply refl (λ e. e)
@@ -47,12 +43,12 @@ commit_agrees t (Puts k v) c r after x = quiet r _ _ x.reply refl (λ e. e)
 commit_agrees t (Asks code) c r after x = quiet r _ _ x.reply refl (λ e. e)
 
 -- of one that was started and has not ended, by what is done to it; else nothing ends
-open_agrees : (t : ℕ) (c : State) (r : Reply) (after : State) (X E : Type 0) → (X → Agrees r E) → (b : Bool) (o : Option Fate) → nat_lt t c.starts ≡ b → c.fates t ≡ o → IfOpen b o c r after X → Agrees r (IsUnended c t × E)
+open_agrees : (t : ℕ) (c : State) (r : Reply) (after : State) (X E : Type 0) → (X → EndsWhere r E) → (b : Bool) (o : Option Fate) → nat_lt t c.starts ≡ b → c.fates t ≡ o → IfOpen b o c r after X → EndsWhere r (IsUnended c t × E)
 open_agrees t c r after X E agree false o e f x = quiet r _ _ x.reply refl (λ u. true≢false (sym u.0.begun ∙ e))
 open_agrees t c r after X E agree true (Some fate) e f x = quiet r _ _ x.reply refl (λ u. let q : Some fate ≡ None = sym f ∙ u.0.unended in cc)
 open_agrees t c r after X E agree true None e f x = ((λ u. (agree x).0 u.1), (λ none. (agree x).1 (λ end. none (record { begun = e; unended = f }, end))))
 
-pub start_quiet : (limits : Limits) (begun living : ℕ) (taken : Option ℕ) (args : List _) → is_ending (taken_reply limits begun living taken args) ≡ false
+start_quiet : (limits : Limits) (begun living : ℕ) (taken : Option ℕ) (args : List _) → is_ending (taken_reply limits begun living taken args) ≡ false
 start_quiet limits begun living None args = refl
 start_quiet limits begun living (Some count) args = fits (args_fit count args) where
   full : (b : Bool) → is_ending (cond b reply.Full (reply.Started begun)) ≡ false
@@ -68,18 +64,13 @@ start_quiet limits begun living (Some count) args = fits (args_fit count args) w
   fits false = refl
 
 -- the replies to an event that ends a live transaction end one, and to the others none does
-pub replies_agree : (rules : Rules) (event : Event) (c : State) (r : Reply) (after : State) → CallEffect rules event c r after → Agrees r (EndsOne event c)
+pub replies_agree : (rules : Rules) (event : Event) (c : State) (r : Reply) (after : State) → CallEffect rules event c r after → EndsWhere r (EndsOne event c)
 replies_agree rules (Start p args) c r after x = quiet r _ _ x.reply (start_quiet rules.limits c.starts (length c.live) (takes rules p) args) (λ e. e)
 replies_agree rules (Step t) c r after x = open_agrees t c r after _ (StepEnds t (next_left (c.left t)) c) (step_agrees t (next_left (c.left t)) c r after) (nat_lt t c.starts) (c.fates t) refl refl x
 replies_agree rules (Commit t) c r after x = open_agrees t c r after _ (CommitEnds t (next_left (c.left t)) c) (commit_agrees t (next_left (c.left t)) c r after) (nat_lt t c.starts) (c.fates t) refl refl x
 replies_agree rules (Quit t) c r after x =
     let a = open_agrees t c r after _ (Unit {0}) (λ y. loud r _ _ (y.reply) refl tt) (nat_lt t c.starts) (c.fates t) refl refl x in
     ((λ u. a.0 (u, tt)), (λ none. a.1 (λ u. none u.0)))
-
--- how many are live afterwards: at most one more, and fewer where the reply ends one
-pub record Counts (r : Reply) (before after : State) : Type 0 where
-  pub most : length after.live ≤ length before.live + 1
-  pub fewer : is_ending r ≡ true → length after.live + 1 ≤ length before.live
 
 same_count : (r answer : Reply) (before after : State) → r ≡ answer → is_ending answer ≡ false → after.live ≡ before.live → Counts r before after
 same_count r answer before after is isnt same = record {

@@ -1,5 +1,5 @@
 -- How transactions end: which events end one, and what the end of one does to the state.
-use Rattle.std.specs.Prelude.{◌≡◌, ℕ, Bool, true, false, cond, nat_eq, List, Some}
+use Rattle.std.specs.Prelude.{◌≡◌, ℕ, ◌+◌, ◌≤◌, Bool, true, false, cond, nat_eq, List, length, Some}
 use Rattle.sgt_model.specs.declared.event.Event.{Event}
 use Rattle.sgt_model.specs.declared.event.Event.TheVariants.{Start, Step, Commit, Quit}
 use Rattle.sgt_model.specs.declared.kind.Kind.{Kind}
@@ -13,6 +13,9 @@ use Rattle.sgt_model.specs.Left.{next_left}
 use Rattle.sgt_model.specs.State.{State}
 use Rattle.sgt_model.specs.Blocks.{Blocks}
 use Rattle.sgt_model.specs.Changes.{Removes}
+use Rattle.sgt_model.specs.CallEffects.{CallEffect}
+use Rattle.sgt_model.specs.Settings.{Rules}
+use Rattle.sgt_model.specs.Walks.{Member}
 use Rattle.sgt_sched.specs.Steps.{IsUnended}
 
 -- t alone is taken out of the state, with this fate; its values are dropped
@@ -49,3 +52,20 @@ EndsOne (Start p args) c = ⊥
 EndsOne (Step t) c = IsUnended c t × StepEnds t (next_left (c.left t)) c
 EndsOne (Commit t) c = IsUnended c t × CommitEnds t (next_left (c.left t)) c
 EndsOne (Quit t) c = IsUnended c t
+
+-- a reply ends a live transaction exactly where this is so
+abbrev pub EndsWhere : Reply → Type 0 → Type 0
+EndsWhere r X = (X → is_ending r ≡ true) × ((X → ⊥) → is_ending r ≡ false)
+
+-- how many are live afterwards: at most one more, and fewer where the reply ends one
+pub record Counts (r : Reply) (before after : State) : Type 0 where
+  pub most : length after.live ≤ length before.live + 1
+  pub fewer : is_ending r ≡ true → length after.live + 1 ≤ length before.live
+
+-- of every call: its reply ends a live transaction exactly where its event does
+abbrev pub RepliesEndWhere : Type 0
+RepliesEndWhere = (rules : Rules) (event : Event) (before : State) (r : Reply) (after : State) → CallEffect rules event before r after → EndsWhere r (EndsOne event before)
+
+-- and where those that were started and have not ended are the live ones, so many are live afterwards
+abbrev pub CallsCount : Type 0
+CallsCount = (rules : Rules) (event : Event) (before : State) (r : Reply) (after : State) → ((t : ℕ) → IsUnended before t → Member t before.live) → CallEffect rules event before r after → Counts r before after

@@ -16,6 +16,7 @@
 #![tactic(auto)]
 
 mod arguments;
+mod laws;
 mod leave;
 mod live;
 mod reads;
@@ -23,5 +24,6 @@ mod running;
 mod sched;
 mod scheduler;
 
+pub use laws::endings_agree;
 pub use sched::Sched;
 pub use scheduler::Scheduler;

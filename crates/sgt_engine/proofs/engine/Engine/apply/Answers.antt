@@ -17,7 +17,7 @@ invariant_of-self-2 g c =
     let kept = kept_entry c.calls_simulate.ensures s _ c.self.inside.history.items c.push_reserved.new.self.items (state c.self.inside.sched) (state c.call.new.self) c.args.event c.in_ok-reply.reply (same_setting _ _ _ _ _ c.call.ensures.procedures c.call.ensures.limits)
     (added _ _ _ _ _ _ c.push_reserved.ensures.items c.make_room.ensures.items c.copied.ensures)
     (c.self.invariant.0, c.self.invariant.1) c.in_ok-reply.ensures.done in
-    let left = room_left (setting (contents_of c.self.inside.opening) c.self.inside.sched.procedures c.self.inside.sched.limits) (reverse c.self.inside.history.items) c.self.invariant.0 (state_of g.R.Records.chain g.R.Records.settled g.A.Accesses.list g.G.Graph.nodes g.G.Graph.pairs c.self.inside.sched) c.self.invariant.1 c.args.event (state_of g.R.Records.chain g.R.Records.settled g.A.Accesses.list g.G.Graph.nodes g.G.Graph.pairs c.call.new.self) c.in_ok-reply.reply (vec_len c.make_room.new.history) (vec_capacity c.make_room.new.history) c.in_ok-reply.ensures.done c.make_room.ensures.ends c.in_ok-make_room.ensures.room in
+    let left = room_left (record { sound = c.states_are_sound.ensures; verdicts = c.verdicts_agree.ensures; nexts = c.nexts_agree.ensures; replies = c.endings_agree.ensures.replies; counts = c.endings_agree.ensures.counts }) (setting (contents_of c.self.inside.opening) c.self.inside.sched.procedures c.self.inside.sched.limits) (reverse c.self.inside.history.items) c.self.invariant.0 (state_of g.R.Records.chain g.R.Records.settled g.A.Accesses.list g.G.Graph.nodes g.G.Graph.pairs c.self.inside.sched) c.self.invariant.1 c.args.event (state_of g.R.Records.chain g.R.Records.settled g.A.Accesses.list g.G.Graph.nodes g.G.Graph.pairs c.call.new.self) c.in_ok-reply.reply (vec_len c.make_room.new.history) (vec_capacity c.make_room.new.history) c.in_ok-reply.ensures.done c.make_room.ensures.ends c.in_ok-make_room.ensures.room in
     (kept.0, kept.1, omega (arith, left, c.push_reserved.ensures.len, c.push_reserved.ensures.capacity))
 
 pub returns-clause-legal : goal.returns-clause-legal
@@ -36,15 +36,15 @@ returns-clause-reply g c =
 
 pub returns-in_err-make_room-clause-no_memory : goal.returns-in_err-make_room-clause-no_memory
 returns-in_err-make_room-clause-no_memory g c = λ r legal e.
-    let ends = ends_seen _ c.args.self.now c.self.view_is (state_of g.R.Records.chain g.R.Records.settled g.A.Accesses.list g.G.Graph.nodes g.G.Graph.pairs c.self.inside.sched) c.self.invariant.0 c.self.invariant.1 c.args.event r legal e in
+    let ends = ends_seen (record { sound = c.states_are_sound.ensures; verdicts = c.verdicts_agree.ensures; nexts = c.nexts_agree.ensures; replies = c.endings_agree.ensures.replies; counts = c.endings_agree.ensures.counts }) _ c.args.self.now c.self.view_is (state_of g.R.Records.chain g.R.Records.settled g.A.Accesses.list g.G.Graph.nodes g.G.Graph.pairs c.self.inside.sched) c.self.invariant.0 c.self.invariant.1 c.args.event r legal e in
     absurd (true≢false (sym (c.make_room.ensures.no_memory ends) ∙ ap is_ok c.in_err-make_room.was))
 
 pub returns-in_err-reply-clause-no_memory : goal.returns-in_err-reply-clause-no_memory
 returns-in_err-reply-clause-no_memory g c = λ r legal e.
-    let ends = ends_seen _ c.args.self.now c.self.view_is (state_of g.R.Records.chain g.R.Records.settled g.A.Accesses.list g.G.Graph.nodes g.G.Graph.pairs c.self.inside.sched) c.self.invariant.0 c.self.invariant.1 c.args.event r legal e in
+    let ends = ends_seen (record { sound = c.states_are_sound.ensures; verdicts = c.verdicts_agree.ensures; nexts = c.nexts_agree.ensures; replies = c.endings_agree.ensures.replies; counts = c.endings_agree.ensures.counts }) _ c.args.self.now c.self.view_is (state_of g.R.Records.chain g.R.Records.settled g.A.Accesses.list g.G.Graph.nodes g.G.Graph.pairs c.self.inside.sched) c.self.invariant.0 c.self.invariant.1 c.args.event r legal e in
     absurd (true≢false (sym (c.call.ensures.no_memory ends) ∙ ap is_ok c.in_err-reply.was))
 
 pub push_reserved-requires : goal.push_reserved-requires
 push_reserved-requires g c =
-    let left = room_left (setting (contents_of c.self.inside.opening) c.self.inside.sched.procedures c.self.inside.sched.limits) (reverse c.self.inside.history.items) c.self.invariant.0 (state_of g.R.Records.chain g.R.Records.settled g.A.Accesses.list g.G.Graph.nodes g.G.Graph.pairs c.self.inside.sched) c.self.invariant.1 c.args.event (state_of g.R.Records.chain g.R.Records.settled g.A.Accesses.list g.G.Graph.nodes g.G.Graph.pairs c.call.new.self) c.in_ok-reply.reply (vec_len c.make_room.new.history) (vec_capacity c.make_room.new.history) c.in_ok-reply.ensures.done c.make_room.ensures.ends c.in_ok-make_room.ensures.room in
+    let left = room_left (record { sound = c.states_are_sound.ensures; verdicts = c.verdicts_agree.ensures; nexts = c.nexts_agree.ensures; replies = c.endings_agree.ensures.replies; counts = c.endings_agree.ensures.counts }) (setting (contents_of c.self.inside.opening) c.self.inside.sched.procedures c.self.inside.sched.limits) (reverse c.self.inside.history.items) c.self.invariant.0 (state_of g.R.Records.chain g.R.Records.settled g.A.Accesses.list g.G.Graph.nodes g.G.Graph.pairs c.self.inside.sched) c.self.invariant.1 c.args.event (state_of g.R.Records.chain g.R.Records.settled g.A.Accesses.list g.G.Graph.nodes g.G.Graph.pairs c.call.new.self) c.in_ok-reply.reply (vec_len c.make_room.new.history) (vec_capacity c.make_room.new.history) c.in_ok-reply.ensures.done c.make_room.ensures.ends c.in_ok-make_room.ensures.room in
     omega (arith, left)
