@@ -3,7 +3,7 @@
 use sgt_access::Accesses;
 use sgt_engine::Engine;
 use sgt_graph::Graph;
-use sgt_model::{Args, Event, Limits, MakeError, NoMemory, Tid};
+use sgt_model::{Args, Event, Limits, MakeError, Tid};
 use sgt_records::Records;
 use sgt_smallbank::{Account, opening, procedures};
 use std::alloc::Global;
