@@ -50,46 +50,6 @@ fn readers_rival_a_writer(rt: HostRuntime) -> Result<(), Fail> {
     Ok(())
 }
 
-/// A key has two writers, and a reader noted between them at another key. One writer is forgotten.
-fn two_writers<A: Accesses>(
-    rt: &impl Abort,
-    mut accesses: A,
-    key: Key,
-    other: Key,
-) -> Result<(), NoMemory>
-    requires { A.list accesses ≡ [] }
-{
-    noted(&mut accesses, Tid(1), key, Kind::Store)?;
-    noted(&mut accesses, Tid(2), other, Kind::Look)?;
-    noted(&mut accesses, Tid(0), key, Kind::Store)?;
-    assert_eq!(rt;
-        accesses.rivals(Tid(2), key, Kind::Look).as_slice(),
-        [Tid(0), Tid(1)].as_slice()
-    );
-    assert_eq!(rt;
-        accesses.rivals(Tid(1), other, Kind::Store).as_slice(),
-        [Tid(2)].as_slice()
-    );
-    accesses.forget(Tid(1));
-    assert_eq!(rt;
-        accesses.rivals(Tid(2), key, Kind::Look).as_slice(),
-        [Tid(0)].as_slice()
-    );
-    assert_eq!(rt;
-        accesses.rivals(Tid(1), other, Kind::Store).as_slice(),
-        [Tid(2)].as_slice()
-    );
-    Ok(())
-}
-
-#[test]
-fn each_writer_of_a_key_is_a_rival(rt: HostRuntime) -> Result<(), Fail> {
-    let (key, other) = (Key::new(2, 101).unwrap(), Key::new(1, 102).unwrap());
-    two_writers(&rt, OneList::empty(rt.alloc()), key, other)?;
-    two_writers(&rt, PerKey::empty(rt.alloc()), key, other)?;
-    Ok(())
-}
-
 #[test]
 fn a_mixed_list_is_answered_alike_by_both_bodies(rt: HostRuntime) -> Result<(), Fail> {
     let a = rt.alloc();

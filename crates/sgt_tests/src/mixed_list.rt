@@ -3,16 +3,35 @@
 use sgt_access::Accesses;
 use sgt_engine::Engine;
 use sgt_graph::Graph;
-use sgt_model::{Args, Event, Limits, MakeError, NoMemory, Tid};
+use sgt_model::{Args, Event, Limits, MakeError, Tid};
 use sgt_records::Records;
-use sgt_smallbank::{Account, BadOpening, opening, procedures};
+use sgt_smallbank::{Account, opening, procedures};
 use std::alloc::Global;
 
 /// How many events the list has.
 const EVENTS: u32 = 10_000;
 
-/// The customers, whose names are 1, 2 and 3.
-const CUSTOMERS: [i64; 3] = [101, 102, 103];
+/// The accounts that the list begins with.
+const ACCOUNTS: [Account; 3] = [
+    Account {
+        name: 1,
+        customer: 101,
+        saving: 500,
+        checking: 1000,
+    },
+    Account {
+        name: 2,
+        customer: 102,
+        saving: 0,
+        checking: 200,
+    },
+    Account {
+        name: 3,
+        customer: 103,
+        saving: 0,
+        checking: 300,
+    },
+];
 
 /// A generator of numbers that look random: the linear congruential one of the C standard's example.
 #[derive(Drop)]
@@ -61,13 +80,7 @@ fn open<R: Records, A: Accesses, G: Graph>(
     alloc: Global,
     live: u32,
 ) -> Result<Engine<R, A, G>, MakeError> {
-    let accounts = CUSTOMERS.map(|customer| Account {
-        name: customer - 100,
-        customer,
-        saving: 500,
-        checking: 1000,
-    });
-    let Ok(database) = opening(alloc, &accounts) else {
+    let Ok(database) = opening(alloc, &ACCOUNTS) else {
         return Err(MakeError::NoMemory);
     };
     let limits = Limits {
