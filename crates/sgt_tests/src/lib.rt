@@ -29,8 +29,6 @@ mod records_replay;
 #[cfg(test)]
 mod scheduler;
 #[cfg(test)]
-mod sessions;
-#[cfg(test)]
 mod smallbank;
 #[cfg(test)]
 mod streams;

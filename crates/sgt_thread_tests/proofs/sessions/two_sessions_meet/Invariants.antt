@@ -1,5 +1,5 @@
 use Rattle.sgt_engine.specs.EngineView.{setting_of}
-use Rattle.sgt_tests.proofs.sessions.two_sessions_meet.Given as goal
+use Rattle.sgt_thread_tests.proofs.sessions.two_sessions_meet.Given as goal
 
 abbrev pub ghosts-meet-N-Ledger : goal.ghosts-meet-N-Ledger
 ghosts-meet-N-Ledger g a = record { name = a.blank.name; parts = a.blank.parts }
