@@ -51,7 +51,8 @@ impl Chain {
         ensures left { self.new.writes.items ≡ without t self.old.writes.items }
     {
         let at = self.place_of(t)?;
-        Some(self.writes.remove(at).1)
+        let (_, value) = self.writes.remove(at);
+        Some(value)
     }
 
     // Where t's value stands.

@@ -3,8 +3,8 @@
 //!
 //! A look finds the last write that is not undone, committed or not. An abort takes out the transaction's own writes
 //! alone: no value from before them is written back, so the writes above stay. Nothing here decides who may read, write
-//! or commit. `Records` is the contract; `ListRecords` keeps the committed values in an ordered map and all pending
-//! writes in one list.
+//! or commit. `Records` is the contract. `ListRecords` is its plain body, with all pending writes in one list; in `SlabRecords`
+//! each key that has been written has a list of its own, so that a call goes through what concerns its key alone.
 //!
 //! ```
 //! let mut records = ListRecords::build(alloc, &opening)?;
