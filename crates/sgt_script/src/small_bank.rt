@@ -1,17 +1,17 @@
 use crate::machine::Machine;
-use sgt_access::OneList;
+use sgt_access::PerKey;
 use sgt_engine::Engine;
 use sgt_format::Opening;
 use sgt_graph::PairGraph;
 use sgt_model::{Database, Event, MakeError, NoMemory, Reply};
-use sgt_records::ListRecords;
+use sgt_records::SlabRecords;
 use std::alloc::Global;
 
 /// The machine of the program: an engine with SmallBank's procedures and behind them those of the opening, and the
 /// bodies of the layers that it names.
 #[derive(Drop)]
 pub(crate) struct SmallBankEngine {
-    engine: Engine<ListRecords, OneList, PairGraph>,
+    engine: Engine<SlabRecords, PerKey, PairGraph>,
 }
 
 impl Machine for SmallBankEngine {
