@@ -1,6 +1,6 @@
 -- The least transaction at some places, one place after another.
-use Rattle.std.specs.Prelude.{◌≡◌, ◌≢◌, ℕ, ◌<◌, ◌≤◌, ◌+◌, min, unwrap_or, true, false, List, slice_index, Option, Some, None, IfSome, IsNone}
-use Rattle.std.proofs.Common.{refl, sym, ◌∙◌, ap, subst, inl, inr, arith}
+use Rattle.std.specs.Prelude.{◌≡◌, ◌≢◌, ℕ, ◌<◌, ◌≤◌, ◌+◌, min, unwrap_or, true, false, List, [], ◌∷◌, length, slice_index, slice_index_or, Option, Some, None, IfSome, IsNone}
+use Rattle.std.proofs.Common.{zero, suc, refl, sym, ◌∙◌, ap, subst, inl, inr, arith}
 use Rattle.std.proofs.lemmas.Bool.{both_ways, false_from_ne_true, cases_lt, cases_eq}
 use Rattle.sgt_cycle.specs.Places.{is_set}
 use Rattle.sgt_graph.specs.BitGraphs.{IsLeastAt}
@@ -66,3 +66,9 @@ least_some tids set n (Some u) high low l = record { place = l.place; set_there 
 pub least_none : (tids : List ℕ) (set n : ℕ) (least : Option ℕ) → 32 ≤ n → ((i : ℕ) → is_set set i ≡ true → i < 32) → LeastBelow tids set n least → IsNone least → (i : ℕ) → is_set set i ≡ false
 least_none tids set n None high low l none i = false_from_ne_true (is_set set i) (λ h. let below : i < 32 = low i h in both_ways _ (l i (omega arith)) h)
 least_none tids set n (Some u) high low l none i = cc
+
+-- within the list the default does not matter
+pub any_default : (xs : List ℕ) (k d : ℕ) → k < length xs → slice_index xs k ≡ slice_index_or xs k d
+any_default [] k d below = absurd (omega arith)
+any_default (x ∷ xs) zero d below = refl
+any_default (x ∷ xs) (suc k) d below = any_default xs k d (omega arith)

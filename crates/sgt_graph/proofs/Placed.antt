@@ -145,7 +145,7 @@ module _ (taken : ℕ) (tids pairs reached : List ℕ) (g : IsBitGraph taken tid
     steps_taken i (j ∷ rest) p x (inl e) = subst (λ y. is_set taken y ≡ true) (sym e) (g.of_taken i j p.0).1
     steps_taken i (j ∷ rest) p x (inr m) = steps_taken j rest p.1 x m
 
-      named_goes : (i : ℕ) (rest : List ℕ) → is_set taken i ≡ true → PathOf (Holds (is_bit pairs)) i rest
+    named_goes : (i : ℕ) (rest : List ℕ) → is_set taken i ≡ true → PathOf (Holds (is_bit pairs)) i rest
         → PathOf (Holds (is_pair taken tids pairs)) (slice_index tids i) (map (λ i. slice_index tids i) rest)
     named_goes i [] there p = tt
     named_goes i (j ∷ rest) there p =

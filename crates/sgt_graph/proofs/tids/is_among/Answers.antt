@@ -14,7 +14,7 @@ member_any t (x ∷ xs) (inl e) = or_left (nat_eq x t) _ (eq-eqb x t (sym e))
 member_any t (x ∷ xs) (inr m) = or_right (nat_eq x t) _ (member_any t xs m)
 
 pub returns-clause-yes : goal.returns-clause-yes
-returns-clause-yes c yes = rw c.as_slice.ensures at (any_member c.args.t c.as_slice.result.now (sym c.contains.ensures.value ∙ yes))
+returns-clause-yes c found = rw c.as_slice.ensures at (any_member c.args.t c.as_slice.result.now (sym c.contains.ensures.value ∙ found))
 
 pub returns-clause-no : goal.returns-clause-no
-returns-clause-no c no m = both_ways _ no (c.contains.ensures.value ∙ member_any c.args.t c.as_slice.result.now (rw c.as_slice.ensures m))
+returns-clause-no c none m = both_ways _ none (c.contains.ensures.value ∙ member_any c.args.t c.as_slice.result.now (rw c.as_slice.ensures m))

@@ -1,0 +1,35 @@
+use Rattle.std.proofs.Common.{◌≡◌, ◌≢◌, ◌<◌, ◌≤◌, ◌+◌, ◌∙◌, ℕ, List, [], ◌∷◌, true, false, ap, sym, subst, refl, inl, inr, arith, nat_eq, length, slice_index, slice_set, map, true≢false, eqb-true, eq-eqb}
+use Rattle.std.specs.Prelude.{◌&&◌, ◌||◌, ◌⊎◌, ◌↔◌, not}
+use Rattle.std.proofs.lemmas.Bool.{and_parts, and_from, or_cases, or_left, or_right, both_ways, false_from_ne_true, cases_lt}
+use Rattle.sgt_model.specs.Walks.{Member}
+use Rattle.sgt_cycle.specs.Places.{is_set, is_bit, places}
+use Rattle.sgt_graph.specs.BitGraphs.{is_at, is_placed, is_pair, IsBitGraph}
+use Rattle.sgt_graph.specs.Graphs.{OfNodes, NoCycle}
+use Rattle.sgt_graph.specs.Verdicts.{IsVerdict}
+use Rattle.sgt_graph.proofs.Placed.{Placed, placed, placed_at, at_parts, at_from, at_placed, pair_at, pair_from, bit_of_nodes, bit_acyclic, inserted}
+use Rattle.sgt_graph.proofs.BitSteps.{freed_nodes, freed_pairs}
+use Rattle.sgt_graph.proofs.bit_graph.BitGraphGraph.remove.Goals as goal
+
+pub returns-in-Some-clause-nodes : goal.returns-in-Some-clause-nodes
+returns-in-Some-clause-nodes c u = ?
+
+pub returns-in-Some-clause-pairs : goal.returns-in-Some-clause-pairs
+returns-in-Some-clause-pairs c u v = ?
+
+pub returns-in-Some-clause-of_nodes : goal.returns-in-Some-clause-of_nodes
+returns-in-Some-clause-of_nodes c = bit_of_nodes c.free.new.self.0 c.free.new.self.1 c.free.new.self.2 c.free.new.self.3 c.free.ensures.graph
+
+pub returns-in-Some-clause-acyclic : goal.returns-in-Some-clause-acyclic
+returns-in-Some-clause-acyclic c = bit_acyclic c.free.new.self.0 c.free.new.self.1 c.free.new.self.2 c.free.new.self.3 c.free.ensures.graph
+
+pub returns-in_default-clause-nodes : goal.returns-in_default-clause-nodes
+returns-in_default-clause-nodes c u = ?
+
+pub returns-in_default-clause-pairs : goal.returns-in_default-clause-pairs
+returns-in_default-clause-pairs c u v = ?
+
+pub returns-in_default-clause-of_nodes : goal.returns-in_default-clause-of_nodes
+returns-in_default-clause-of_nodes c = subst (λ (v : ℕ × List ℕ × List ℕ × List ℕ). OfNodes (is_placed v.0 v.1) (is_pair v.0 v.1 v.2)) c.self.view_is (bit_of_nodes c.self.inside.taken c.self.inside.tids c.self.inside.pairs c.self.inside.reached c.self.invariant)
+
+pub returns-in_default-clause-acyclic : goal.returns-in_default-clause-acyclic
+returns-in_default-clause-acyclic c = subst (λ (v : ℕ × List ℕ × List ℕ × List ℕ). NoCycle (is_pair v.0 v.1 v.2)) c.self.view_is (bit_acyclic c.self.inside.taken c.self.inside.tids c.self.inside.pairs c.self.inside.reached c.self.invariant)
