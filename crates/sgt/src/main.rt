@@ -6,7 +6,8 @@
 
 use clap::Command;
 use clap::error::ErrorKind;
-use sgt_script::{Fault, Reader, Writer, run_script};
+use sgt_script::run_script;
+use sgt_stream::{Fault, Reader, Writer};
 use std::alloc::{AllocError, Global};
 use std::env;
 use std::fmt::Display;

@@ -1,2 +1,5 @@
+pub mod KeyOrder
+pub mod PerKeys
 pub mod RisingLists
 pub mod Rivals
+pub mod Tests

@@ -7,8 +7,8 @@ use std::marker::Model;
 /// One access of a live transaction.
 #[derive(Clone, Copy)]
 pub struct Access {
-    pub by: Tid,
     pub key: Key,
+    pub by: Tid,
     pub kind: Kind,
 }
 

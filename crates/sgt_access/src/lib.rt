@@ -13,8 +13,13 @@
 
 mod access;
 mod accesses;
+mod conflicts;
 mod one_list;
+mod per_key;
+mod places;
 mod rising;
+mod whole_list;
 
 pub use accesses::Accesses;
 pub use one_list::OneList;
+pub use per_key::PerKey;

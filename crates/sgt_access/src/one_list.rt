@@ -1,7 +1,6 @@
 use crate::access::Access;
 use crate::accesses::Accesses;
-use crate::rising::add_rising;
-use arrayvec::ArrayVec;
+use crate::conflicts::rivals_among;
 use sgt_model::{Key, Kind, NoMemory, Tid, Tids};
 use std::alloc::Global;
 
@@ -35,16 +34,7 @@ impl Accesses for OneList {
     }
 
     fn rivals(&self, t: Tid, key: Key, kind: Kind) -> Tids {
-        let mut rivals = ArrayVec::<Tid, 32>::new();
-        for access in self.accesses.iter() {
-            if access.is_rival_of(t, key, kind) {
-                add_rising(&mut rivals, access.by);
-            }
-        }
-        match Tids::from_slice(rivals.as_slice()) {
-            Some(rivals) => rivals,
-            None => unreachable!(),
-        }
+        rivals_among(self.accesses.as_slice(), t, key, kind)
     }
 
     fn forget(&mut self, t: Tid) {

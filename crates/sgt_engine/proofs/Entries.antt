@@ -16,7 +16,7 @@ use Rattle.sgt_model.specs.StateAfter.{IsStateAfter}
 use Rattle.sgt_model.specs.CallEffects.{CallEffect}
 use Rattle.sgt_engine.specs.EngineView.{EngineView, setting_of, made_of}
 use Rattle.sgt_model.specs.Histories.{events_of}
-use Rattle.sgt_model.proofs.Joining.{calls_simulate}
+use Rattle.sgt_model.specs.Refinement.{CallsSimulate}
 
 -- what an engine keeps: a legal history, and a scheduler whose state is the one after it
 abbrev pub Kept : Setting → List Entry → State → Type 0
@@ -35,14 +35,14 @@ pub added : (items reserved new : List Entry) (event : Event) (copied r : Reply)
 added items reserved new event copied r pushed room is = pushed ∙ ap₂ (λ (l : List Entry) (x : Reply). l ++ record { event = event; reply = x } ∷ []) room is
 
 -- a call that was answered keeps all that an engine keeps
-pub kept_entry : (s s' : Setting) (items new : List Entry) (before after : State) (event : Event) (r : Reply) → s ≡ s' → new ≡ items ++ record { event = event; reply = r } ∷ [] → Kept s (reverse items) before → CallEffect s.rules event before r after → Kept s' (reverse new) after
-kept_entry s s' items new before after event r same is kept done =
+pub kept_entry : CallsSimulate → (s s' : Setting) (items new : List Entry) (before after : State) (event : Event) (r : Reply) → s ≡ s' → new ≡ items ++ record { event = event; reply = r } ∷ [] → Kept s (reverse items) before → CallEffect s.rules event before r after → Kept s' (reverse new) after
+kept_entry calls_simulate s s' items new before after event r same is kept done =
     let continues = calls_simulate s (reverse items) kept.0 before kept.1 event r after done in
     subst₂ (λ (x : Setting) (l : List Entry). Kept x l after) same (sym (longer items new (record { event = event; reply = r }) is)) ((kept.0, continues.0), continues.1)
 
 -- its reply is legal
-pub legal_reply : (s s' : Setting) (past past' : List Entry) (before after : State) (event : Event) (r : Reply) → s ≡ s' → past ≡ past' → Kept s past before → CallEffect s.rules event before r after → LegalReply s' past' event r
-legal_reply s s' past past' before after event r same seen kept done =
+pub legal_reply : CallsSimulate → (s s' : Setting) (past past' : List Entry) (before after : State) (event : Event) (r : Reply) → s ≡ s' → past ≡ past' → Kept s past before → CallEffect s.rules event before r after → LegalReply s' past' event r
+legal_reply calls_simulate s s' past past' before after event r same seen kept done =
     subst₂ (λ (x : Setting) (l : List Entry). LegalReply x l event r) same seen (calls_simulate s past kept.0 before kept.1 event r after done).0
 
 -- the history of a new engine is legal

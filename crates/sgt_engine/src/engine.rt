@@ -2,22 +2,28 @@ ghost use Rattle.std.specs.Prelude.{◌≡◌, ℕ, true, Result, Ok, Err, IfOk,
 ghost use Rattle.std.specs.Result.{IsOk};
 ghost use Rattle.sgt_model.specs.declared.event.Event.TheVariants.{Quit};
 ghost use Rattle.sgt_model.specs.declared.reply.Reply.{Reply as Answer};
+ghost use Rattle.sgt_model.specs.Aborts.{AbortsHaveCause};
 ghost use Rattle.sgt_model.specs.Bounds.{AreInRange};
+ghost use Rattle.sgt_model.specs.CommitOrder.{CommitsInOrder};
 ghost use Rattle.sgt_model.specs.Contents.{Key as K};
 ghost use Rattle.sgt_model.specs.Databases.{contents_of, IsByKey};
 ghost use Rattle.sgt_model.specs.Fates.{live};
-ghost use Rattle.sgt_model.specs.Headline.{Headline};
 ghost use Rattle.sgt_model.specs.Legality.{Legal, LegalReply};
-ghost use Rattle.sgt_model.specs.Replay.{replayed, committed_runs};
+ghost use Rattle.sgt_model.specs.Pairs.{Pair};
+ghost use Rattle.sgt_model.specs.Replay.{folded, IsSerializable};
 ghost use Rattle.sgt_model.specs.StateAfter.{IsStateAfter};
 ghost use Rattle.sgt_model.specs.Values.{settled};
+ghost use Rattle.sgt_model.specs.Walks.{Acyclic};
 ghost use Rattle.sgt_sched.specs.Endings.{is_ending};
 ghost use Rattle.sgt_engine.specs.EngineView.{setting_of, made_of, with_entry};
 
 use crate::room::make_room;
 use sgt_access::Accesses;
 use sgt_graph::Graph;
-use sgt_model::{Database, Entry, Event, Key, Limits, MakeError, NoMemory, Reply};
+use sgt_model::{
+    Database, Entry, Event, Key, Limits, MakeError, NoMemory, Reply, calls_simulate,
+    headline_holds, replay_is_serial,
+};
 use sgt_proc::Checked;
 use sgt_records::Records;
 use sgt_sched::{Sched, Scheduler};
@@ -111,13 +117,18 @@ impl<R: Records, A: Accesses, G: Graph> Engine<R, A, G> {
         ensures adds { IfOk result (λ r. self.new ≡ with_entry event r self.old) }
         ensures reply { IfOk result (LegalReply (setting_of self.old) self.old.past event) }
         ensures legal { Legal (setting_of self.new) self.new.past }
-        ensures headline { Headline (setting_of self.new) self.new.past }
+        ensures replay { IsSerializable (setting_of self.new) self.new.past }
+        ensures no_cycle { Acyclic (Pair self.new.past) }
+        ensures causes { AbortsHaveCause (setting_of self.new) self.new.past }
+        ensures order { CommitsInOrder self.new.past }
         ensures refused { OnErr result (self.new ≡ self.old) }
         ensures no_memory { (r : Answer) → LegalReply (setting_of self.old) self.old.past event r
             → is_ending r ≡ true
             → IsOk result }
         ensures quits { (t : ℕ) → event ≡ Quit t → live self.old.past t ≡ true → IsOk result }
     {
+        headline_holds();
+        calls_simulate();
         make_room(&mut self.history, &self.sched, &event)?;
         let reply = self.sched.call(&event)?;
         self.history.push_reserved(Entry {
@@ -142,8 +153,12 @@ impl<R: Records, A: Accesses, G: Graph> Engine<R, A, G> {
     pub fn history(&self) -> &[Entry]
         ensures entries { reverse result.now ≡ self.now.past }
         ensures legal { Legal (setting_of self.now) self.now.past }
-        ensures headline { Headline (setting_of self.now) self.now.past }
+        ensures replay { IsSerializable (setting_of self.now) self.now.past }
+        ensures no_cycle { Acyclic (Pair self.now.past) }
+        ensures causes { AbortsHaveCause (setting_of self.now) self.now.past }
+        ensures order { CommitsInOrder self.now.past }
     {
+        headline_holds();
         self.history.as_slice()
     }
 
@@ -151,8 +166,9 @@ impl<R: Records, A: Accesses, G: Graph> Engine<R, A, G> {
     /// what the committed transactions leave there, run one after another in commit order.
     pub fn committed(&self, key: Key) -> Option<i64>
         ensures value { result ≡ settled (contents_of self.now.opening) self.now.past key }
-        ensures replayed { result ≡ replayed (setting_of self.now) (committed_runs self.now.past) key }
+        ensures replayed { result ≡ (folded (setting_of self.now) self.now.past).last key }
     {
+        replay_is_serial();
         self.sched.records().committed(key)
     }
 
@@ -163,9 +179,10 @@ impl<R: Records, A: Accesses, G: Graph> Engine<R, A, G> {
         ensures values { IfOk result (λ d. (k : K) →
             contents_of d k ≡ settled (contents_of self.now.opening) self.now.past k) }
         ensures replayed { IfOk result (λ d. (k : K) →
-            contents_of d k ≡ replayed (setting_of self.now) (committed_runs self.now.past) k) }
+            contents_of d k ≡ (folded (setting_of self.now) self.now.past).last k) }
         ensures by_key { IfOk result IsByKey }
     {
+        replay_is_serial();
         self.sched.records().all(alloc)
     }
 }

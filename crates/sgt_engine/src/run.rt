@@ -1,7 +1,11 @@
 ghost use Rattle.std.specs.Prelude.{◌≡◌, ◌≤◌, Result, Ok, Err, IfOk, ◌↔◌, length, take};
+ghost use Rattle.sgt_model.specs.Aborts.{AbortsHaveCause};
 ghost use Rattle.sgt_model.specs.Bounds.{AreInRange};
-ghost use Rattle.sgt_model.specs.Headline.{Headline};
+ghost use Rattle.sgt_model.specs.CommitOrder.{CommitsInOrder};
 ghost use Rattle.sgt_model.specs.Legality.{Legal};
+ghost use Rattle.sgt_model.specs.Pairs.{Pair};
+ghost use Rattle.sgt_model.specs.Replay.{IsSerializable};
+ghost use Rattle.sgt_model.specs.Walks.{Acyclic};
 ghost use Rattle.sgt_model.specs.Databases.{contents_of};
 ghost use Rattle.sgt_model.specs.Settings.{setting};
 ghost use Rattle.sgt_engine.specs.EngineView.{setting_of};
@@ -10,7 +14,7 @@ ghost use Rattle.sgt_model.specs.Histories.{events_of};
 use crate::engine::Engine;
 use sgt_access::Accesses;
 use sgt_graph::Graph;
-use sgt_model::{Database, Event, Limits, MakeError};
+use sgt_model::{Database, Event, Limits, MakeError, headline_holds};
 use sgt_proc::Checked;
 use sgt_records::Records;
 use std::alloc::Global;
@@ -39,7 +43,10 @@ pub fn run_list<R: Records, A: Accesses, G: Graph>(
     ensures events { IfOk result (λ ran. events_of ran.engine.past ≡ take ran.done events.now) }
     ensures done { IfOk result (λ ran. ran.done ≤ length events.now) }
     ensures legal { IfOk result (λ ran. Legal (setting_of ran.engine) ran.engine.past) }
-    ensures headline { IfOk result (λ ran. Headline (setting_of ran.engine) ran.engine.past) }
+    ensures replay { IfOk result (λ ran. IsSerializable (setting_of ran.engine) ran.engine.past) }
+    ensures no_cycle { IfOk result (λ ran. Acyclic (Pair ran.engine.past)) }
+    ensures causes { IfOk result (λ ran. AbortsHaveCause (setting_of ran.engine) ran.engine.past) }
+    ensures order { IfOk result (λ ran. CommitsInOrder ran.engine.past) }
     ensures refused { (result ≡ Err MakeError.BadLimits) ↔ (¬ AreInRange limits) }
 {
     let mut engine = Engine::new(alloc, opening, procedures, limits)?;
@@ -50,5 +57,6 @@ pub fn run_list<R: Records, A: Accesses, G: Graph>(
             Err(_) => break,
         }
     }
+    headline_holds();
     Ok(Ran { engine, done })
 }

@@ -6,7 +6,8 @@
 //! the examples at the top of the repository stand there once more; `.ci/run` compares the two.
 #![tactic(auto)]
 
-use sgt_script::{Reader, Writer, run_script};
+use sgt_script::run_script;
+use sgt_stream::{Reader, Writer};
 use std::alloc::AllocGlobal;
 use std::io::Print;
 use std::rt::Files;

@@ -79,16 +79,16 @@ parts_found tree ms limits accounts procedures object three at_limits at_account
 pub sheet_found : (line : List ℕ) (tree : Data) (limits : ℤ × ℤ) (trees procedures : List Data) (accounts : List Account) → Some tree ≡ tree_of line → Some (limits, trees, procedures) ≡ parts_in tree → Some accounts ≡ each account trees → sheet_of line ≡ Some (record { limits = limits; accounts = accounts; procedures = procedures })
 sheet_found line tree limits trees procedures accounts at_line at_tree at_trees = rw (← at_line) (rw (← at_tree) (rw (← at_trees) refl))
 
-refused_sheet : (line : List ℕ) (sheet : Sheet) (error : OpeningError) → sheet_of line ≡ Some sheet → IsRefused sheet error → Refuses line error
-refused_sheet line sheet NotJson shape is = absurd is
-refused_sheet line sheet BadLine shape is = absurd is
-refused_sheet line sheet BadLimits shape is = (sheet, shape, is)
-refused_sheet line sheet (BadOpening fault) shape is = (sheet, shape, is)
-refused_sheet line sheet (ProcShape number place) shape is = (sheet, shape, is)
-refused_sheet line sheet (ProcFlaw number flaw) shape is = (sheet, shape, is)
-refused_sheet line sheet NoMemory shape is = tt
+refused_sheet : (least : ℕ) (line : List ℕ) (sheet : Sheet) (error : OpeningError) → sheet_of line ≡ Some sheet → IsRefused least sheet error → Refuses least line error
+refused_sheet least line sheet NotJson shape is = absurd is
+refused_sheet least line sheet BadLine shape is = absurd is
+refused_sheet least line sheet BadLimits shape is = (sheet, shape, is)
+refused_sheet least line sheet (BadOpening fault) shape is = (sheet, shape, is)
+refused_sheet least line sheet (ProcShape number place) shape is = (sheet, shape, is)
+refused_sheet least line sheet (ProcFlaw number flaw) shape is = (sheet, shape, is)
+refused_sheet least line sheet NoMemory shape is = tt
 
 -- what gives an opening or not is refused as what the line says is
-pub refused_line : (line : List ℕ) (sheet : Sheet) (result : Result Opening OpeningError) → sheet_of line ≡ Some sheet → IfErr result (IsRefused sheet) → IfErr result (Refuses line)
-refused_line line sheet (Ok opening) shape is = tt
-refused_line line sheet (Err error) shape is = refused_sheet line sheet error shape is
+pub refused_line : (least : ℕ) (line : List ℕ) (sheet : Sheet) (result : Result Opening OpeningError) → sheet_of line ≡ Some sheet → IfErr result (IsRefused least sheet) → IfErr result (Refuses least line)
+refused_line least line sheet (Ok opening) shape is = tt
+refused_line least line sheet (Err error) shape is = refused_sheet least line sheet error shape is

@@ -3,5 +3,6 @@ pub mod ReplyText
 pub mod DatabaseText
 pub mod Trees
 pub mod EventLines
+pub mod JobLines
 pub mod Procedures
 pub mod Openings

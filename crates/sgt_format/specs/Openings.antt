@@ -1,5 +1,5 @@
 -- Which opening a line spells, and why it spells none.
-use Rattle.std.specs.Prelude.{◌≡◌, ℕ, ℤ, pos, nat_eq, ◌+◌, cond, List, [], ◌∷◌, Option, Some, None, IsSome, option_map, option_and_then, codes, ⊤}
+use Rattle.std.specs.Prelude.{◌≡◌, ℕ, ℤ, pos, nat_eq, ◌+◌, ◌≤◌, cond, List, [], ◌∷◌, Option, Some, None, IsSome, option_map, option_and_then, codes, ⊤}
 use Rattle.serde_json.specs.Data.{Data, Members, no_members, member}
 use Rattle.serde_json.specs.Find.{get, as_object}
 use Rattle.sgt_model.specs.Bounds.{AreInRange}
@@ -76,32 +76,33 @@ sheet_in tree = option_and_then sheet_from (parts_in tree)
 abbrev pub sheet_of : List ℕ → Option Sheet
 sheet_of line = option_and_then sheet_in (tree_of line)
 
--- limits in their ranges, of these numbers
-pub record AreLimits (numbers : ℤ × ℤ) (limits : Limits) : Type 0 where
+-- limits in their ranges, of these numbers, by which as many may be live as are wanted at least
+pub record AreLimits (least : ℕ) (numbers : ℤ × ℤ) (limits : Limits) : Type 0 where
   pub live : numbers.0 ≡ pos limits.live
   pub begins : numbers.1 ≡ pos limits.begins
   pub in_range : AreInRange limits
+  pub enough : least ≤ limits.live
 
 -- the number of the first procedure of an opening, behind the five of SmallBank
 abbrev pub first_number : ℕ
 first_number = 5
 
 -- an opening of what a line says
-pub record IsOpened (sheet : Sheet) (opening : Opening) : Type 0 where
-  pub limits : AreLimits sheet.limits opening.limits
+pub record IsOpened (least : ℕ) (sheet : Sheet) (opening : Opening) : Type 0 where
+  pub limits : AreLimits least sheet.limits opening.limits
   pub no_fault : fault_of sheet.accounts ≡ None
   pub contents : (key : Key) → contents_of opening.database key ≡ opened sheet.accounts key
   pub procedures : AreProcedures sheet.procedures opening.procedures.items
 
 -- the line spells the opening
-pub record Opens (line : List ℕ) (opening : Opening) : Type 0 where
+pub record Opens (least : ℕ) (line : List ℕ) (opening : Opening) : Type 0 where
   pub sheet : Sheet
   pub shape : sheet_of line ≡ Some sheet
-  pub opens : IsOpened sheet opening
+  pub opens : IsOpened least sheet opening
 
--- what a line says has limits in their ranges
-abbrev pub HasLimits : Sheet → Type 0
-HasLimits sheet = (limits : Limits) × AreLimits sheet.limits limits
+-- what a line says has limits in their ranges, with as many live ones as are wanted
+abbrev pub HasLimits : ℕ → Sheet → Type 0
+HasLimits least sheet = (limits : Limits) × AreLimits least sheet.limits limits
 
 -- a procedure of those that trees spell is refused: the first that is none, or that has a flaw
 abbrev pub ProcedureIsRefused : List Data → OpeningError → Type 0
@@ -122,25 +123,25 @@ abbrev pub error_of : accounts.BadOpening → OpeningError
 error_of (bad.Fault fault) = BadOpening fault
 error_of bad.NoMemory = NoMemory
 
--- why what a line says is refused: its limits are out of their ranges, or else an account is at fault, or else a procedure is
+-- why what a line says is refused: its limits are out of their ranges, or let too few be live, or else an account is at fault, or else a procedure is
 -- refused. Memory is wanting only where the limits and the accounts pass
-abbrev pub IsRefused : Sheet → OpeningError → Type 0
-IsRefused sheet NotJson = ⊥
-IsRefused sheet BadLine = ⊥
-IsRefused sheet BadLimits = (limits : Limits) → ¬ AreLimits sheet.limits limits
-IsRefused sheet (BadOpening fault) = HasLimits sheet × (fault_of sheet.accounts ≡ Some fault)
-IsRefused sheet (ProcShape number place) = HasLimits sheet × (fault_of sheet.accounts ≡ None) × ProcedureIsRefused sheet.procedures (ProcShape number place)
-IsRefused sheet (ProcFlaw number flaw) = HasLimits sheet × (fault_of sheet.accounts ≡ None) × ProcedureIsRefused sheet.procedures (ProcFlaw number flaw)
-IsRefused sheet NoMemory = HasLimits sheet × (fault_of sheet.accounts ≡ None)
+abbrev pub IsRefused : ℕ → Sheet → OpeningError → Type 0
+IsRefused least sheet NotJson = ⊥
+IsRefused least sheet BadLine = ⊥
+IsRefused least sheet BadLimits = (limits : Limits) → ¬ AreLimits least sheet.limits limits
+IsRefused least sheet (BadOpening fault) = HasLimits least sheet × (fault_of sheet.accounts ≡ Some fault)
+IsRefused least sheet (ProcShape number place) = HasLimits least sheet × (fault_of sheet.accounts ≡ None) × ProcedureIsRefused sheet.procedures (ProcShape number place)
+IsRefused least sheet (ProcFlaw number flaw) = HasLimits least sheet × (fault_of sheet.accounts ≡ None) × ProcedureIsRefused sheet.procedures (ProcFlaw number flaw)
+IsRefused least sheet NoMemory = HasLimits least sheet × (fault_of sheet.accounts ≡ None)
 
 -- the same of a line that has the shape of an opening
-abbrev pub SheetIsRefused : List ℕ → OpeningError → Type 0
-SheetIsRefused line error = (sheet : Sheet) × (sheet_of line ≡ Some sheet) × IsRefused sheet error
+abbrev pub SheetIsRefused : ℕ → List ℕ → OpeningError → Type 0
+SheetIsRefused least line error = (sheet : Sheet) × (sheet_of line ≡ Some sheet) × IsRefused least sheet error
 
 -- why the line spells none: it is no JSON, or it has not the shape, or what it says is refused. To read what it says takes
 -- memory too
-abbrev pub Refuses : List ℕ → OpeningError → Type 0
-Refuses line NotJson = tree_of line ≡ None
-Refuses line BadLine = IsSome (tree_of line) × (sheet_of line ≡ None)
-Refuses line NoMemory = ⊤
-Refuses line error = SheetIsRefused line error
+abbrev pub Refuses : ℕ → List ℕ → OpeningError → Type 0
+Refuses least line NotJson = tree_of line ≡ None
+Refuses least line BadLine = IsSome (tree_of line) × (sheet_of line ≡ None)
+Refuses least line NoMemory = ⊤
+Refuses least line error = SheetIsRefused least line error

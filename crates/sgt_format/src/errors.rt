@@ -8,12 +8,12 @@ use sgt_proc_json::Place;
 use sgt_smallbank::{BadOpening, OpeningFault};
 use std::alloc::AllocError;
 
-/// Why a line gives no event.
+/// Why a line gives no event, or no job.
 #[derive(Clone, Copy, Debug, PartialEq, Eq)]
 pub enum LineError {
     /// The line is no JSON.
     NotJson,
-    /// The line is JSON, and spells no event.
+    /// The line is JSON, and spells none of what it stands for.
     BadLine,
     /// A growth was refused.
     NoMemory,

@@ -58,13 +58,13 @@ fn tid(tree: &Value) -> Option<Tid>
     Some(Tid(u32::try_from(tree.as_i64()?).ok()?))
 }
 
-fn procedure(tree: &Value) -> Option<u16>
+pub(crate) fn procedure(tree: &Value) -> Option<u16>
     ensures { result ≡ procedure (view tree.now) }
 {
     u16::try_from(tree.as_i64()?).ok()
 }
 
-fn arguments(tree: &Value) -> Option<Args>
+pub(crate) fn arguments(tree: &Value) -> Option<Args>
     ensures { result ≡ arguments (view tree.now) }
 {
     let items = items(tree)?;

@@ -1,31 +1,35 @@
-//! The formats of `sgt`, both ways. A line of JSON becomes an event or an opening, and a reply or a database becomes its
-//! text. What a line means and which text a reply has stand in `specs/`: `ReplyText`, `DatabaseText`, `EventLines` and
-//! `Openings`, over `Decimals`, `Trees` and `Procedures`. The contracts give exactly these, and each error exactly where it
+//! The formats of `sgt`, both ways. A line of JSON becomes an opening, an event or a job, and a reply or a database becomes its
+//! text. What a line means and which text a reply has stand in `specs/`: `ReplyText`, `DatabaseText`, `EventLines`,
+//! `JobLines` and `Openings`, over `Decimals`, `Trees` and `Procedures`. The contracts give exactly these, and each error exactly where it
 //! applies.
 //!
 //! It knows nothing of how lines are cut from a stream, nor of how an engine runs. Lines come in without their byte 10, and
 //! go out with it.
 //!
 //! ```
-//! let opening = read_opening(alloc, b"{\"limits\":[1,10],\"accounts\":[[1,101,500,1000]],\"procedures\":[]}")?;
+//! let opening = read_opening(alloc, 1, b"{\"limits\":[1,10],\"accounts\":[[1,101,500,1000]],\"procedures\":[]}")?;
 //! let event = read_event(alloc, b"[\"start\",0,[1]]")?;
 //! append_reply(&mut lines, &Reply::Started(Tid(0)))?; // adds "started 0\n"
 //! append_database(&mut lines, &opening.database)?; // adds "0/1 101\n1/101 500\n2/101 1000\n"
 //! ```
 #![tactic(auto)]
 
+mod call;
 mod database_text;
 mod decimal_text;
 mod errors;
 mod event_line;
+mod job_line;
 mod opening;
 mod procedures;
 mod reply_text;
 mod sheet;
 mod tree;
 
+pub use call::JobCall;
 pub use database_text::append_database;
 pub use errors::{LineError, OpeningError};
 pub use event_line::read_event;
+pub use job_line::read_job;
 pub use opening::{Opening, read_opening};
 pub use reply_text::{append_reply, reply_line};

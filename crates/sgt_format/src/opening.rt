@@ -26,38 +26,40 @@ pub struct Opening {
 ///
 /// # Errors
 ///
-/// The first of these that applies: `NotJson`, `BadLine` for any other shape, `BadLimits`, `BadOpening` with the fault of the
+/// The first of these that applies: `NotJson`, `BadLine` for any other shape, `BadLimits`, also where fewer than `least`
+/// transactions may be live, `BadOpening` with the fault of the
 /// first account that has one, and `ProcShape` or `ProcFlaw` of the first procedure that has a misfit or a flaw. `NoMemory`
 /// where a growth was refused: while the shape was read, or behind limits in their ranges and accounts without a fault.
-pub fn read_opening(alloc: Global, line: &[u8]) -> Result<Opening, OpeningError>
-    ensures opening { IfOk result (Opens line.now) }
-    ensures refused { IfErr result (Refuses line.now) }
+pub fn read_opening(alloc: Global, least: u32, line: &[u8]) -> Result<Opening, OpeningError>
+    ensures opening { IfOk result (Opens least line.now) }
+    ensures refused { IfErr result (Refuses least line.now) }
 {
     let tree = read_tree(alloc, line)?.ok_or(OpeningError::NotJson)?;
     let (numbers, trees, procedures) = parts(&tree).ok_or(OpeningError::BadLine)?;
     let accounts = read_accounts(alloc, trees)?.ok_or(OpeningError::BadLine)?;
-    open(alloc, numbers, accounts.as_slice(), procedures)
+    open(alloc, least, numbers, accounts.as_slice(), procedures)
 }
 
 /// The opening of these limits, these accounts and the procedures that these trees spell.
 fn open(
     alloc: Global,
+    least: u32,
     numbers: (i64, i64),
     accounts: &[Account],
     procedures: &[Value],
 ) -> Result<Opening, OpeningError>
-    ensures opening { IfOk result (IsOpened (record {
+    ensures opening { IfOk result (IsOpened least (record {
       limits = numbers;
       accounts = accounts.now;
       procedures = map view procedures.now;
     })) }
-    ensures refused { IfErr result (IsRefused (record {
+    ensures refused { IfErr result (IsRefused least (record {
       limits = numbers;
       accounts = accounts.now;
       procedures = map view procedures.now;
     })) }
 {
-    let limits = limits(numbers).ok_or(OpeningError::BadLimits)?;
+    let limits = limits(least, numbers).ok_or(OpeningError::BadLimits)?;
     let database = sgt_smallbank::opening(alloc, accounts)?;
     let procedures = read_procedures(alloc, procedures)?;
     Ok(Opening {

@@ -66,16 +66,16 @@ fn account(tree: &Value) -> Option<Account>
     }
 }
 
-/// Limits of these numbers, or none where one is out of its range.
-pub(crate) fn limits(numbers: (i64, i64)) -> Option<Limits>
-    ensures some { IfSome result (AreLimits numbers) }
-    ensures none { IsNone result → (limits : L) → ¬ AreLimits numbers limits }
+/// Limits of these numbers, or none where one is out of its range, or fewer may be live than are wanted at least.
+pub(crate) fn limits(least: u32, numbers: (i64, i64)) -> Option<Limits>
+    ensures some { IfSome result (AreLimits least numbers) }
+    ensures none { IsNone result → (limits : L) → ¬ AreLimits least numbers limits }
 {
     let limits = Limits {
         live: u32::try_from(numbers.0).ok()?,
         begins: u32::try_from(numbers.1).ok()?,
     };
-    if limits.are_in_range() {
+    if limits.are_in_range() && limits.live >= least {
         Some(limits)
     } else {
         None

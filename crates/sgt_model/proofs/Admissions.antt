@@ -13,16 +13,12 @@ use Rattle.sgt_model.specs.Fates.{is_start, starts, subject}
 use Rattle.sgt_model.specs.Settings.{Setting, takes}
 use Rattle.sgt_model.specs.Progress.{Call, call_at, call_in, call_of}
 use Rattle.sgt_model.specs.Legality.{Legal}
-use Rattle.sgt_model.specs.Replay.{CommittedRun, committed_run_in, committed_runs}
+use Rattle.sgt_model.specs.Replay.{committed_call_in, committed_calls}
+use Rattle.sgt_model.specs.Admissions.{IsAdmitted, AreAdmitted}
 use Rattle.sgt_model.proofs.Effects.{Begins, effect, Commits}
 use Rattle.sgt_model.proofs.Facts.{call-kept, commits_or_not, Uncommitted, live-started}
 use Rattle.sgt_model.proofs.Room.{starts_or_not}
 use Rattle.sgt_model.proofs.StoredValues.{is_value-fact}
-
--- the setting has the call's procedure, which takes so many arguments as these, and each is a value
-pub record IsAdmitted (s : Setting) (c : Call) : Type 0 where
-  pub known : takes s.rules c.procedure ≡ Some (length c.args)
-  pub values : All IsValue c.args
 
 values_fit : (args : List ℤ) → list_all is_value args ≡ true → All IsValue args
 values_fit [] e = All-nil IsValue
@@ -35,7 +31,7 @@ at_start s past event r b before =
     let is : call_in event r (starts past) ≡ Some call = ap (λ x. call_in event x (starts past)) b.reply_is ∙ ap (λ x. cond x (call_at event) None) (eq-eqb (starts past) (starts past) refl) ∙ ap call_at b.event_is in
     subst (λ o. IsAdmitted s (unwrap_or o before)) (sym is) (record { known = b.known ∙ ap Some (sym (eqb-true (length b.args) b.count parts.0)); values = values_fit b.args parts.1 })
 
-pub started_admitted : (s : Setting) (past : List Entry) (t : ℕ) → Legal s past → t < starts past → IsAdmitted s (call_of past t)
+started_admitted : (s : Setting) (past : List Entry) (t : ℕ) → Legal s past → t < starts past → IsAdmitted s (call_of past t)
 started_admitted s [] t h started = absurd (omega arith)
 started_admitted s (e ∷ past) t h started = by_age (started_admitted s past t h.0) (cases_lt t (starts past))
   where
@@ -53,17 +49,13 @@ started_admitted s (e ∷ past) t h started = by_age (started_admitted s past t 
     by_age before (inr new) = by_start new (starts_or_not (effect s past e.event e.reply h.1))
 
 -- so was each that committed
-abbrev pub AreAdmitted : Setting → List CommittedRun → Type 0
-AreAdmitted s [] = Unit {0}
-AreAdmitted s (c ∷ before) = AreAdmitted s before × IsAdmitted s c.call
-
-pub committed_admitted : (s : Setting) (past : List Entry) → Legal s past → AreAdmitted s (committed_runs past)
+pub committed_admitted : (s : Setting) (past : List Entry) → Legal s past → AreAdmitted s (committed_calls past)
 committed_admitted s [] h = tt
 committed_admitted s (e ∷ past) h = by_end (committed_admitted s past h.0) (commits_or_not (effect s past e.event e.reply h.1))
   where
-    by_end : AreAdmitted s (committed_runs past) → Commits s past e.event e.reply ⊎ Uncommitted s past e.event e.reply → AreAdmitted s (committed_run_in past e.event e.reply ++ committed_runs past)
+    by_end : AreAdmitted s (committed_calls past) → Commits s past e.event e.reply ⊎ Uncommitted s past e.event e.reply → AreAdmitted s (committed_call_in past e.event e.reply ++ committed_calls past)
     by_end before (inl c) =
         let who : subject e.event ≡ c.t = ap subject c.event_is in
         let admitted = started_admitted s past c.t h.0 (live-started past c.t c.is_live) in
-        subst (λ r. AreAdmitted s (committed_run_in past e.event r ++ committed_runs past)) (sym c.reply_is) (before, subst (λ u. IsAdmitted s (call_of past u)) (sym who) admitted)
-    by_end before (inr quiet) = subst (λ l. AreAdmitted s (l ++ committed_runs past)) (sym quiet.not_committed_run) before
+        subst (λ r. AreAdmitted s (committed_call_in past e.event r ++ committed_calls past)) (sym c.reply_is) (before, subst (λ u. IsAdmitted s (call_of past u)) (sym who) admitted)
+    by_end before (inr quiet) = subst (λ l. AreAdmitted s (l ++ committed_calls past)) (sym quiet.no_call) before

@@ -24,8 +24,8 @@ use Rattle.sgt_model.specs.Closes.{Closes}
 use Rattle.sgt_model.specs.Settings.{Setting, takes}
 use Rattle.sgt_model.specs.Progress.{call_in, next_of}
 use Rattle.sgt_model.specs.Legality.{args_fit, called_reply, Aborts, Refuses, StepReply, NoneLive, CommitReply, OfStarted, OfLive, LegalReply}
-use Rattle.sgt_model.specs.Replay.{committed_run_in}
-use Rattle.sgt_model.specs.Aborts.{Wants, HasCause, AbortIsDue}
+use Rattle.sgt_model.specs.Replay.{committed_call_in, told_in}
+use Rattle.sgt_model.specs.Aborts.{Wants, HasCause, AbortHasCause}
 use Rattle.sgt_model.specs.Laws.{CommitAgrees}
 use Rattle.sgt_model.proofs.NoOrder.{refused_has_no_order}
 
@@ -39,17 +39,21 @@ ends_none-no_end event (reply.Committed answers) h u = absurd h
 ends_none-no_end event (reply.Aborted why fell) h u = absurd h
 ends_none-no_end event _ h u = refl
 
-pub ends_none-not_committed_run : (past : List Entry) (event : Event) (r : Reply) → EndsNone r → committed_run_in past event r ≡ []
-ends_none-not_committed_run past event (reply.Committed answers) h = absurd h
-ends_none-not_committed_run past event _ h = refl
+pub ends_none-no_commit : (past : List Entry) (event : Event) (r : Reply) → EndsNone r → committed_call_in past event r ≡ []
+ends_none-no_commit past event (reply.Committed answers) h = absurd h
+ends_none-no_commit past event _ h = refl
+
+pub ends_none-tells_none : (r : Reply) → EndsNone r → told_in r ≡ []
+ends_none-tells_none (reply.Committed answers) h = absurd h
+ends_none-tells_none _ h = refl
 
 pub ends_none-agrees : (s : Setting) (past : List Entry) (event : Event) (r : Reply) → EndsNone r → CommitAgrees s past event r
 ends_none-agrees s past event (reply.Committed answers) h = absurd h
 ends_none-agrees s past event _ h = tt
 
-pub ends_none-due : (s : Setting) (past : List Entry) (event : Event) (r : Reply) → EndsNone r → AbortIsDue s past event r
-ends_none-due s past event (reply.Aborted why fell) h = absurd h
-ends_none-due s past event _ h = tt
+pub ends_none-cause : (s : Setting) (past : List Entry) (event : Event) (r : Reply) → EndsNone r → AbortHasCause s past event r
+ends_none-cause s past event (reply.Aborted why fell) h = absurd h
+ends_none-cause s past event _ h = tt
 
 -- a reply that starts none leaves the calls
 pub no_start-no_call : (event : Event) (r : Reply) → is_start r ≡ false → (t : ℕ) → call_in event r t ≡ None

@@ -7,7 +7,8 @@ use Rattle.sgt_model.specs.declared.reply.Cause.TheVariants as cause
 use Rattle.sgt_model.specs.declared.entry.Entry.{Entry}
 use Rattle.sgt_model.specs.Values.{settled}
 use Rattle.sgt_model.specs.Legality.{Legal}
-use Rattle.sgt_model.specs.Replay.{CommittedRun, committed_runs, replayed, AnswersAgree}
+use Rattle.sgt_model.specs.Progress.{Call}
+use Rattle.sgt_model.specs.Replay.{GaveAnswers, committed_calls, folded, told}
 use Rattle.sgt_model.proofs.Computed.{made_by, aborts_by, commits_by, waits_by}
 use Rattle.sgt_model.proofs.ExampleSettings.{small_bank, entry}
 
@@ -87,27 +88,31 @@ two_deposits-legal = (
   inr (commits_by refl),
 )
 
--- the check is none of the committed runs; of the deposits the one that committed last stands first
-abbrev the_deposits : List CommittedRun
+-- the check is none of the committed calls; of the deposits the one that committed last stands first
+abbrev pub the_deposits : List Call
 the_deposits =
-    record { call = record { procedure = 1; args = pos 1 ∷ pos 50 ∷ [] }; reply = reply.Committed (pos 1150 ∷ []) }
-    ∷ record { call = record { procedure = 1; args = pos 1 ∷ pos 100 ∷ [] }; reply = reply.Committed (pos 1100 ∷ []) }
+    record { procedure = 1; args = pos 1 ∷ pos 50 ∷ [] }
+    ∷ record { procedure = 1; args = pos 1 ∷ pos 100 ∷ [] }
     ∷ []
 
-two_deposits-committed : committed_runs two_deposits ≡ the_deposits
+two_deposits-committed : committed_calls two_deposits ≡ the_deposits
 two_deposits-committed = refl
 
--- run again, each gives the answers that it was told
-two_deposits-answers : AnswersAgree (small_bank 8 100) the_deposits
-two_deposits-answers = ((tt, (_, refl)), (_, refl))
+-- run one after another, they give these answers
+two_deposits-results : (folded (small_bank 8 100) two_deposits).results ≡ GaveAnswers (pos 1150 ∷ []) ∷ GaveAnswers (pos 1100 ∷ []) ∷ []
+two_deposits-results = refl
 
--- and the balance at the end is the committed one
-two_deposits-replayed : replayed (small_bank 8 100) the_deposits (2, pos 101) ≡ Some (pos 1150)
-two_deposits-replayed = refl
+-- and these are the answers that they were told
+two_deposits-told : told two_deposits ≡ GaveAnswers (pos 1150 ∷ []) ∷ GaveAnswers (pos 1100 ∷ []) ∷ []
+two_deposits-told = refl
+
+-- the balance at the end is the committed one
+two_deposits-folded : (folded (small_bank 8 100) two_deposits).last (2, pos 101) ≡ Some (pos 1150)
+two_deposits-folded = refl
 
 two_deposits-settled : settled (small_bank 8 100).opening two_deposits (2, pos 101) ≡ Some (pos 1150)
 two_deposits-settled = refl
 
 -- no other record changed
-two_deposits-saving : replayed (small_bank 8 100) the_deposits (1, pos 101) ≡ settled (small_bank 8 100).opening two_deposits (1, pos 101)
+two_deposits-saving : (folded (small_bank 8 100) two_deposits).last (1, pos 101) ≡ settled (small_bank 8 100).opening two_deposits (1, pos 101)
 two_deposits-saving = refl

@@ -1,16 +1,16 @@
 -- The replay of runs is the replay of executions, since a run is an execution.
 use Rattle.std.specs.Prelude.{◌≡◌, ℤ, List, [], ◌∷◌, Option, Some, None, slice_get}
-use Rattle.std.proofs.Common.{refl, sym, ap, ◌∙◌, subst}
+use Rattle.std.proofs.Common.{refl, sym, ap, ◌∙◌}
 use Rattle.sgt_model.specs.declared.limits.Limits.{Limits}
 use Rattle.sgt_model.specs.Contents.{Contents}
 use Rattle.sgt_model.specs.Syntax.{Program}
-use Rattle.sgt_model.specs.Runs.{serial, contents_after}
+use Rattle.sgt_model.specs.Runs.{serial}
 use Rattle.sgt_model.specs.Settings.{run_if, setting}
 use Rattle.sgt_model.specs.Progress.{Call, run_of}
-use Rattle.sgt_model.specs.Replay.{CommittedRun, committed_runs, Gives, replayed, AnswersAgree}
-use Rattle.sgt_model.specs.ExecutedReplay.{execution_if, execution_of, executed, ExecutionsAgree, HistoriesAreExecuted}
+use Rattle.sgt_model.specs.Replay.{Folded, with_outcome, run_in_turn, committed_calls}
+use Rattle.sgt_model.specs.ExecutedReplay.{execution_if, execution_of, execute_in_turn, HistoriesAreExecuted}
 use Rattle.sgt_model.proofs.Executions.{serial_is}
-use Rattle.sgt_model.proofs.Replays.{is_serial}
+use Rattle.sgt_model.proofs.Replays.{is_serializable}
 
 -- the run of a call is its execution
 run_is : (p : Option Program) (args : List ℤ) (m : Contents) → serial (run_if p args) m ≡ execution_if p args m
@@ -20,24 +20,19 @@ run_is (Some p) args m = serial_is p args m
 call_is : (opening : Contents) (programs : List Program) (limits : Limits) (c : Call) (m : Contents) → serial (run_of (setting opening programs limits).rules c) m ≡ execution_of programs c m
 call_is opening programs limits c m = run_is (slice_get programs c.procedure) c.args m
 
-replay_is : (opening : Contents) (programs : List Program) (limits : Limits) (runs : List CommittedRun) → replayed (setting opening programs limits) runs ≡ executed opening programs runs
+replay_is : (opening : Contents) (programs : List Program) (limits : Limits) (calls : List Call) → run_in_turn (setting opening programs limits) calls ≡ execute_in_turn opening programs calls
 replay_is opening programs limits [] = refl
 replay_is opening programs limits (c ∷ before) =
-    ap (λ m. contents_after (serial (run_of (setting opening programs limits).rules c.call) m) m) (replay_is opening programs limits before)
-    ∙ ap (λ o. contents_after o (executed opening programs before)) (call_is opening programs limits c.call (executed opening programs before))
-
-answers_are : (opening : Contents) (programs : List Program) (limits : Limits) (runs : List CommittedRun) → AnswersAgree (setting opening programs limits) runs → ExecutionsAgree opening programs runs
-answers_are opening programs limits [] agree = tt
-answers_are opening programs limits (c ∷ before) agree = (
-  answers_are opening programs limits before agree.0,
-  subst (λ o. Gives o c.reply) (ap (λ m. serial (run_of (setting opening programs limits).rules c.call) m) (replay_is opening programs limits before) ∙ call_is opening programs limits c.call (executed opening programs before)) agree.1,
-)
+    let ran : Folded = execute_in_turn opening programs before in
+    ap (λ (f : Folded). with_outcome (serial (run_of (setting opening programs limits).rules c) f.last) f) (replay_is opening programs limits before)
+    ∙ ap (λ o. with_outcome o ran) (call_is opening programs limits c ran.last)
 
 -- the law
 pub is_executed : HistoriesAreExecuted
 is_executed opening programs limits past legal =
-    let replay = is_serial (setting opening programs limits) past legal in
+    let same = replay_is opening programs limits (committed_calls past) in
+    let replay = is_serializable (setting opening programs limits) past legal in
     record {
-      answers = answers_are opening programs limits (committed_runs past) replay.answers;
-      same = λ k. ap (λ m. m k) (sym (replay_is opening programs limits (committed_runs past))) ∙ replay.same k;
+      answers = ap (λ (f : Folded). f.results) (sym same) ∙ replay.answers;
+      database = λ k. ap (λ (f : Folded). f.last k) (sym same) ∙ replay.database k;
     }

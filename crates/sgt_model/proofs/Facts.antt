@@ -22,9 +22,9 @@ use Rattle.sgt_model.specs.Closes.{Closes}
 use Rattle.sgt_model.specs.Settings.{Setting}
 use Rattle.sgt_model.specs.Progress.{call_at, call_in, call_of, next_of}
 use Rattle.sgt_model.specs.Legality.{NoneLive, LegalReply, Legal}
-use Rattle.sgt_model.specs.Replay.{committed_run_in}
+use Rattle.sgt_model.specs.Replay.{committed_call_in, told_in}
 use Rattle.sgt_model.specs.Laws.{CommitAgrees}
-use Rattle.sgt_model.proofs.Effects.{EndsNone, ends_none-no_end, ends_none-not_committed_run, ends_none-agrees, no_start-no_call, Begins, Fits, Accesses, Commits, Undoing, Undoes, Effect, idle, begins, accesses, commits, undoes, none_from, effect}
+use Rattle.sgt_model.proofs.Effects.{EndsNone, ends_none-no_end, ends_none-no_commit, ends_none-tells_none, ends_none-agrees, no_start-no_call, Begins, Fits, Accesses, Commits, Undoing, Undoes, Effect, idle, begins, accesses, commits, undoes, none_from, effect}
 
 -- on options
 
@@ -304,15 +304,16 @@ fell-no_fate past t fell h u m = live-no_fate past u (h.each u m).0
 
 -- an entry at which nothing commits
 pub record Uncommitted (s : Setting) (past : List Entry) (event : Event) (r : Reply) : Type 0 where
-  pub not_committed_run : committed_run_in past event r ≡ []
+  pub no_call : committed_call_in past event r ≡ []
+  pub tells_none : told_in r ≡ []
   pub no_commit : (u : ℕ) → ending_in event r u ≡ Some fate.Committed → ⊥
   pub agrees : CommitAgrees s past event r
 
 uncommitted : (s : Setting) (past : List Entry) (event : Event) (r : Reply) → EndsNone r → Uncommitted s past event r
-uncommitted s past event r h = record { not_committed_run = ends_none-not_committed_run past event r h; no_commit = λ u e. cc (sym (ends_none-no_end event r h u) ∙ e); agrees = ends_none-agrees s past event r h }
+uncommitted s past event r h = record { no_call = ends_none-no_commit past event r h; tells_none = ends_none-tells_none r h; no_commit = λ u e. cc (sym (ends_none-no_end event r h u) ∙ e); agrees = ends_none-agrees s past event r h }
 
 undone_uncommitted : (s : Setting) (past : List Entry) (event : Event) (r : Reply) → Undoes s past event r → Uncommitted s past event r
-undone_uncommitted s past event r x = record { not_committed_run = ap (λ y. committed_run_in past event y) x.reply_is; no_commit = λ u e. no_commit u (end_case (undoes x) u fate.Committed e); agrees = subst (λ y. CommitAgrees s past event y) (sym x.reply_is) tt }
+undone_uncommitted s past event r x = record { no_call = ap (λ y. committed_call_in past event y) x.reply_is; tells_none = ap told_in x.reply_is; no_commit = λ u e. no_commit u (end_case (undoes x) u fate.Committed e); agrees = subst (λ y. CommitAgrees s past event y) (sym x.reply_is) tt }
   where
     no_commit : (u : ℕ) → Ended s past event r u fate.Committed ⊎ Undone past event r u fate.Committed → ⊥
     no_commit u (inl c) = cc (sym x.reply_is ∙ c.commit.reply_is)

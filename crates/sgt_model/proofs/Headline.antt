@@ -7,11 +7,17 @@ use Rattle.sgt_model.specs.CommitOrder.{CommitsInOrder}
 use Rattle.sgt_model.specs.Headline.{Headline}
 use Rattle.sgt_model.proofs.PairOrder.{pair_commits_before}
 use Rattle.sgt_model.proofs.Sources.{source_commits_before}
-use Rattle.sgt_model.proofs.Replays.{is_serial}
+use Rattle.sgt_model.proofs.Replays.{is_serializable}
+use Rattle.sgt_model.proofs.NoCycle.{no_cycle}
 use Rattle.sgt_model.proofs.Aborts.{aborts_have_cause}
 
 pub commits_in_order : (s : Setting) (past : List Entry) → Legal s past → CommitsInOrder past
 commits_in_order s past h = record { pairs = pair_commits_before s past h; sources = λ t u c reads. (source_commits_before s past h t u c reads).1 }
 
 pub headline : (s : Setting) (past : List Entry) → Legal s past → Headline s past
-headline s past h = (is_serial s past h, aborts_have_cause s past h, commits_in_order s past h)
+headline s past h = record {
+  replay = is_serializable s past h;
+  no_cycle = no_cycle s past h;
+  causes = aborts_have_cause s past h;
+  order = commits_in_order s past h;
+}

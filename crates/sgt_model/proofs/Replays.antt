@@ -1,7 +1,7 @@
 -- The replay in commit order: each commit's looks agree with what is committed, and so the replay gives what was told.
 use Rattle.std.specs.Prelude.{◌≡◌, ◌≢◌, ℕ, ℤ, Bool, true, cond, ◌⊎◌, nat_eq, List, [], ◌∷◌, ◌++◌, Some, None}
 use Rattle.std.specs.Option.{option_or}
-use Rattle.std.proofs.Common.{refl, sym, ap, ◌∙◌, subst, subst₂, inl, inr, ⊎_elim}
+use Rattle.std.proofs.Common.{refl, sym, ap, ap₂, ◌∙◌, subst, subst₂, inl, inr, ⊎_elim}
 use Rattle.std.proofs.lemmas.Bool.{cases_eq, eq-eqb, ne_eqb, false_from_ne_true}
 use Rattle.sgt_model.specs.declared.event.Event.{Event}
 use Rattle.sgt_model.specs.declared.event.Event.TheVariants.{Commit}
@@ -18,7 +18,7 @@ use Rattle.sgt_model.specs.Pairs.{Precedes}
 use Rattle.sgt_model.specs.Settings.{Setting}
 use Rattle.sgt_model.specs.Progress.{call_of, run_of}
 use Rattle.sgt_model.specs.Legality.{Legal}
-use Rattle.sgt_model.specs.Replay.{committed_runs, replayed, AnswersAgree, IsSerial}
+use Rattle.sgt_model.specs.Replay.{result_of, run_in_turn, committed_calls, folded, told, IsSerializable}
 use Rattle.sgt_model.specs.Laws.{LooksAgree, CommitAgrees, CommitsAgree}
 use Rattle.sgt_model.proofs.Effects.{Commits, effect}
 use Rattle.sgt_model.proofs.Facts.{access-live, committed-stays, live-stands, live-not_committed, committed-stands, commit-case, Uncommitted, commits_or_not}
@@ -66,10 +66,10 @@ settled_quiet s past e k h no_commit = ap (λ x. value_or x (s.opening k)) (newe
     skipped (inr none) = none (committed (e ∷ past))
 
 -- after t's commit the contents of its run are the committed ones
-same_after : (s : Setting) (past : List Entry) (t : ℕ) (answers : List ℤ) → Legal s past → live past t ≡ true → IsSerial s past → (k : Key) → over (replayed s (committed_runs past)) (acts past t) k ≡ settled s.opening (commit_entry t answers ∷ past) k
+same_after : (s : Setting) (past : List Entry) (t : ℕ) (answers : List ℤ) → Legal s past → live past t ≡ true → IsSerializable s past → (k : Key) → over (folded s past).last (acts past t) k ≡ settled s.opening (commit_entry t answers ∷ past) k
 same_after s past t answers h is_live ih k =
-    over-acts (replayed s (committed_runs past)) past t k
-    ∙ (ap (λ v. value_or (newest_store (λ u. nat_eq u t) k past) v) (ih.same k)
+    over-acts (folded s past).last past t k
+    ∙ (ap (λ v. value_or (newest_store (λ u. nat_eq u t) k past) v) (ih.database k)
     ∙ sym (settled_commit s past t answers k h is_live))
 
 commit_agrees : (s : Setting) (past : List Entry) (event : Event) (r : Reply) → Legal s past → (c : Commits s past event r) → LooksAgree (settled s.opening past) c.t past
@@ -85,28 +85,28 @@ commits_agree s (e ∷ past) h = (commits_agree s past h.0, now (commits_or_not 
     now (inr quiet) = quiet.agrees
 
 -- the run of a transaction that commits, on the contents so far
-run_done : (s : Setting) (past : List Entry) (event : Event) (r : Reply) → Legal s past → (c : Commits s past event r) → IsSerial s past → DoneWith (serial (run_of s.rules (call_of past c.t)) (replayed s (committed_runs past))) c.answers (over (replayed s (committed_runs past)) (acts past c.t))
+run_done : (s : Setting) (past : List Entry) (event : Event) (r : Reply) → Legal s past → (c : Commits s past event r) → IsSerializable s past → DoneWith (serial (run_of s.rules (call_of past c.t)) (folded s past).last) c.answers (over (folded s past).last (acts past c.t))
 run_done s past event r h c ih =
     let run : Run = run_of s.rules (call_of past c.t) in
-    (law_over_acts run (run_is_trace run)).done (replayed s (committed_runs past)) (acts past c.t) c.answers (plays s past c.t h) (finds_in (replayed s (committed_runs past)) (settled s.opening past) past c.t ih.same (commit_agrees s past event r h c)) c.next
+    (law_over_acts run (run_is_trace run)).done (folded s past).last (acts past c.t) c.answers (plays s past c.t h) (finds_in (folded s past).last (settled s.opening past) past c.t ih.database (commit_agrees s past event r h c)) c.next
 
-at_commit : (s : Setting) (past : List Entry) (t : ℕ) (answers : List ℤ) → Legal s past → live past t ≡ true → DoneWith (serial (run_of s.rules (call_of past t)) (replayed s (committed_runs past))) answers (over (replayed s (committed_runs past)) (acts past t)) → IsSerial s past → IsSerial s (commit_entry t answers ∷ past)
+at_commit : (s : Setting) (past : List Entry) (t : ℕ) (answers : List ℤ) → Legal s past → live past t ≡ true → DoneWith (serial (run_of s.rules (call_of past t)) (folded s past).last) answers (over (folded s past).last (acts past t)) → IsSerializable s past → IsSerializable s (commit_entry t answers ∷ past)
 at_commit s past t answers h is_live d ih = record {
-  answers = (ih.answers, (d.0, d.1));
-  same = λ k. ap (λ o. contents_after o (replayed s (committed_runs past)) k) d.1 ∙ (d.2 k ∙ same_after s past t answers h is_live ih k);
+  answers = ap₂ (λ r l. r ∷ l) (ap result_of d.1) ih.answers;
+  database = λ k. ap (λ o. contents_after o (folded s past).last k) d.1 ∙ (d.2 k ∙ same_after s past t answers h is_live ih k);
 }
 
-at_quiet : (s : Setting) (e : Entry) (past : List Entry) → Legal s (e ∷ past) → Uncommitted s past e.event e.reply → IsSerial s past → IsSerial s (e ∷ past)
+at_quiet : (s : Setting) (e : Entry) (past : List Entry) → Legal s (e ∷ past) → Uncommitted s past e.event e.reply → IsSerializable s past → IsSerializable s (e ∷ past)
 at_quiet s e past h quiet ih = record {
-  answers = subst (λ l. AnswersAgree s (l ++ committed_runs past)) (sym quiet.not_committed_run) ih.answers;
-  same = λ k. ap (λ l. replayed s (l ++ committed_runs past) k) quiet.not_committed_run ∙ (ih.same k ∙ sym (settled_quiet s past e k h quiet.no_commit));
+  answers = ap (λ l. (run_in_turn s (l ++ committed_calls past)).results) quiet.no_call ∙ (ih.answers ∙ ap (λ l. l ++ told past) (sym quiet.tells_none));
+  database = λ k. ap (λ l. (run_in_turn s (l ++ committed_calls past)).last k) quiet.no_call ∙ (ih.database k ∙ sym (settled_quiet s past e k h quiet.no_commit));
 }
 
 -- commit order is serial
-pub is_serial : (s : Setting) (past : List Entry) → Legal s past → IsSerial s past
-is_serial s [] h = record { answers = tt; same = λ k. refl }
-is_serial s (e ∷ past) h = now (is_serial s past h.0) (commits_or_not (effect s past e.event e.reply h.1))
+pub is_serializable : (s : Setting) (past : List Entry) → Legal s past → IsSerializable s past
+is_serializable s [] h = record { answers = refl; database = λ k. refl }
+is_serializable s (e ∷ past) h = now (is_serializable s past h.0) (commits_or_not (effect s past e.event e.reply h.1))
   where
-    now : IsSerial s past → Commits s past e.event e.reply ⊎ Uncommitted s past e.event e.reply → IsSerial s (e ∷ past)
-    now ih (inl c) = subst₂ (λ event r. IsSerial s (record { event = event; reply = r } ∷ past)) (sym c.event_is) (sym c.reply_is) (at_commit s past c.t c.answers h.0 c.is_live (run_done s past e.event e.reply h.0 c ih) ih)
+    now : IsSerializable s past → Commits s past e.event e.reply ⊎ Uncommitted s past e.event e.reply → IsSerializable s (e ∷ past)
+    now ih (inl c) = subst₂ (λ event r. IsSerializable s (record { event = event; reply = r } ∷ past)) (sym c.event_is) (sym c.reply_is) (at_commit s past c.t c.answers h.0 c.is_live (run_done s past e.event e.reply h.0 c ih) ih)
     now ih (inr quiet) = at_quiet s e past h quiet ih

@@ -11,7 +11,7 @@ use Rattle.sgt_model.specs.Runs.{Run, looks, puts, ends, asks, serial, contents_
 use Rattle.sgt_model.specs.Meaning.{Got, is, over, missing, Registers, fresh, value_of, Holds, holds, too_far, unknown, result_of, wrong, with_value, with_test, is_key, with_key, with_stored, if_found, run}
 use Rattle.sgt_model.specs.Settings.{setting, run_if}
 use Rattle.sgt_model.specs.StoredValues.{HoldValues, StoresValues, RunsStoreValues, ReplaysHoldValues, CommittedAreValues}
-use Rattle.sgt_model.proofs.Replays.{is_serial}
+use Rattle.sgt_model.proofs.Replays.{is_serializable}
 
 -- ---- what a run stores
 
@@ -86,9 +86,9 @@ pub replays_hold_values : ReplaysHoldValues
 replays_hold_values opening programs limits [] hold = hold
 replays_hold_values opening programs limits (c ∷ ran) hold =
     let before = replays_hold_values opening programs limits ran hold in
-    hold_after (run_if (slice_get programs c.call.procedure) c.call.args) _ _ (stores_if_any (slice_get programs c.call.procedure) c.call.args) before before
+    hold_after (run_if (slice_get programs c.procedure) c.args) _ _ (stores_if_any (slice_get programs c.procedure) c.args) before before
 
 pub committed_are_values : CommittedAreValues
 committed_are_values opening programs limits past hold legal =
-    let serially = is_serial (setting opening programs limits) past legal in
-    λ k. subst (λ o. IfSome o IsValue) (serially.same k) (replays_hold_values opening programs limits _ hold k)
+    let replay = is_serializable (setting opening programs limits) past legal in
+    λ k. subst (λ o. IfSome o IsValue) (replay.database k) (replays_hold_values opening programs limits _ hold k)

@@ -10,7 +10,7 @@ use Rattle.sgt_model.specs.declared.entry.Entry.{Entry}
 use Rattle.sgt_model.specs.declared.kind.Kind.{Kind}
 use Rattle.sgt_model.specs.declared.kind.Kind.TheVariants.{Look, Store}
 use Rattle.sgt_model.specs.Contents.{Key}
-use Rattle.sgt_model.specs.Walks.{Acyclic, Orders}
+use Rattle.sgt_model.specs.Walks.{Orders}
 use Rattle.sgt_model.specs.Traces.{Next, Looks, Puts, Ends, Asks}
 use Rattle.sgt_model.specs.Accesses.{Access, access_of}
 use Rattle.sgt_model.specs.Fates.{subject}
@@ -51,16 +51,11 @@ HasCause s past (Quit t) cause.Quit = Unit {0}
 HasCause s past _ _ = ⊥
 
 -- an abort has its cause, and those that fall are exactly those that read from it
-abbrev pub AbortIsDue : Setting → List Entry → Event → Reply → Type 0
-AbortIsDue s past event (reply.Aborted why fell) = HasCause s past event why × Falls past (subject event) fell
-AbortIsDue s past event _ = Unit {0}
+abbrev pub AbortHasCause : Setting → List Entry → Event → Reply → Type 0
+AbortHasCause s past event (reply.Aborted why fell) = HasCause s past event why × Falls past (subject event) fell
+AbortHasCause s past event _ = Unit {0}
 
 -- so has each abort of a history
-abbrev pub AbortsAreDue : Setting → List Entry → Type 0
-AbortsAreDue s [] = Unit {0}
-AbortsAreDue s (e ∷ past) = AbortsAreDue s past × AbortIsDue s past e.event e.reply
-
--- the conflict pairs have no cycle, and each abort has its cause
-pub record AbortsHaveCause (s : Setting) (past : List Entry) : Type 0 where
-  pub no_cycle : Acyclic (Pair past)
-  pub due : AbortsAreDue s past
+abbrev pub AbortsHaveCause : Setting → List Entry → Type 0
+AbortsHaveCause s [] = Unit {0}
+AbortsHaveCause s (e ∷ past) = AbortsHaveCause s past × AbortHasCause s past e.event e.reply

@@ -1,6 +1,6 @@
 -- The order in which transactions commit. It agrees with conflicts (commit-order preserving: Durner and Neumann,
 -- ICDE 2019) and with who read from whom (recoverable: Bernstein, Hadzilacos and Goodman (1987), chapter 2).
-use Rattle.std.specs.Prelude.{◌≡◌, ℕ, true, ◌⊎◌, List, [], ◌∷◌, length, Option, Some, None, nat_eq}
+use Rattle.std.specs.Prelude.{◌≡◌, ◌≢◌, ℕ, true, ◌⊎◌, List, [], ◌∷◌, length, Option, Some, None, nat_eq}
 use Rattle.std.specs.Option.{option_or, option_map}
 use Rattle.sgt_model.specs.declared.reply.Fate.TheVariants as fate
 use Rattle.sgt_model.specs.declared.entry.Entry.{Entry}
@@ -26,3 +26,10 @@ last_store (e ∷ past) k t = option_or (option_map (λ (a : Access). length pas
 pub record CommitsInOrder (past : List Entry) : Type 0 where
   pub pairs : (t u : ℕ) → committed past t ≡ true → committed past u ≡ true → Pair past t u → CommitsBefore past t u
   pub sources : (t u : ℕ) → committed past t ≡ true → ReadFrom past t u → CommitsBefore past u t
+
+-- commit order is a strict total order of the committed transactions
+pub record CommitsInLine (past : List Entry) : Type 0 where
+  pub of_committed : (t u : ℕ) → CommitsBefore past t u → (committed past t ≡ true) × (committed past u ≡ true)
+  pub irreflexive : (t : ℕ) → CommitsBefore past t t → ⊥
+  pub transitive : (t u v : ℕ) → CommitsBefore past t u → CommitsBefore past u v → CommitsBefore past t v
+  pub total : (t u : ℕ) → t ≢ u → committed past t ≡ true → committed past u ≡ true → CommitsBefore past t u ⊎ CommitsBefore past u t

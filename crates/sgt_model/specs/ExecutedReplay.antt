@@ -5,13 +5,13 @@ use Rattle.sgt_model.specs.declared.limits.Limits.{Limits}
 use Rattle.sgt_model.specs.declared.entry.Entry.{Entry}
 use Rattle.sgt_model.specs.Contents.{Key, Contents}
 use Rattle.sgt_model.specs.Syntax.{Program}
-use Rattle.sgt_model.specs.Runs.{Outcome, Asked, contents_after}
+use Rattle.sgt_model.specs.Runs.{Outcome, Asked}
 use Rattle.sgt_model.specs.Executions.{stuck, execution}
 use Rattle.sgt_model.specs.Values.{settled}
 use Rattle.sgt_model.specs.Settings.{setting}
 use Rattle.sgt_model.specs.Progress.{Call}
 use Rattle.sgt_model.specs.Legality.{Legal}
-use Rattle.sgt_model.specs.Replay.{CommittedRun, committed_runs, Gives}
+use Rattle.sgt_model.specs.Replay.{Folded, with_outcome, committed_calls, told}
 
 -- the execution of a procedure, if there is one
 abbrev pub execution_if : Option Program → List ℤ → Contents → Outcome
@@ -22,21 +22,20 @@ execution_if (Some p) args database = execution p args database
 abbrev pub execution_of : List Program → Call → Contents → Outcome
 execution_of programs c database = execution_if (slice_get programs c.procedure) c.args database
 
--- the database after these, newest first, were executed one after another on the opening. Only their calls are looked at
-abbrev pub executed : Contents → List Program → List CommittedRun → Contents
-executed opening programs [] = opening
-executed opening programs (c ∷ before) = contents_after (execution_of programs c.call (executed opening programs before)) (executed opening programs before)
+-- these calls, the last one first, were executed one after another on the opening
+abbrev pub execute_in_turn : Contents → List Program → List Call → Folded
+execute_in_turn opening programs [] = record { results = []; last = opening }
+execute_in_turn opening programs (c ∷ before) = with_outcome (execution_of programs c (execute_in_turn opening programs before).last) (execute_in_turn opening programs before)
 
--- each execution gives the answers that its transaction was told
-abbrev pub ExecutionsAgree : Contents → List Program → List CommittedRun → Type 0
-ExecutionsAgree opening programs [] = Unit {0}
-ExecutionsAgree opening programs (c ∷ before) = ExecutionsAgree opening programs before × Gives (execution_of programs c.call (executed opening programs before)) c.reply
+-- the committed transactions, executed one after another in commit order on the opening
+abbrev pub executed : Contents → List Program → List Entry → Folded
+executed opening programs past = execute_in_turn opening programs (committed_calls past)
 
--- the committed transactions' procedures, executed one after another in commit order on the opening, give each the answers
--- that it was told, and end in the committed values
+-- executed one after another, the committed transactions' procedures give each the answers that it was told, and leave the
+-- committed values
 pub record IsExecuted (opening : Contents) (programs : List Program) (past : List Entry) : Type 0 where
-  pub answers : ExecutionsAgree opening programs (committed_runs past)
-  pub same : (k : Key) → executed opening programs (committed_runs past) k ≡ settled opening past k
+  pub answers : (executed opening programs past).results ≡ told past
+  pub database : (k : Key) → (executed opening programs past).last k ≡ settled opening past k
 
 -- so it is in every legal history of these procedures
 abbrev pub HistoriesAreExecuted : Type 0

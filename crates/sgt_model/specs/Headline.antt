@@ -1,14 +1,19 @@
 -- The headline.
 use Rattle.std.specs.Prelude.{List}
 use Rattle.sgt_model.specs.declared.entry.Entry.{Entry}
+use Rattle.sgt_model.specs.Walks.{Acyclic}
+use Rattle.sgt_model.specs.Pairs.{Pair}
 use Rattle.sgt_model.specs.Settings.{Setting}
-use Rattle.sgt_model.specs.Replay.{IsSerial}
+use Rattle.sgt_model.specs.Replay.{IsSerializable}
 use Rattle.sgt_model.specs.Aborts.{AbortsHaveCause}
 use Rattle.sgt_model.specs.CommitOrder.{CommitsInOrder}
 
 -- running the committed transactions' procedures one after another in commit order on the opening database, as a plain map,
--- gives each the answers it was told and ends in the committed database; a transaction is aborted only where its step would
--- close a conflict cycle, it read from an aborted one, or its procedure or caller asked; and commit order agrees with the
--- conflict pairs and with who read from whom
-abbrev pub Headline : Setting → List Entry → Type 0
-Headline s past = IsSerial s past × AbortsHaveCause s past × CommitsInOrder past
+-- gives each the answers it was told and ends in the committed database; the conflict pairs have no cycle; a transaction is
+-- aborted only where its step would close one, it read from an aborted one, or its procedure or caller asked; and commit
+-- order agrees with the conflict pairs and with who read from whom
+pub record Headline (s : Setting) (past : List Entry) : Type 0 where
+  pub replay : IsSerializable s past
+  pub no_cycle : Acyclic (Pair past)
+  pub causes : AbortsHaveCause s past
+  pub order : CommitsInOrder past

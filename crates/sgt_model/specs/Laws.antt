@@ -7,6 +7,7 @@ use Rattle.sgt_model.specs.declared.reply.Reply.TheVariants as reply
 use Rattle.sgt_model.specs.declared.entry.Entry.{Entry}
 use Rattle.sgt_model.specs.declared.kind.Kind.TheVariants.{Look}
 use Rattle.sgt_model.specs.Contents.{Key, Contents}
+use Rattle.sgt_model.specs.Walks.{Acyclic}
 use Rattle.sgt_model.specs.Runs.{Run}
 use Rattle.sgt_model.specs.Traces.{RunIsTrace}
 use Rattle.sgt_model.specs.Accesses.{Access, access_of}
@@ -16,8 +17,9 @@ use Rattle.sgt_model.specs.ReadFrom.{ReadFrom}
 use Rattle.sgt_model.specs.Pairs.{Pair}
 use Rattle.sgt_model.specs.Settings.{Setting}
 use Rattle.sgt_model.specs.Legality.{Legal}
-use Rattle.sgt_model.specs.Replay.{IsSerial}
-use Rattle.sgt_model.specs.CommitOrder.{CommitsBefore, last_store, CommitsInOrder}
+use Rattle.sgt_model.specs.Admissions.{AreAdmitted}
+use Rattle.sgt_model.specs.Replay.{committed_calls, IsSerializable}
+use Rattle.sgt_model.specs.CommitOrder.{CommitsBefore, last_store, CommitsInOrder, CommitsInLine}
 use Rattle.sgt_model.specs.Aborts.{AbortsHaveCause}
 use Rattle.sgt_model.specs.Headline.{Headline}
 
@@ -70,17 +72,29 @@ LooksAgreeAtCommit = InEach CommitsAgree
 abbrev pub RunsAreTraces : Type 0
 RunsAreTraces = (r : Run) → RunIsTrace r
 
+-- conflict pairs have no cycle
+abbrev pub PairsHaveNoCycle : Type 0
+PairsHaveNoCycle = InEach (λ s past. Acyclic (Pair past))
+
 -- the committed transactions run one after another give the answers that were told and the committed values
 abbrev pub ReplayIsSerial : Type 0
-ReplayIsSerial = InEach IsSerial
+ReplayIsSerial = InEach IsSerializable
 
--- conflict pairs have no cycle, and each abort has its cause
+-- each abort has its cause
 abbrev pub AbortsAlwaysHaveCause : Type 0
 AbortsAlwaysHaveCause = InEach AbortsHaveCause
 
 -- commit order agrees with the conflict pairs and with who read from whom
 abbrev pub CommitsAlwaysInOrder : Type 0
 CommitsAlwaysInOrder = InEach (λ s past. CommitsInOrder past)
+
+-- commit order is a strict total order of the committed transactions
+abbrev pub CommitsAlwaysInLine : Type 0
+CommitsAlwaysInLine = InEach (λ s past. CommitsInLine past)
+
+-- who committed was started with a procedure of the setting, and with as many arguments as it takes, each a value
+abbrev pub CommittedAreAdmitted : Type 0
+CommittedAreAdmitted = InEach (λ s past. AreAdmitted s (committed_calls past))
 
 -- never are more transactions started, or live at once, than the limits say
 abbrev pub LimitsAreKept : Type 0

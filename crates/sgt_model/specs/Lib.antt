@@ -29,6 +29,7 @@ pub mod Progress
 pub mod Legality
 pub mod OneReply
 -- what is true of legal histories
+pub mod Admissions
 pub mod Replay
 pub mod ExecutedReplay
 pub mod CommitOrder

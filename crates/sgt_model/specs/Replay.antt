@@ -1,50 +1,73 @@
 -- The committed transactions run one after another in commit order, as if each had been alone: the serial history that a
 -- serializable one is equivalent to (Bernstein, Hadzilacos and Goodman (1987), chapter 2), here by the answers told and
 -- the values left.
-use Rattle.std.specs.Prelude.{◌≡◌, List, [], ◌∷◌, ◌++◌}
+use Rattle.std.specs.Prelude.{◌≡◌, ℕ, ℤ, List, [], ◌∷◌, ◌++◌}
 use Rattle.sgt_model.specs.declared.event.Event.{Event}
 use Rattle.sgt_model.specs.declared.reply.Reply.{Reply}
 use Rattle.sgt_model.specs.declared.reply.Reply.TheVariants as reply
 use Rattle.sgt_model.specs.declared.entry.Entry.{Entry}
 use Rattle.sgt_model.specs.Contents.{Key, Contents}
-use Rattle.sgt_model.specs.Runs.{Outcome, Done, serial, contents_after}
+use Rattle.sgt_model.specs.Runs.{Outcome, Done, Asked, serial, contents_after}
 use Rattle.sgt_model.specs.Fates.{subject}
 use Rattle.sgt_model.specs.Values.{settled}
 use Rattle.sgt_model.specs.Settings.{Setting}
 use Rattle.sgt_model.specs.Progress.{Call, call_of, run_of}
 
--- a transaction that was told its answers: what it was started with, and the reply to its commit
-pub record CommittedRun : Type 0 where
-  pub call : Call
-  pub reply : Reply
+-- ---- the serial run
 
--- the transaction that an entry commits, if it does
-abbrev pub committed_run_in : List Entry → Event → Reply → List CommittedRun
-committed_run_in past event (reply.Committed answers) = record { call = call_of past (subject event); reply = reply.Committed answers } ∷ []
-committed_run_in past event _ = []
+-- what a procedure's caller is told at its end: the answers, or the code that it asked
+pub data RunResult : Type 0 where
+  GaveAnswers : List ℤ → RunResult
+  AskedCode : ℕ → RunResult
 
--- the transactions of the Committed entries, newest first
-abbrev pub committed_runs : List Entry → List CommittedRun
-committed_runs [] = []
-committed_runs (e ∷ past) = committed_run_in past e.event e.reply ++ committed_runs past
+-- so much of an outcome
+abbrev pub result_of : Outcome → RunResult
+result_of (Done answers last) = GaveAnswers answers
+result_of (Asked code) = AskedCode code
 
--- the contents after they ran one after another on the opening. Only their calls are looked at
-abbrev pub replayed : Setting → List CommittedRun → Contents
-replayed s [] = s.opening
-replayed s (c ∷ before) = contents_after (serial (run_of s.rules c.call) (replayed s before)) (replayed s before)
+-- what transactions that ran one after another gave, the last one's result first, and the contents that they left
+pub record Folded : Type 0 where
+  pub results : List RunResult
+  pub last : Contents
 
--- what the run gives where this is the reply
-abbrev pub Gives : Outcome → Reply → Type 0
-Gives o (reply.Committed answers) = (last : Contents) × (o ≡ Done answers last)
-Gives o _ = ⊥
+-- one more ran, with this outcome
+abbrev pub with_outcome : Outcome → Folded → Folded
+with_outcome o before = record { results = result_of o ∷ before.results; last = contents_after o before.last }
 
--- each run gives what its transaction was told
-abbrev pub AnswersAgree : Setting → List CommittedRun → Type 0
-AnswersAgree s [] = Unit {0}
-AnswersAgree s (c ∷ before) = AnswersAgree s before × Gives (serial (run_of s.rules c.call) (replayed s before)) c.reply
+-- these calls, the last one first, ran one after another on the opening
+abbrev pub run_in_turn : Setting → List Call → Folded
+run_in_turn s [] = record { results = []; last = s.opening }
+run_in_turn s (c ∷ before) = with_outcome (serial (run_of s.rules c) (run_in_turn s before).last) (run_in_turn s before)
 
--- the committed transactions' procedures, run one after another in commit order on the opening, give each the answers
--- that it was told, and end in the committed values
-pub record IsSerial (s : Setting) (past : List Entry) : Type 0 where
-  pub answers : AnswersAgree s (committed_runs past)
-  pub same : (k : Key) → replayed s (committed_runs past) k ≡ settled s.opening past k
+-- ---- of a history
+
+-- the call of the transaction that an entry commits, if it commits one
+abbrev pub committed_call_in : List Entry → Event → Reply → List Call
+committed_call_in past event (reply.Committed answers) = call_of past (subject event) ∷ []
+committed_call_in past event _ = []
+
+-- the calls of the committed transactions, the last commit first
+abbrev pub committed_calls : List Entry → List Call
+committed_calls [] = []
+committed_calls (e ∷ past) = committed_call_in past e.event e.reply ++ committed_calls past
+
+-- the committed transactions, run one after another in commit order on the opening. Of the history only the Committed entries
+-- and the starts of their transactions are looked at
+abbrev pub folded : Setting → List Entry → Folded
+folded s past = run_in_turn s (committed_calls past)
+
+-- what an entry tells a transaction that commits, if one does
+abbrev pub told_in : Reply → List RunResult
+told_in (reply.Committed answers) = GaveAnswers answers ∷ []
+told_in _ = []
+
+-- what the committed transactions were told, the last commit first
+abbrev pub told : List Entry → List RunResult
+told [] = []
+told (e ∷ past) = told_in e.reply ++ told past
+
+-- serializable, in commit order: run one after another, the committed transactions' procedures give each the answers that it
+-- was told, and leave the committed values
+pub record IsSerializable (s : Setting) (past : List Entry) : Type 0 where
+  pub answers : (folded s past).results ≡ told past
+  pub database : (k : Key) → (folded s past).last k ≡ settled s.opening past k

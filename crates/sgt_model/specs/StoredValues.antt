@@ -9,8 +9,9 @@ use Rattle.sgt_model.specs.Runs.{Run, looks, puts, ends, asks}
 use Rattle.sgt_model.specs.Meaning.{run_with}
 use Rattle.sgt_model.specs.Values.{settled}
 use Rattle.sgt_model.specs.Settings.{setting}
+use Rattle.sgt_model.specs.Progress.{Call}
 use Rattle.sgt_model.specs.Legality.{Legal}
-use Rattle.sgt_model.specs.Replay.{CommittedRun, replayed}
+use Rattle.sgt_model.specs.Replay.{run_in_turn}
 
 -- what stands in the contents are values
 abbrev pub HoldValues : Contents → Type 0
@@ -29,7 +30,7 @@ RunsStoreValues = (p : Program) (args : List ℤ) → StoresValues (run_with p a
 
 -- where the opening holds values, so do the contents after transactions that ran one after another
 abbrev pub ReplaysHoldValues : Type 0
-ReplaysHoldValues = (opening : Contents) (programs : List Program) (limits : Limits) (runs : List CommittedRun) → HoldValues opening → HoldValues (replayed (setting opening programs limits) runs)
+ReplaysHoldValues = (opening : Contents) (programs : List Program) (limits : Limits) (calls : List Call) → HoldValues opening → HoldValues (run_in_turn (setting opening programs limits) calls).last
 
 -- and so do the committed ones after a legal history
 abbrev pub CommittedAreValues : Type 0

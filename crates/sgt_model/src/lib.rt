@@ -60,10 +60,11 @@ pub use event::{Answers, Args, Event};
 pub use key::{Key, LAST_TABLE, LEAST, MOST, is_value};
 pub use kind::Kind;
 pub use laws::{
-    aborts_have_cause, commits_in_order, headline_holds, histories_are_executed, limits_are_kept,
-    looks_agree_at_commit, no_pair_from_live, replay_is_serial, replays_hold_values,
-    replies_are_unique, replies_name_few, runs_are_traces, serial_is_execution,
-    some_reply_is_legal, sources_commit_first, sources_stand, writers_commit_in_order,
+    aborts_have_cause, commits_in_line, commits_in_order, committed_are_admitted, headline_holds,
+    histories_are_executed, limits_are_kept, looks_agree_at_commit, no_pair_from_live,
+    pairs_have_no_cycle, replay_is_serial, replays_hold_values, replies_are_unique,
+    replies_name_few, runs_are_traces, serial_is_execution, some_reply_is_legal,
+    sources_commit_first, sources_stand, writers_commit_in_order,
 };
 pub use left::{left_goes_on, next_is_of_left};
 pub use limits::{Limits, MOST_BEGINS, MOST_LIVE};

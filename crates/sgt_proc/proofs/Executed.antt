@@ -16,46 +16,47 @@ use Rattle.sgt_model.specs.Traces as trace
 use Rattle.sgt_model.specs.Traces.{next_at}
 use Rattle.sgt_proc.specs.declared.interpreter.Interpreter.{Interpreter}
 use Rattle.sgt_proc.specs.declared.next.Next.{Next}
-use Rattle.sgt_proc.specs.declared.next.Next.TheVariants.{Asks}
 use Rattle.sgt_proc.specs.Nexts.{seen, or_next}
-use Rattle.sgt_proc.specs.Execution.{as_value, as_test, as_key, next_past, next_executing, Executed}
+use Rattle.sgt_model.specs.Executions.{provided, stuck, key_of}
+use Rattle.sgt_model.specs.Left.{number_or_code, choice_or_code}
+use Rattle.sgt_proc.specs.Execution.{next_past, next_executing, Executed}
 use Rattle.sgt_proc.proofs.StatementTexts.{onto_drop, onto_if}
 use Rattle.sgt_proc.proofs.Lefts.{next_is_first, ends_stays, asks_stays}
 
 -- what an answer of the code says of the meaning
-pub value_is : (g : Got) (n : ℤ) → Ok n ≡ as_value g → g ≡ is n
+pub value_is : (g : Got) (n : ℤ) → Ok n ≡ number_or_code g → g ≡ is n
 value_is (is v) n e = cc
 value_is over n e = cc
 value_is missing n e = cc
 
-pub test_is : (h : Holds) (b : Bool) → Ok b ≡ as_test h → h ≡ holds b
+pub test_is : (h : Holds) (b : Bool) → Ok b ≡ choice_or_code h → h ≡ holds b
 test_is (holds v) b e = cc
 test_is too_far b e = cc
 test_is unknown b e = cc
 
-key_if : (b : Bool) (k k' : Key) → Ok k ≡ cond b (Ok k') (Err (Asks 0)) → (b ≡ true) × (k ≡ k')
+key_if : (b : Bool) (k k' : Key) → Ok k ≡ provided b k' stuck → (b ≡ true) × (k ≡ k')
 key_if true k k' e = (refl, cc)
 key_if false k k' e = cc
 
-no_key_if : (b : Bool) (n : Next) (k' : Key) → Err n ≡ cond b (Ok k') (Err (Asks 0)) → (b ≡ false) × (n ≡ Asks 0)
+no_key_if : (b : Bool) (n : ℕ) (k' : Key) → Err n ≡ provided b k' stuck → (b ≡ false) × (n ≡ stuck)
 no_key_if true n k' e = cc
 no_key_if false n k' e = (refl, cc)
 
 module _ (args : List ℤ) (read : List (Option ℤ)) (m : Interpreter) where
   -- a look that found nothing
-  pub look_of_none : (to table : ℕ) (id : Term) (absent : ℕ) (rest : Way) (n n' : ℤ) (k : Key) (m' : Interpreter) → value_of id args m.registers ≡ is n → n' ≡ n → Ok k ≡ as_key table n' → ((go : Option ℤ → Run) → next_past read (looks k go) m ≡ next_past read (go None) m') → next_executing args read (way.look to table id absent rest) m ≡ trace.Asks absent
+  pub look_of_none : (to table : ℕ) (id : Term) (absent : ℕ) (rest : Way) (n n' : ℤ) (k : Key) (m' : Interpreter) → value_of id args m.registers ≡ is n → n' ≡ n → Ok k ≡ key_of table n' → ((go : Option ℤ → Run) → next_past read (looks k go) m ≡ next_past read (go None) m') → next_executing args read (way.look to table id absent rest) m ≡ trace.Asks absent
   look_of_none to table id absent rest n n' k m' g same e found =
       let h = key_if (is_key table n') k (table, n') e in
       rw (g, ← same, h.0, ← h.1) (found _ ∙ asks_stays absent (drop m'.used read) m'.left)
 
   module _ (table : ℕ) (id value : Term) (rest : Way) (n n' v v' : ℤ) (g : value_of id args m.registers ≡ is n) (same : n' ≡ n) (g' : value_of value args m.registers ≡ is v) (same' : v' ≡ v) where
     -- a store in what is no record
-    pub put_of_no_key : (e : Next) → Err e ≡ as_key table n' → next_executing args read (way.put table id value rest) m ≡ seen e
+    pub put_of_no_key : (e : ℕ) → Err e ≡ key_of table n' → next_executing args read (way.put table id value rest) m ≡ trace.Asks e
     put_of_no_key e h =
         let h' = no_key_if (is_key table n') e (table, n') h in
         rw (g, g', ← same, h'.0, h'.1) (asks_stays 0 (drop m.used read) m.left)
 
-    pub put_of_key : (k : Key) (result : Result Unit Next) (m' : Interpreter) → Ok k ≡ as_key table n' → m'.registers ≡ m.registers → m'.answers ≡ m.answers → ((rest : Run) → next_past read (with_stored v' (puts k v' rest)) m ≡ or_next result (λ _. next_past read rest m')) → next_executing args read (way.put table id value rest) m ≡ or_next result (λ _. next_executing args read rest m')
+    pub put_of_key : (k : Key) (result : Result Unit Next) (m' : Interpreter) → Ok k ≡ key_of table n' → m'.registers ≡ m.registers → m'.answers ≡ m.answers → ((rest : Run) → next_past read (with_stored v' (puts k v' rest)) m ≡ or_next result (λ _. next_past read rest m')) → next_executing args read (way.put table id value rest) m ≡ or_next result (λ _. next_executing args read rest m')
     put_of_key k result m' e r a passed =
         let h = key_if (is_key table n') k (table, n') e in
         rw (g, g', ← same, ← same', h.0, ← h.1, r, a) (passed (run args rest m.registers m.answers))

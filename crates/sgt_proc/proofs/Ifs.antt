@@ -1,15 +1,16 @@
 -- What is said of an If, by what is said of its branches.
-use Rattle.std.proofs.Common.{◌≡◌, refl, ap, ◌∙◌, ℕ, ◌+◌, max, Bool, true, false, ◌||◌}
+use Rattle.std.proofs.Common.{◌≡◌, refl, ap, ◌∙◌, ℕ, ◌+◌, max, Bool, true, false, cond, ◌||◌}
 use Rattle.std.specs.declared.vec.Vec.{Vec}
 use Rattle.std.specs.declared.alloc.Global.{Global}
 use Rattle.sgt_model.specs.declared.procedure.Statement.{Statement}
 use Rattle.sgt_model.specs.declared.procedure.Statement.TheVariants.{If}
 use Rattle.sgt_model.specs.declared.procedure.Cond.{Cond}
-use Rattle.sgt_model.specs.Syntax.{empty}
+use Rattle.sgt_model.specs.Syntax.{Block, empty}
 use Rattle.sgt_model.specs.Programs.{test_of, before, block_of}
 use Rattle.sgt_model.specs.Ways.{Way, onto}
 use Rattle.sgt_proc.specs.declared.numbers.Number.{Number}
 use Rattle.sgt_proc.specs.Flaws.{in_test, in_block, test_uses, uses_unset, most_answers, size, depth, test_depth, terms_depth}
+use Rattle.sgt_proc.specs.Paths.{branch}
 use Rattle.sgt_model.proofs.Texts.{before_if}
 use Rattle.sgt_proc.proofs.StatementTexts.{onto_if}
 
@@ -35,3 +36,6 @@ module _ (c : Cond) (ys ns : Vec Statement Global) where
 
   pub if_terms : terms_depth (before (If c ys ns) empty) ≡ max (max (test_depth (test_of c)) (max (terms_depth (block_of ys.items)) (terms_depth (block_of ns.items)))) 0
   if_terms = ap terms_depth (before_if c ys ns empty)
+
+  pub if_branch : (held : Bool) (rest : Block) → branch held (before (If c ys ns) rest) ≡ cond held (block_of ys.items) (block_of ns.items)
+  if_branch held rest = ap (branch held) (before_if c ys ns rest)

@@ -8,3 +8,7 @@ pub mod Sounds
 pub mod Lefts
 pub mod Executed
 pub mod Fews
+pub mod Followed
+pub mod PathTexts
+pub mod Stepped
+pub mod Moved

@@ -11,24 +11,7 @@ use Rattle.sgt_model.specs.Traces.{Looks, Puts, Ends}
 use Rattle.sgt_model.specs.Traces as trace
 use Rattle.sgt_proc.specs.declared.interpreter.Interpreter.{Interpreter}
 use Rattle.sgt_proc.specs.declared.next.Next.{Next}
-use Rattle.sgt_proc.specs.declared.next.Next.TheVariants.{Asks}
 use Rattle.sgt_proc.specs.Nexts.{or_next}
-
--- a number, or the code that is asked in its place
-abbrev pub as_value : Got → Result ℤ Next
-as_value (is v) = Ok v
-as_value over = Err (Asks 1000)
-as_value missing = Err (Asks 0)
-
--- whether a condition holds, or the code that is asked in its place
-abbrev pub as_test : Holds → Result Bool Next
-as_test (holds b) = Ok b
-as_test too_far = Err (Asks 1000)
-as_test unknown = Err (Asks 0)
-
--- a key, or the code that is asked where it is none
-abbrev pub as_key : ℕ → ℤ → Result Key Next
-as_key table id = cond (is_key table id) (Ok (table, id)) (Err (Asks 0))
 
 -- what is left of a run after so many accesses, of which the looks found these values
 abbrev pub left_of : Run → List (Option ℤ) → ℕ → Run

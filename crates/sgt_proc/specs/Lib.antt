@@ -4,3 +4,6 @@ pub mod Flaws
 pub mod NumberFlaws
 pub mod Dataflow
 pub mod Sound
+pub mod Paths
+pub mod Places
+pub mod Cursors

@@ -4,11 +4,13 @@ ghost use Rattle.sgt_model.specs.Meaning.{run_with};
 ghost use Rattle.sgt_model.specs.Traces.{next_at, trace, Used};
 ghost use Rattle.sgt_proc.specs.Nexts.{seen, IsAccess, StoresValue};
 ghost use Rattle.sgt_proc.specs.Flaws.{IsFlawless, IsLeastFlaw};
+ghost use Rattle.sgt_proc.specs.Places.{IsIn, Stops, StopsAtValue};
 
 use crate::execute::execute_block;
 use crate::flaw::{Flaw, Flawed};
 use crate::interpreter::Interpreter;
 use crate::next::Next;
+use crate::place::{Place, Stop};
 use sgt_model::{Answers, Args, Procedure};
 use std::marker::Model;
 
@@ -88,5 +90,14 @@ impl Checked {
             Ok(()) => Next::Ends(interpreter.answers),
             Err(next) => next,
         }
+    }
+
+    /// Goes on from a place in it to the next access, or to the end or a code.
+    pub(crate) fn advance(&self, place: &mut Place) -> Stop
+        requires inside { IsIn self.now.body place.old }
+        ensures stops { Stops self.now.body place.old result place.new }
+        ensures in_range { StopsAtValue result }
+    {
+        place.advance(&self.procedure.body)
     }
 }

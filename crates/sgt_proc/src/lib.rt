@@ -14,6 +14,7 @@
 
 mod answers;
 mod checked;
+mod cursor;
 mod depths;
 mod execute;
 mod flaw;
@@ -21,11 +22,13 @@ mod interpreter;
 mod laws;
 mod next;
 mod numbers;
+mod place;
 mod registers;
 mod sizes;
 mod value;
 
 pub use checked::{Checked, check};
+pub use cursor::Cursor;
 pub use flaw::{Flaw, Flawed};
 pub use laws::flawless_is_sound;
 pub use next::Next;

@@ -1,3 +1,5 @@
+ghost use Rattle.std.specs.Prelude.{◌≡◌};
+
 use sgt_model::{Answers, Key};
 
 /// What a procedure does next.
@@ -11,4 +13,14 @@ pub enum Next {
     Ends(Answers),
     /// It asks the code: one of its own from 1 to 999, or 1000 where a sum or difference is no value.
     Asks(u16),
+}
+
+impl From<u16> for Next {
+    ghost use Rattle.sgt_proc.specs.declared.next.Next.TheVariants.{Asks};
+
+    ghost from_gives = { λ code next. next ≡ Asks code };
+
+    fn from(code: u16) -> Self {
+        Next::Asks(code)
+    }
 }

@@ -1,9 +1,9 @@
 ghost use Rattle.std.specs.Prelude.{◌≡◌, ◌+ℤ◌, ◌-ℤ◌};
 ghost use Rattle.sgt_model.specs.Programs.{term_of, test_of};
 ghost use Rattle.sgt_model.specs.Meaning.{bounded, value_of, result_of};
-ghost use Rattle.sgt_proc.specs.Execution.{as_value, as_test, as_key};
+ghost use Rattle.sgt_model.specs.Executions.{key_of};
+ghost use Rattle.sgt_model.specs.Left.{number_or_code, choice_or_code};
 
-use crate::next::Next;
 use sgt_model::{Cond, Expr, Key, is_value};
 
 /// The code that is asked where a sum or difference is no value.
@@ -13,18 +13,18 @@ const OVER: u16 = 1000;
 pub const WRONG: u16 = 0;
 
 /// What an expression gives, or the code that is asked in its place.
-pub fn value(expr: &Expr, args: &[i64], registers: &[Option<i64>; 16]) -> Result<i64, Next>
-    ensures { result ≡ as_value (value_of (term_of expr.now) args.now registers.now) }
+pub fn value(expr: &Expr, args: &[i64], registers: &[Option<i64>; 16]) -> Result<i64, u16>
+    ensures { result ≡ number_or_code (value_of (term_of expr.now) args.now registers.now) }
 {
     match expr {
         Expr::Num(number) => Ok(*number),
         Expr::Arg(n) => match args.get(usize::from(*n)) {
             Some(number) => Ok(*number),
-            None => Err(Next::Asks(WRONG)),
+            None => Err(WRONG),
         },
         Expr::Reg(n) => match registers.get(usize::from(*n)) {
             Some(Some(number)) => Ok(*number),
-            _ => Err(Next::Asks(WRONG)),
+            _ => Err(WRONG),
         },
         Expr::Sum(left, right) => sum(
             value(left, args, registers)?,
@@ -40,8 +40,8 @@ pub fn value(expr: &Expr, args: &[i64], registers: &[Option<i64>; 16]) -> Result
 }
 
 /// Whether a condition holds, or the code that is asked in its place.
-pub fn test(cond: &Cond, args: &[i64], registers: &[Option<i64>; 16]) -> Result<bool, Next>
-    ensures { result ≡ as_test (result_of (test_of cond.now) args.now registers.now) }
+pub fn test(cond: &Cond, args: &[i64], registers: &[Option<i64>; 16]) -> Result<bool, u16>
+    ensures { result ≡ choice_or_code (result_of (test_of cond.now) args.now registers.now) }
 {
     match cond {
         Cond::Less(left, right) => {
@@ -57,29 +57,29 @@ pub fn test(cond: &Cond, args: &[i64], registers: &[Option<i64>; 16]) -> Result<
 }
 
 /// The key, or the code that is asked where it is none.
-pub fn key(table: u8, id: i64) -> Result<Key, Next>
-    ensures { result ≡ as_key table id }
+pub fn key(table: u8, id: i64) -> Result<Key, u16>
+    ensures { result ≡ key_of table id }
 {
     match Key::new(table, id) {
         Some(key) => Ok(key),
-        None => Err(Next::Asks(WRONG)),
+        None => Err(WRONG),
     }
 }
 
-fn sum(left: i64, right: i64) -> Result<i64, Next>
-    ensures { result ≡ as_value (bounded (left +ℤ right)) }
+fn sum(left: i64, right: i64) -> Result<i64, u16>
+    ensures { result ≡ number_or_code (bounded (left +ℤ right)) }
 {
     match left.checked_add(right) {
         Some(total) if is_value(total) => Ok(total),
-        _ => Err(Next::Asks(OVER)),
+        _ => Err(OVER),
     }
 }
 
-fn difference(left: i64, right: i64) -> Result<i64, Next>
-    ensures { result ≡ as_value (bounded (left -ℤ right)) }
+fn difference(left: i64, right: i64) -> Result<i64, u16>
+    ensures { result ≡ number_or_code (bounded (left -ℤ right)) }
 {
     match left.checked_sub(right) {
         Some(rest) if is_value(rest) => Ok(rest),
-        _ => Err(Next::Asks(OVER)),
+        _ => Err(OVER),
     }
 }

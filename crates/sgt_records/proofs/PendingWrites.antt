@@ -30,7 +30,7 @@ fewer f g (w ∷ c) = go (g w) (f w) refl (fewer f g c)
     go false false e h = h
 
 -- who had one value has one still
-once_without : (t u : ℕ) (c : List (ℕ × ℤ)) → IsOnceIn u c → IsOnceIn u (without t c)
+pub once_without : (t u : ℕ) (c : List (ℕ × ℤ)) → IsOnceIn u c → IsOnceIn u (without t c)
 once_without t u c h = let le = fewer (λ w. nat_eq w.0 u) (λ w. not (nat_eq w.0 t)) c in omega arith
 
 -- t's own value is gone
@@ -43,7 +43,7 @@ none_left t (w ∷ c) = go (nat_eq w.0 t) refl (none_left t c)
     go false e h = ap (λ b. cond b (w ∷ filter (λ w. nat_eq w.0 t) (without t c)) (filter (λ w. nat_eq w.0 t) (without t c))) e ∙ h
 
 -- and so after a write
-once_written : (t : ℕ) (v : ℤ) (u : ℕ) (c : List (ℕ × ℤ)) → IsOnceIn u c → IsOnceIn u (write_last t v c)
+pub once_written : (t : ℕ) (v : ℤ) (u : ℕ) (c : List (ℕ × ℤ)) → IsOnceIn u c → IsOnceIn u (write_last t v c)
 once_written t v u c h = subst (λ l. length l ≤ 1) (sym (filter-append (λ w. nat_eq w.0 u) (without t c) ((t, v) ∷ []))) (go (cases_eq t u))
   where
     go : (t ≡ u) ⊎ (t ≢ u) → length (filter (λ w. nat_eq w.0 u) (without t c) ++ cond (nat_eq t u) ((t, v) ∷ []) []) ≤ 1
@@ -51,7 +51,7 @@ once_written t v u c h = subst (λ l. length l ≤ 1) (sym (filter-append (λ w.
     go (inr n) = rw (ne_eqb t u n, append-nil) (once_without t u c h)
 
 -- what is left is no longer
-few_filtered : (f : ℕ × ℤ → Bool) (c : List (ℕ × ℤ)) → length (filter f c) ≤ length c
+pub few_filtered : (f : ℕ × ℤ → Bool) (c : List (ℕ × ℤ)) → length (filter f c) ≤ length c
 few_filtered f [] = omega arith
 few_filtered f (w ∷ c) = go (f w) (few_filtered f c)
   where
@@ -60,7 +60,7 @@ few_filtered f (w ∷ c) = go (f w) (few_filtered f c)
     go false h = omega (arith, h)
 
 -- and where t had a value there is room
-fewer_left : (t : ℕ) (c : List (ℕ × ℤ)) → writes_in t c ≡ true → length (without t c) < length c
+pub fewer_left : (t : ℕ) (c : List (ℕ × ℤ)) → writes_in t c ≡ true → length (without t c) < length c
 fewer_left t [] h = absurd (true≢false (sym h))
 fewer_left t (w ∷ c) h = go (nat_eq w.0 t) (few_filtered (λ w. not (nat_eq w.0 t)) c) (fewer_left t c) h
   where
@@ -69,7 +69,7 @@ fewer_left t (w ∷ c) h = go (nat_eq w.0 t) (few_filtered (λ w. not (nat_eq w.
     go false le less e = omega (arith, less e)
 
 -- so a write leaves at most 32
-few_written : (t : ℕ) (v : ℤ) (c : List (ℕ × ℤ)) → length c ≤ 32 → (writes_in t c ≡ false → length c < 32) → length (write_last t v c) ≤ 32
+pub few_written : (t : ℕ) (v : ℤ) (c : List (ℕ × ℤ)) → length c ≤ 32 → (writes_in t c ≡ false → length c < 32) → length (write_last t v c) ≤ 32
 few_written t v c few room = go (writes_in t c) refl
   where
     longer : length (write_last t v c) ≡ length (without t c) + 1

@@ -2,3 +2,5 @@ pub mod Tops
 pub mod Validity
 pub mod Settleds
 pub mod Pendings
+pub mod Places
+pub mod LiveWrites

@@ -15,12 +15,18 @@
 //! ```
 #![tactic(auto)]
 
+mod chain;
 mod committed;
+mod index;
 mod list_records;
+mod live_write;
+mod record;
 mod records;
+mod slab_records;
 mod top;
 mod write;
 
 pub use list_records::ListRecords;
 pub use records::Records;
+pub use slab_records::SlabRecords;
 pub use top::Top;

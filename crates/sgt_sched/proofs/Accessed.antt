@@ -8,7 +8,7 @@ use Rattle.sgt_model.specs.Contents.{Key, key_eq}
 use Rattle.sgt_model.specs.Walks.{Member, AtMost, Rising, last_of}
 use Rattle.sgt_model.specs.Pairs.{one_stores}
 use Rattle.sgt_model.specs.AccessList.{ListedAccess, is_conflicting, lists_conflicting, is_listed}
-use Rattle.sgt_sched.specs.LiveProgress.{Progress, left_along}
+use Rattle.sgt_sched.specs.LiveProgress.{Progress, left_kept}
 use Rattle.sgt_model.specs.State.{Has}
 use Rattle.sgt_model.specs.Found.{top_value, SourceIs}
 use Rattle.sgt_model.specs.Blocks.{Blocks}
@@ -18,7 +18,7 @@ use Rattle.sgt_model.proofs.Stores.{key_eq-refl}
 use Rattle.sgt_cycle.specs.Walk.{Walk, NoWalk}
 use Rattle.sgt_records.specs.Tops.{top_from, value_of}
 use Rattle.sgt_sched.specs.LiveList.{numbers, progress_at, changed}
-use Rattle.sgt_sched.specs.SchedulerView.{SchedulerView, state_of, HasUsed, IsKept}
+use Rattle.sgt_sched.specs.SchedulerView.{SchedulerView, state_of, IsAlong, IsKept}
 use Rattle.sgt_sched.specs.Endings.{IsBlocked}
 use Rattle.sgt_sched.specs.Steps.{with_source}
 use Rattle.sgt_sched.proofs.Lists.{numbers-changed, progress_at-changed, progress_at-own}
@@ -116,7 +116,7 @@ module _ {R A G : Type 0} {chain : R → Key → List (ℕ × ℤ)} {settled : R
         settled = settled_is;
         fates = λ u. refl;
         starts = refl;
-        left = λ u h. ap (left_along before.procedures) (progress_at-changed t u change before.live h);
+        left = λ u h. ap left_kept (progress_at-changed t u change before.live h);
       }
 
       -- t's progress is the changed one
@@ -124,15 +124,15 @@ module _ {R A G : Type 0} {chain : R → Key → List (ℕ × ℤ)} {settled : R
       own_progress_is = progress_at-own t change before.live ((kept.sound.listed t).0 live_t)
 
       -- what holds at every moment holds afterwards, where it does of the state and of t's progress
-      pub kept_access : HasUsed before.procedures (change (progress_at before.live t)) → Sound before.limits.live (state_of chain settled list nodes pairs after_access) → IsKept chain settled list nodes pairs after_access
-      kept_access used sound = record {
+      pub kept_access : IsAlong before.procedures (change (progress_at before.live t)) → Sound before.limits.live (state_of chain settled list nodes pairs after_access) → IsKept chain settled list nodes pairs after_access
+      kept_access own sound = record {
         in_range = kept.in_range;
         begun = kept.begun;
         sound = sound;
         rising = subst Rising (sym notes.live) kept.rising;
         unended = λ u. ((λ h. (kept.unended u).0 (sym (nodes_are u) ∙ h)), (λ h. nodes_are u ∙ (kept.unended u).1 h));
-        used = λ u h. both u (nat_eq u t) refl (sym (nodes_are u) ∙ h);
+        along = λ u h. both u (nat_eq u t) refl (sym (nodes_are u) ∙ h);
       } where
-        both : (u : ℕ) (b : Bool) → nat_eq u t ≡ b → nodes before.graph u ≡ true → HasUsed before.procedures (progress_at (changed t change before.live) u)
-        both u true e h = subst (HasUsed before.procedures) (sym (ap (progress_at (changed t change before.live)) (eqb-true u t e) ∙ own_progress_is)) used
-        both u false e h = subst (HasUsed before.procedures) (sym (progress_at-changed t u change before.live (eqb-false u t e))) (kept.used u h)
+        both : (u : ℕ) (b : Bool) → nat_eq u t ≡ b → nodes before.graph u ≡ true → IsAlong before.procedures (progress_at (changed t change before.live) u)
+        both u true e h = subst (IsAlong before.procedures) (sym (ap (progress_at (changed t change before.live)) (eqb-true u t e) ∙ own_progress_is)) own
+        both u false e h = subst (IsAlong before.procedures) (sym (progress_at-changed t u change before.live (eqb-false u t e))) (kept.along u h)

@@ -6,14 +6,14 @@ use Rattle.sgt_model.specs.declared.reply.Fate.{Fate}
 use Rattle.sgt_model.specs.Contents.{Key}
 use Rattle.sgt_model.specs.Chains as chains
 use Rattle.sgt_model.specs.AccessList.{ListedAccess, forgotten}
-use Rattle.sgt_sched.specs.LiveProgress.{Progress, left_along}
+use Rattle.sgt_sched.specs.LiveProgress.{Progress, left_kept}
 use Rattle.sgt_model.specs.Walks.{Rising}
 use Rattle.sgt_model.specs.State.{Has}
 use Rattle.sgt_model.specs.Changes.{Removes}
 use Rattle.sgt_model.proofs.Counted.{filter-same}
 use Rattle.sgt_model.proofs.SoundCalls.{sound_removes}
 use Rattle.sgt_sched.specs.LiveList.{numbers, without}
-use Rattle.sgt_sched.specs.SchedulerView.{SchedulerView, fate_at, state_of, HasUsed, IsKept}
+use Rattle.sgt_sched.specs.SchedulerView.{SchedulerView, fate_at, state_of, IsAlong, IsKept}
 use Rattle.sgt_sched.specs.Steps.{unread}
 use Rattle.sgt_sched.proofs.Lists.{nat_eq-swap, numbers-without, progress_at-without, fate_at-set, rising-filter}
 
@@ -78,7 +78,7 @@ module _ {R A G : Type 0} {chain : R → Key → List (ℕ × ℤ)} {settled : R
     chain = λ k. chain_is k ∙ filter-same _ _ (chain before.records k) (λ (w : ℕ × ℤ). ap not (nat_eq-swap w.0 t));
     read_from = λ u v. (unread-left t before.read_from u v, λ h. unread-kept t before.read_from u v h.0 h.1 h.2);
     starts = length-set before.fates t (Some f);
-    left = λ u g. ap (left_along before.procedures) (progress_at-without t u before.live g);
+    left = λ u g. ap left_kept (progress_at-without t u before.live g);
   }
 
   -- what holds at every moment holds afterwards
@@ -89,7 +89,7 @@ module _ {R A G : Type 0} {chain : R → Key → List (ℕ × ℤ)} {settled : R
     sound = sound_removes before.limits.live _ _ kept.sound (λ u. nat_eq t u) removes;
     rising = subst Rising (sym removes.live) (rising-filter (λ u. not (nat_eq t u)) (numbers before.live) kept.rising);
     unended = λ u. ((λ h. still u (parts u h)), (λ h. nodes_are u ∙ back u h.0 h.1));
-    used = λ u h. subst (HasUsed before.procedures) (sym (progress_at-without t u before.live (not-true (nat_eq t u) (parts u h).1))) (kept.used u (parts u h).0);
+    along = λ u h. subst (IsAlong before.procedures) (sym (progress_at-without t u before.live (not-true (nat_eq t u) (parts u h).1))) (kept.along u (parts u h).0);
   } where
     parts : (u : ℕ) → nodes graph u ≡ true → (nodes before.graph u ≡ true) × (not (nat_eq t u) ≡ true)
     parts u h = and_parts (nodes before.graph u) (not (nat_eq t u)) (sym (nodes_are u) ∙ h)

@@ -8,7 +8,7 @@ use Rattle.sgt_model.specs.AccessList.{ListedAccess}
 use Rattle.sgt_model.specs.Syntax.{Program}
 use Rattle.sgt_sched.specs.LiveProgress.{Progress}
 use Rattle.sgt_sched.specs.LiveList.{numbers, has_number, progress_at}
-use Rattle.sgt_sched.specs.SchedulerView.{SchedulerView, fate_at, HasUsed, IsKept, state_of}
+use Rattle.sgt_sched.specs.SchedulerView.{SchedulerView, fate_at, IsAlong, IsKept, state_of}
 use Rattle.sgt_sched.specs.Steps.{IsUnended}
 
 -- one that is found has that number, and its progress
@@ -46,8 +46,8 @@ module _ {R A G : Type 0} {chain : R → Key → List (ℕ × ℤ)} {settled : R
   pub unended : nodes p.graph t ≡ true → IsUnended (state_of chain settled list nodes pairs p) t
   unended node = let u = (kept.unended t).0 node in record { begun = lt-ltb t (length p.fates) u.0; unended = u.1 }
 
--- a node has come so far by its procedure, as callers see it
-pub used_seen : {R A G : Type 0} {chain : R → Key → List (ℕ × ℤ)} {settled : R → Key → Option ℤ} {list : A → List ListedAccess} {nodes : G → ℕ → Bool} {pairs : G → ℕ → ℕ → Bool} {before now : SchedulerView R A G} → IsKept chain settled list nodes pairs before → before ≡ now → (t : ℕ) (programs : List Program) (r : ℕ × Progress) → nodes now.graph t ≡ true → programs ≡ before.procedures → r ≡ (t, progress_at now.live t) → HasUsed programs r.1
-used_seen {R} {A} {G} {chain} {settled} {list} {nodes} {pairs} {before} {now} kept seen t programs r node same is =
-    let used = (subst (IsKept chain settled list nodes pairs) seen kept).used t node in
-    subst₂ HasUsed (ap (λ (p : SchedulerView R A G). p.procedures) (sym seen) ∙ sym same) (ap (λ (x : ℕ × Progress). x.1) (sym is)) used
+-- a node goes along its procedure, as callers see it
+pub along_seen : {R A G : Type 0} {chain : R → Key → List (ℕ × ℤ)} {settled : R → Key → Option ℤ} {list : A → List ListedAccess} {nodes : G → ℕ → Bool} {pairs : G → ℕ → ℕ → Bool} {before now : SchedulerView R A G} → IsKept chain settled list nodes pairs before → before ≡ now → (t : ℕ) (programs : List Program) (r : ℕ × Progress) → nodes now.graph t ≡ true → programs ≡ before.procedures → r ≡ (t, progress_at now.live t) → IsAlong programs r.1
+along_seen {R} {A} {G} {chain} {settled} {list} {nodes} {pairs} {before} {now} kept seen t programs r node same is =
+    let along = (subst (IsKept chain settled list nodes pairs) seen kept).along t node in
+    subst₂ IsAlong (ap (λ (p : SchedulerView R A G). p.procedures) (sym seen) ∙ sym same) (ap (λ (x : ℕ × Progress). x.1) (sym is)) along

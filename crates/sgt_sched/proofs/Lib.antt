@@ -5,7 +5,6 @@ pub mod Found
 pub mod Ended
 pub mod Aborted
 pub mod Accessed
-pub mod Left
 pub mod Looks
 pub mod Reserved
 pub mod Stepped

@@ -9,18 +9,13 @@ use Rattle.sgt_model.specs.Walks.{Member}
 use Rattle.sgt_model.specs.Chains.{write_last, writes_in}
 use Rattle.sgt_model.specs.ChainOrder.{IsLastIn}
 use Rattle.sgt_model.specs.AccessList.{ListedAccess, lists_conflicting}
-use Rattle.sgt_sched.specs.LiveProgress.{Progress, left_along}
-use Rattle.sgt_sched.proofs.Left.{next_is, looked_is, stored_is}
-use Rattle.sgt_model.specs.Traces.{Looks, Puts, Used}
+use Rattle.sgt_sched.specs.LiveProgress.{Progress, left_kept}
 use Rattle.sgt_model.specs.Left as left
-use Rattle.sgt_model.specs.Left.{next_left}
-use Rattle.sgt_model.specs.Settings.{runs_in}
 use Rattle.sgt_model.specs.Found.{found}
 use Rattle.sgt_model.specs.Changes.{LooksAt, StoresInto}
 use Rattle.sgt_model.specs.CallEffects.{MakesLook, MakesStore}
 use Rattle.sgt_model.proofs.Conditions.{may_write, chain_room}
 use Rattle.sgt_model.proofs.SoundCalls.{sound_look, sound_store}
-use Rattle.sgt_model.proofs.Uses.{used_look, used_store}
 use Rattle.sgt_cycle.specs.Walk.{NoWalk}
 use Rattle.sgt_graph.specs.declared.verdict.Verdict.{Verdict}
 use Rattle.sgt_graph.specs.declared.verdict.Verdict.TheVariants.{Accepted, Closes}
@@ -28,7 +23,7 @@ use Rattle.sgt_graph.specs.Verdicts.{IsVerdict, Inserts}
 use Rattle.sgt_records.specs.Tops.{top_from, value_of}
 use Rattle.sgt_sched.specs.LiveList.{progress_at, changed, looked, stored}
 use Rattle.sgt_sched.specs.SchedulerView.{SchedulerView, state_of, IsKept}
-use Rattle.sgt_sched.specs.Steps.{next_along, with_source}
+use Rattle.sgt_sched.specs.Steps.{with_source}
 use Rattle.sgt_sched.proofs.Accessed.{not_blocked, notes, own_progress_is, kept_access, read_added, value_of-from}
 
 -- what a test allowed is inserted
@@ -37,20 +32,13 @@ inserted old new t preds Accepted told free pairs = pairs
 inserted old new t preds (Closes walk) told free pairs = absurd (free told.0 told.2)
 
 module _ {R A G : Type 0} {chain : R → Key → List (ℕ × ℤ)} {settled : R → Key → Option ℤ} {list : A → List ListedAccess} {nodes : G → ℕ → Bool} {pairs : G → ℕ → ℕ → Bool} {before now : SchedulerView R A G} (seen : before ≡ now) (kept : IsKept chain settled list nodes pairs before) (t : ℕ) (live_t : nodes before.graph t ≡ true) (k : Key) (rivals : List ℕ) (free : NoWalk (pairs before.graph) t rivals) where
-  -- the values that its looks found are those that its procedure has used
-  used_so_far : Used (runs_in before.procedures (progress_at before.live t).call.procedure (progress_at before.live t).call.args) (progress_at before.live t).read (progress_at before.live t).made
-  used_so_far = (kept.used t live_t).used
-
-  module _ (exact : (u : ℕ) → Member u rivals ↔ ((u ≢ t) × (lists_conflicting (list before.accesses) u k Look ≡ true))) (next : next_left (left_along before.procedures (progress_at before.live t)) ≡ Looks k) (accesses : A) (graph : G) (live : List (ℕ × Progress)) (read_from : List (ℕ × ℕ)) (value : Option ℤ) (list_is : list accesses ≡ list before.accesses ++ record { by = t; key = k; kind = Look } ∷ []) (nodes_are : (u : ℕ) → nodes graph u ≡ nodes before.graph u) (pairs_are : (u v : ℕ) → (pairs graph u v ≡ true) ↔ ((pairs before.graph u v ≡ true) ⊎ ((v ≡ t) × Member u rivals))) (value_is : value ≡ value_of (top_from (last_or None (chain before.records k)) (settled before.records k))) (live_is : live ≡ changed t (looked value) before.live) (reads_are : read_from ≡ with_source (top_from (last_or None (chain before.records k)) (settled before.records k)) t before.read_from) where
+  module _ (exact : (u : ℕ) → Member u rivals ↔ ((u ≢ t) × (lists_conflicting (list before.accesses) u k Look ≡ true))) (accesses : A) (graph : G) (live : List (ℕ × Progress)) (read_from : List (ℕ × ℕ)) (value : Option ℤ) (list_is : list accesses ≡ list before.accesses ++ record { by = t; key = k; kind = Look } ∷ []) (nodes_are : (u : ℕ) → nodes graph u ≡ nodes before.graph u) (pairs_are : (u v : ℕ) → (pairs graph u v ≡ true) ↔ ((pairs before.graph u v ≡ true) ⊎ ((v ≡ t) × Member u rivals))) (value_is : value ≡ value_of (top_from (last_or None (chain before.records k)) (settled before.records k))) (live_is : live ≡ changed t (looked value) before.live) (reads_are : read_from ≡ with_source (top_from (last_or None (chain before.records k)) (settled before.records k)) t before.read_from) where
     -- the parts after the look
     abbrev pub after_look : SchedulerView R A G
     after_look = record { procedures = before.procedures; limits = before.limits; records = before.records; accesses = accesses; graph = graph; live = live; read_from = read_from; fates = before.fates }
 
     is_after : record { procedures = before.procedures; limits = before.limits; records = before.records; accesses = accesses; graph = graph; live = changed t (looked value) before.live; read_from = with_source (top_from (last_or None (chain before.records k)) (settled before.records k)) t before.read_from; fates = before.fates } ≡ after_look
     is_after = λ i. record { procedures = before.procedures; limits = before.limits; records = before.records; accesses = accesses; graph = graph; live = sym live_is i; read_from = sym reads_are i; fates = before.fates }
-
-    along : next_along before.procedures (progress_at before.live t) ≡ Looks k
-    along = sym (next_is before.procedures (progress_at before.live t) used_so_far) ∙ next
 
     found_is : value ≡ found (state_of chain settled list nodes pairs before) k
     found_is = value_is ∙ value_of-from (last_or None (chain before.records k)) (settled before.records k)
@@ -60,15 +48,15 @@ module _ {R A G : Type 0} {chain : R → Key → List (ℕ × ℤ)} {settled : R
       notes = notes kept t live_t k Look rivals exact before.records accesses graph (looked value) (with_source (top_from (last_or None (chain before.records k)) (settled before.records k)) t before.read_from) (λ j. refl) list_is nodes_are pairs_are;
       chain = λ j. refl;
       read_from = λ u v. read_added (last_or None (chain before.records k)) (settled before.records k) t before.read_from u v;
-      own_left = ap (left_along before.procedures) (own_progress_is kept t live_t k Look rivals exact before.records accesses graph (looked value) (with_source (top_from (last_or None (chain before.records k)) (settled before.records k)) t before.read_from) (λ j. refl) list_is nodes_are pairs_are)
-          ∙ (looked_is before.procedures (progress_at before.live t) used_so_far k value along ∙ ap (λ v. left.after_look v (left_along before.procedures (progress_at before.live t))) found_is);
+      own_left = ap left_kept (own_progress_is kept t live_t k Look rivals exact before.records accesses graph (looked value) (with_source (top_from (last_or None (chain before.records k)) (settled before.records k)) t before.read_from) (λ j. refl) list_is nodes_are pairs_are)
+          ∙ ap (λ v. left.after_look v (left_kept (progress_at before.live t))) found_is;
     }
 
     -- what holds at every moment holds after it
     pub kept_look : IsKept chain settled list nodes pairs after_look
     kept_look = subst (IsKept chain settled list nodes pairs) is_after
         (kept_access kept t live_t k Look rivals exact before.records accesses graph (looked value) (with_source (top_from (last_or None (chain before.records k)) (settled before.records k)) t before.read_from) (λ j. refl) list_is nodes_are pairs_are
-        (record { named = (kept.used t live_t).named; used = used_look (runs_in before.procedures (progress_at before.live t).call.procedure (progress_at before.live t).call.args) (progress_at before.live t).read (progress_at before.live t).made k value used_so_far along })
+        (kept.along t live_t)
         (sound_look before.limits.live _ _ kept.sound t k live_t looks))
 
     -- it is a look that nothing blocks
@@ -88,7 +76,7 @@ module _ {R A G : Type 0} {chain : R → Key → List (ℕ × ℤ)} {settled : R
     pub store_room : writes_in t (chain before.records k) ≡ false → length (chain before.records k) < 32
     store_room h = let few = chain_room before.limits.live _ kept.sound t k live_t h in omega (arith, kept.in_range.few_live)
 
-    module _ (v : ℤ) (next : next_left (left_along before.procedures (progress_at before.live t)) ≡ Puts k v) (records : R) (accesses : A) (graph : G) (live : List (ℕ × Progress)) (chain_is : (j : Key) → chain records j ≡ cond (key_eq k j) (write_last t v (chain before.records j)) (chain before.records j)) (settled_is : (j : Key) → settled records j ≡ settled before.records j) (list_is : list accesses ≡ list before.accesses ++ record { by = t; key = k; kind = Store } ∷ []) (nodes_are : (u : ℕ) → nodes graph u ≡ nodes before.graph u) (pairs_are : (u v : ℕ) → (pairs graph u v ≡ true) ↔ ((pairs before.graph u v ≡ true) ⊎ ((v ≡ t) × Member u rivals))) (live_is : live ≡ changed t stored before.live) where
+    module _ (v : ℤ) (records : R) (accesses : A) (graph : G) (live : List (ℕ × Progress)) (chain_is : (j : Key) → chain records j ≡ cond (key_eq k j) (write_last t v (chain before.records j)) (chain before.records j)) (settled_is : (j : Key) → settled records j ≡ settled before.records j) (list_is : list accesses ≡ list before.accesses ++ record { by = t; key = k; kind = Store } ∷ []) (nodes_are : (u : ℕ) → nodes graph u ≡ nodes before.graph u) (pairs_are : (u v : ℕ) → (pairs graph u v ≡ true) ↔ ((pairs before.graph u v ≡ true) ⊎ ((v ≡ t) × Member u rivals))) (live_is : live ≡ changed t stored before.live) where
       -- the parts after the store
       abbrev pub after_store : SchedulerView R A G
       after_store = record { procedures = before.procedures; limits = before.limits; records = records; accesses = accesses; graph = graph; live = live; read_from = before.read_from; fates = before.fates }
@@ -96,22 +84,19 @@ module _ {R A G : Type 0} {chain : R → Key → List (ℕ × ℤ)} {settled : R
       store_is : record { procedures = before.procedures; limits = before.limits; records = records; accesses = accesses; graph = graph; live = changed t stored before.live; read_from = before.read_from; fates = before.fates } ≡ after_store
       store_is = λ i. record { procedures = before.procedures; limits = before.limits; records = records; accesses = accesses; graph = graph; live = sym live_is i; read_from = before.read_from; fates = before.fates }
 
-      store_along : next_along before.procedures (progress_at before.live t) ≡ Puts k v
-      store_along = sym (next_is before.procedures (progress_at before.live t) used_so_far) ∙ next
-
       stores : StoresInto t k v (state_of chain settled list nodes pairs before) (state_of chain settled list nodes pairs (record { procedures = before.procedures; limits = before.limits; records = records; accesses = accesses; graph = graph; live = changed t stored before.live; read_from = before.read_from; fates = before.fates }))
       stores = record {
         notes = notes kept t live_t k Store rivals exact records accesses graph stored before.read_from settled_is list_is nodes_are pairs_are;
         chain = chain_is;
         read_from = λ u w. ((λ h. h), (λ h. h));
-        own_left = ap (left_along before.procedures) (own_progress_is kept t live_t k Store rivals exact records accesses graph stored before.read_from settled_is list_is nodes_are pairs_are) ∙ stored_is before.procedures (progress_at before.live t) used_so_far k v store_along;
+        own_left = ap left_kept (own_progress_is kept t live_t k Store rivals exact records accesses graph stored before.read_from settled_is list_is nodes_are pairs_are);
       }
 
       -- what holds at every moment holds after it
       pub kept_store : IsKept chain settled list nodes pairs after_store
       kept_store = subst (IsKept chain settled list nodes pairs) store_is
           (kept_access kept t live_t k Store rivals exact records accesses graph stored before.read_from settled_is list_is nodes_are pairs_are
-          (record { named = (kept.used t live_t).named; used = used_store (runs_in before.procedures (progress_at before.live t).call.procedure (progress_at before.live t).call.args) (progress_at before.live t).read (progress_at before.live t).made k v used_so_far store_along })
+          (kept.along t live_t)
           (sound_store before.limits.live _ _ kept.sound t k v live_t stores.notes stores.chain stores.read_from))
 
       -- it is a store that nothing blocks

@@ -30,5 +30,5 @@ module _ {R A G : Type 0} {chain : R → Key → List (ℕ × ℤ)} {settled : R
     };
     rising = kept.rising;
     unended = kept.unended;
-    used = kept.used;
+    along = kept.along;
   }

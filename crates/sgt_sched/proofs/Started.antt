@@ -1,5 +1,5 @@
 -- What a start does to the state.
-use Rattle.std.proofs.Common.{◌≡◌, ℕ, zero, suc, ℤ, ◌<◌, arith, Bool, true, false, ◌||◌, inl, inr, nat_eq, List, [], ◌∷◌, ◌++◌, length, Option, None, refl, sym, ap, ◌∙◌, subst}
+use Rattle.std.proofs.Common.{◌≡◌, ℕ, zero, suc, ℤ, ◌<◌, arith, Bool, true, false, ◌||◌, inl, inr, nat_eq, List, [], ◌∷◌, ◌++◌, length, Option, Some, None, refl, sym, ap, ◌∙◌, subst}
 use Rattle.std.specs.Prelude.{slice_get}
 use Rattle.std.proofs.lemmas.List.{length-append, length-map}
 use Rattle.std.proofs.lemmas.Bool.{false_from_ne_true, or_cases, or_left, or_right, eqb-true, eqb-false}
@@ -7,7 +7,7 @@ use Rattle.sgt_model.specs.declared.reply.Fate.{Fate}
 use Rattle.sgt_model.specs.Contents.{Key}
 use Rattle.sgt_model.specs.Walks.{Member, AtMost, Rising}
 use Rattle.sgt_model.specs.AccessList.{ListedAccess}
-use Rattle.sgt_sched.specs.LiveProgress.{Progress, left_along}
+use Rattle.sgt_sched.specs.LiveProgress.{Progress, left_kept}
 use Rattle.sgt_model.specs.declared.limits.Limits.{Limits}
 use Rattle.sgt_model.specs.Syntax.{Program}
 use Rattle.sgt_model.specs.Settings.{Rules, rules_from, takes}
@@ -20,7 +20,7 @@ use Rattle.sgt_model.specs.Changes.{Starts}
 use Rattle.sgt_model.proofs.Conditions.{next_no_node}
 use Rattle.sgt_model.proofs.SoundCalls.{sound_starts}
 use Rattle.sgt_sched.specs.LiveList.{numbers, progress_at, started}
-use Rattle.sgt_sched.specs.SchedulerView.{SchedulerView, fate_at, rules_of, state_of, HasUsed, IsKept}
+use Rattle.sgt_sched.specs.SchedulerView.{SchedulerView, fate_at, rules_of, state_of, IsAlong, IsKept}
 use Rattle.sgt_sched.proofs.Lists.{numbers-added, progress_at-added, progress_at-new, fate_at-added, fate_at-past, rising-added}
 
 -- a start that is let in names a procedure
@@ -36,7 +36,7 @@ named_seen {R} {A} {G} held before now seen procedure t args is =
     subst (λ (p : SchedulerView R A G). procedure < length p.procedures) (sym seen)
     (named now.procedures procedure now.limits (held now).starts (length (held now).live) t args is)
 
-module _ {R A G : Type 0} {chain : R → Key → List (ℕ × ℤ)} {settled : R → Key → Option ℤ} {list : A → List ListedAccess} {nodes : G → ℕ → Bool} {pairs : G → ℕ → ℕ → Bool} {before : SchedulerView R A G} (kept : IsKept chain settled list nodes pairs before) (procedure : ℕ) (args : List ℤ) (graph : G) (nodes_are : (u : ℕ) → nodes graph u ≡ (nodes before.graph u || nat_eq u (length before.fates))) (pairs_are : (u v : ℕ) → pairs graph u v ≡ pairs before.graph u v) where
+module _ {R A G : Type 0} {chain : R → Key → List (ℕ × ℤ)} {settled : R → Key → Option ℤ} {list : A → List ListedAccess} {nodes : G → ℕ → Bool} {pairs : G → ℕ → ℕ → Bool} {before : SchedulerView R A G} (kept : IsKept chain settled list nodes pairs before) (procedure : ℕ) (program : Program) (args : List ℤ) (named : slice_get before.procedures procedure ≡ Some program) (graph : G) (nodes_are : (u : ℕ) → nodes graph u ≡ (nodes before.graph u || nat_eq u (length before.fates))) (pairs_are : (u v : ℕ) → pairs graph u v ≡ pairs before.graph u v) where
   -- the parts afterwards
   abbrev pub after_start : SchedulerView R A G
   after_start = record {
@@ -45,7 +45,7 @@ module _ {R A G : Type 0} {chain : R → Key → List (ℕ × ℤ)} {settled : R
     records = before.records;
     accesses = before.accesses;
     graph = graph;
-    live = before.live ++ (length before.fates, started procedure args) ∷ [];
+    live = before.live ++ (length before.fates, started procedure program args) ∷ [];
     read_from = before.read_from;
     fates = before.fates ++ None ∷ [];
   }
@@ -57,7 +57,7 @@ module _ {R A G : Type 0} {chain : R → Key → List (ℕ × ℤ)} {settled : R
   -- the state starts it
   pub starts : Starts (left_if (slice_get before.procedures procedure) args) (state_of chain settled list nodes pairs before) (state_of chain settled list nodes pairs after_start)
   starts = record {
-    live = numbers-added before.live (length before.fates) (started procedure args);
+    live = numbers-added before.live (length before.fates) (started procedure program args);
     nodes = nodes_are;
     pairs = pairs_are;
     accesses = refl;
@@ -66,19 +66,19 @@ module _ {R A G : Type 0} {chain : R → Key → List (ℕ × ℤ)} {settled : R
     read_from = λ u v. ((λ h. h), (λ h. h));
     fates = fate_at-added before.fates;
     starts = length-append before.fates (None ∷ []);
-    left = λ u h. ap (left_along before.procedures) (progress_at-added before.live (length before.fates) u (started procedure args) h);
-    own_left = ap (left_along before.procedures) (progress_at-new before.live (length before.fates) (started procedure args) not_live);
+    left = λ u h. ap left_kept (progress_at-added before.live (length before.fates) u (started procedure program args) h);
+    own_left = ap left_kept (progress_at-new before.live (length before.fates) (started procedure program args) not_live) ∙ sym (ap (λ p. left_if p args) named);
   }
 
   -- what holds at every moment holds afterwards
-  pub kept_start : procedure < length before.procedures → length before.live < before.limits.live → length before.fates < before.limits.begins → IsKept chain settled list nodes pairs after_start
-  kept_start named room more = record {
+  pub kept_start : length before.live < before.limits.live → length before.fates < before.limits.begins → IsKept chain settled list nodes pairs after_start
+  kept_start room more = record {
     in_range = kept.in_range;
     begun = omega (arith, length-append before.fates (None ∷ []));
     sound = sound_starts before.limits.live _ _ kept.sound (left_if (slice_get before.procedures procedure) args) (few before.live room) starts;
     rising = subst Rising (sym starts.live) (rising-added (length before.fates) (numbers before.live) kept.rising (λ u m. kept.sound.begun u ((kept.sound.listed u).1 m)));
     unended = λ u. ((λ h. elim (or_cases (nodes before.graph u) (nat_eq u (length before.fates)) (sym (nodes_are u) ∙ h)) [ inl old ↦ was u old | inr new ↦ is_new u (eqb-true u (length before.fates) new) ]), (λ h. nodes_are u ∙ back u h.0 h.1));
-    used = λ u h. elim (or_cases (nodes before.graph u) (nat_eq u (length before.fates)) (sym (nodes_are u) ∙ h)) [ inl old ↦ used_before u old | inr new ↦ used_now u (eqb-true u (length before.fates) new) ];
+    along = λ u h. elim (or_cases (nodes before.graph u) (nat_eq u (length before.fates)) (sym (nodes_are u) ∙ h)) [ inl old ↦ used_before u old | inr new ↦ used_now u (eqb-true u (length before.fates) new) ];
   } where
     Open : ℕ → Type 0
     Open u = (u < length (before.fates ++ None ∷ [])) × (fate_at (before.fates ++ None ∷ []) u ≡ None)
@@ -98,13 +98,13 @@ module _ {R A G : Type 0} {chain : R → Key → List (ℕ × ℤ)} {settled : R
       both true e = or_right (nodes before.graph u) _ e
       both false e = or_left _ (nat_eq u (length before.fates)) ((kept.unended u).1 (omega (arith, h, length-append before.fates (None ∷ []), eqb-false u (length before.fates) e), sym (fate_at-added before.fates u) ∙ f))
 
-    used_before : (u : ℕ) → nodes before.graph u ≡ true → HasUsed before.procedures (progress_at (before.live ++ (length before.fates, started procedure args) ∷ []) u)
-    used_before u h = subst (HasUsed before.procedures) (sym (progress_at-added before.live (length before.fates) u (started procedure args) (λ e. next_no_node before.limits.live (state_of chain settled list nodes pairs before) kept.sound (subst (λ x. nodes before.graph x ≡ true) e h)))) (kept.used u h)
+    used_before : (u : ℕ) → nodes before.graph u ≡ true → IsAlong before.procedures (progress_at (before.live ++ (length before.fates, started procedure program args) ∷ []) u)
+    used_before u h = subst (IsAlong before.procedures) (sym (progress_at-added before.live (length before.fates) u (started procedure program args) (λ e. next_no_node before.limits.live (state_of chain settled list nodes pairs before) kept.sound (subst (λ x. nodes before.graph x ≡ true) e h)))) (kept.along u h)
 
-    used_now : (u : ℕ) → u ≡ length before.fates → HasUsed before.procedures (progress_at (before.live ++ (length before.fates, started procedure args) ∷ []) u)
-    used_now u e = subst (HasUsed before.procedures) (sym (ap (progress_at after_start.live) e ∙ progress_at-new before.live (length before.fates) (started procedure args) not_live)) (record { named = named; used = tt })
+    used_now : (u : ℕ) → u ≡ length before.fates → IsAlong before.procedures (progress_at (before.live ++ (length before.fates, started procedure program args) ∷ []) u)
+    used_now u e = subst (IsAlong before.procedures) (sym (ap (progress_at after_start.live) e ∙ progress_at-new before.live (length before.fates) (started procedure program args) not_live)) named
 
-module _ {R A G : Type 0} {chain : R → Key → List (ℕ × ℤ)} {settled : R → Key → Option ℤ} {list : A → List ListedAccess} {nodes : G → ℕ → Bool} {pairs : G → ℕ → ℕ → Bool} {before : SchedulerView R A G} (kept : IsKept chain settled list nodes pairs before) (procedure : ℕ) (args : List ℤ) (t : ℕ) (next : t ≡ length before.fates) where
+module _ {R A G : Type 0} {chain : R → Key → List (ℕ × ℤ)} {settled : R → Key → Option ℤ} {list : A → List ListedAccess} {nodes : G → ℕ → Bool} {pairs : G → ℕ → ℕ → Bool} {before : SchedulerView R A G} (kept : IsKept chain settled list nodes pairs before) (procedure : ℕ) (program : Program) (args : List ℤ) (t : ℕ) (next : t ≡ length before.fates) where
   -- the next number is no node
   pub start_new : nodes before.graph t ≡ false
   start_new = false_from_ne_true (nodes before.graph t) (λ h. next_no_node before.limits.live (state_of chain settled list nodes pairs before) kept.sound (subst (λ n. nodes before.graph n ≡ true) next h))
@@ -118,20 +118,20 @@ module _ {R A G : Type 0} {chain : R → Key → List (ℕ × ℤ)} {settled : R
   }
 
   -- the parts after a start, with its effect
-  pub start_done : (graph : G) (live : List (ℕ × Progress)) (fates : List (Option Fate)) → ((u : ℕ) → nodes graph u ≡ (nodes before.graph u || nat_eq u t)) → ((u v : ℕ) → pairs graph u v ≡ pairs before.graph u v) → live ≡ before.live ++ (t, started procedure args) ∷ [] → fates ≡ before.fates ++ None ∷ [] → procedure < length before.procedures → length (numbers before.live) < before.limits.live → length before.fates < before.limits.begins → IsKept chain settled list nodes pairs (record { procedures = before.procedures; limits = before.limits; records = before.records; accesses = before.accesses; graph = graph; live = live; read_from = before.read_from; fates = fates }) × Starts (left_if (slice_get before.procedures procedure) args) (state_of chain settled list nodes pairs before) (state_of chain settled list nodes pairs (record { procedures = before.procedures; limits = before.limits; records = before.records; accesses = before.accesses; graph = graph; live = live; read_from = before.read_from; fates = fates }))
+  pub start_done : (graph : G) (live : List (ℕ × Progress)) (fates : List (Option Fate)) → ((u : ℕ) → nodes graph u ≡ (nodes before.graph u || nat_eq u t)) → ((u v : ℕ) → pairs graph u v ≡ pairs before.graph u v) → live ≡ before.live ++ (t, started procedure program args) ∷ [] → fates ≡ before.fates ++ None ∷ [] → slice_get before.procedures procedure ≡ Some program → length (numbers before.live) < before.limits.live → length before.fates < before.limits.begins → IsKept chain settled list nodes pairs (record { procedures = before.procedures; limits = before.limits; records = before.records; accesses = before.accesses; graph = graph; live = live; read_from = before.read_from; fates = fates }) × Starts (left_if (slice_get before.procedures procedure) args) (state_of chain settled list nodes pairs before) (state_of chain settled list nodes pairs (record { procedures = before.procedures; limits = before.limits; records = before.records; accesses = before.accesses; graph = graph; live = live; read_from = before.read_from; fates = fates }))
   start_done graph live fates nodes_are pairs_are live_is fates_is named room more =
       subst (λ (p : SchedulerView R A G). IsKept chain settled list nodes pairs p × Starts (left_if (slice_get before.procedures procedure) args) (state_of chain settled list nodes pairs before) (state_of chain settled list nodes pairs p)) same
-      (kept_start kept procedure args graph nodes_now pairs_are named (subst (λ n. n < before.limits.live) (length-map before.live _) room) more, starts kept procedure args graph nodes_now pairs_are) where
+      (kept_start kept procedure program args named graph nodes_now pairs_are (subst (λ n. n < before.limits.live) (length-map before.live _) room) more, starts kept procedure program args named graph nodes_now pairs_are) where
         nodes_now : (u : ℕ) → nodes graph u ≡ (nodes before.graph u || nat_eq u (length before.fates))
         nodes_now u = nodes_are u ∙ ap (λ n. nodes before.graph u || nat_eq u n) next
 
-        live_now : before.live ++ (length before.fates, started procedure args) ∷ [] ≡ live
-        live_now = sym (live_is ∙ ap (λ n. before.live ++ (n, started procedure args) ∷ []) next)
+        live_now : before.live ++ (length before.fates, started procedure program args) ∷ [] ≡ live
+        live_now = sym (live_is ∙ ap (λ n. before.live ++ (n, started procedure program args) ∷ []) next)
 
         fates_now : before.fates ++ None ∷ [] ≡ fates
         fates_now = sym fates_is
 
-        same : after_start kept procedure args graph nodes_now pairs_are ≡ record { procedures = before.procedures; limits = before.limits; records = before.records; accesses = before.accesses; graph = graph; live = live; read_from = before.read_from; fates = fates }
+        same : after_start kept procedure program args named graph nodes_now pairs_are ≡ record { procedures = before.procedures; limits = before.limits; records = before.records; accesses = before.accesses; graph = graph; live = live; read_from = before.read_from; fates = fates }
         same = λ i. record { procedures = before.procedures; limits = before.limits; records = before.records; accesses = before.accesses; graph = graph; live = live_now i; read_from = before.read_from; fates = fates_now i }
 
 -- the effect of a start, where the parts before it were seen as others

@@ -1,5 +1,7 @@
 -- The live transactions with how far each has come, as a list.
-use Rattle.std.specs.Prelude.{ℕ, ℤ, Bool, ◌+◌, not, cond, nat_eq, List, [], ◌∷◌, ◌++◌, map, filter, Option}
+use Rattle.std.specs.Prelude.{ℕ, ℤ, Bool, not, cond, nat_eq, List, [], ◌∷◌, map, filter, Option}
+use Rattle.sgt_model.specs.Syntax.{Program, empty}
+use Rattle.sgt_model.specs.Left.{left_at_start, after_look, after_store}
 use Rattle.sgt_sched.specs.LiveProgress.{Progress}
 
 -- their numbers
@@ -11,21 +13,21 @@ abbrev pub has_number : ℕ → ℕ × Progress → Bool
 has_number t r = nat_eq r.0 t
 
 -- the progress of a procedure that was just started
-abbrev pub started : ℕ → List ℤ → Progress
-started procedure args = record { call = record { procedure = procedure; args = args }; read = []; made = 0 }
+abbrev pub started : ℕ → Program → List ℤ → Progress
+started procedure program args = record { procedure = procedure; cursor = (program, left_at_start program args) }
 
 -- how far t has come
 abbrev pub progress_at : List (ℕ × Progress) → ℕ → Progress
-progress_at [] t = started 0 []
+progress_at [] t = started 0 (record { args = 0; body = empty }) []
 progress_at (r ∷ rest) t = cond (nat_eq r.0 t) r.1 (progress_at rest t)
 
 -- a look found this
 abbrev pub looked : Option ℤ → Progress → Progress
-looked value c = record { call = c.call; read = c.read ++ value ∷ []; made = c.made + 1 }
+looked value c = record { procedure = c.procedure; cursor = (c.cursor.0, after_look value c.cursor.1) }
 
 -- a store was made
 abbrev pub stored : Progress → Progress
-stored c = record { call = c.call; read = c.read; made = c.made + 1 }
+stored c = record { procedure = c.procedure; cursor = (c.cursor.0, after_store c.cursor.1) }
 
 -- t's progress is changed
 abbrev pub changed : ℕ → (Progress → Progress) → List (ℕ × Progress) → List (ℕ × Progress)

@@ -1,15 +1,14 @@
 -- What a scheduler is made of, and what it holds.
-use Rattle.std.specs.Prelude.{◌≡◌, ◌<◌, ◌≤◌, ◌↔◌, ℕ, ℤ, Bool, true, List, length, Option, None, slice_index_or}
+use Rattle.std.specs.Prelude.{◌≡◌, ◌<◌, ◌≤◌, ◌↔◌, ℕ, ℤ, Bool, true, List, length, Option, Some, None, slice_get, slice_index_or}
 use Rattle.sgt_model.specs.declared.limits.Limits.{Limits}
 use Rattle.sgt_model.specs.declared.reply.Fate.{Fate}
 use Rattle.sgt_model.specs.Bounds.{AreInRange}
 use Rattle.sgt_model.specs.Contents.{Key}
 use Rattle.sgt_model.specs.Syntax.{Program}
-use Rattle.sgt_model.specs.Traces.{Used}
-use Rattle.sgt_model.specs.Settings.{Rules, rules_from, runs_in}
+use Rattle.sgt_model.specs.Settings.{Rules, rules_from}
 use Rattle.sgt_model.specs.Walks.{Rising}
 use Rattle.sgt_model.specs.AccessList.{ListedAccess}
-use Rattle.sgt_sched.specs.LiveProgress.{Progress, left_along}
+use Rattle.sgt_sched.specs.LiveProgress.{Progress, left_kept}
 use Rattle.sgt_model.specs.State.{State}
 use Rattle.sgt_model.specs.Soundness.{Sound}
 use Rattle.sgt_sched.specs.LiveList.{numbers, progress_at}
@@ -34,11 +33,9 @@ rules_of p = rules_from p.procedures p.limits
 abbrev pub fate_at : List (Option Fate) → ℕ → Option Fate
 fate_at fates t = slice_index_or fates t None
 
--- a transaction has come so far: its procedure is one of these, and the values that its looks found are those that the
--- procedure has used
-pub record HasUsed (programs : List Program) (c : Progress) : Type 0 where
-  pub named : c.call.procedure < length programs
-  pub used : Used (runs_in programs c.call.procedure c.call.args) c.read c.made
+-- a transaction goes along one of these procedures, which its number names
+abbrev pub IsAlong : List Program → Progress → Type 0
+IsAlong programs c = slice_get programs c.procedure ≡ Some c.cursor.0
 
 -- by what the layers tell: of records the chain and the committed value of each key, of accesses their list, of a graph its
 -- nodes and pairs
@@ -55,15 +52,15 @@ module _ {R A G : Type 0} (chain : R → Key → List (ℕ × ℤ)) (settled : R
     read_from = p.read_from;
     fates = fate_at p.fates;
     starts = length p.fates;
-    left = λ t. left_along p.procedures (progress_at p.live t);
+    left = λ t. left_kept (progress_at p.live t);
   }
 
   -- what holds at every moment: the limits are in their ranges and kept; the state is sound; the live ones rise; the graph's
-  -- nodes are those that were started and have not ended; and each has come so far by its procedure
+  -- nodes are those that were started and have not ended; and each goes along its procedure
   pub record IsKept (p : SchedulerView R A G) : Type 0 where
     pub in_range : AreInRange p.limits
     pub begun : length p.fates ≤ p.limits.begins
     pub sound : Sound p.limits.live (state_of p)
     pub rising : Rising (numbers p.live)
     pub unended : (t : ℕ) → (nodes p.graph t ≡ true) ↔ ((t < length p.fates) × (fate_at p.fates t ≡ None))
-    pub used : (t : ℕ) → nodes p.graph t ≡ true → HasUsed p.procedures (progress_at p.live t)
+    pub along : (t : ℕ) → nodes p.graph t ≡ true → IsAlong p.procedures (progress_at p.live t)

@@ -3,17 +3,9 @@ use Rattle.std.specs.Prelude.{◌≡◌, ℕ, Bool, true, false, not, ◌&&◌, 
 use Rattle.sgt_model.specs.declared.reply.Fate.{Fate}
 use Rattle.sgt_model.specs.declared.reply.Reply.{Reply}
 use Rattle.sgt_model.specs.declared.reply.Reply.TheVariants as reply
-use Rattle.sgt_model.specs.Syntax.{Program}
-use Rattle.sgt_model.specs.Traces.{Next, trace, next_at}
-use Rattle.sgt_model.specs.Settings.{runs_in}
-use Rattle.sgt_sched.specs.LiveProgress.{Progress}
 use Rattle.sgt_model.specs.State.{State}
 use Rattle.sgt_records.specs.declared.top.Top.{Top}
 use Rattle.sgt_records.specs.declared.top.Top.TheVariants as top
-
--- what comes next, by the procedures
-abbrev pub next_along : List Program → Progress → Next
-next_along programs c = next_at (trace (runs_in programs c.call.procedure c.call.args) c.read) c.made
 
 -- the reply to an event of a transaction that is not live: by whether it was started, and how it ended
 abbrev pub IsClosedBy : Bool → Option Fate → Reply → Type 0

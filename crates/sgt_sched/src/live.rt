@@ -1,10 +1,12 @@
-ghost use Rattle.std.specs.Prelude.{◌≡◌, ◌<◌, ◌≤◌, [], ◌∷◌, ◌++◌, length, OnOk, OnErr, position, find};
+ghost use Rattle.std.specs.Prelude.{◌≡◌, ◌≤◌, [], ◌∷◌, ◌++◌, length, OnOk, OnErr, position, find};
 ghost use Rattle.std.specs.Option.{option_copied};
 ghost use Rattle.sgt_model.specs.Walks.{Member};
-ghost use Rattle.sgt_sched.specs.LiveList.{numbers, has_number, progress_at, started, looked, stored, changed, without};
+ghost use Rattle.sgt_sched.specs.LiveList.{numbers, has_number, progress_at, looked, stored, changed, without};
+ghost use Rattle.sgt_sched.specs.SchedulerView.{IsAlong};
 
 use crate::running::Running;
-use sgt_model::{Args, NoMemory, Tid, Tids};
+use sgt_model::{NoMemory, Tid, Tids};
+use sgt_proc::{Checked, Cursor};
 use std::alloc::Global;
 use std::marker::Model;
 
@@ -12,7 +14,6 @@ use std::marker::Model;
 #[derive(Drop)]
 pub struct Live {
     running: Vec<Running>,
-    alloc: Global,
 }
 
 impl Model for Live {
@@ -31,7 +32,6 @@ impl Live {
     {
         Live {
             running: Vec::new(alloc),
-            alloc,
         }
     }
 
@@ -62,42 +62,39 @@ impl Live {
     }
 
     /// Adds one that was just started, as the last. `NoMemory` where a growth was refused; then nothing has changed.
-    pub fn start(&mut self, t: Tid, procedure: u16, args: Args) -> Result<(), NoMemory>
-        ensures ok { OnOk result (self.new ≡ self.old ++ (t, started procedure args) ∷ []) }
+    pub fn start(&mut self, t: Tid, procedure: u16, cursor: Cursor) -> Result<(), NoMemory>
+        ensures ok { OnOk result (self.new ≡ self.old ++ (t, record { procedure = procedure; cursor = cursor }) ∷ []) }
         ensures err { OnErr result (self.new ≡ self.old) }
     {
         self.running.reserve(1)?;
         self.running.push_reserved(Running {
             tid: t,
             procedure,
-            args,
-            read: Vec::new(self.alloc),
-            made: 0,
+            cursor,
         });
         Ok(())
     }
 
-    /// Notes that a look of t, which is live, found this. `NoMemory` where a growth was refused; then nothing has changed.
-    pub fn look(&mut self, t: Tid, value: Option<i64>) -> Result<(), NoMemory>
+    /// Goes on with t, which is live, behind a look that found this. This takes no memory.
+    pub fn look(&mut self, t: Tid, procedures: &[Checked], value: Option<i64>)
         requires live { Member t (numbers self.old) }
-        requires few { (progress_at self.old t).made < 64 }
-        ensures ok { OnOk result (self.new ≡ changed t (looked value) self.old) }
-        ensures err { OnErr result (self.new ≡ self.old) }
+        requires along { IsAlong procedures.now (progress_at self.old t) }
+        ensures { self.new ≡ changed t (looked value) self.old }
     {
         match self.place(t) {
-            Some(place) => self.running[place].look(value),
+            Some(place) => self.running[place].look(procedures, value),
             None => unreachable!(),
         }
     }
 
-    /// Notes that t, which is live, stored a value. This takes no memory.
-    pub fn store(&mut self, t: Tid)
+    /// Goes on with t, which is live, behind a store. This takes no memory.
+    pub fn store(&mut self, t: Tid, procedures: &[Checked])
         requires live { Member t (numbers self.old) }
-        requires few { (progress_at self.old t).made < 64 }
+        requires along { IsAlong procedures.now (progress_at self.old t) }
         ensures { self.new ≡ changed t stored self.old }
     {
         match self.place(t) {
-            Some(place) => self.running[place].store(),
+            Some(place) => self.running[place].store(procedures),
             None => unreachable!(),
         }
     }

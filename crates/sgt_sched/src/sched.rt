@@ -13,9 +13,8 @@ ghost use Rattle.sgt_model.specs.NewState.{IsNew};
 ghost use Rattle.sgt_model.specs.Numbers.{IsValue};
 ghost use Rattle.sgt_model.specs.Sameness.{Same};
 ghost use Rattle.sgt_model.specs.State.{State};
-ghost use Rattle.sgt_model.specs.Traces.{Looks, Puts};
 ghost use Rattle.sgt_model.specs.Walks.{Rising};
-ghost use Rattle.sgt_proc.specs.Nexts.{seen, IsAccess, StoresValue};
+ghost use Rattle.sgt_proc.specs.Nexts.{seen, StoresValue};
 ghost use Rattle.sgt_sched.specs.Admission.{Admits};
 ghost use Rattle.sgt_sched.specs.Endings.{EndsAborted, EndsOne, IsBlocked, is_ending};
 ghost use Rattle.sgt_sched.specs.SchedulerView.{rules_of};
@@ -25,7 +24,7 @@ use crate::arguments::args_fit;
 use crate::leave::leave;
 use crate::live::Live;
 use crate::reads::note_read;
-use crate::running::{Running, next_of};
+use crate::running::Running;
 use crate::scheduler::Scheduler;
 use sgt_access::Accesses;
 use sgt_cascade::fallers;
@@ -169,7 +168,8 @@ impl<R: Records, A: Accesses, G: Graph> Sched<R, A, G> {
             Err(reply) => return Ok(reply),
         };
         self.fates.reserve(1)?;
-        self.live.start(t, procedure, args.copied())?;
+        let cursor = self.procedures[usize::from(procedure)].begin(args);
+        self.live.start(t, procedure, cursor)?;
         self.graph.add(t);
         self.fates.push_reserved(None);
         Ok(Reply::Started(t))
@@ -201,8 +201,6 @@ impl<R: Records, A: Accesses, G: Graph> Sched<R, A, G> {
     /// with nothing done; `Aborted` where its procedure asks a code, and exactly where the access would close a cycle; else
     /// `Looked` with the last value that is not undone, or `Wrote`. `NoMemory` where a growth was refused; then nothing has
     /// changed. A step that ends the transaction takes no memory.
-    ///
-    /// The procedure is run again over what its looks found, at most 64 accesses.
     pub fn step(&mut self, t: Tid) -> Result<Reply, NoMemory>
         ensures done { IfOk result (λ r. StepEffect t (⟦<Self as Scheduler>⟧.state self.old) r (⟦<Self as Scheduler>⟧.state self.new)) }
         ensures procedures { self.new.procedures ≡ self.old.procedures }
@@ -279,12 +277,10 @@ impl<R: Records, A: Accesses, G: Graph> Sched<R, A, G> {
         ensures next { IfOk result (λ next.
             seen next ≡ next_left ((⟦<Self as Scheduler>⟧.state self.now).left t)) }
         ensures in_range { IfOk result StoresValue }
-        ensures few { IfOk result (λ next.
-            IsAccess next → (progress_at self.now.live t).made < 64) }
         ensures closed { IfErr result (IsClosed (⟦<Self as Scheduler>⟧.state self.now) t) }
     {
         match self.running(t) {
-            Ok(running) => Ok(next_of(self.procedures.as_slice(), running)),
+            Ok(running) => Ok(running.next(self.procedures.as_slice())),
             Err(reply) => Err(reply),
         }
     }
@@ -327,8 +323,6 @@ impl<R: Records, A: Accesses, G: Graph> Sched<R, A, G> {
     // Makes a look of a live transaction, or aborts it where the look would close a cycle.
     fn look(&mut self, t: Tid, key: Key) -> Result<Reply, NoMemory>
         requires live { (⟦<Self as Scheduler>⟧.state self.old).nodes t ≡ true }
-        requires next { next_left ((⟦<Self as Scheduler>⟧.state self.old).left t) ≡ Looks key }
-        requires few { (progress_at self.old.live t).made < 64 }
         ensures done { IfOk result (λ r. RefusesIn t key Look (⟦<Self as Scheduler>⟧.state self.old) r (⟦<Self as Scheduler>⟧.state self.new) ⊎ MakesLook t key (⟦<Self as Scheduler>⟧.state self.old) r (⟦<Self as Scheduler>⟧.state self.new)) }
         ensures procedures { self.new.procedures ≡ self.old.procedures }
         ensures limits { self.new.limits ≡ self.old.limits }
@@ -343,11 +337,11 @@ impl<R: Records, A: Accesses, G: Graph> Sched<R, A, G> {
                 let value = top.value();
                 self.accesses.reserve(key)?;
                 self.read_from.reserve(1)?;
-                self.live.look(t, value)?;
                 // Its verdict is that of the test: nothing has changed in the graph since.
                 self.graph.insert(t, &rivals);
                 self.accesses.note(t, key, Kind::Look);
                 note_read(&mut self.read_from, &top, t);
+                self.live.look(t, self.procedures.as_slice(), value);
                 Ok(Reply::Looked { key, value })
             }
         }
@@ -356,8 +350,6 @@ impl<R: Records, A: Accesses, G: Graph> Sched<R, A, G> {
     // Makes a store of a live transaction, or aborts it where the store would close a cycle.
     fn store(&mut self, t: Tid, key: Key, value: i64) -> Result<Reply, NoMemory>
         requires live { (⟦<Self as Scheduler>⟧.state self.old).nodes t ≡ true }
-        requires next { next_left ((⟦<Self as Scheduler>⟧.state self.old).left t) ≡ Puts key value }
-        requires few { (progress_at self.old.live t).made < 64 }
         requires in_range { IsValue value }
         ensures done { IfOk result (λ r. RefusesIn t key Store (⟦<Self as Scheduler>⟧.state self.old) r (⟦<Self as Scheduler>⟧.state self.new) ⊎ MakesStore t key value (⟦<Self as Scheduler>⟧.state self.old) r (⟦<Self as Scheduler>⟧.state self.new)) }
         ensures procedures { self.new.procedures ≡ self.old.procedures }
@@ -375,7 +367,7 @@ impl<R: Records, A: Accesses, G: Graph> Sched<R, A, G> {
                 self.graph.insert(t, &rivals);
                 self.records.write(t, key, value);
                 self.accesses.note(t, key, Kind::Store);
-                self.live.store(t);
+                self.live.store(t, self.procedures.as_slice());
                 Ok(Reply::Wrote { key, value })
             }
         }

@@ -7,15 +7,16 @@ use Rattle.sgt_model.specs.Contents.{Key}
 use Rattle.sgt_model.specs.Databases.{Row, IsByKey, contents_of}
 use Rattle.sgt_model.specs.Values.{settled}
 use Rattle.sgt_format.specs.DatabaseText.{database_text}
-use Rattle.sgt_script.specs.declared.fault.Fault.{Fault}
+use Rattle.sgt_stream.specs.declared.fault.Fault.{Fault}
 use Rattle.sgt_model.specs.Legality.{Legal}
 use Rattle.sgt_model.specs.Settings.{Setting}
-use Rattle.sgt_script.specs.declared.fault.Fault.TheVariants as fault
+use Rattle.sgt_stream.specs.declared.fault.Fault.TheVariants as fault
 use Rattle.sgt_model.specs.declared.entry.Entry.{Entry}
 use Rattle.std.specs.Io.KnownBytes.{Appends}
 use Rattle.sgt_format.specs.ReplyText.{text}
-use Rattle.sgt_script.specs.Lines.{Cut}
-use Rattle.sgt_script.specs.Scripts.{RunHistory, RunOutput, events, replies, End, end_of, Closing, IsExact, IsOfScript}
+use Rattle.sgt_stream.specs.Lines.{Cut}
+use Rattle.sgt_stream.specs.Ends.{End, IsExact, IsOfInput}
+use Rattle.sgt_script.specs.Scripts.{RunHistory, RunOutput, events, replies, end_of, Closing}
 use Rattle.sgt_script.specs.Answering.{Answered, AllAnswered}
 use Rattle.sgt_model.specs.Histories.{events_of}
 
@@ -52,7 +53,7 @@ abbrev pub Output : Setting → Option Cut → Option (List ℕ) → Option (Lis
 Output s known held held' end = IfSome known (λ c. (run : RunHistory) × (run.setting ≡ s) × (out : List ℕ) × Appends held held' out × RunOutput run c.given c.ending out end)
 
 -- a run whose lines are all answered, with what it wrote
-pub output-all : (s : Setting) (n : ℕ) (known : Option Cut) (past : List Entry) (end : End) (last : List ℕ) (held held' : Option (List ℕ)) → n ≡ 2 → Legal s past → AllAnswered n known past end → Closing s past end last → Appends held held' (replies past ++ last) → Output s known held held' end
+pub output-all : (s : Setting) (n : ℕ) (known : Option Cut) (past : List Entry) (end : End) (last : List ℕ) (held held' : Option (List ℕ)) → n ≡ 2 → Legal s past → AllAnswered n known past end → Closing (settled s.opening past) end last → Appends held held' (replies past ++ last) → Output s known held held' end
 output-all s n None past end last held held' second legal all closing written = tt
 output-all s n (Some c) past end last held held' second legal all closing written = (
   record { setting = s; past = past },
@@ -72,7 +73,7 @@ output-all s n (Some c) past end last held held' second legal all closing writte
 -- an exact end that could only be a failed write is a good one
 pub exact-flush : (r : End) → IfErr r (λ f. f ≡ fault.Writing) → IsExact r → r ≡ Ok tt
 exact-flush (Ok tt') err exact = refl
-exact-flush (Err f) err exact = absurd (subst IsOfScript err exact)
+exact-flush (Err f) err exact = absurd (subst IsOfInput err exact)
 
 -- what a run writes that ended at a fault of the script
 pub output-fault : (s s' : Setting) (n : ℕ) (known : Option Cut) (past : List Entry) (r r' : End) (f : Fault) (held held' : Option (List ℕ)) → s' ≡ s → n + 1 ≡ 2 → r ≡ r' → r' ≡ Err f → Legal s' past → (IsExact r' → AllAnswered (n + 1) known past r') → (IsExact r' → Appends held held' (replies past)) → IsExact r → Output s known held held' r

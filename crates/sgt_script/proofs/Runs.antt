@@ -1,5 +1,5 @@
 -- Laws of a script's run from its first line.
-use Rattle.std.proofs.Common.{◌≡◌, ◌≢◌, ℕ, List, [], ◌∷◌, refl, ap, sym, ◌∙◌, append-nil, subst}
+use Rattle.std.proofs.Common.{◌≡◌, ◌≢◌, ℕ, List, [], refl, ap, sym, ◌∙◌, append-nil, subst}
 use Rattle.std.specs.Prelude.{Option, None, Some, IfSome}
 use Rattle.std.specs.Io.KnownBytes.{Appends}
 use Rattle.sgt_model.specs.Syntax.{Program}
@@ -8,16 +8,14 @@ use Rattle.sgt_format.specs.Openings.{Opens, Refuses}
 use Rattle.sgt_format.specs.declared.opening.Opening.{Opening}
 use Rattle.sgt_format.specs.declared.errors.OpeningError.{OpeningError}
 use Rattle.sgt_format.specs.declared.errors.OpeningError.TheVariants as opening_error
-use Rattle.sgt_script.specs.Lines.{Cut, Ending, cut}
-use Rattle.sgt_script.specs.Intake.{Intake, before_input, cut_left, Gives, EndsAs, Explains}
-use Rattle.sgt_script.specs.Scripts.{RunHistory, End, HeadlineOf, Script, ScriptOf, RunOutput, no_opening, fault_of_opening, opened_setting, IsExact}
+use Rattle.sgt_stream.specs.Lines.{Cut, Ending, cut}
+use Rattle.sgt_stream.specs.Intake.{Intake, before_input, cut_left, Gives, EndsAs, Explains}
+use Rattle.sgt_stream.specs.Ends.{End, no_opening, fault_of_opening, IsExact}
+use Rattle.sgt_script.specs.Scripts.{RunHistory, Script, ScriptOf, RunOutput, opened_setting}
 use Rattle.sgt_script.proofs.Answers.{Output}
-use Rattle.sgt_model.specs.declared.entry.Entry.{Entry}
-use Rattle.sgt_model.specs.Legality.{Legal}
-use Rattle.sgt_model.specs.Headline.{Headline}
-use Rattle.sgt_script.specs.declared.fault.Fault.{Fault}
-use Rattle.sgt_script.specs.declared.fault.Fault.TheVariants as fault
-use Rattle.sgt_script.specs.Lines.{AtLongLine, AtLimit}
+use Rattle.sgt_stream.specs.declared.fault.Fault.{Fault}
+use Rattle.sgt_stream.specs.declared.fault.Fault.TheVariants as fault
+use Rattle.sgt_stream.specs.Lines.{AtLongLine, AtLimit}
 use Rattle.std.specs.Prelude.{Err, ◌+◌}
 
 -- what a run wrote over bytes that are known
@@ -36,7 +34,7 @@ wrote-nothing programs i (Some bytes) held ending r start ends is =
     (None, [], appends-none held, subst (λ (c : Cut). ScriptOf programs c.given c.ending None [] r) (sym (subst (λ (j : Intake). EndsAs ending (cut_left j (Some bytes))) start ends)) (refl, is))
 
 -- line 1 is refused
-pub wrote-refused : (programs : List Program) (i : Intake) (rest held : Option (List ℕ)) (line : List ℕ) (new : Option Cut) (e : OpeningError) (r : End) → i ≡ before_input → Gives (cut_left i rest) line new → Refuses line e → e ≢ opening_error.NoMemory → r ≡ Err (fault_of_opening e) → Wrote programs rest held held r
+pub wrote-refused : (programs : List Program) (i : Intake) (rest held : Option (List ℕ)) (line : List ℕ) (new : Option Cut) (e : OpeningError) (r : End) → i ≡ before_input → Gives (cut_left i rest) line new → Refuses 1 line e → e ≢ opening_error.NoMemory → r ≡ Err (fault_of_opening e) → Wrote programs rest held held r
 wrote-refused programs i None held line new e r start gives refuses known is = tt
 wrote-refused programs i (Some bytes) held line None e r start gives refuses known is = absurd (subst (λ (j : Intake). Gives (cut_left j (Some bytes)) line None) start gives)
 wrote-refused programs i (Some bytes) held line (Some c) e r start gives refuses known is =
@@ -49,7 +47,7 @@ wrote-refused programs i (Some bytes) held line (Some c) e r start gives refuses
     )
 
 -- line 1 opens
-pub wrote-opened : (programs : List Program) (i : Intake) (s : Setting) (rest held held' : Option (List ℕ)) (line : List ℕ) (new : Option Cut) (o : Opening) (r : End) → i ≡ before_input → Gives (cut_left i rest) line new → Opens line o → s ≡ opened_setting programs o → Output s new held held' r → Wrote programs rest held held' r
+pub wrote-opened : (programs : List Program) (i : Intake) (s : Setting) (rest held held' : Option (List ℕ)) (line : List ℕ) (new : Option Cut) (o : Opening) (r : End) → i ≡ before_input → Gives (cut_left i rest) line new → Opens 1 line o → s ≡ opened_setting programs o → Output s new held held' r → Wrote programs rest held held' r
 wrote-opened programs i s None held held' line new o r start gives opens is output = tt
 wrote-opened programs i s (Some bytes) held held' line None o r start gives opens is output = absurd (subst (λ (j : Intake). Gives (cut_left j (Some bytes)) line None) start gives)
 wrote-opened programs i s (Some bytes) held held' line (Some c) o r start gives opens is (run, from, out, wrote, output) =
@@ -82,14 +80,3 @@ wrote-fault programs i rest held (fault.ProcFlaw n k) start explained exact = ab
 pub wrote-no-line : (programs : List Program) (i : Intake) (rest held : Option (List ℕ)) (f : Fault) (r : End) → i ≡ before_input → r ≡ Err f → Explains f i.number (cut_left i rest) → IsExact r → Wrote programs rest held held r
 wrote-no-line programs i rest held f r start is explained exact =
     subst (Wrote programs rest held held) (sym is) (wrote-fault programs i rest held f start explained (subst IsExact is exact))
-
--- of every execution of a script the headline holds
-headline-of : ((s : Setting) (past : List Entry) → Legal s past → Headline s past) → (programs : List Program) (ls : List (List ℕ)) (ending : Ending) (run : Option RunHistory) (out : List ℕ) (r : End) → ScriptOf programs ls ending run out r → HeadlineOf run
-headline-of law programs ls ending None out r script = tt
-headline-of law programs [] ending (Some run) out r script = absurd script
-headline-of law programs (line ∷ later) ending (Some run) out r script = law run.setting run.past script.output.legal
-
--- what a run wrote, with the headline beside it
-pub with-headline : ((s : Setting) (past : List Entry) → Legal s past → Headline s past) → (programs : List Program) (rest held held' : Option (List ℕ)) (r : End) → Wrote programs rest held held' r → IfSome rest (λ bytes. (run : Option RunHistory) × (out : List ℕ) × Appends held held' out × Script programs bytes run out r × HeadlineOf run)
-with-headline law programs None held held' r wrote = tt
-with-headline law programs (Some bytes) held held' r (run, out, appended, script) = (run, out, appended, script, headline-of law programs (cut bytes).given (cut bytes).ending run out r script)

@@ -2,8 +2,9 @@
 use Rattle.std.specs.Prelude.{◌≡◌, ℕ, ⊤, List, [], ◌++◌, Option, None, Some}
 use Rattle.sgt_model.specs.declared.entry.Entry.{Entry}
 use Rattle.sgt_model.specs.Histories.{events_of}
-use Rattle.sgt_script.specs.Lines.{Cut}
-use Rattle.sgt_script.specs.Scripts.{End, events, end_of}
+use Rattle.sgt_stream.specs.Lines.{Cut}
+use Rattle.sgt_stream.specs.Ends.{End}
+use Rattle.sgt_script.specs.Scripts.{events, end_of}
 
 -- known lines from number n on begin with those of a history's events; behind them, from number m on, are these
 abbrev pub Answered : ℕ → Option Cut → List Entry → ℕ → Option Cut → Type 0

@@ -1,5 +1,3 @@
-pub mod Lines
-pub mod Buffers
-pub mod Intake
 pub mod Scripts
+pub mod RunLaws
 pub mod Answering

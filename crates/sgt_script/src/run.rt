@@ -1,21 +1,21 @@
 ghost use Rattle.std.specs.Prelude.{◌≡◌, ◌≢◌, ℕ, List, Option, IfSome, Err, ◌+◌, ◌^◌, ◌<◌, ◌≤◌};
 ghost use Rattle.std.specs.Io.KnownBytes.{Appends};
 ghost use Rattle.sgt_smallbank.specs.Texts.{procedures};
-ghost use Rattle.sgt_script.specs.Scripts.{BankOf, RunHistory, HeadlineOf, IsExact, Script};
+ghost use Rattle.sgt_stream.specs.Ends.{IsExact};
+ghost use Rattle.sgt_script.specs.RunLaws.{RunLaws};
+ghost use Rattle.sgt_script.specs.Scripts.{RunHistory, Script};
 
-use crate::fault::Fault;
 use crate::script::run_with;
-use crate::sink::Sink;
 use crate::small_bank::SmallBankEngine;
-use crate::source::Source;
 use sgt_model::headline_holds;
 use sgt_smallbank::replay_is_bank;
+use sgt_stream::{Fault, Sink, Source};
 use std::alloc::Global;
 
 /// Runs a script on the program's engine: line 1 opens, each later line is an event and is answered, and the committed
 /// database comes last. Of the history of the events answered the headline holds: run one after another in commit order, the
-/// committed transactions' procedures give the answers that were told, and end in the database that is written. Each of
-/// SmallBank's procedures among them did what the bank's arithmetic says, on what those committed before it left.
+/// committed transactions' procedures give the answers in their `committed` lines, and leave the database that is written.
+/// Each of SmallBank's procedures among them did what the bank's arithmetic says, on what those committed before it left.
 ///
 /// It reads at most 16,777,217 bytes, one more than an input may have, however long its reader goes on.
 ///
@@ -32,7 +32,7 @@ pub fn run_script<S: Source, T: Sink>(
     requires writing { T.failures sink.old + 1 < 2 ^ 64 }
     ensures script { IsExact result → IfSome (S.rest source.old) (λ bytes.
         (run : Option RunHistory) × (out : List ℕ) × Appends (T.held sink.old) (T.held sink.new) out
-        × Script procedures bytes run out result × HeadlineOf run × BankOf run) }
+        × Script procedures bytes run out result × IfSome run (λ r. RunLaws r out result)) }
     ensures bounded { S.given source.new ≤ S.given source.old + 16777217 }
     ensures read_well { IsExact result → S.failures source.new ≡ S.failures source.old }
     ensures read_failed { result ≡ Err Fault.Reading →

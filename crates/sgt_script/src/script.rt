@@ -4,35 +4,27 @@ ghost use Rattle.sgt_model.specs.declared.entry.Entry.{Entry};
 ghost use Rattle.sgt_model.specs.Legality.{Legal};
 ghost use Rattle.sgt_format.specs.ReplyText.{text};
 ghost use Rattle.sgt_format.specs.EventLines.{event_of};
-ghost use Rattle.sgt_format.specs.declared.errors.LineError.{LineError};
-ghost use Rattle.sgt_script.specs.Intake.{come, cut_left, has_whole_line};
-ghost use Rattle.sgt_script.specs.Scripts.{RunHistory, IsOfScript, IsExact, RunOutput, Script, fault_in, fault_of_opening, replies};
+ghost use Rattle.sgt_format.specs.declared.errors.LineError.{LineError as E};
+ghost use Rattle.sgt_stream.specs.Intake.{come, cut_left, has_whole_line};
+ghost use Rattle.sgt_stream.specs.Ends.{IsOfInput, IsExact, fault_in};
+ghost use Rattle.sgt_script.specs.Scripts.{RunHistory, RunOutput, Script, replies};
 ghost use Rattle.sgt_script.specs.Answering.{Answered, NoEvent, AllAnswered};
-ghost use Rattle.sgt_format.specs.Openings.{Opens, Refuses};
-ghost use Rattle.sgt_format.specs.declared.errors.OpeningError.{OpeningError};
 
-use crate::fault::Fault;
-use crate::lines::Lines;
 use crate::machine::Machine;
-use crate::sink::{Sink, write_all};
-use crate::source::Source;
-use sgt_format::{
-    LineError, Opening, OpeningError, append_database, append_reply, read_event, read_opening,
-};
+use sgt_format::{append_database, append_reply, read_event};
 use sgt_model::Event;
+use sgt_stream::{Fault, Lines, Sink, Source, line_fault, opening_of, write_all};
 use std::alloc::Global;
 
 /// The event of the line given last.
 fn event_of(alloc: Global, lines: &Lines) -> Result<Event, Fault>
     ensures event { IfOk result (λ e. event_of lines.now.line ≡ Ok e) }
     ensures fault { IfErr result (λ f. f ≢ Fault.NoMemory →
-        (e : LineError) × (event_of lines.now.line ≡ Err e) × (f ≡ fault_in lines.now.number e)) }
+        (e : E) × (event_of lines.now.line ≡ Err e) × (f ≡ fault_in lines.now.number e)) }
 {
     match read_event(alloc, lines.line()) {
         Ok(event) => Ok(event),
-        Err(LineError::NotJson) => Err(Fault::NotJson(lines.number())),
-        Err(LineError::BadLine) => Err(Fault::BadLine(lines.number())),
-        Err(LineError::NoMemory) => Err(Fault::NoMemory),
+        Err(error) => Err(line_fault(lines.number(), error)),
     }
 }
 
@@ -54,7 +46,7 @@ fn answer_line<S: Source, M: Machine>(
     ensures end { IfOk result (λ more. IsFalse more → (M.past machine.new ≡ M.past machine.old)
         × (replies.new.items ≡ replies.old.items)
         × NoEvent (lines.old.number + 1) (cut_left lines.old (S.rest source.old)) (Ok tt)) }
-    ensures fault { IfErr result (λ f. IsOfScript f → (M.past machine.new ≡ M.past machine.old)
+    ensures fault { IfErr result (λ f. IsOfInput f → (M.past machine.new ≡ M.past machine.old)
         × (replies.new.items ≡ replies.old.items)
         × NoEvent (lines.old.number + 1) (cut_left lines.old (S.rest source.old)) (Err f)) }
     ensures legal { Legal (M.setting machine.old) (M.past machine.old) →
@@ -193,25 +185,6 @@ pub(crate) fn run_opened<S: Source, T: Sink, M: Machine>(
     flush(sink, &mut text)
 }
 
-/// The opening that the line given last spells, as line 1.
-fn opening_of(alloc: Global, lines: &Lines) -> Result<Opening, Fault>
-    ensures opening { IfOk result (Opens lines.now.line) }
-    ensures fault { IfErr result (λ f. IsOfScript f → (e : OpeningError)
-        × Refuses lines.now.line e × (e ≢ OpeningError.NoMemory) × (f ≡ fault_of_opening e)) }
-    ensures own { (result ≢ Err Fault.Reading) × (result ≢ Err Fault.Writing) }
-{
-    match read_opening(alloc, lines.line()) {
-        Ok(opening) => Ok(opening),
-        Err(OpeningError::NotJson) => Err(Fault::NotJson(1)),
-        Err(OpeningError::BadLine) => Err(Fault::BadLine(1)),
-        Err(OpeningError::BadLimits) => Err(Fault::BadLimits),
-        Err(OpeningError::BadOpening(kind)) => Err(Fault::BadOpening(kind.number())),
-        Err(OpeningError::ProcShape(number, place)) => Err(Fault::ProcShape(number, place)),
-        Err(OpeningError::ProcFlaw(number, flaw)) => Err(Fault::ProcFlaw(number, flaw.number())),
-        Err(OpeningError::NoMemory) => Err(Fault::NoMemory),
-    }
-}
-
 /// Runs a script: line 1 opens, each later line is an event and is answered, and the committed database comes last.
 ///
 /// # Errors
@@ -241,7 +214,7 @@ pub(crate) fn run_with<M: Machine, S: Source, T: Sink>(
     if !lines.next_line(source)? {
         return Err(Fault::NoOpening);
     }
-    let opening = opening_of(alloc, &lines)?;
+    let opening = opening_of(alloc, 1, &lines)?;
     let mut machine = M::open(alloc, opening)?;
     run_opened(alloc, &mut lines, source, sink, &mut machine)
 }

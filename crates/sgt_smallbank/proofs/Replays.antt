@@ -1,29 +1,32 @@
 -- Each committed transaction of one of the five did the bank's arithmetic.
-use Rattle.std.proofs.Common.{◌≡◌, refl, sym, ◌∙◌, ap, ℕ, zero, suc, ◌<◌, ℤ, Bool, true, false, cond, List, [], ◌∷◌, ◌++◌, length, Option, Some, None, arith}
-use Rattle.std.specs.Prelude.{slice_get}
+use Rattle.std.proofs.Common.{◌≡◌, refl, sym, ◌∙◌, ap, subst, ℕ, zero, suc, ◌<◌, T, ℤ, pos, negsuc, Bool, true, false, cond, List, [], ◌∷◌, ◌++◌, length, Option, Some, None, arith}
+use Rattle.std.specs.Prelude.{slice_get, int_le, IfSome}
 use Rattle.std.specs.Option.{option_map, option_or}
 use Rattle.std.proofs.lemmas.Bool.{and_parts}
 use Rattle.sgt_model.specs.declared.limits.Limits.{Limits}
+use Rattle.sgt_model.specs.declared.entry.Entry.{Entry}
+use Rattle.sgt_model.specs.declared.event.Event.{Event}
 use Rattle.sgt_model.specs.declared.reply.Reply.{Reply}
 use Rattle.sgt_model.specs.declared.reply.Reply.TheVariants as reply
 use Rattle.sgt_model.specs.Numbers.{IsValue, is_value}
 use Rattle.sgt_model.specs.Contents.{Key, key_eq, Contents, put_in}
 use Rattle.sgt_model.specs.Syntax.{Program}
-use Rattle.sgt_model.specs.Runs.{Outcome, Done, serial, contents_after}
+use Rattle.sgt_model.specs.Runs.{Outcome, Done, Asked, serial, contents_after}
 use Rattle.sgt_model.specs.Meaning.{run_with}
 use Rattle.sgt_model.specs.Settings.{Setting, run_if}
-use Rattle.sgt_model.specs.Progress.{run_of}
-use Rattle.sgt_model.specs.Replay.{CommittedRun, committed_runs, replayed, Gives, AnswersAgree}
-use Rattle.sgt_model.specs.StoredValues.{HoldValues}
-use Rattle.sgt_model.proofs.Replays.{is_serial}
-use Rattle.sgt_model.proofs.StoredValues.{is_value-fact, value_put, replays_hold_values}
-use Rattle.sgt_model.proofs.Admissions.{IsAdmitted, AreAdmitted, committed_admitted}
+use Rattle.sgt_model.specs.Fates.{subject}
+use Rattle.sgt_model.specs.Progress.{Call, call_of, run_of}
+use Rattle.sgt_model.specs.Admissions.{IsAdmitted, AreAdmitted}
+use Rattle.sgt_model.specs.Replay.{RunResult, GaveAnswers, result_of, run_in_turn, committed_call_in, committed_calls, told_in, told}
+use Rattle.sgt_model.specs.StoredValues.{HoldValues, ReplaysHoldValues}
+use Rattle.sgt_model.specs.Legality.{Legal}
+use Rattle.sgt_model.specs.Laws.{ReplayIsSerial, CommittedAreAdmitted}
 use Rattle.sgt_smallbank.specs.declared.account.Account.{Account}
 use Rattle.sgt_smallbank.specs.declared.errors.OpeningFault.{OpeningFault}
 use Rattle.sgt_smallbank.specs.Texts.{balance, deposit_checking, transact_saving, amalgamate, write_check, procedures}
 use Rattle.sgt_smallbank.specs.Arithmetic.{bank}
 use Rattle.sgt_smallbank.specs.Accounts.{name_key, saving_key, checking_key, with_account, with_accounts, is_in_range, fault_behind, first_fault}
-use Rattle.sgt_smallbank.specs.Replays.{AgreesWithBank, RunsAgreeWithBank, bank_setting, ReplayIsBank, OpeningsHoldValues}
+use Rattle.sgt_smallbank.specs.Replays.{CommitIsBank, CommitsAreBank, bank_setting, ReplayIsBank, OpeningsHoldValues}
 use Rattle.sgt_smallbank.proofs.Banks.{serial_is_bank}
 
 -- ---- one committed transaction
@@ -42,49 +45,51 @@ one_of_five others (suc (suc (suc zero))) below = record { program = amalgamate;
 one_of_five others (suc (suc (suc (suc zero)))) below = record { program = write_check; of_bank = refl; of_all = refl }
 one_of_five others (suc (suc (suc (suc (suc n))))) below = absurd (omega arith)
 
--- what a transaction was told, and what its run gave
-pub record Ran (o : Outcome) (r : Reply) : Type 0 where
-  pub answers : List ℤ
-  pub last : Contents
-  pub was_told : r ≡ reply.Committed answers
-  pub gave : o ≡ Done answers last
-
-ran : (o : Outcome) (r : Reply) → Gives o r → Ran o r
-ran o (reply.Committed answers) g = record { answers = answers; last = g.0; was_told = refl; gave = g.1 }
-ran o _ g = absurd g
+-- an outcome with this result
+done_with : (o : Outcome) (m : Contents) (answers : List ℤ) → result_of o ≡ GaveAnswers answers → o ≡ Done answers (contents_after o m)
+done_with (Done given last) m answers e = ap (λ l. Done l last) cc
+done_with (Asked code) m answers e = absurd (cc)
 
 same_count : (a b : ℕ) → Some a ≡ Some b → a ≡ b
 same_count a b e = cc
 
-module _ (opening : Contents) (others : List Program) (limits : Limits) (hold : HoldValues opening) where
+first_same : (r q : RunResult) (rs qs : List RunResult) → r ∷ rs ≡ q ∷ qs → r ≡ q
+first_same r q rs qs e = cc
+
+module _ (replay_is_serial : ReplayIsSerial) (admitted : CommittedAreAdmitted) (hold_values : ReplaysHoldValues) (opening : Contents) (others : List Program) (limits : Limits) (hold : HoldValues opening) where
   abbrev the_setting : Setting
   the_setting = bank_setting opening others limits
 
-  agrees : (c : CommittedRun) (before : List CommittedRun) → IsAdmitted the_setting c.call → Gives (serial (run_of the_setting.rules c.call) (replayed the_setting before)) c.reply → c.call.procedure < 5 → AgreesWithBank the_setting c before
-  agrees c before admitted gives below =
-      let m : Contents = replayed the_setting before in
-      let one = one_of_five others c.call.procedure below in
-      let done = ran (serial (run_of the_setting.rules c.call) m) c.reply gives in
-      let count : length c.call.args ≡ one.program.args = sym (same_count one.program.args (length c.call.args) (sym (ap (λ o. option_map (λ (p : Program). p.args) o) one.of_all) ∙ admitted.known)) in
-      let runs : serial (run_of the_setting.rules c.call) m ≡ serial (run_with one.program c.call.args) m = ap (λ o. serial (run_if o c.call.args) m) one.of_all in
-      let banks : serial (run_with one.program c.call.args) m ≡ bank c.call.procedure c.call.args m = serial_is_bank c.call.procedure one.program c.call.args m one.of_bank count admitted.values (replays_hold_values opening (procedures ++ others) limits before hold) in
-      let left : done.last ≡ replayed the_setting (c ∷ before) = ap (λ o. contents_after o m) (sym done.gave) in
-      record {
-        answers = done.answers;
-        was_told = done.was_told;
-        is_bank = sym banks ∙ (sym runs ∙ (done.gave ∙ ap (Done done.answers) left));
-      }
+  agrees : (c : Call) (before : List Call) (answers : List ℤ) → IsAdmitted the_setting c → result_of (serial (run_of the_setting.rules c) (run_in_turn the_setting before).last) ≡ GaveAnswers answers → c.procedure < 5 → bank c.procedure c.args (run_in_turn the_setting before).last ≡ Done answers (run_in_turn the_setting (c ∷ before)).last
+  agrees c before answers fits gives below =
+      let m : Contents = (run_in_turn the_setting before).last in
+      let one = one_of_five others c.procedure below in
+      let count : length c.args ≡ one.program.args = sym (same_count one.program.args (length c.args) (sym (ap (λ o. option_map (λ (p : Program). p.args) o) one.of_all) ∙ fits.known)) in
+      let runs : serial (run_of the_setting.rules c) m ≡ serial (run_with one.program c.args) m = ap (λ o. serial (run_if o c.args) m) one.of_all in
+      let banks : serial (run_with one.program c.args) m ≡ bank c.procedure c.args m = serial_is_bank c.procedure one.program c.args m one.of_bank count fits.values (hold_values opening (procedures ++ others) limits before hold) in
+      sym banks ∙ (sym runs ∙ done_with (serial (run_of the_setting.rules c) m) m answers gives)
 
-  runs_agree : (all : List CommittedRun) → AreAdmitted the_setting all → AnswersAgree the_setting all → RunsAgreeWithBank the_setting all
-  runs_agree [] admitted answers = tt
-  runs_agree (c ∷ before) admitted answers = (runs_agree before admitted.0 answers.0, agrees c before admitted.1 answers.1)
+  at_entry : (past : List Entry) (event : Event) (r : Reply) → AreAdmitted the_setting (committed_call_in past event r ++ committed_calls past) → (run_in_turn the_setting (committed_call_in past event r ++ committed_calls past)).results ≡ told_in r ++ told past → CommitIsBank the_setting past event r
+  at_entry past event (reply.Committed answers) fit told = λ below. agrees (call_of past (subject event)) (committed_calls past) answers fit.1 (first_same _ _ _ _ told) below
+  at_entry past event _ fit told = tt
 
-pub replay_is_bank : ReplayIsBank
-replay_is_bank opening others limits past hold legal =
-    let s = bank_setting opening others limits in
-    runs_agree opening others limits hold (committed_runs past) (committed_admitted s past legal) (is_serial s past legal).answers
+  commits_are_bank : (past : List Entry) → Legal the_setting past → CommitsAreBank the_setting past
+  commits_are_bank [] legal = tt
+  commits_are_bank (e ∷ past) legal = (commits_are_bank past legal.0, at_entry past e.event e.reply (admitted the_setting (e ∷ past) legal) (replay_is_serial the_setting (e ∷ past) legal).answers)
+
+pub replay_is_bank : ReplayIsSerial → CommittedAreAdmitted → ReplaysHoldValues → ReplayIsBank
+replay_is_bank serially admitted hold_values opening others limits past hold legal = commits_are_bank serially admitted hold_values opening others limits hold past legal
 
 -- ---- what accounts open
+
+is_value-fact : (v : ℤ) → is_value v ≡ true → IsValue v
+is_value-fact v e =
+    let parts = and_parts (int_le (negsuc 999999999999998) v) (int_le v (pos 999999999999999)) e in
+    (record { le = subst T (sym parts.0) tt }, record { le = subst T (sym parts.1) tt })
+
+value_put : (test : Bool) (v : ℤ) (before : Option ℤ) → IsValue v → IfSome before IsValue → IfSome (cond test (Some v) before) IsValue
+value_put true v before fits stood = fits
+value_put false v before fits stood = stood
 
 no_range_fault : (fits : Bool) (other : Option OpeningFault) → cond fits other (Some OpeningFault.Range) ≡ None → fits ≡ true
 no_range_fault true other e = refl

@@ -1,6 +1,8 @@
-//! The laws of the five procedures. A body has nothing to do: the law is its contract.
+//! The laws of the five procedures. A body does nothing but name the laws that its own rests on.
 ghost use Rattle.sgt_smallbank.specs.Arithmetic.{SerialIsBank};
 ghost use Rattle.sgt_smallbank.specs.Replays.{OpeningsHoldValues, ReplayIsBank};
+
+use sgt_model::{committed_are_admitted, replay_is_serial, replays_hold_values};
 
 /// Each of the five procedures does, run at once and alone, what the bank's arithmetic says: the same answers or the same
 /// code, and the same contents afterwards.
@@ -14,4 +16,8 @@ pub fn serial_is_bank()
 pub fn replay_is_bank()
     ensures opening { OpeningsHoldValues }
     ensures replay { ReplayIsBank }
-{}
+{
+    replay_is_serial();
+    committed_are_admitted();
+    replays_hold_values();
+}

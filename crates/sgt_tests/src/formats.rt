@@ -133,7 +133,7 @@ fn events_are_read(rt: HostRuntime) {
 fn an_opening_is_read(rt: HostRuntime) -> Result<(), Fail> {
     let line =
         b"{\"procedures\":[],\"limits\":[1,10],\"accounts\":[[1,101,500,1000],[-2,102,0,200]]}";
-    let opening = read_opening(rt.alloc(), line).expect(&rt, "an opening");
+    let opening = read_opening(rt.alloc(), 1, line).expect(&rt, "an opening");
     assert!(rt;
         opening.limits
             == Limits {
@@ -150,14 +150,14 @@ fn an_opening_is_read(rt: HostRuntime) -> Result<(), Fail> {
 
 /// Why a line gives no opening.
 fn refusal(alloc: Global, line: &[u8]) -> Option<OpeningError> {
-    read_opening(alloc, line).err()
+    read_opening(alloc, 1, line).err()
 }
 
 #[test]
 fn procedures_of_an_opening_are_read(rt: HostRuntime) -> Result<(), Fail> {
     let line =
         b"{\"limits\":[1,1],\"accounts\":[],\"procedures\":[[0,[]],[2,[[\"answer\",[\"arg\",1]]]]]}";
-    let opening = read_opening(rt.alloc(), line).expect(&rt, "an opening");
+    let opening = read_opening(rt.alloc(), 1, line).expect(&rt, "an opening");
     assert_eq!(rt; opening.procedures.len(), 2);
     assert_eq!(rt; opening.procedures[0].args(), 0);
     assert_eq!(rt; opening.procedures[1].args(), 2);

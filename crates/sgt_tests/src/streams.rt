@@ -1,7 +1,8 @@
 //! What a script's run does with its reader and its writer: the limits of lines and of the input, reads and writes that fail,
 //! and that each reply is written before the next line is read.
 
-use sgt_script::{Fault, Reader, Writer, run_script};
+use sgt_script::run_script;
+use sgt_stream::{Fault, Reader, Writer};
 use std::alloc::Global;
 use std::cell::RefCell;
 use std::io;

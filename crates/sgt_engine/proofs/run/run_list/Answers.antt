@@ -1,5 +1,4 @@
 use Rattle.std.proofs.Common.{rules, refl, ap, ◌∙◌, ◌+◌}
-use Rattle.sgt_model.proofs.Headline.{headline}
 use Rattle.sgt_engine.specs.EngineView.{EngineView, setting_of}
 use Rattle.sgt_model.specs.Histories.{events_of}
 use Rattle.sgt_engine.proofs.Entries.{legal_new, events_taken}
@@ -7,13 +6,11 @@ use Rattle.sgt_engine.proofs.run.run_list.Goals as goal
 
 pub loop-event-init : goal.loop-event-init
 loop-event-init g c =
-    let legal = legal_new _ _ _ _ c.in_ok-engine.ensures.made in
     record {
       done = refl;
       setting = search rules;
       events = search rules;
-      legal = legal;
-      headline = headline _ _ legal;
+      legal = legal_new _ _ _ _ c.in_ok-engine.ensures.made;
     }
 
 pub loop-event-preserved : goal.loop-event-preserved
@@ -22,5 +19,4 @@ loop-event-preserved g c = record {
   setting = ap setting_of c.in-Ok.ensures.adds ∙ c.loop-event.invariant.setting;
   events = ap (λ (e : EngineView). events_of e.past) c.in-Ok.ensures.adds ∙ events_taken _ c.loop-event.engine.past c.args.events.now c.loop-event.done c.loop-event.event-index c.event-item.result c.loop-event.invariant.done (search rules) c.loop-event.invariant.events c.event-item.is c.copied.ensures;
   legal = c.in-Ok.ensures.legal;
-  headline = c.in-Ok.ensures.headline;
 }

@@ -1,6 +1,5 @@
 use Rattle.std.proofs.Common.{◌≡◌, take}
 use Rattle.sgt_model.specs.Databases.{contents_of}
-use Rattle.sgt_model.specs.Headline.{Headline}
 use Rattle.sgt_model.specs.Legality.{Legal}
 use Rattle.sgt_model.specs.Settings.{setting}
 use Rattle.sgt_engine.specs.EngineView.{setting_of}
@@ -13,5 +12,4 @@ invariant-loop-event g l = record {
   setting : setting_of l.engine ≡ setting (contents_of l.fn.opening) l.fn.procedures.items l.fn.limits;
   events : events_of l.engine.past ≡ take l.done l.events;
   legal : Legal (setting_of l.engine) l.engine.past;
-  headline : Headline (setting_of l.engine) l.engine.past;
 }

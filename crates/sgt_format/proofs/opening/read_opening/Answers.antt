@@ -11,4 +11,4 @@ returns-clause-refused c =
     let at_line : Some (view c.in_ok-tree.tree) ≡ tree_of c.args.line.now = search rules in
     let at_tree : Some (c.in_ok-numbers.numbers, map view c.in_ok-numbers.trees.now, map view c.in_ok-numbers.procedures.now) ≡ parts_in (view c.in_ok-tree.tree) = search rules in
     let at_trees : Some c.as_slice.result.now ≡ each account (map view c.in_ok-numbers.trees.now) = search rules in
-    refused_line c.args.line.now _ c.open.result (sheet_found _ _ _ _ _ _ at_line at_tree at_trees) c.open.ensures.refused
+    refused_line c.args.least c.args.line.now _ c.open.result (sheet_found _ _ _ _ _ _ at_line at_tree at_trees) c.open.ensures.refused

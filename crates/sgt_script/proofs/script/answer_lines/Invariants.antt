@@ -1,7 +1,7 @@
 use Rattle.std.proofs.Common.{◌≡◌, ◌≤◌, ◌+◌, List, ℕ, ◌++◌}
 use Rattle.std.specs.Io.KnownBytes.{Appends}
 use Rattle.sgt_model.specs.Legality.{Legal}
-use Rattle.sgt_script.specs.Intake.{come, cut_left}
+use Rattle.sgt_stream.specs.Intake.{come, cut_left}
 use Rattle.sgt_script.specs.Scripts.{replies}
 use Rattle.sgt_script.specs.Answering.{Answered}
 use Rattle.sgt_script.proofs.script.answer_lines.Given as goal

@@ -1,5 +1,5 @@
 use Rattle.std.proofs.Common.{rules, ◌+◌, ap}
-use Rattle.sgt_script.specs.Intake.{cut_left}
+use Rattle.sgt_stream.specs.Intake.{cut_left}
 use Rattle.sgt_script.proofs.Answers.{output-fault, output-well, exact-flush}
 use Rattle.sgt_script.proofs.script.run_opened.Goals as goal
 

@@ -1,7 +1,7 @@
 use Rattle.std.proofs.Common.{rules, ◌≡◌, Err, ap, refl, subst, ◌∙◌}
-use Rattle.sgt_script.specs.Lines.{AtEnd}
-use Rattle.sgt_script.specs.Intake.{cut_left}
-use Rattle.sgt_script.specs.Scripts.{IsExact}
+use Rattle.sgt_stream.specs.Lines.{AtEnd}
+use Rattle.sgt_stream.specs.Intake.{cut_left}
+use Rattle.sgt_stream.specs.Ends.{IsExact}
 use Rattle.sgt_script.proofs.Runs.{wrote-nothing, wrote-refused, wrote-opened, wrote-no-line}
 use Rattle.sgt_script.proofs.script.run_with.Goals as goal
 

@@ -1,31 +1,20 @@
-use Rattle.std.proofs.Common.{refl, sym, ap, ◌∙◌, arith, reverse}
+use Rattle.std.proofs.Common.{sym, ap, ◌∙◌, arith, reverse}
 use Rattle.std.proofs.lemmas.Bool.{true≢false}
 use Rattle.std.specs.Result.{is_ok}
 use Rattle.std.specs.Vec.{vec_len, vec_capacity}
 use Rattle.sgt_model.specs.Databases.{contents_of}
 use Rattle.sgt_model.specs.Settings.{setting}
-use Rattle.sgt_model.proofs.Headline.{headline}
 use Rattle.sgt_sched.specs.SchedulerView.{state_of}
 use Rattle.sgt_engine.specs.EngineView.{setting_of}
 use Rattle.sgt_engine.proofs.Ends.{room_left, ends_seen}
-use Rattle.sgt_engine.proofs.Entries.{added, same_setting, kept_entry, legal_reply, legal_same}
+use Rattle.sgt_engine.proofs.Entries.{added, same_setting, kept_entry, legal_reply}
 use Rattle.sgt_engine.proofs.engine.Engine.apply.Goals as goal
-
-pub returns-in_err-make_room-clause-headline : goal.returns-in_err-make_room-clause-headline
-returns-in_err-make_room-clause-headline g c =
-    let s = setting (contents_of c.self.inside.opening) c.self.inside.sched.procedures c.self.inside.sched.limits in
-    headline s _ (legal_same s s c.self.inside.history.items _ refl c.make_room.ensures.items c.self.invariant.0)
-
-pub returns-in_err-reply-clause-headline : goal.returns-in_err-reply-clause-headline
-returns-in_err-reply-clause-headline g c =
-    let s = setting (contents_of c.self.inside.opening) c.self.inside.sched.procedures c.self.inside.sched.limits in
-    headline _ _ (legal_same s _ c.self.inside.history.items _ (same_setting _ _ _ _ _ c.call.ensures.procedures c.call.ensures.limits) c.make_room.ensures.items c.self.invariant.0)
 
 pub invariant_of-self-2 : goal.invariant_of-self-2
 invariant_of-self-2 g c =
     let s = setting (contents_of c.self.inside.opening) c.self.inside.sched.procedures c.self.inside.sched.limits in
     let state = state_of g.R.Records.chain g.R.Records.settled g.A.Accesses.list g.G.Graph.nodes g.G.Graph.pairs in
-    let kept = kept_entry s _ c.self.inside.history.items c.push_reserved.new.self.items (state c.self.inside.sched) (state c.call.new.self) c.args.event c.in_ok-reply.reply (same_setting _ _ _ _ _ c.call.ensures.procedures c.call.ensures.limits)
+    let kept = kept_entry c.calls_simulate.ensures s _ c.self.inside.history.items c.push_reserved.new.self.items (state c.self.inside.sched) (state c.call.new.self) c.args.event c.in_ok-reply.reply (same_setting _ _ _ _ _ c.call.ensures.procedures c.call.ensures.limits)
     (added _ _ _ _ _ _ c.push_reserved.ensures.items c.make_room.ensures.items c.copied.ensures)
     (c.self.invariant.0, c.self.invariant.1) c.in_ok-reply.ensures.done in
     let left = room_left (setting (contents_of c.self.inside.opening) c.self.inside.sched.procedures c.self.inside.sched.limits) (reverse c.self.inside.history.items) c.self.invariant.0 (state_of g.R.Records.chain g.R.Records.settled g.A.Accesses.list g.G.Graph.nodes g.G.Graph.pairs c.self.inside.sched) c.self.invariant.1 c.args.event (state_of g.R.Records.chain g.R.Records.settled g.A.Accesses.list g.G.Graph.nodes g.G.Graph.pairs c.call.new.self) c.in_ok-reply.reply (vec_len c.make_room.new.history) (vec_capacity c.make_room.new.history) c.in_ok-reply.ensures.done c.make_room.ensures.ends c.in_ok-make_room.ensures.room in
@@ -34,13 +23,16 @@ invariant_of-self-2 g c =
 pub returns-clause-legal : goal.returns-clause-legal
 returns-clause-legal g c = (invariant_of-self-2 g c).0
 
-pub returns-clause-headline : goal.returns-clause-headline
-returns-clause-headline g c = headline _ _ (invariant_of-self-2 g c).0
+pub returns-clause-no_cycle : goal.returns-clause-no_cycle
+returns-clause-no_cycle g c = (c.headline_holds.ensures _ _ (invariant_of-self-2 g c).0).no_cycle
+
+pub returns-clause-order : goal.returns-clause-order
+returns-clause-order g c = (c.headline_holds.ensures _ _ (invariant_of-self-2 g c).0).order
 
 pub returns-clause-reply : goal.returns-clause-reply
 returns-clause-reply g c =
     let s = setting (contents_of c.self.inside.opening) c.self.inside.sched.procedures c.self.inside.sched.limits in
-    legal_reply s _ (reverse c.self.inside.history.items) _ (state_of g.R.Records.chain g.R.Records.settled g.A.Accesses.list g.G.Graph.nodes g.G.Graph.pairs c.self.inside.sched) (state_of g.R.Records.chain g.R.Records.settled g.A.Accesses.list g.G.Graph.nodes g.G.Graph.pairs c.call.new.self) c.args.event c.in_ok-reply.reply (ap setting_of c.self.view_is) (ap (λ e. e.past) c.self.view_is) (c.self.invariant.0, c.self.invariant.1) c.in_ok-reply.ensures.done
+    legal_reply c.calls_simulate.ensures s _ (reverse c.self.inside.history.items) _ (state_of g.R.Records.chain g.R.Records.settled g.A.Accesses.list g.G.Graph.nodes g.G.Graph.pairs c.self.inside.sched) (state_of g.R.Records.chain g.R.Records.settled g.A.Accesses.list g.G.Graph.nodes g.G.Graph.pairs c.call.new.self) c.args.event c.in_ok-reply.reply (ap setting_of c.self.view_is) (ap (λ e. e.past) c.self.view_is) (c.self.invariant.0, c.self.invariant.1) c.in_ok-reply.ensures.done
 
 pub returns-in_err-make_room-clause-no_memory : goal.returns-in_err-make_room-clause-no_memory
 returns-in_err-make_room-clause-no_memory g c = λ r legal e.

@@ -1,6 +1,6 @@
-use Rattle.std.proofs.Common.{subst, sym, ◌<◌}
-use Rattle.sgt_sched.specs.LiveProgress.{Progress}
+use Rattle.std.proofs.Common.{sym, subst}
 use Rattle.sgt_sched.specs.LiveList.{stored}
+use Rattle.sgt_sched.specs.SchedulerView.{IsAlong}
 use Rattle.sgt_sched.proofs.Lives.{found_at, changed_at, has_place}
 use Rattle.sgt_sched.proofs.live.Live.store.Goals as goal
 
@@ -9,7 +9,7 @@ unreachable-requires c = has_place c.args.t c.args.self.now c.requires.live (sym
 
 pub store-requires : goal.store-requires
 store-requires c = record {
-  few = subst (λ (x : Progress). x.made < 64) (found_at c.args.t c.self.inside.running.items c.args.self.now c.in-Some.place c.index_mut.result.now c.self.view_is c.in-Some.ensures c.index_mut.ensures.value).own_progress c.requires.few;
+  along = subst (IsAlong c.args.procedures.now) (found_at c.args.t c.self.inside.running.items c.args.self.now c.in-Some.place c.index_mut.result.now c.self.view_is c.in-Some.ensures c.index_mut.ensures.value).own_progress c.requires.along;
 }
 
 pub returns : goal.returns

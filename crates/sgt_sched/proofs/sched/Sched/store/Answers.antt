@@ -4,10 +4,8 @@ use Rattle.sgt_model.specs.declared.kind.Kind.TheVariants.{Store}
 use Rattle.sgt_model.specs.Contents.{key_eq}
 use Rattle.sgt_model.specs.Chains.{write_last, writes_in}
 use Rattle.sgt_model.specs.ChainOrder.{IsLastIn}
-use Rattle.sgt_model.specs.Left.{next_left}
-use Rattle.sgt_sched.specs.LiveProgress.{left_along}
 use Rattle.sgt_sched.specs.LiveList.{progress_at}
-use Rattle.sgt_sched.specs.SchedulerView.{state_of}
+use Rattle.sgt_sched.specs.SchedulerView.{state_of, IsAlong}
 use Rattle.sgt_sched.proofs.Accessed.{rivals_few, rivals_are_nodes, blocks_from_walk, free_seen}
 use Rattle.sgt_sched.proofs.Aborted.{refuses_seen}
 use Rattle.sgt_sched.proofs.Looks.{inserted, store_last, store_room, kept_store, makes_store}
@@ -29,10 +27,13 @@ write-requires-clause-last g c = subst (λ l. IsLastIn c.args.t l) (sym (c.reser
 pub write-requires-clause-room : goal.write-requires-clause-room
 write-requires-clause-room g c = subst (λ l. writes_in c.args.t l ≡ false → length l < 32) (sym (c.reserve.ensures.chain c.args.key)) (store_room c.self.view_is c.self.invariant c.args.t (ap (λ p. g.G.Graph.nodes p.graph c.args.t) c.self.view_is ∙ c.requires.live) c.args.key c.rivals-rivals.result c.in-Accepted.ensures.verdict c.rivals-rivals.ensures.exact)
 
+pub store-requires-clause-along : goal.store-requires-clause-along
+store-requires-clause-along g c = subst (λ l. IsAlong l (progress_at c.self.inside.live c.args.t)) (sym c.as_slice.ensures.value) (c.self.invariant.along c.args.t (ap (λ p. g.G.Graph.nodes p.graph c.args.t) c.self.view_is ∙ c.requires.live))
+
 pub invariant_of-self-in-Accepted : goal.invariant_of-self-in-Accepted
 invariant_of-self-in-Accepted g c =
     kept_store c.self.view_is c.self.invariant c.args.t (ap (λ p. g.G.Graph.nodes p.graph c.args.t) c.self.view_is ∙ c.requires.live) c.args.key c.rivals-rivals.result c.in-Accepted.ensures.verdict c.rivals-rivals.ensures.exact c.args.value
-    (ap (λ p. next_left (left_along p.procedures (progress_at p.live c.args.t))) c.self.view_is ∙ c.requires.next) c.write.new.self c.note.new.self c.insert.new.self c.store.new.self
+    c.write.new.self c.note.new.self c.insert.new.self c.store.new.self
     (λ j. c.write.ensures.chain j ∙ (ap (λ z. cond (key_eq c.args.key j) (write_last c.args.t z (g.R.Records.chain c.reserve.new.self j)) (g.R.Records.chain c.reserve.new.self j)) (to_z-of_z w64 c.args.value c.ranges.value) ∙ ap (λ l. cond (key_eq c.args.key j) (write_last c.args.t c.args.value l) l) (c.reserve.ensures.chain j)))
     (λ j. c.write.ensures.settled j ∙ c.reserve.ensures.settled j)
     (c.note.ensures.noted ∙ ap (λ l. l ++ record { by = c.args.t; key = c.args.key; kind = Store } ∷ []) c.reserve-in-Accepted.ensures.same) c.insert.ensures.nodes
@@ -47,7 +48,7 @@ returns-in-Closes-clause-done g c =
 pub returns-in_ok-reserve-in-Accepted-2-clause-done : goal.returns-in_ok-reserve-in-Accepted-2-clause-done
 returns-in_ok-reserve-in-Accepted-2-clause-done g c =
     inr (makes_store c.self.view_is c.self.invariant c.args.t (ap (λ p. g.G.Graph.nodes p.graph c.args.t) c.self.view_is ∙ c.requires.live) c.args.key c.rivals-rivals.result c.in-Accepted.ensures.verdict c.rivals-rivals.ensures.exact c.args.value
-    (ap (λ p. next_left (left_along p.procedures (progress_at p.live c.args.t))) c.self.view_is ∙ c.requires.next) c.write.new.self c.note.new.self c.insert.new.self c.store.new.self
+    c.write.new.self c.note.new.self c.insert.new.self c.store.new.self
     (λ j. c.write.ensures.chain j ∙ (ap (λ z. cond (key_eq c.args.key j) (write_last c.args.t z (g.R.Records.chain c.reserve.new.self j)) (g.R.Records.chain c.reserve.new.self j)) (to_z-of_z w64 c.args.value c.ranges.value) ∙ ap (λ l. cond (key_eq c.args.key j) (write_last c.args.t c.args.value l) l) (c.reserve.ensures.chain j)))
     (λ j. c.write.ensures.settled j ∙ c.reserve.ensures.settled j)
     (c.note.ensures.noted ∙ ap (λ l. l ++ record { by = c.args.t; key = c.args.key; kind = Store } ∷ []) c.reserve-in-Accepted.ensures.same) c.insert.ensures.nodes

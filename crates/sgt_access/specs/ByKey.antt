@@ -1,0 +1,19 @@
+-- Accesses ordered by key, in the place of a list of them.
+use Rattle.std.specs.Prelude.{◌≡◌, Bool, List}
+use Rattle.std.specs.List.{list_any}
+use Rattle.std.specs.List.Sorted.{IsSortedByKey}
+use Rattle.sgt_model.specs.Databases.{key_cmp}
+use Rattle.sgt_model.specs.AccessList.{ListedAccess}
+
+-- by their keys, none comes before the one before it
+abbrev pub IsByKey : List ListedAccess → Type 0
+IsByKey accesses = IsSortedByKey (λ (a : ListedAccess). a.key) key_cmp accesses
+
+-- some of the one pass a test exactly where some of the other do
+abbrev pub Alike : List ListedAccess → List ListedAccess → Type 0
+Alike accesses list = (p : ListedAccess → Bool) → list_any p accesses ≡ list_any p list
+
+-- accesses in the order of their keys that stand for a list
+pub record StandsFor (list accesses : List ListedAccess) : Type 0 where
+  pub by_key : IsByKey accesses
+  pub alike : Alike accesses list

@@ -1,0 +1,83 @@
+use crate::access::Access;
+use crate::accesses::Accesses;
+use crate::conflicts::rivals_among;
+use crate::places::{count_before, count_through};
+use crate::whole_list::WholeList;
+use sgt_model::{Key, Kind, NoMemory, Tid, Tids};
+use std::alloc::Global;
+use std::marker::Model;
+
+/// The accesses ordered by key.
+#[derive(Drop)]
+pub struct PerKey {
+    by_key: Vec<Access>,
+    whole: WholeList,
+}
+
+impl Model for PerKey {
+    ghost use Rattle.std.specs.Prelude.{ℕ, List, ◌-◌};
+    ghost use Rattle.std.specs.Vec.{vec_len, vec_capacity};
+    ghost use Rattle.sgt_model.specs.AccessList.{ListedAccess};
+    ghost use Rattle.sgt_access.specs.ByKey.{StandsFor};
+
+    ghost Value = { List ListedAccess × ℕ };
+
+    ghost view = { λ l. (l.whole, vec_capacity l.by_key - vec_len l.by_key) };
+
+    ghost invariant = { λ l. StandsFor l.whole l.by_key.items };
+}
+
+impl PerKey {
+    ghost use Rattle.std.specs.Prelude.{◌≡◌, ℕ, true};
+    ghost use Rattle.sgt_model.specs.declared.kind.Kind.{Kind as K};
+    ghost use Rattle.sgt_model.specs.AccessList.{lists_conflicting, is_listed};
+
+    // The accesses of a key.
+    fn of_key(&self, key: Key) -> &[Access]
+        ensures conflicting { (u : ℕ) (kind : K) → lists_conflicting result.now u key kind
+            ≡ lists_conflicting self.now.0 u key kind }
+        ensures listed { (u : ℕ) → is_listed result.now u ≡ true → is_listed self.now.0 u ≡ true }
+    {
+        let accesses = self.by_key.as_slice();
+        let from = &accesses[count_before(accesses, key)..];
+        &from[..count_through(from, key)]
+    }
+}
+
+impl Accesses for PerKey {
+    ghost use Rattle.std.specs.Prelude.{◌<◌};
+
+    ghost list = { λ l. l.0 };
+
+    ghost is_ready = { λ l k. 0 < l.1 };
+
+    fn empty(alloc: Global) -> Self {
+        PerKey {
+            by_key: Vec::new(alloc),
+            whole: WholeList::empty(),
+        }
+    }
+
+    fn reserve(&mut self, _key: Key) -> Result<(), NoMemory> {
+        self.by_key.reserve(1)?;
+        Ok(())
+    }
+
+    fn note(&mut self, t: Tid, key: Key, kind: Kind) {
+        let access = Access { by: t, key, kind };
+        let place = count_through(self.by_key.as_slice(), key);
+        if self.by_key.insert(place, access).is_err() {
+            unreachable!();
+        }
+        self.whole.note(access);
+    }
+
+    fn rivals(&self, t: Tid, key: Key, kind: Kind) -> Tids {
+        rivals_among(self.of_key(key), t, key, kind)
+    }
+
+    fn forget(&mut self, t: Tid) {
+        self.by_key.retain(|access| access.by != t);
+        self.whole.forget(t);
+    }
+}

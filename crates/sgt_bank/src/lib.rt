@@ -1,0 +1,4 @@
+//! The whole of `sgt bank` over a source and a sink.
+#![tactic(auto)]
+
+mod jobs;

@@ -1,0 +1,3 @@
+mod Subsequences
+mod Sums
+mod Steps

@@ -1,0 +1,87 @@
+-- What contracts see of the ends of a feed.
+use Rattle.std.specs.Prelude.{◌≡◌, ◌<◌, ◌≤◌, ◌+◌, ◌-◌, ℕ, true, false, List, [], ◌∷◌, ◌++◌}
+use Rattle.atomic_table.specs.Seated.{TableId}
+use Rattle.atomic_table.specs.declared.badge.Badge.{Badge}
+use Rattle.crossbeam_channel.specs.declared.flavors.array.Key.{Key}
+use Rattle.crossbeam_channel.specs.Claims.{Pass, view}
+use Rattle.sgt_dispatch.specs.declared.item.Item.{Item}
+use Rattle.sgt_dispatch.specs.declared.item.Item.TheVariants as Of
+use Rattle.sgt_dispatch.specs.declared.log.Log.{Log}
+use Rattle.sgt_dispatch.specs.declared.taker.Take.{Take}
+use Rattle.sgt_dispatch.specs.declared.taker.Take.TheVariants.{Job, Stop, Gone}
+use Rattle.sgt_dispatch.specs.Accounts.{Accounts}
+
+-- which feed an end is of
+abbrev pub FeedId : Type 0
+FeedId = TableId × Badge (Key Item)
+
+abbrev pub feed_of : Pass Item Log → FeedId
+feed_of pass = (pass.table_id, pass.me.0.of)
+
+-- a putter: what it has put, what each joined taker had taken, and how many takers are not joined yet
+pub record PutterState : Type 0 where
+  pub feed : FeedId
+  pub put : List Item
+  pub joined : List (List Item)
+  pub unjoined : ℕ
+
+-- a taker: what it has taken
+pub record TakerState : Type 0 where
+  pub feed : FeedId
+  pub taken : List Item
+
+abbrev pub putter_of : Pass Item Log → ℕ → PutterState
+putter_of pass unjoined = record { feed = feed_of pass; put = (view pass).put; joined = (view pass).joined; unjoined = unjoined }
+
+abbrev pub taker_of : Pass Item Log → TakerState
+taker_of pass = record { feed = feed_of pass; taken = (view pass).taken }
+
+-- the pass of a putter, with every part but those of the takers that are not joined
+pub record IsPutter (pass : Pass Item Log) (unjoined : ℕ) : Type 0 where
+  pub some_part : 0 < (view pass).parts
+  pub parts : (view pass).parts + unjoined ≡ 17
+  pub is_putter : (view pass).is_putter ≡ true
+  pub taken : (view pass).taken ≡ []
+
+-- the pass of a taker, with one part
+pub record IsTaker (pass : Pass Item Log) : Type 0 where
+  pub free : pass.me.1 ≡ []
+  pub part : (view pass).parts ≡ 1
+  pub is_putter : (view pass).is_putter ≡ false
+  pub joined : (view pass).joined ≡ []
+
+-- the ends of a new feed
+abbrev pub new_putter : FeedId → ℕ → PutterState
+new_putter feed takers = record { feed = feed; put = []; joined = []; unjoined = takers }
+
+abbrev pub new_taker : FeedId → TakerState
+new_taker feed = record { feed = feed; taken = [] }
+
+-- how many items a feed may hold, and how many takers it may have
+abbrev pub IsRoom : ℕ → Type 0
+IsRoom room = (1 ≤ room) × (room ≤ 1024)
+
+abbrev pub IsCrew : ℕ → Type 0
+IsCrew takers = (1 ≤ takers) × (takers ≤ 16)
+
+-- with one item more behind those that were put
+abbrev pub with_put : Item → PutterState → PutterState
+with_put item putter = record putter { put = putter.put ++ item ∷ [] }
+
+-- with one taker less to be joined, which had taken this
+abbrev pub with_joined : List Item → PutterState → PutterState
+with_joined taken putter = record putter { joined = putter.joined ++ taken ∷ []; unjoined = putter.unjoined - 1 }
+
+-- with one item more behind those that were taken
+abbrev pub with_taken : Item → TakerState → TakerState
+with_taken item taker = record taker { taken = taker.taken ++ item ∷ [] }
+
+-- the taker after it took this
+abbrev pub after_take : Take → TakerState → TakerState
+after_take (Job job) taker = with_taken (Of.Job job) taker
+after_take Stop taker = with_taken Of.Stop taker
+after_take Gone taker = taker
+
+-- what the joined takers took is accounted for, whatever the feed holds
+abbrev pub Accounted : PutterState → Type 0
+Accounted putter = (held : List Item) × Accounts putter.put putter.joined held (putter.unjoined ≡ 0)

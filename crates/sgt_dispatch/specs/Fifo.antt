@@ -1,0 +1,22 @@
+-- The rule of the feed.
+use Rattle.std.specs.Prelude.{◌≡◌, ◌≤◌, ℕ, true, List, [], ◌++◌, All, sum_by}
+use Rattle.sgt_dispatch.specs.declared.item.Item.{Item}
+use Rattle.sgt_dispatch.specs.declared.log.Log.{Log}
+use Rattle.sgt_dispatch.specs.Accounts.{Accounts}
+use Rattle.sgt_dispatch.specs.Logs.{EachLog, weight_of}
+use Rattle.sgt_dispatch.specs.Subsequences.{IsSubsequence}
+
+-- What was put is what is gone and then what the feed holds. What is gone was taken, each item as often, and by each taker in order
+pub record IsFifo (held : List Item) (logs : List Log) : Type 0 where
+  pub putter : ℕ
+  pub gone : List Item
+  pub parts : sum_by (λ log. log.parts) logs ≡ 17
+  pub put : EachLog (λ number log. log.is_putter ≡ true → (number ≡ putter) × (log.put ≡ gone ++ held)) logs
+  pub order : EachLog (λ _ log. IsSubsequence log.taken gone × All (λ taken. IsSubsequence taken gone) log.joined) logs
+  pub once : (weigh : Item → ℕ) → sum_by (weight_of weigh) logs ≡ sum_by weigh gone
+  pub spent : EachLog (λ _ log. log.parts ≡ 0 → (log.taken ≡ []) × (log.joined ≡ [])) logs
+
+-- what the putter learns when it joins: it cannot have more than every part, and who has every part knows of all that was taken
+pub record IsTold (log : Log) (held : List Item) : Type 0 where
+  pub few : log.parts ≤ 17
+  pub accounts : Accounts log.put log.joined held (log.parts ≡ 17)

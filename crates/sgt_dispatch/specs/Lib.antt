@@ -1,0 +1,5 @@
+pub mod Subsequences
+pub mod Logs
+pub mod Accounts
+pub mod Fifo
+pub mod Ends

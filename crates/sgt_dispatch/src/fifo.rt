@@ -1,0 +1,61 @@
+//! The rule of the feed, and what each step does to the log of the end that makes it.
+ghost use Rattle.std.specs.Prelude.{◌≡◌, ◌+◌, ◌-◌, ◌++◌, [], ◌∷◌};
+ghost use Rattle.sgt_dispatch.specs.Logs.{first_log, taker_log, spent_log};
+ghost use Rattle.sgt_dispatch.specs.Fifo.{IsFifo, IsTold};
+
+use crate::item::Item;
+use crate::log::Log;
+use crossbeam_channel::protocol::{Join, Lesson, Outcome, Protocol, Split};
+
+/// First in, first out, and each item to one taker.
+pub(crate) struct Fifo;
+
+impl Protocol<Item, Log> for Fifo {
+    ghost holds = { IsFifo };
+
+    ghost first = { first_log };
+}
+
+/// A send: the item joins at the back.
+pub(crate) struct PutStep;
+
+impl Outcome<Item, Log> for PutStep {
+    ghost then = { λ old item new. new ≡ record old { put = old.put ++ item ∷ [] } };
+}
+
+impl Lesson<Item, Log> for PutStep {
+    ghost fact = { λ log items. Unit {0} };
+}
+
+/// A receive: the item leaves at the front.
+pub(crate) struct TakeStep;
+
+impl Outcome<Item, Log> for TakeStep {
+    ghost then = { λ old item new. new ≡ record old { taken = old.taken ++ item ∷ [] } };
+}
+
+impl Lesson<Item, Log> for TakeStep {
+    ghost fact = { λ log items. Unit {0} };
+}
+
+/// A pass for a taker is cut off the putter's.
+pub(crate) struct CutStep;
+
+impl Split<Log> for CutStep {
+    ghost left = { λ log. record log { parts = log.parts - 1 } };
+
+    ghost right = { λ log. taker_log };
+}
+
+/// A taker's pass joins the putter's.
+pub(crate) struct JoinStep;
+
+impl Join<Log> for JoinStep {
+    ghost both = { λ log other. record log { parts = log.parts + other.parts; joined = log.joined ++ other.taken ∷ [] } };
+
+    ghost spent = { spent_log };
+}
+
+impl Lesson<Item, Log> for JoinStep {
+    ghost fact = { IsTold };
+}

@@ -1,0 +1,104 @@
+ghost use Rattle.std.specs.Prelude.{◌≡◌, ◌<◌, if◌then◌else◌, OnOk, OnErr, IfErr};
+ghost use Rattle.crossbeam_channel.specs.Claims.{IsSeatAt};
+ghost use Rattle.crossbeam_channel.specs.Ends.{sends_on};
+ghost use Rattle.sgt_dispatch.specs.declared.item.Item.TheVariants as Of;
+ghost use Rattle.sgt_dispatch.specs.Ends.{IsPutter, putter_of, with_put, with_joined, Accounted};
+
+use crate::fifo::{Fifo, JoinStep, PutStep};
+use crate::item::Item;
+use crate::job::Job;
+use crate::log::Log;
+use crate::taker::Stub;
+use crossbeam_channel::{Pass, RuledSender};
+use std::marker::Model;
+use std::sync::Wait;
+
+/// The one end of a feed that puts. It joins what its takers leave behind.
+#[derive(Drop)]
+pub struct Putter {
+    sender: RuledSender<Item, Log, Fifo>,
+    pass: Pass<Item, Log>,
+    unjoined: usize,
+}
+
+impl Model for Putter {
+    ghost use Rattle.crossbeam_channel.specs.Claims.{IsSeatAt};
+    ghost use Rattle.crossbeam_channel.specs.Ends.{sends_on};
+    ghost use Rattle.sgt_dispatch.specs.Ends.{PutterState, putter_of, IsPutter};
+
+    ghost Value = { PutterState };
+
+    ghost view = { λ p. putter_of p.pass p.unjoined };
+
+    ghost invariant = { λ p. IsSeatAt (sends_on p.sender) p.pass × IsPutter p.pass p.unjoined };
+}
+
+impl Putter {
+    /// The putter of a feed, with the pass from which those of its takers were cut.
+    pub(crate) fn new(
+        sender: RuledSender<Item, Log, Fifo>,
+        pass: Pass<Item, Log>,
+        takers: usize,
+    ) -> Self
+        requires seat { IsSeatAt (sends_on sender) pass }
+        requires log { IsPutter pass takers }
+        ensures { result ≡ putter_of pass takers }
+    {
+        Putter {
+            sender,
+            pass,
+            unjoined: takers,
+        }
+    }
+
+    /// Puts a job at the back, in one step, or hands it back: then all takers have left. It waits while the feed is full.
+    pub fn put<R: Wait>(&mut self, rt: &R, job: Job) -> Result<(), Job>
+        ensures put { OnOk result (self.new ≡ with_put (Of.Job job) self.old) }
+        ensures back { IfErr result (λ back. back ≡ job) }
+        ensures refused { OnErr result (self.new ≡ self.old) }
+    {
+        let Err(error) = self
+            .sender
+            .send_as::<PutStep, R>(rt, &mut self.pass, Item::Job(job))
+        else {
+            return Ok(());
+        };
+        match error.into_inner() {
+            Item::Job(job) => Err(job),
+            Item::Stop => unreachable!(),
+        }
+    }
+
+    /// Puts a stop at the back, in one step. `false` says that it did not: then all takers have left. It waits while the feed
+    /// is full.
+    pub fn stop<R: Wait>(&mut self, rt: &R) -> bool
+        ensures { self.new ≡ (if result then with_put Of.Stop self.old else self.old) }
+    {
+        self.sender
+            .send_as::<PutStep, R>(rt, &mut self.pass, Item::Stop)
+            .is_ok()
+    }
+
+    /// Joins what a taker of this feed left behind. It tells of the takers joined so far that what they took is among what was
+    /// put, none of it more often and each one's in order; with all joined, that it is just what left the feed.
+    pub fn join(self, stub: Stub) -> Putter
+        requires { stub.feed ≡ self.feed }
+        ensures joined { result ≡ with_joined stub.taken self }
+        ensures one { 0 < self.unjoined }
+        ensures accounted { Accounted result }
+    {
+        let Putter {
+            sender,
+            mut pass,
+            unjoined,
+        } = self;
+        let Stub { pass: other } = stub;
+        sender.absorb::<JoinStep>(&mut pass, other);
+        sender.learn_as::<JoinStep>(&mut pass);
+        Putter {
+            sender,
+            pass,
+            unjoined: unjoined - 1,
+        }
+    }
+}

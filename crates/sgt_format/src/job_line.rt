@@ -1,0 +1,41 @@
+ghost use Rattle.std.specs.Prelude.{◌≡◌, ◌≢◌, Ok, Err, IfOk, IfErr};
+ghost use Rattle.serde_json.specs.View.{view};
+ghost use Rattle.sgt_format.specs.JobLines.{job_call, job_in, job_of};
+ghost use Rattle.sgt_format.specs.declared.errors.LineError.TheVariants.{NoMemory};
+
+use crate::call::JobCall;
+use crate::errors::LineError;
+use crate::event_line::{arguments, procedure};
+use crate::tree::{items, read_tree};
+use serde_json::Value;
+use sgt_model::Args;
+use std::alloc::Global;
+
+/// The job that a line asks for, without its end: `["job", procedure, [arg, ..]]`.
+///
+/// A line that is no JSON is `NotJson`, a line of any other form `BadLine`. An argument may be any whole number of 64 bits.
+pub fn read_job(alloc: Global, line: &[u8]) -> Result<JobCall, LineError>
+    ensures job { IfOk result (λ job. job_of line.now ≡ Ok job) }
+    ensures error { IfErr result (λ error. error ≢ NoMemory → job_of line.now ≡ Err error) }
+{
+    let tree = read_tree(alloc, line)?.ok_or(LineError::NotJson)?;
+    job_in(&tree).ok_or(LineError::BadLine)
+}
+
+fn job_in(tree: &Value) -> Option<JobCall>
+    ensures { result ≡ job_in (view tree.now) }
+{
+    match items(tree)? {
+        [word, number, list] => job_call(word.as_str()?, procedure(number)?, arguments(list)?),
+        _ => None,
+    }
+}
+
+fn job_call(word: &str, procedure: u16, args: Args) -> Option<JobCall>
+    ensures { result ≡ job_call word.now procedure args }
+{
+    match word {
+        "job" => Some(JobCall { procedure, args }),
+        _ => None,
+    }
+}

@@ -1,0 +1,129 @@
+-- Paths and the text that they lead through.
+use Rattle.std.proofs.Common.{◌≡◌, refl, sym, ap, ◌∙◌, subst, ℕ, zero, suc, ◌+◌, ◌<◌, ◌≤◌, max, Bool, true, false, cond, List, [], ◌∷◌, ◌++◌, length, get_or, drop, arith}
+use Rattle.std.proofs.lemmas.List.{drop_all}
+use Rattle.sgt_model.specs.declared.procedure.Statement.{Statement}
+use Rattle.sgt_model.specs.declared.procedure.Statement.TheVariants.{Look, Put, Let, Ask, If', Answer}
+use Rattle.sgt_model.specs.Syntax.{Block, empty, look, put, save, ask, choose, answer}
+use Rattle.sgt_model.specs.Programs.{before, block_of}
+use Rattle.sgt_model.specs.Left.{followed_by}
+use Rattle.sgt_proc.specs.declared.place.Turn.{Turn}
+use Rattle.sgt_proc.specs.Flaws.{size, depth}
+use Rattle.sgt_proc.specs.Paths.{behind, IsIf, branch, IsPath, inner, outer, to_come}
+use Rattle.sgt_proc.proofs.StatementTexts.{block_drop}
+use Rattle.sgt_proc.proofs.Followed.{followed_empty, followed_twice}
+
+-- a list of statements
+
+behind_before : (n : ℕ) (s : Statement) (b : Block) → behind (suc n) (before s b) ≡ behind n b
+behind_before n (Look to table id absent) b = refl
+behind_before n (Put table id value) b = refl
+behind_before n (Let to value) b = refl
+behind_before n (Ask code) b = refl
+behind_before n (If' cond p ys q ns) b = refl
+behind_before n (Answer value) b = refl
+
+pub behind_list : (n : ℕ) (list : List Statement) → behind n (block_of list) ≡ block_of (drop n list)
+behind_list zero list = refl
+behind_list (suc n) [] = refl
+behind_list (suc n) (s ∷ list) = behind_before n s (block_of list) ∙ behind_list n list
+
+before_size : (s : Statement) (b : Block) → size b + 1 ≤ size (before s b)
+before_size (Look to table id absent) b = omega arith
+before_size (Put table id value) b = omega arith
+before_size (Let to value) b = omega arith
+before_size (Ask code) b = omega arith
+before_size (If' cond p ys q ns) b = omega arith
+before_size (Answer value) b = omega arith
+
+pub before_depth : (s : Statement) (b : Block) → 1 ≤ depth (before s b)
+before_depth (Look to table id absent) b = omega arith
+before_depth (Put table id value) b = omega arith
+before_depth (Let to value) b = omega arith
+before_depth (Ask code) b = omega arith
+before_depth (If' cond p ys q ns) b = omega arith
+before_depth (Answer value) b = omega arith
+
+pub list_size : (list : List Statement) → length list ≤ size (block_of list)
+list_size [] = omega arith
+list_size (s ∷ list) = omega (arith, list_size list, before_size s (block_of list))
+
+-- the one at a place
+pub behind_at : (list : List Statement) (n : ℕ) (s : Statement) → n < length list → s ≡ get_or list n s → behind n (block_of list) ≡ before s (behind (n + 1) (block_of list))
+behind_at list n s h e = behind_list n list ∙ (block_drop list n s h e ∙ ap (before s) (sym (behind_list (n + 1) list)))
+
+-- none at the end
+pub behind_end : (list : List Statement) (n : ℕ) → length list ≤ n → behind n (block_of list) ≡ empty
+behind_end list n h = behind_list n list ∙ ap block_of (drop_all n list h)
+
+-- sizes
+
+behind_size : (n : ℕ) (b : Block) → size (behind n b) ≤ size b
+behind_size zero b = omega arith
+behind_size (suc n) empty = omega arith
+behind_size (suc n) (look to table id absent b) = omega (arith, behind_size n b)
+behind_size (suc n) (put table id value b) = omega (arith, behind_size n b)
+behind_size (suc n) (save to value b) = omega (arith, behind_size n b)
+behind_size (suc n) (ask code b) = omega (arith, behind_size n b)
+behind_size (suc n) (choose test ys ns b) = omega (arith, behind_size n b)
+behind_size (suc n) (answer value b) = omega (arith, behind_size n b)
+
+branch_size : (held : Bool) (b : Block) → size (branch held b) ≤ size b
+branch_size held empty = omega arith
+branch_size held (look to table id absent b) = omega arith
+branch_size held (put table id value b) = omega arith
+branch_size held (save to value b) = omega arith
+branch_size held (ask code b) = omega arith
+branch_size true (choose test ys ns b) = omega arith
+branch_size false (choose test ys ns b) = omega arith
+branch_size held (answer value b) = omega arith
+
+pub inner_size : (path : List Turn) (b : Block) → size (inner path b) ≤ size b
+inner_size [] b = omega arith
+inner_size (t ∷ path) b = omega (arith, inner_size path (branch t.held (behind t.at b)), branch_size t.held (behind t.at b), behind_size t.at b)
+
+-- depths
+
+pub behind_depth : (n : ℕ) (b : Block) → depth (behind n b) ≤ depth b
+behind_depth zero b = omega arith
+behind_depth (suc n) empty = omega arith
+behind_depth (suc n) (look to table id absent b) = omega (arith, behind_depth n b)
+behind_depth (suc n) (put table id value b) = omega (arith, behind_depth n b)
+behind_depth (suc n) (save to value b) = omega (arith, behind_depth n b)
+behind_depth (suc n) (ask code b) = omega (arith, behind_depth n b)
+behind_depth (suc n) (choose test ys ns b) = omega (arith, behind_depth n b)
+behind_depth (suc n) (answer value b) = omega (arith, behind_depth n b)
+
+branch_depth : (held : Bool) (b : Block) → IsIf b → depth (branch held b) + 1 ≤ depth b
+branch_depth held empty h = absurd h
+branch_depth held (look to table id absent b) h = absurd h
+branch_depth held (put table id value b) h = absurd h
+branch_depth held (save to value b) h = absurd h
+branch_depth held (ask code b) h = absurd h
+branch_depth true (choose test ys ns b) h = omega arith
+branch_depth false (choose test ys ns b) h = omega arith
+branch_depth held (answer value b) h = absurd h
+
+pub inner_depth : (path : List Turn) (b : Block) → IsPath path b → length path + depth (inner path b) ≤ depth b
+inner_depth [] b h = omega arith
+inner_depth (t ∷ path) b h = omega (arith, inner_depth path (branch t.held (behind t.at b)) h.1.1, branch_depth t.held (behind t.at b) h.1.0, behind_depth t.at b)
+
+-- one turn more
+
+pub inner_last : (path : List Turn) (t : Turn) (b : Block) → inner (path ++ t ∷ []) b ≡ branch t.held (behind t.at (inner path b))
+inner_last [] t b = refl
+inner_last (u ∷ path) t b = inner_last path t (branch u.held (behind u.at b))
+
+pub outer_last : (path : List Turn) (t : Turn) (b : Block) → outer (path ++ t ∷ []) b ≡ followed_by (behind (t.at + 1) (inner path b)) (outer path b)
+outer_last [] t b = sym (followed_empty (behind (t.at + 1) b))
+outer_last (u ∷ path) t b =
+    let c = branch u.held (behind u.at b) in
+    ap (λ x. followed_by x (behind (u.at + 1) b)) (outer_last path t c)
+    ∙ followed_twice (behind (t.at + 1) (inner path c)) (outer path c) (behind (u.at + 1) b)
+
+pub path_more : (path : List Turn) (t : Turn) (b : Block) → IsPath path b → t.at < 64 → IsIf (behind t.at (inner path b)) → IsPath (path ++ t ∷ []) b
+path_more [] t b h few is = (few, (is, tt))
+path_more (u ∷ path) t b h few is = (h.0, (h.1.0, path_more path t (branch u.held (behind u.at b)) h.1.1 few is))
+
+pub path_less : (path : List Turn) (t : Turn) (b : Block) → IsPath (path ++ t ∷ []) b → (t.at < 64) × IsPath path b
+path_less [] t b h = (h.0, tt)
+path_less (u ∷ path) t b h = let r = path_less path t (branch u.held (behind u.at b)) h.1.1 in (r.0, (h.0, (h.1.0, r.1)))

@@ -1,0 +1,45 @@
+-- A path into a procedure's text: the Ifs that a place is in, from the outermost on, each with the branch that was taken.
+use Rattle.std.specs.Prelude.{ℕ, zero, suc, ◌+◌, ◌<◌, Bool, cond, List, [], ◌∷◌}
+use Rattle.sgt_model.specs.Syntax.{Block, empty, look, put, save, ask, choose, answer}
+use Rattle.sgt_model.specs.Left.{followed_by}
+use Rattle.sgt_proc.specs.declared.place.Turn.{Turn}
+
+-- the statements behind so many
+abbrev pub behind : ℕ → Block → Block
+behind zero b = b
+behind (suc n) empty = empty
+behind (suc n) (look to table id absent b) = behind n b
+behind (suc n) (put table id value b) = behind n b
+behind (suc n) (save to value b) = behind n b
+behind (suc n) (ask code b) = behind n b
+behind (suc n) (choose test ys ns b) = behind n b
+behind (suc n) (answer value b) = behind n b
+
+-- an If comes first
+abbrev pub IsIf : Block → Type 0
+IsIf (choose test ys ns b) = Unit {0}
+IsIf _ = ⊥
+
+-- a branch of the If that comes first
+abbrev pub branch : Bool → Block → Block
+branch held (choose test ys ns b) = cond held ys ns
+branch held _ = empty
+
+-- each turn of a path is at an If
+abbrev pub IsPath : List Turn → Block → Type 0
+IsPath [] b = Unit {0}
+IsPath (t ∷ path) b = (t.at < 64) × (IsIf (behind t.at b) × IsPath path (branch t.held (behind t.at b)))
+
+-- the innermost list
+abbrev pub inner : List Turn → Block → Block
+inner [] b = b
+inner (t ∷ path) b = inner path (branch t.held (behind t.at b))
+
+-- what is to come behind the Ifs
+abbrev pub outer : List Turn → Block → Block
+outer [] b = empty
+outer (t ∷ path) b = followed_by (outer path (branch t.held (behind t.at b))) (behind (t.at + 1) b)
+
+-- the statements to come, where so many of the innermost list are done
+abbrev pub to_come : List Turn → ℕ → Block → Block
+to_come path at b = followed_by (behind at (inner path b)) (outer path b)

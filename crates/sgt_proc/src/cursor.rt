@@ -1,0 +1,107 @@
+ghost use Rattle.std.specs.Prelude.{◌≡◌};
+ghost use Rattle.sgt_model.specs.Left.{next_left, left_at_start, after_look, after_store};
+ghost use Rattle.sgt_proc.specs.Nexts.{seen, StoresValue};
+
+use crate::checked::Checked;
+use crate::next::Next;
+use crate::place::{Place, Stop};
+use arrayvec::ArrayVec;
+use sgt_model::{Answers, Args};
+use std::marker::Model;
+use std::snapshot::Snapshot;
+
+/// A run of a procedure that goes on in place, from one access to the next. It is seen as what is left of the procedure just
+/// after its last access.
+///
+/// It stands at the next access, the end or a code: what makes no access is executed as soon as it is come to. It keeps the
+/// registers, the answers and its place, and none of the values that were looked at; its size is that of any other.
+#[derive(Drop)]
+pub struct Cursor {
+    place: Place,
+    stop: Stop,
+    // Seen by contracts alone: the procedure, and the place just behind the last access.
+    procedure: Snapshot<Checked>,
+    behind: Snapshot<Place>,
+}
+
+impl Model for Cursor {
+    ghost use Rattle.sgt_model.specs.Left.{Left};
+    ghost use Rattle.sgt_model.specs.Syntax.{Program};
+    ghost use Rattle.sgt_proc.specs.Cursors.{coded_cursor, left_behind, Stands};
+
+    ghost Value = { Program × Left };
+
+    ghost coded = { coded_cursor };
+
+    ghost view = { λ c. (c.procedure.value, left_behind c.procedure.value.body c.behind.value c.stop) };
+
+    ghost invariant = { λ c. Stands c.procedure.value.body c.behind.value c.place c.stop };
+}
+
+impl Cursor {
+    /// What the procedure does next.
+    pub fn next(&self, _procedure: &Checked) -> Next
+        ensures next { seen result ≡ next_left self.now.1 }
+        ensures in_range { StoresValue result }
+    {
+        match self.stop {
+            Stop::Look { key, .. } => Next::Look(key),
+            Stop::Put(key, value) => Next::Put(key, value),
+            Stop::End => Next::Ends(self.place.answers.copied()),
+            Stop::Asks(code) | Stop::Absent(code) => Next::Asks(code),
+        }
+    }
+
+    /// Goes on behind the look that is next, which found this. Where no look is next, it stays.
+    pub fn looked(&mut self, procedure: &Checked, value: Option<i64>)
+        requires same { self.old.0 ≡ procedure.now }
+        ensures { self.new ≡ (self.old.0, after_look value self.old.1) }
+    {
+        if let Stop::Look { reg, absent, .. } = self.stop {
+            match value {
+                Some(found) => {
+                    self.place.at += 1;
+                    self.place.set(reg, found);
+                    self.behind = Snapshot::of(&self.place);
+                    self.stop = procedure.advance(&mut self.place);
+                }
+                None => self.stop = Stop::Absent(absent),
+            }
+        }
+    }
+
+    /// Goes on behind the store that is next. Where no store is next, it stays.
+    pub fn stored(&mut self, procedure: &Checked)
+        requires same { self.old.0 ≡ procedure.now }
+        ensures { self.new ≡ (self.old.0, after_store self.old.1) }
+    {
+        if let Stop::Put(..) = self.stop {
+            self.place.at += 1;
+            self.behind = Snapshot::of(&self.place);
+            self.stop = procedure.advance(&mut self.place);
+        }
+    }
+}
+
+impl Checked {
+    /// What does the procedure access by access, with these arguments. This takes no memory.
+    pub fn begin(&self, args: &Args) -> Cursor
+        ensures { result ≡ (self.now, left_at_start self.now args.now) }
+    {
+        let mut place = Place {
+            args: args.copied(),
+            registers: [None; 16],
+            answers: Answers::new(),
+            path: ArrayVec::new(),
+            at: 0,
+        };
+        let behind = Snapshot::of(&place);
+        let stop = self.advance(&mut place);
+        Cursor {
+            place,
+            stop,
+            procedure: Snapshot::of(self),
+            behind,
+        }
+    }
+}

@@ -1,0 +1,205 @@
+ghost use Rattle.std.specs.Prelude.{◌≡◌, ◌≤◌, ◌<◌, IfErr};
+ghost use Rattle.arrayvec.specs.ArrayVec.{array_vec_len};
+ghost use Rattle.sgt_model.specs.Syntax.{Block};
+ghost use Rattle.sgt_model.specs.Programs.{term_of, before, block_of};
+ghost use Rattle.sgt_model.specs.Meaning.{value_of};
+ghost use Rattle.sgt_model.specs.Left.{number_or_code};
+ghost use Rattle.sgt_proc.specs.Flaws.{depth, size};
+ghost use Rattle.sgt_proc.specs.Paths.{behind, branch, inner};
+ghost use Rattle.sgt_proc.specs.Places.{with_found_in, IsIn, Steps, Stops, StopsAtValue};
+
+use crate::answers::MOST_ANSWERS;
+use crate::value::{WRONG, key, test, value};
+use arrayvec::ArrayVec;
+use sgt_model::{Answers, Args, Expr, Key, Statement, is_value};
+
+/// An If that a place is in.
+#[derive(Clone, Copy, Debug, Default, PartialEq, Eq)]
+pub struct Turn {
+    /// Its place in its list.
+    pub at: u8,
+    /// Whether its condition held, so that `yes` was taken.
+    pub held: bool,
+}
+
+/// Where a procedure has stopped: at an access, at its end or at a code.
+#[derive(Clone, Copy, Debug, PartialEq, Eq)]
+pub enum Stop {
+    /// At a look, which sets the register, or asks the code where it finds no record.
+    Look { key: Key, reg: u8, absent: u16 },
+    /// At a store.
+    Put(Key, i64),
+    /// At its end.
+    End,
+    /// It asks the code.
+    Asks(u16),
+    /// It asks the code, as its last look found no record.
+    Absent(u16),
+}
+
+impl From<u16> for Stop {
+    ghost use Rattle.sgt_proc.specs.declared.place.Stop.TheVariants.{Asks};
+
+    ghost from_gives = { λ code stop. stop ≡ Asks code };
+
+    fn from(code: u16) -> Self {
+        Stop::Asks(code)
+    }
+}
+
+/// A place in a procedure, and what the procedure works on.
+#[derive(Drop)]
+pub struct Place {
+    pub args: Args,
+    pub registers: [Option<i64>; 16],
+    pub answers: Answers,
+    /// The Ifs that it is in, from the outermost on.
+    pub path: ArrayVec<Turn, 16>,
+    /// How many statements of the innermost list are behind it.
+    pub at: u8,
+}
+
+impl Place {
+    /// Goes on to the next access, or to the end or a code.
+    pub fn advance(&mut self, body: &[Statement]) -> Stop
+        requires shallow { depth (block_of body.now) ≤ 16 }
+        requires short { size (block_of body.now) ≤ 64 }
+        requires inside { IsIn (block_of body.now) self.old }
+        ensures stops { Stops (block_of body.now) self.old result self.new }
+        ensures in_range { StopsAtValue result }
+    {
+        loop {
+            let list = list_at(body, self.path.as_slice());
+            let at = usize::from(self.at);
+            if at < list.len() {
+                if let Err(stop) = self.step(&list[at]) {
+                    return stop;
+                }
+            } else {
+                match self.path.pop() {
+                    Some(turn) => self.at = turn.at + 1,
+                    None => return Stop::End,
+                }
+            }
+        }
+    }
+
+    // Executes the statement there, unless it is an access: then it stops.
+    fn step(&mut self, statement: &Statement) -> Result<(), Stop>
+        requires room { array_vec_len self.old.path < 16 }
+        requires few { self.old.at < 64 }
+        ensures steps { (b : Block) → Steps b statement.now self.old result self.new }
+        ensures in_range { IfErr result StopsAtValue }
+    {
+        match statement {
+            Statement::Look {
+                reg,
+                table,
+                id,
+                absent,
+            } => {
+                let key = key(*table, self.value(id)?)?;
+                Err(Stop::Look {
+                    key,
+                    reg: *reg,
+                    absent: *absent,
+                })
+            }
+            Statement::Put {
+                table,
+                id,
+                value: stored,
+            } => {
+                let id = self.value(id)?;
+                let stored = self.value(stored)?;
+                let key = key(*table, id)?;
+                if !is_value(stored) {
+                    return Err(Stop::Asks(WRONG));
+                }
+                Err(Stop::Put(key, stored))
+            }
+            Statement::Let { reg, value } => {
+                let given = self.value(value)?;
+                self.set(*reg, given);
+                self.at += 1;
+                Ok(())
+            }
+            Statement::Ask { code } => Err(Stop::Asks(*code)),
+            Statement::If { cond, .. } => {
+                let held = test(cond, self.args.as_slice(), &self.registers)?;
+                self.path.push(Turn { at: self.at, held });
+                self.at = 0;
+                Ok(())
+            }
+            Statement::Answer { value } => {
+                let given = self.value(value)?;
+                if self.answers.len() >= usize::from(MOST_ANSWERS) {
+                    return Err(Stop::Asks(WRONG));
+                }
+                self.answers.push(given);
+                self.at += 1;
+                Ok(())
+            }
+        }
+    }
+
+    /// Sets a register; one that is not there stays so.
+    pub fn set(&mut self, register: u8, value: i64)
+        ensures { self.new ≡ with_found_in self.old register value }
+    {
+        let place = usize::from(register);
+        if place < self.registers.len() {
+            self.registers[place] = Some(value);
+        }
+    }
+
+    // What an expression gives there, or the code that is asked in its place.
+    fn value(&self, expr: &Expr) -> Result<i64, u16>
+        ensures { result ≡ number_or_code (value_of (term_of expr.now) self.now.args self.now.registers) }
+    {
+        value(expr, self.args.as_slice(), &self.registers)
+    }
+}
+
+/// The innermost list of a path; none where the path is at no Ifs.
+fn list_at<'a>(body: &'a [Statement], path: &[Turn]) -> &'a [Statement]
+    ensures { block_of result.now ≡ inner path.now (block_of body.now) }
+{
+    let mut list = body;
+    for turn in path {
+        list = branch_at(list, *turn);
+    }
+    list
+}
+
+/// The branch of the If at this place of a list; none where no If is there.
+fn branch_at<'a>(list: &'a [Statement], turn: Turn) -> &'a [Statement]
+    ensures { block_of result.now ≡ branch turn.held (behind turn.at (block_of list.now)) }
+{
+    let at = usize::from(turn.at);
+    if at < list.len() {
+        branch_of(&list[at], turn.held)
+    } else {
+        &[]
+    }
+}
+
+/// The branch of an If; none of another statement.
+fn branch_of<'a>(statement: &'a Statement, held: bool) -> &'a [Statement]
+    ensures { (rest : Block) → block_of result.now ≡ branch held (before statement.now rest) }
+{
+    match statement {
+        Statement::If { yes, no, .. } => {
+            if held {
+                yes.as_slice()
+            } else {
+                no.as_slice()
+            }
+        }
+        Statement::Look { .. }
+        | Statement::Put { .. }
+        | Statement::Let { .. }
+        | Statement::Ask { .. }
+        | Statement::Answer { .. } => &[],
+    }
+}

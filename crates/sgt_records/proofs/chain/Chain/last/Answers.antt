@@ -1,0 +1,9 @@
+use Rattle.std.proofs.Common.{rules, ◌≡◌, ◌-◌, Some, length, slice_get, sym, ◌∙◌}
+use Rattle.sgt_records.proofs.ChainPlaces.{last_get}
+use Rattle.sgt_records.proofs.chain.Chain.last.Goals as goal
+
+pub returns-in-Some : goal.returns-in-Some
+returns-in-Some c =
+    let items = c.args.self.now.writes.items in
+    let is : Some c.in-Some.write.now ≡ slice_get items (length items - 1) = search rules in
+    is ∙ sym (last_get items)

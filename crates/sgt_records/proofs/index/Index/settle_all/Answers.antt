@@ -1,0 +1,28 @@
+use Rattle.std.proofs.Common.{◌≡◌, ◌≢◌, cond, ap, sym, ◌∙◌}
+use Rattle.std.proofs.lemmas.Bool.{eqb-true, eqb-false}
+use Rattle.std.specs.Option.{option_or}
+use Rattle.sgt_model.specs.Chains.{without, value_in}
+use Rattle.sgt_records.specs.Places.{key_chain, committed_of}
+use Rattle.sgt_records.proofs.LiveWritesLeft.{undo_more, settle_more, live_other}
+use Rattle.sgt_records.proofs.index.Index.settle_all.Goals as goal
+use Rattle.sgt_records.proofs.index.Index.settle_all.Goals.{then-eq, else-eq}
+
+pub loop-write-preserved : goal.loop-write-preserved
+loop-write-preserved c =
+    let w = c.write-item.result in
+    let writes = c.args.writes.now in
+    let at = c.loop-write.write-index in
+    elim c.if-eq.branch [
+      | then-eq b ↦
+          let own : w.by ≡ c.args.t = eqb-true w.by c.args.t (sym c.eq.ensures ∙ b.if-eq.true) in
+          rw b.self-is record {
+            chain = λ k. undo_more c.args.t writes at w c.loop-write-test.true c.write-item.is own k (key_chain c.args.self.now.records c.args.self.now.chains k) _ _ (b.settle.ensures.chain k) (c.loop-write.invariant.chain k);
+            settled = λ k. settle_more c.args.t writes at w c.loop-write-test.true c.write-item.is own k _ (key_chain c.args.self.now.records c.args.self.now.chains k) (committed_of c.args.self.now.records k) _ _ (b.settle.ensures.settled k) (c.loop-write.invariant.chain k) (c.loop-write.invariant.settled k);
+          }
+      | else-eq b ↦
+          let other : w.by ≢ c.args.t = eqb-false w.by c.args.t (sym c.eq.ensures ∙ b.if-eq.false) in
+          rw b.self-is record {
+            chain = λ k. c.loop-write.invariant.chain k ∙ ap (λ d. cond d (without c.args.t (key_chain c.args.self.now.records c.args.self.now.chains k)) (key_chain c.args.self.now.records c.args.self.now.chains k)) (sym (live_other c.args.t writes at w c.loop-write-test.true c.write-item.is other k));
+            settled = λ k. c.loop-write.invariant.settled k ∙ ap (λ d. cond d (option_or (value_in c.args.t (key_chain c.args.self.now.records c.args.self.now.chains k)) (committed_of c.args.self.now.records k)) (committed_of c.args.self.now.records k)) (sym (live_other c.args.t writes at w c.loop-write-test.true c.write-item.is other k));
+          }
+    ]

@@ -1,0 +1,27 @@
+use Rattle.std.proofs.Common.{◌≡◌, ◌≢◌, cond, ap, sym, ◌∙◌}
+use Rattle.std.proofs.lemmas.Bool.{eqb-true, eqb-false}
+use Rattle.sgt_model.specs.Chains.{without}
+use Rattle.sgt_records.specs.Places.{key_chain}
+use Rattle.sgt_records.proofs.LiveWritesLeft.{undo_more, live_other}
+use Rattle.sgt_records.proofs.index.Index.undo_all.Goals as goal
+use Rattle.sgt_records.proofs.index.Index.undo_all.Goals.{then-eq, else-eq}
+
+pub loop-write-preserved : goal.loop-write-preserved
+loop-write-preserved c =
+    let w = c.write-item.result in
+    let writes = c.args.writes.now in
+    let at = c.loop-write.write-index in
+    elim c.if-eq.branch [
+      | then-eq b ↦
+          let own : w.by ≡ c.args.t = eqb-true w.by c.args.t (sym c.eq.ensures ∙ b.if-eq.true) in
+          rw b.self-is record {
+            chain = λ k. undo_more c.args.t writes at w c.loop-write-test.true c.write-item.is own k (key_chain c.args.self.now.records c.args.self.now.chains k) _ _ (b.undo.ensures.chain k) (c.loop-write.invariant.chain k);
+            settled = λ k. b.undo.ensures.settled k ∙ c.loop-write.invariant.settled k;
+          }
+      | else-eq b ↦
+          let other : w.by ≢ c.args.t = eqb-false w.by c.args.t (sym c.eq.ensures ∙ b.if-eq.false) in
+          rw b.self-is record {
+            chain = λ k. c.loop-write.invariant.chain k ∙ ap (λ d. cond d (without c.args.t (key_chain c.args.self.now.records c.args.self.now.chains k)) (key_chain c.args.self.now.records c.args.self.now.chains k)) (sym (live_other c.args.t writes at w c.loop-write-test.true c.write-item.is other k));
+            settled = c.loop-write.invariant.settled;
+          }
+    ]

@@ -1,0 +1,24 @@
+-- The receipts of all sessions as an account of a history.
+use Rattle.std.specs.Prelude.{◌≡◌, ℕ, ◌+◌, ◌<◌, nat_eq, List, [], ◌∷◌, All, length, count_by}
+use Rattle.std.specs.List.{sum_by}
+use Rattle.sgt_model.specs.declared.entry.Entry.{Entry}
+use Rattle.sgt_session.specs.declared.receipt.Receipt.{Receipt}
+use Rattle.sgt_session.specs.Receipts.{Stands}
+
+-- how often the number is one of the receipts of all sessions
+abbrev pub named : ℕ → List (List Receipt) → ℕ
+named p [] = 0
+named p (rs ∷ sessions) = count_by (λ r. nat_eq r.number p) rs + named p sessions
+
+-- the numbers rise, from the first on
+abbrev pub Rises : List Receipt → Type 0
+Rises [] = Unit {0}
+Rises (r ∷ rs) = All (λ s. r.number < s.number) rs × Rises rs
+
+-- the receipts of the sessions are the entries of the history, oldest first, each once, and those of a session rise in the
+-- order of its calls
+pub record Accounts (history : List Entry) (sessions : List (List Receipt)) : Type 0 where
+  pub counted : length history ≡ sum_by length sessions
+  pub stands : All (λ rs. All (λ r. Stands history r) rs) sessions
+  pub once : (p : ℕ) → p < length history → named p sessions ≡ 1
+  pub rises : All Rises sessions

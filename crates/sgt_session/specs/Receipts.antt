@@ -1,0 +1,29 @@
+-- Receipts, one by one.
+use Rattle.std.specs.Prelude.{◌≡◌, ℕ, List, slice_get, Some}
+use Rattle.sgt_model.specs.declared.event.Event.{Event}
+use Rattle.sgt_model.specs.declared.event.Event.TheVariants.{Commit}
+use Rattle.sgt_model.specs.declared.reply.Reply.{Reply}
+use Rattle.sgt_model.specs.declared.reply.Reply.TheVariants as reply
+use Rattle.sgt_model.specs.declared.entry.Entry.{Entry}
+use Rattle.sgt_session.specs.declared.receipt.Receipt.{Receipt}
+
+-- the receipt of the entry at a place
+abbrev pub receipt_of : ℕ → Entry → Receipt
+receipt_of number e = record { number = number; event = e.event; reply = e.reply }
+
+-- the entry of a receipt
+abbrev pub entry_of : Receipt → Entry
+entry_of r = record { event = r.event; reply = r.reply }
+
+-- the receipt's entry stands in the history, at its number
+abbrev pub Stands : List Entry → Receipt → Type 0
+Stands history r = slice_get history r.number ≡ Some (entry_of r)
+
+-- the reply tells a commit to wait
+abbrev pub IsWait : Reply → Type 0
+IsWait (reply.Waits u) = Unit {0}
+IsWait _ = ⊥
+
+-- a commit of t that has to wait
+abbrev pub IsWaitOf : ℕ → Receipt → Type 0
+IsWaitOf t r = (r.event ≡ Commit t) × IsWait r.reply

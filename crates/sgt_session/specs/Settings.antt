@@ -1,0 +1,7 @@
+-- A setting for those who pick their own.
+use Rattle.std.specs.Prelude.{[], None}
+use Rattle.sgt_model.specs.Settings.{Setting, setting}
+
+-- nothing at all
+abbrev pub none : Setting
+none = setting (λ k. None) [] (record { live = 0; begins = 0 })

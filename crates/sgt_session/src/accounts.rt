@@ -1,0 +1,61 @@
+ghost use Rattle.std.specs.Prelude.{◌≡◌, ◌+◌, ◌^◌, ◌<◌, ◌≤◌, IsTrue, [], length, Some, IfSome, slice_get, slice_index, slice_index_or};
+ghost use Rattle.std.specs.List.{sum_by};
+ghost use Rattle.sgt_session.specs.Accounts.{Accounts};
+ghost use Rattle.sgt_session.specs.Receipts.{receipt_of};
+
+use crate::named::Named;
+use crate::receipt::Receipt;
+use crate::same::{same_event, same_reply};
+use crate::session::Session;
+use sgt_model::Entry;
+
+/// Whether the receipts are the entries, each once, in the order of each session's calls.
+pub fn accounts<N: Named>(history: &[Entry], sessions: &[Session<N>]) -> bool
+    requires { (length sessions.now ≤ 64) × (length history.now ≡ sum_by length sessions.now) }
+    ensures { IsTrue result → Accounts history.now sessions.now }
+{
+    let mut at = [0usize; 64];
+    for p in 0..history.len() {
+        match owner(sessions, &at, p as u64, &history[p]) {
+            Some(i) => at[i] += 1,
+            None => return false,
+        }
+    }
+    true
+}
+
+/// The session whose next receipt is the entry's.
+fn owner<N: Named>(
+    sessions: &[Session<N>],
+    at: &[usize; 64],
+    number: u64,
+    entry: &Entry,
+) -> Option<usize>
+    requires { length sessions.now ≤ 64 }
+    ensures place { IfSome result (λ i. i < length sessions.now) }
+    ensures receipt { IfSome result (λ i.
+        slice_get (slice_index_or sessions.now i []) (slice_index at.now i) ≡ Some (receipt_of number entry.now)) }
+    ensures fits { IfSome result (λ i. slice_index at.now i + 1 < 2 ^ 64) }
+{
+    for i in 0..sessions.len() {
+        if is_next(sessions[i].receipts(), at[i], number, entry) {
+            return Some(i);
+        }
+    }
+    None
+}
+
+/// Whether the receipt at this place is the entry's.
+fn is_next(receipts: &[Receipt], at: usize, number: u64, entry: &Entry) -> bool
+    ensures receipt { IsTrue result → slice_get receipts.now at ≡ Some (receipt_of number entry.now) }
+    ensures fits { IsTrue result → at + 1 < 2 ^ 64 }
+{
+    match receipts.get(at) {
+        Some(next) => {
+            next.number == number
+                && same_event(&next.event, &entry.event)
+                && same_reply(&next.reply, &entry.reply)
+        }
+        None => false,
+    }
+}

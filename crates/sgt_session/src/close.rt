@@ -1,0 +1,70 @@
+ghost use Rattle.std.specs.Prelude.{◌≡◌, IfOk, IfErr, reverse};
+ghost use Rattle.sgt_model.specs.Legality.{Legal};
+ghost use Rattle.sgt_engine.specs.EngineView.{setting_of};
+ghost use Rattle.sgt_session.specs.Accounts.{Accounts};
+ghost use Rattle.sgt_session.specs.Closing.{Held};
+
+use crate::accounts::accounts;
+use crate::named::Named;
+use crate::session::Session;
+use crate::shared::Shared;
+use sgt_access::Accesses;
+use sgt_engine::Engine;
+use sgt_graph::Graph;
+use sgt_records::Records;
+use std::sync::Mutex;
+
+/// An engine out of its lock, and the sessions whose receipts are its history.
+#[derive(Drop)]
+pub struct Closed<N: Named, R: Records, A: Accesses, G: Graph> {
+    pub engine: Engine<R, A, G>,
+    pub sessions: Vec<Session<N>>,
+}
+
+/// Why `close` did not close. What was given is handed back.
+#[derive(Drop)]
+pub enum CloseError<N: Named, R: Records, A: Accesses, G: Graph> {
+    /// A session is missing.
+    StillHeld(Shared<N, R, A, G>, Vec<Session<N>>),
+    /// The receipts are not the entries.
+    Mismatch(Shared<N, R, A, G>, Vec<Session<N>>),
+}
+
+impl<N: Named, R: Records, A: Accesses, G: Graph> Shared<N, R, A, G> {
+    /// Takes the engine out of its lock, where all sessions are there and their receipts are the entries.
+    pub fn close(
+        self,
+        sessions: Vec<Session<N>>,
+    ) -> Result<Closed<N, R, A, G>, CloseError<N, R, A, G>>
+        requires { N.sessions ≡ N.parts }
+        ensures setting { IfOk result (λ c. setting_of c.engine ≡ N.setting) }
+        ensures legal { IfOk result (λ c. Legal N.setting c.engine.past) }
+        ensures sessions { IfOk result (λ c. c.sessions.items ≡ sessions.items) }
+        ensures accounts { IfOk result (λ c. Accounts (reverse c.engine.past) c.sessions.items) }
+        ensures held { IfErr result (λ e. Held e sessions.items N.sessions) }
+    {
+        let mut sessions = sessions;
+        if sessions.len() < usize::from(self.sessions) {
+            return Err(CloseError::StillHeld(self, sessions));
+        }
+        let Shared {
+            round,
+            waiters,
+            sessions: count,
+        } = self;
+        let mut round = round.into_inner();
+        round.audit(sessions.as_mut_slice());
+        if !accounts(round.history(), sessions.as_slice()) {
+            let shared = Shared {
+                round: Mutex::new(round),
+                waiters,
+                sessions: count,
+            };
+            return Err(CloseError::Mismatch(shared, sessions));
+        }
+        Ok(Closed {
+            engine: round.into_engine(),
+            sessions,
+        })
+    }
+}

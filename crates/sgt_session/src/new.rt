@@ -1,0 +1,74 @@
+ghost use Rattle.std.specs.Prelude.{◌≡◌, ◌≤◌, [], replicate, vec_capacity, MatchResult};
+ghost use Rattle.sgt_engine.specs.EngineView.{setting_of};
+
+use crate::named::Named;
+use crate::round::Round;
+use crate::session::Session;
+use crate::shared::Shared;
+use crate::waiters::Waiters;
+use sgt_access::Accesses;
+use sgt_engine::Engine;
+use sgt_graph::Graph;
+use sgt_records::Records;
+use std::alloc::Global;
+use std::sync::Mutex;
+use std::sync::ledger::{Blank, Share};
+
+/// The engine and the blank, handed back for want of memory.
+#[derive(Drop)]
+pub struct NewError<R: Records, A: Accesses, G: Graph> {
+    pub engine: Engine<R, A, G>,
+    pub blank: Blank,
+}
+
+impl<N: Named, R: Records, A: Accesses, G: Graph> Shared<N, R, A, G> {
+    /// Puts an engine with no history under a lock, with as many sessions as the ledger has parts.
+    pub fn new(
+        alloc: Global,
+        engine: Engine<R, A, G>,
+        blank: Blank,
+        sessions: u16,
+    ) -> Result<(Self, Vec<Session<N>>), NewError<R, A, G>>
+        requires setting { setting_of engine ≡ N.setting }
+        requires empty { engine.past ≡ [] }
+        requires blank { (blank.name ≡ N.name) × (blank.parts ≡ N.parts) × (blank.parts ≡ sessions) }
+        requires sessions { (N.sessions ≡ sessions) × (1 ≤ sessions) × (sessions ≤ 64) }
+        ensures { MatchResult result
+            (λ r. r.1.items ≡ replicate sessions [])
+            (λ e. (e.engine ≡ engine) × (e.blank ≡ blank)) }
+    {
+        let Ok(list) = Vec::with_capacity(alloc, usize::from(sessions)) else {
+            return Err(NewError { engine, blank });
+        };
+        let (calls, all) = blank.open::<N>();
+        let list = first_sessions(alloc, list, all, sessions);
+        let round = Mutex::new(Round::new(engine, calls));
+        Ok((
+            Shared {
+                round,
+                waiters: Waiters::new(),
+                sessions,
+            },
+            list,
+        ))
+    }
+}
+
+/// A session for each part of the share.
+fn first_sessions<N: Named>(
+    alloc: Global,
+    list: Vec<Session<N>>,
+    all: Share<N>,
+    sessions: u16,
+) -> Vec<Session<N>>
+    requires list { (list.items ≡ []) × (sessions ≤ vec_capacity list) }
+    requires all { (all.parts ≡ sessions) × (all.amount ≡ 0) }
+    ensures { result.items ≡ replicate sessions [] }
+{
+    let mut list = list;
+    let mut rest = all;
+    for _i in 0..sessions {
+        list.push_reserved(Session::new(alloc, rest.split_off(1, 0)));
+    }
+    list
+}

@@ -1,0 +1,104 @@
+ghost use Rattle.std.specs.Prelude.{◌≡◌, ◌+◌, ◌<◌, ◌≤◌, ℕ, true, length, OnOk};
+ghost use Rattle.std.specs.Result.{IsOk};
+ghost use Rattle.std.specs.Vec.{vec_len, vec_capacity};
+ghost use Rattle.sgt_model.specs.declared.event.Event.TheVariants.{Quit};
+ghost use Rattle.sgt_model.specs.declared.reply.Reply.{Reply as Answer};
+ghost use Rattle.sgt_session.specs.Own.{started_by, ended_by, with_one, without, open_by, is_open, places, tells_end};
+
+use crate::receipt::Receipt;
+use sgt_model::{Event, NoMemory, Reply, Tid};
+
+/// Takes the room that a call of this event needs, whatever it is answered: for its receipt, and for the receipt of one end of
+/// each transaction that is open after it. A quit of an open one has it, and takes no memory.
+///
+/// `NoMemory` where a growth was refused.
+pub fn make_room(
+    receipts: &mut Vec<Receipt>,
+    own: &mut Vec<Tid>,
+    event: &Event,
+) -> Result<(), NoMemory>
+    requires { vec_len receipts.old + vec_len own.old ≤ vec_capacity receipts.old }
+    ensures receipts { receipts.new.items ≡ receipts.old.items }
+    ensures count { vec_len receipts.new ≡ vec_len receipts.old }
+    ensures own { own.new.items ≡ own.old.items }
+    ensures ends { vec_len receipts.new + vec_len own.new ≤ vec_capacity receipts.new }
+    ensures receipt { OnOk result (vec_len receipts.new < vec_capacity receipts.new) }
+    ensures room { OnOk result ((r : Answer) →
+        vec_len receipts.new + 1 + length (open_by own.old.items event.now r) ≤ vec_capacity receipts.new) }
+    ensures started { OnOk result ((r : Answer) →
+        length (with_one (started_by event.now r) own.old.items) ≤ vec_capacity own.new) }
+    ensures quits { (t : ℕ) → event.now ≡ Quit t → is_open t own.old.items ≡ true → IsOk result }
+{
+    receipts.reserve(places(event, own.as_slice()))?;
+    if matches!(event, Event::Start { .. }) {
+        own.reserve(1)?;
+    }
+    Ok(())
+}
+
+/// How many receipts there has to be room for.
+fn places(event: &Event, own: &[Tid]) -> usize
+    ensures { result ≡ places event.now own.now }
+{
+    match event {
+        Event::Start { .. } => own.len() + 2,
+        Event::Step(_) | Event::Commit(_) => own.len() + 1,
+        Event::Quit(t) => {
+            if own.contains(t) {
+                own.len()
+            } else {
+                own.len() + 1
+            }
+        }
+    }
+}
+
+/// Notes what a receipt tells of the session's own transactions. This takes no memory.
+pub fn note(own: &mut Vec<Tid>, receipt: &Receipt)
+    requires { length (with_one (started_by receipt.now.event receipt.now.reply) own.old.items) ≤ vec_capacity own.old }
+    ensures own { own.new.items ≡ open_by own.old.items receipt.now.event receipt.now.reply }
+    ensures count { vec_len own.new ≡ length (open_by own.old.items receipt.now.event receipt.now.reply) }
+{
+    add_started(own, receipt);
+    drop_ended(own, receipt);
+}
+
+/// Adds the transaction that a receipt starts, if it does.
+fn add_started(own: &mut Vec<Tid>, receipt: &Receipt)
+    requires { length (with_one (started_by receipt.now.event receipt.now.reply) own.old.items) ≤ vec_capacity own.old }
+    ensures { own.new.items ≡ with_one (started_by receipt.now.event receipt.now.reply) own.old.items }
+{
+    if let (Event::Start { .. }, Reply::Started(t)) = (&receipt.event, &receipt.reply) {
+        own.push_reserved(*t);
+    }
+}
+
+/// Takes out the transaction that a receipt tells to have ended, if it does.
+fn drop_ended(own: &mut Vec<Tid>, receipt: &Receipt)
+    ensures { own.new.items ≡ without (ended_by receipt.now.event receipt.now.reply) own.old.items }
+{
+    if let Some(t) = ended_by(receipt) {
+        own.retain(|u| *u != t);
+    }
+}
+
+/// The transaction that a receipt tells to have ended, if it does.
+fn ended_by(receipt: &Receipt) -> Option<Tid>
+    ensures { result ≡ ended_by receipt.now.event receipt.now.reply }
+{
+    match &receipt.event {
+        Event::Start { .. } => None,
+        Event::Step(t) | Event::Commit(t) => tells_end(&receipt.reply).then_some(*t),
+        Event::Quit(t) => Some(*t),
+    }
+}
+
+/// Whether the reply to a step or a commit tells that its transaction has ended.
+fn tells_end(reply: &Reply) -> bool
+    ensures { result ≡ tells_end reply.now }
+{
+    matches!(
+        reply,
+        Reply::Over(_) | Reply::Committed(_) | Reply::Aborted { .. }
+    )
+}

@@ -1,0 +1,117 @@
+ghost use Rattle.std.specs.Prelude.{◌≡◌, ◌+◌, ◌<◌, ◌≤◌, ℕ, true, [], ◌∷◌, ◌++◌, length, vec_len, vec_capacity, IfOk, OnOk, OnErr, reverse};
+ghost use Rattle.std.specs.List.{sum_by};
+ghost use Rattle.std.specs.Result.{IsOk};
+ghost use Rattle.sgt_model.specs.declared.event.Event.TheVariants.{Quit};
+ghost use Rattle.sgt_model.specs.Fates.{live};
+ghost use Rattle.sgt_model.specs.Legality.{Legal, LegalReply};
+ghost use Rattle.sgt_engine.specs.EngineView.{setting_of, with_entry};
+
+use crate::named::Named;
+use crate::receipt::Receipt;
+use crate::session::{Session, lend};
+use sgt_access::Accesses;
+use sgt_engine::Engine;
+use sgt_graph::Graph;
+use sgt_model::{Entry, Event, NoMemory};
+use sgt_records::Records;
+use std::marker::Model;
+use std::sync::ledger::{Book, Share};
+
+/// What lies under the lock: the engine, with a book of the calls that sessions have made. Contracts see it as its engine.
+#[derive(Drop)]
+pub struct Round<N: Named, R: Records, A: Accesses, G: Graph> {
+    engine: Engine<R, A, G>,
+    calls: Book<N>,
+}
+
+impl<N: Named, R: Records, A: Accesses, G: Graph> Model for Round<N, R, A, G> {
+    ghost use Rattle.std.specs.Coded.{codes};
+    ghost use Rattle.std.specs.Prelude.{◌≡◌, length};
+    ghost use Rattle.sgt_model.specs.Codes.{coded_program};
+    ghost use Rattle.sgt_engine.specs.EngineView.{EngineView, setting_of};
+
+    ghost Value = { EngineView };
+
+    ghost coded = { Prim.hlevel (codes, coded_program) };
+
+    ghost view = { λ r. r.engine };
+
+    ghost invariant = { λ r. (setting_of r.engine ≡ N.setting) × (length r.engine.past ≡ r.calls.total) };
+}
+
+impl<N: Named, R: Records, A: Accesses, G: Graph> Round<N, R, A, G> {
+    /// An engine with an empty history, and a book with no calls.
+    pub fn new(engine: Engine<R, A, G>, calls: Book<N>) -> Self
+        requires setting { setting_of engine ≡ N.setting }
+        requires empty { engine.past ≡ [] }
+        requires calls { calls.total ≡ 0 }
+        ensures { result ≡ engine }
+    {
+        Round { engine, calls }
+    }
+
+    /// One event of the engine, with its receipt filed. `NoMemory` where the engine was refused a growth; then nothing has
+    /// changed.
+    pub fn apply(
+        &mut self,
+        event: Event,
+        mine: &mut Share<N>,
+        receipts: &mut Vec<Receipt>,
+    ) -> Result<Receipt, NoMemory>
+        requires part { 0 < mine.old.parts }
+        requires room { vec_len receipts.old < vec_capacity receipts.old }
+        ensures event { IfOk result (λ r. r.event ≡ event) }
+        ensures number { IfOk result (λ r. r.number ≡ length self.old.past) }
+        ensures adds { IfOk result (λ r. self.new ≡ with_entry r.event r.reply self.old) }
+        ensures reply { IfOk result (λ r. LegalReply (setting_of self.old) self.old.past r.event r.reply) }
+        ensures filed { IfOk result (λ r. receipts.new.items ≡ receipts.old.items ++ r ∷ []) }
+        ensures counted { OnOk result ((mine.new.amount ≡ mine.old.amount + 1) × (vec_len receipts.new ≡ vec_len receipts.old + 1)) }
+        ensures parts { mine.new.parts ≡ mine.old.parts }
+        ensures capacity { vec_capacity receipts.new ≡ vec_capacity receipts.old }
+        ensures refused { OnErr result ((self.new ≡ self.old) × (mine.new ≡ mine.old) × (receipts.new ≡ receipts.old)) }
+        ensures quits { (t : ℕ) → event ≡ Quit t → live self.old.past t ≡ true → IsOk result }
+    {
+        let Round { engine, calls } = self;
+        let number = engine.history().len() as u64;
+        let reply = engine.apply(event.copied())?;
+        calls.add(mine, 1);
+        let receipt = Receipt {
+            number,
+            event,
+            reply,
+        };
+        receipts.push_reserved(receipt.copied());
+        Ok(receipt)
+    }
+
+    /// The history, oldest entry first.
+    pub fn history(&self) -> &[Entry]
+        ensures entries { reverse result.now ≡ self.now.past }
+    {
+        self.engine.history()
+    }
+
+    /// Puts the shares of all sessions together for a moment: they have counted as many calls as there are entries.
+    pub fn audit(&mut self, sessions: &mut [Session<N>])
+        requires { (0 < length sessions.old) × (N.parts ≤ length sessions.old) }
+        ensures same { self.new ≡ self.old }
+        ensures sessions { sessions.new ≡ sessions.old }
+        ensures counted { length self.old.past ≡ sum_by length sessions.old }
+        ensures all { length sessions.old ≡ N.parts }
+    {
+        let first = &mut sessions[0];
+        let mut none = first.no_part();
+        lend(sessions, &mut self.calls, &mut none);
+    }
+
+    /// The engine, taken out of the lock.
+    pub fn into_engine(self) -> Engine<R, A, G>
+        ensures same { result ≡ self }
+        ensures setting { setting_of result ≡ N.setting }
+        ensures legal { Legal (setting_of result) result.past }
+    {
+        let Round { engine, calls: _ } = self;
+        let _ = engine.history();
+        engine
+    }
+}

@@ -1,0 +1,159 @@
+ghost use Rattle.std.specs.Prelude.{◌≡◌, ◌+◌, ◌≤◌, List, [], ◌∷◌, ◌++◌, All, length, vec_len, vec_capacity, IfOk, MatchResult};
+ghost use Rattle.std.specs.List.{sum_by};
+ghost use Rattle.sgt_model.specs.declared.event.Event.TheVariants.{Commit};
+ghost use Rattle.sgt_session.specs.declared.receipt.Receipt.{Receipt};
+ghost use Rattle.sgt_session.specs.Receipts.{IsWait, IsWaitOf};
+
+use crate::named::Named;
+use crate::own::{make_room, note};
+use crate::receipt::Receipt;
+use crate::shared::Shared;
+use crate::waiters::is_wait;
+use sgt_access::Accesses;
+use sgt_graph::Graph;
+use sgt_model::{Event, NoMemory, Tid};
+use sgt_records::Records;
+use std::alloc::Global;
+use std::marker::Model;
+use std::sync::Wait;
+use std::sync::ledger::{Book, Share};
+
+/// One caller of the engine. Contracts see it as its receipts, in the order of its calls.
+#[derive(Drop)]
+pub struct Session<N: Named> {
+    share: Share<N>,
+    receipts: Vec<Receipt>,
+    own: Vec<Tid>,
+}
+
+impl<N: Named> Model for Session<N> {
+    ghost use Rattle.std.specs.Prelude.{◌≡◌, ◌+◌, ◌≤◌, List, vec_len, vec_capacity};
+    ghost use Rattle.sgt_session.specs.declared.receipt.Receipt.{Receipt};
+    ghost use Rattle.sgt_session.specs.Own.{open_of};
+
+    ghost Value = { List Receipt };
+
+    ghost view = { λ s. s.receipts.items };
+
+    ghost invariant = { λ s.
+        (s.share.parts ≡ 1)
+        × (s.share.amount ≡ vec_len s.receipts)
+        × (s.own.items ≡ open_of s.receipts.items)
+        × (vec_len s.receipts + vec_len s.own ≤ vec_capacity s.receipts) };
+}
+
+impl<N: Named> Session<N> {
+    /// A session that has made no call, with one part of the ledger. This takes no memory.
+    pub(crate) fn new(alloc: Global, share: Share<N>) -> Self
+        requires { (share.parts ≡ 1) × (share.amount ≡ 0) }
+        ensures { result ≡ [] }
+    {
+        Session {
+            share,
+            receipts: Vec::new(alloc),
+            own: Vec::new(alloc),
+        }
+    }
+
+    /// The receipts, in the order of the calls.
+    pub fn receipts(&self) -> &[Receipt]
+        ensures { result.now ≡ self.now }
+    {
+        self.receipts.as_slice()
+    }
+
+    /// One event, under one hold of the lock.
+    pub fn call<R: Records, A: Accesses, G: Graph, W: Wait>(
+        &mut self,
+        rt: &W,
+        shared: &Shared<N, R, A, G>,
+        event: Event,
+    ) -> Result<Receipt, NoMemory>
+        ensures event { IfOk result (λ r. r.event ≡ event) }
+        ensures receipts { MatchResult result (λ r. self.new ≡ self.old ++ r ∷ []) (λ _. self.new ≡ self.old) }
+    {
+        make_room(&mut self.receipts, &mut self.own, &event)?;
+        let receipt = shared
+            .round
+            .lock(rt)
+            .apply(event, &mut self.share, &mut self.receipts)?;
+        note(&mut self.own, &receipt);
+        shared.waiters.wake_after(&receipt.reply);
+        Ok(receipt)
+    }
+
+    /// Commits, and waits where another transaction has to end first.
+    pub fn commit<R: Records, A: Accesses, G: Graph, W: Wait>(
+        &mut self,
+        rt: &W,
+        shared: &Shared<N, R, A, G>,
+        t: Tid,
+    ) -> Result<Receipt, NoMemory>
+        ensures { (waits : List Receipt) × All (IsWaitOf t) waits × MatchResult result
+            (λ r. (self.new ≡ (self.old ++ waits) ++ r ∷ []) × (r.event ≡ Commit t) × (IsWait r.reply → ⊥))
+            (λ _. self.new ≡ self.old ++ waits) }
+    {
+        for _ in rt.forever() {
+            let receipt = self.try_commit(rt, shared, t)?;
+            if !is_wait(&receipt.reply) {
+                return Ok(receipt);
+            }
+        }
+        unreachable!()
+    }
+
+    // One commit. Where it has to wait for another transaction, it begins to wait in the same hold, and returns after a wake.
+    fn try_commit<R: Records, A: Accesses, G: Graph, W: Wait>(
+        &mut self,
+        rt: &W,
+        shared: &Shared<N, R, A, G>,
+        t: Tid,
+    ) -> Result<Receipt, NoMemory>
+        ensures event { IfOk result (λ r. r.event ≡ Commit t) }
+        ensures receipts { MatchResult result (λ r. self.new ≡ self.old ++ r ∷ []) (λ _. self.new ≡ self.old) }
+    {
+        let event = Event::Commit(t);
+        make_room(&mut self.receipts, &mut self.own, &event)?;
+        let mut round = shared.round.lock(rt);
+        let receipt = round.apply(event, &mut self.share, &mut self.receipts)?;
+        if is_wait(&receipt.reply) {
+            drop(shared.waiters.wait(rt, round));
+        } else {
+            drop(round);
+        }
+        note(&mut self.own, &receipt);
+        shared.waiters.wake_after(&receipt.reply);
+        Ok(receipt)
+    }
+
+    /// A share with no part, of this session's ledger.
+    pub(crate) fn no_part(&mut self) -> Share<N>
+        ensures same { self.new ≡ self.old }
+        ensures none { (result.parts ≡ 0) × (result.amount ≡ 0) }
+    {
+        self.share.empty()
+    }
+}
+
+/// Lends each session's part and count to `seen` until all are together, and gives them back.
+pub(crate) fn lend<N: Named>(sessions: &mut [Session<N>], calls: &mut Book<N>, seen: &mut Share<N>)
+    requires { (N.parts ≤ seen.old.parts + length sessions.old) × (seen.old.parts ≤ N.parts) }
+    ensures sessions { sessions.new ≡ sessions.old }
+    ensures calls { calls.new.total ≡ calls.old.total }
+    ensures seen { (seen.new.parts ≡ seen.old.parts) × (seen.new.amount ≡ seen.old.amount) }
+    ensures counted { calls.old.total ≡ seen.old.amount + sum_by length sessions.old }
+    ensures all { seen.old.parts + length sessions.old ≡ N.parts }
+{
+    calls.audit(seen);
+    if let Some((first, rest)) = sessions.split_first_mut() {
+        let Session {
+            share,
+            receipts,
+            own: _,
+        } = first;
+        let count = receipts.len() as u64;
+        share.give(seen, 1, count);
+        lend(rest, calls, seen);
+        seen.give(share, 1, count);
+    }
+}

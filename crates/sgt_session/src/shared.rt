@@ -1,0 +1,19 @@
+ghost use Rattle.std.specs.Prelude.{◌≡◌, ◌≤◌};
+
+use crate::named::Named;
+use crate::round::Round;
+use crate::waiters::Waiters;
+use sgt_access::Accesses;
+use sgt_graph::Graph;
+use sgt_records::Records;
+use std::sync::Mutex;
+
+/// An engine under its lock.
+#[derive(Drop)]
+pub struct Shared<N: Named, R: Records, A: Accesses, G: Graph> {
+    pub(crate) round: Mutex<Round<N, R, A, G>>,
+    pub(crate) waiters: Waiters,
+    pub(crate) sessions: u16,
+    ghost all: { sessions ≡ N.sessions },
+    ghost some: { (1 ≤ sessions) × (sessions ≤ 64) },
+}

@@ -1,0 +1,32 @@
+//! Bytes in and bytes out of a run: where they come from, how they are cut into lines, where they go, and the faults by which
+//! a run can end.
+//!
+//! A reader is a [`Source`] and a writer a [`Sink`], two small traits with bodies over any `Read` and `Write`, that count
+//! their failed calls; a source counts the bytes that it gives, too. [`Lines`] cuts what a source gives into lines within the
+//! limits, and keeps a piece of fixed size, however long the input is. `specs/Lines.antt` says what the lines of a text are.
+//! [`opening_of`]
+//! takes a line as the opening of a run. What a line spells is said in `sgt_format`.
+//!
+//! ```
+//! let mut source = Reader::new(rt.reader());
+//! let mut lines = Lines::new(alloc)?;
+//! while lines.next_line(&mut source)? {
+//!     write_all(&mut sink, lines.line())?;
+//! }
+//! ```
+#![tactic(auto)]
+
+mod buffer;
+mod fault;
+mod line_errors;
+mod lines;
+mod opening;
+mod sink;
+mod source;
+
+pub use fault::Fault;
+pub use line_errors::line_fault;
+pub use lines::Lines;
+pub use opening::opening_of;
+pub use sink::{Sink, Writer, write_all};
+pub use source::{Failed, Reader, Source};

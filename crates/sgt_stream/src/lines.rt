@@ -1,0 +1,237 @@
+ghost use Rattle.std.specs.Prelude.{◌≡◌, ◌≢◌, ℕ, if◌then◌else◌, IsTrue, IsFalse, true, false, IfOk, IfErr, OnOk, OnErr, OnSome, None, Some, min, [], ◌++◌, ◌+◌, ◌-◌, ◌^◌, ◌<◌, ◌≤◌, ◌↔◌, length, take, drop};
+ghost use Rattle.std.specs.Io.KnownBytes.{Consumes, Keeps};
+ghost use Rattle.sgt_stream.specs.Lines.{has_break, whole_lines, IsBreak, AtEnd};
+ghost use Rattle.sgt_stream.specs.Intake.{before_input, has_whole_line, left, work, IsReady, IsGiven, IsLong, cut_left, Gives, EndsAs, Explains, taken, come};
+
+use crate::buffer::Buffer;
+use crate::fault::Fault;
+use crate::source::{Failed, Source};
+use sgt_model::NoMemory;
+use std::alloc::Global;
+use std::marker::Model;
+
+/// The most bytes that a line may have, without its byte 10.
+const LONGEST_LINE: usize = 65_536;
+
+/// The most bytes that an input may have.
+const LONGEST_INPUT: usize = 16_777_216;
+
+/// Where the first byte 10 stands among the first `within` bytes, where none is among the first `from`.
+fn find_break(bytes: &[u8], from: usize, within: usize) -> Option<usize>
+    requires known { has_break (take from bytes.now) ≡ false }
+    requires within { from ≤ within }
+    requires bounds { from ≤ length bytes.now }
+    ensures { IsBreak (take within bytes.now) result }
+{
+    let mut at = from;
+    let stop = within.min(bytes.len());
+    while at < stop {
+        if bytes[at] == 10 {
+            return Some(at);
+        }
+        at += 1;
+    }
+    None
+}
+
+/// Cuts the bytes of a source into lines, within the limits. It keeps a piece of fixed size, however long the input is.
+#[derive(Drop)]
+pub struct Lines {
+    buffer: Buffer,
+    /// Where the first byte 10 stands among the bytes held that are within the limit.
+    found: Option<usize>,
+    /// How many of the bytes not given are within the limit.
+    within: usize,
+    /// How many lines were given.
+    number: u64,
+    /// Whether the source has ended.
+    ended: bool,
+}
+
+impl Model for Lines {
+    ghost use Rattle.std.specs.Prelude.{◌≡◌, ◌≤◌, ◌+◌, take, length, IsTrue, None};
+    ghost use Rattle.sgt_stream.specs.Lines.{IsBreak};
+    ghost use Rattle.sgt_stream.specs.Intake.{Intake, AtRest};
+
+    ghost Value = { Intake };
+
+    ghost view = { λ l. record {
+      line = l.buffer.line;
+      number = l.number;
+      held = l.buffer.held;
+      within = l.within;
+      ended = l.ended;
+    } };
+
+    ghost invariant = { λ l. AtRest l.number l.within l.ended l.buffer.held l.found };
+}
+
+impl Lines {
+    /// No byte has come.
+    ///
+    /// # Errors
+    ///
+    /// `NoMemory` where there is none for the piece that it keeps.
+    pub fn new(alloc: Global) -> Result<Self, NoMemory>
+        ensures { IfOk result (λ l. l ≡ before_input) }
+    {
+        Ok(Lines {
+            buffer: Buffer::new(alloc)?,
+            found: None,
+            within: LONGEST_INPUT,
+            number: 0,
+            ended: false,
+        })
+    }
+
+    /// The line given last, without its byte 10.
+    pub fn line(&self) -> &[u8]
+        ensures { result.now ≡ self.now.line }
+    {
+        self.buffer.line()
+    }
+
+    /// How many lines were given: the number of the last one, from 1.
+    pub fn number(&self) -> u64
+        ensures { result ≡ self.now.number }
+    {
+        self.number
+    }
+
+    /// Whether the whole of the next line has come already, so that `next_line` does not read.
+    pub fn has_line(&self) -> bool
+        ensures { result ≡ has_whole_line self.now }
+    {
+        self.found.is_some()
+    }
+
+    /// Gives the next line, which is `line` then, and tells whether there is one. It reads only where that line has not come.
+    ///
+    /// # Errors
+    ///
+    /// `LongLine` where the next line is too long, `TooLong` where the input is and no whole line is left within its limit,
+    /// and `Reading` where a read failed.
+    pub fn next_line<S: Source>(&mut self, source: &mut S) -> Result<bool, Fault>
+        requires { S.failures source.old + 1 < 2 ^ 64 }
+        ensures line { IfOk result (λ more. IsTrue more → Gives
+            (cut_left self.old (S.rest source.old)) self.new.line
+            (cut_left self.new (S.rest source.new))) }
+        ensures end { IfOk result (λ more. IsFalse more →
+            EndsAs AtEnd (cut_left self.old (S.rest source.old))) }
+        ensures fault { IfErr result (λ f.
+            Explains f self.old.number (cut_left self.old (S.rest source.old))) }
+        ensures number { IfOk result (λ more.
+            self.new.number ≡ (if more then self.old.number + 1 else self.old.number)) }
+        ensures taken { IfOk result (λ more. IsTrue more → Consumes
+            (left self.old (S.rest source.old)) (left self.new (S.rest source.new))
+            (taken self.new)) }
+        ensures nearer { IfOk result (λ more. IsTrue more → self.new.within < self.old.within) }
+        ensures unbroken { IfOk result (λ more. IsTrue more → has_break self.new.line ≡ false) }
+        ensures short { IfOk result (λ more. IsTrue more → length self.new.line ≤ 65536) }
+        ensures kept { result ≡ Err Fault.Reading →
+            Keeps (left self.old (S.rest source.old)) (left self.new (S.rest source.new)) }
+        ensures no_line { result ≡ Err Fault.Reading → whole_lines self.new.held ≡ [] }
+        ensures come { S.given source.new + come self.old ≤ S.given source.old + come self.new }
+        ensures few { come self.new ≤ 16777217 }
+        ensures untouched { IsReady self.old → source.new ≡ source.old }
+        ensures well { result ≢ Err Fault.Reading →
+            S.failures source.new ≡ S.failures source.old }
+        ensures failed { result ≡ Err Fault.Reading →
+            S.failures source.new ≡ S.failures source.old + 1 }
+    {
+        self.fill(source)?;
+        self.give()
+    }
+
+    /// Reads once, where the next line has not come.
+    fn read<S: Source>(&mut self, source: &mut S) -> Result<(), Failed>
+        requires countable { S.failures source.old + 1 < 2 ^ 64 }
+        requires no_line { has_whole_line self.old ≡ false }
+        requires going { self.old.ended ≡ false }
+        requires short { length self.old.held ≤ 65536 }
+        requires within { length self.old.held ≤ self.old.within }
+        ensures number { self.new.number ≡ self.old.number }
+        ensures same { self.new.within ≡ self.old.within }
+        ensures bytes { Keeps
+            (left self.old (S.rest source.old)) (left self.new (S.rest source.new)) }
+        ensures come { S.given source.new + come self.old ≤ S.given source.old + come self.new }
+        ensures few { come self.new ≤ 16777217 }
+        ensures nearer { OnOk result (work self.new < work self.old) }
+        ensures no_line { OnErr result (whole_lines self.new.held ≡ []) }
+        ensures well { OnOk result (S.failures source.new ≡ S.failures source.old) }
+        ensures failed { OnErr result (S.failures source.new ≡ S.failures source.old + 1) }
+    {
+        let held = self.buffer.held().len();
+        let n = self.buffer.read(source, self.within + 1 - held)?;
+        if n == 0 {
+            self.ended = true;
+        } else {
+            self.found = find_break(self.buffer.held(), held, self.within);
+        }
+        Ok(())
+    }
+
+    /// Reads until the whole of the next line has come, or the source has ended.
+    fn fill<S: Source>(&mut self, source: &mut S) -> Result<(), Fault>
+        requires { S.failures source.old + 1 < 2 ^ 64 }
+        ensures number { self.new.number ≡ self.old.number }
+        ensures within { self.new.within ≡ self.old.within }
+        ensures bytes { Keeps
+            (left self.old (S.rest source.old)) (left self.new (S.rest source.new)) }
+        ensures come { S.given source.new + come self.old ≤ S.given source.old + come self.new }
+        ensures ready { OnOk result (IsReady self.new) }
+        ensures fault { IfErr result (λ f.
+            Explains f self.old.number (cut_left self.old (S.rest source.old))) }
+        ensures no_line { result ≡ Err Fault.Reading → whole_lines self.new.held ≡ [] }
+        ensures few { come self.new ≤ 16777217 }
+        ensures untouched { IsReady self.old → source.new ≡ source.old }
+        ensures well { result ≢ Err Fault.Reading →
+            S.failures source.new ≡ S.failures source.old }
+        ensures failed { result ≡ Err Fault.Reading →
+            S.failures source.new ≡ S.failures source.old + 1 }
+    {
+        while self.found.is_none() && !self.ended {
+            let held = self.buffer.held().len();
+            if held.min(self.within) > LONGEST_LINE {
+                return Err(Fault::LongLine(self.number + 1));
+            }
+            if held > self.within {
+                return Err(Fault::TooLong);
+            }
+            if self.read(source).is_err() {
+                return Err(Fault::Reading);
+            }
+        }
+        Ok(())
+    }
+
+    /// Gives the next line, which has come, or none.
+    fn give(&mut self) -> Result<bool, Fault>
+        requires { IsReady self.old }
+        ensures given { IfOk result (λ more. IsTrue more → IsGiven self.old self.new) }
+        ensures end { IfOk result (λ more. IsFalse more →
+            (self.new ≡ self.old) × (self.old.held ≡ []) × (self.old.ended ≡ true)) }
+        ensures fault { IfErr result (λ f.
+            (f ≡ Fault.LongLine (self.old.number + 1)) × IsLong self.old) }
+        ensures err { OnErr result (self.new ≡ self.old) }
+        ensures nearer { IfOk result (λ more. IsTrue more → self.new.within < self.old.within) }
+        ensures limit { self.old.within ≤ 16777216 }
+        ensures few { length self.new.held ≤ self.new.within + 1 }
+    {
+        let (len, dropped) = match self.found {
+            Some(len) => (len, 1),
+            None => (self.buffer.held().len(), 0),
+        };
+        if len > LONGEST_LINE {
+            return Err(Fault::LongLine(self.number + 1));
+        }
+        if len + dropped == 0 {
+            return Ok(false);
+        }
+        self.buffer.take(len, dropped);
+        self.within -= len + dropped;
+        self.number += 1;
+        self.found = find_break(self.buffer.held(), 0, self.within);
+        Ok(true)
+    }
+}

@@ -1,0 +1,114 @@
+-- What each outcome says of the history. The history stands here as a report has it, oldest entry first, so that entry n is
+-- the n-th of the list; what is read newest entry first is read of its reverse.
+use Rattle.std.specs.Prelude.{◌≡◌, ℕ, ◌+◌, ◌<◌, Bool, true, false, List, length, reverse, Option, Some, None, slice_get, slice_index}
+use Rattle.std.specs.List.{All}
+use Rattle.sgt_model.specs.declared.event.Event.{Event}
+use Rattle.sgt_model.specs.declared.event.Event.TheVariants.{Start, Step, Commit, Quit}
+use Rattle.sgt_model.specs.declared.reply.Reply.{Reply}
+use Rattle.sgt_model.specs.declared.reply.Reply.TheVariants as reply
+use Rattle.sgt_model.specs.declared.reply.Cause.TheVariants as cause
+use Rattle.sgt_model.specs.declared.reply.Fate.{Fate}
+use Rattle.sgt_model.specs.declared.reply.Fate.TheVariants as fate
+use Rattle.sgt_model.specs.declared.entry.Entry.{Entry}
+use Rattle.sgt_model.specs.Fates.{starts, fate_of}
+use Rattle.sgt_model.specs.Progress.{Call, call_at, call_of}
+use Rattle.sgt_dispatch.specs.declared.job.Job.{Job}
+use Rattle.sgt_workers.specs.declared.outcome.Outcome.{Outcome}
+use Rattle.sgt_workers.specs.declared.outcome.Outcome.TheVariants as outcome
+use Rattle.sgt_workers.specs.Places.{Follows}
+
+-- jobs and their transactions
+
+-- what a job calls
+abbrev pub call_for : Job → Call
+call_for job = record { procedure = job.procedure; args = job.args }
+
+-- t is a transaction of the job: it was started with the job's procedure and arguments
+pub record IsOf (past : List Entry) (job : Job) (t : ℕ) : Type 0 where
+  pub started : t < starts past
+  pub call : call_of past t ≡ call_for job
+
+-- the transaction that an event names; a start names none
+abbrev pub named_by : Event → Option ℕ
+named_by (Start p args) = None
+named_by (Step t) = Some t
+named_by (Commit t) = Some t
+named_by (Quit t) = Some t
+
+-- replies
+
+-- a commit
+abbrev pub is_commit : Reply → Bool
+is_commit (reply.Committed answers) = true
+is_commit _ = false
+
+-- an abort because the procedure asked a code
+abbrev pub is_ask : Reply → Bool
+is_ask (reply.Aborted (cause.Asked code) fell) = true
+is_ask (reply.Aborted (cause.Cycle walk) fell) = false
+is_ask (reply.Aborted cause.Quit fell) = false
+is_ask _ = false
+
+-- an abort because the caller quit
+abbrev pub is_quit : Reply → Bool
+is_quit (reply.Aborted cause.Quit fell) = true
+is_quit (reply.Aborted (cause.Asked code) fell) = false
+is_quit (reply.Aborted (cause.Cycle walk) fell) = false
+is_quit _ = false
+
+-- what a start is answered where nothing is started
+abbrev pub is_refusal : Reply → Bool
+is_refusal reply.NoProcedure = true
+is_refusal reply.BadArgs = true
+is_refusal reply.Spent = true
+is_refusal reply.Full = true
+is_refusal _ = false
+
+-- aborted by a cycle, or fallen
+abbrev pub has_failed : Option Fate → Bool
+has_failed None = false
+has_failed (Some fate.Committed) = false
+has_failed (Some (fate.Aborted (cause.Cycle walk))) = true
+has_failed (Some (fate.Aborted (cause.Asked code))) = false
+has_failed (Some (fate.Aborted cause.Quit)) = false
+has_failed (Some (fate.Fell first)) = true
+
+-- outcomes
+
+-- entry n has such a reply, and it is one to a transaction of the job
+pub record Ends (is : Reply → Bool) (history : List Entry) (job : Job) (n : ℕ) : Type 0 where
+  pub entry : Entry
+  pub there : slice_get history n ≡ Some entry
+  pub reply_is : is entry.reply ≡ true
+  pub t : ℕ
+  pub names : named_by entry.event ≡ Some t
+  pub is_of : IsOf (reverse history) job t
+
+-- entry n is a start with the job's procedure and arguments, and was refused
+pub record IsRefused (history : List Entry) (job : Job) (n : ℕ) : Type 0 where
+  pub entry : Entry
+  pub there : slice_get history n ≡ Some entry
+  pub asks : call_at entry.event ≡ Some (call_for job)
+  pub reply_is : is_refusal entry.reply ≡ true
+
+-- t is a transaction of the job that was aborted by a cycle, or fell
+pub record IsFailed (past : List Entry) (job : Job) (t : ℕ) : Type 0 where
+  pub is_of : IsOf past job t
+  pub failed : has_failed (fate_of past t) ≡ true
+
+-- as many attempts as there may be tries, each a transaction of the job that was aborted by a cycle or fell, and each but the
+-- first started after the one before it had ended
+pub record GaveUp (past : List Entry) (tries : ℕ) (job : Job) (attempts : List ℕ) : Type 0 where
+  pub as_many : length attempts ≡ tries
+  pub failed : All (IsFailed past job) attempts
+  pub in_turn : (k : ℕ) → k + 1 < length attempts → Follows past (slice_index attempts k) (slice_index attempts (k + 1))
+
+-- what an outcome says of the history and its job
+abbrev pub Stands : {N : Type 0} → List Entry → ℕ → Job → Outcome N → Type 0
+Stands history tries job (outcome.Done n) = Ends is_commit history job n
+Stands history tries job (outcome.Asked n) = Ends is_ask history job n
+Stands history tries job (outcome.Gave attempts) = GaveUp (reverse history) tries job attempts.items
+Stands history tries job (outcome.Refused n) = IsRefused history job n
+Stands history tries job (outcome.Left note) = Unit {0}
+Stands history tries job outcome.Untaken = Unit {0}
+Stands history tries job outcome.NoMemory = Unit {0}

@@ -1,0 +1,27 @@
+use thiserror::Error;
+
+/// Why a run of jobs has no report.
+#[derive(Clone, Copy, Debug, PartialEq, Eq, Error)]
+pub enum PoolError {
+    /// The workers are not from 1 to 16.
+    #[error("the workers are not from 1 to 16")]
+    BadWorkers,
+    /// The tries are not from 1 to 1,000.
+    #[error("the tries are not from 1 to 1000")]
+    BadTries,
+    /// A limit is out of its range, or fewer transactions may be live than there are workers.
+    #[error("a limit is out of its range, or fewer may be live than there are workers")]
+    BadLimits,
+    /// There are over 1,000,000 jobs, or one has a number that is not its place.
+    #[error("the jobs are too many, or not numbered from 0")]
+    BadJobs,
+    /// A growth was refused.
+    #[error("no memory")]
+    NoMemory,
+    /// A thread could not be made.
+    #[error("workers not started")]
+    Spawn,
+    /// The receipts are not the history's entries, or an outcome says of them what is not so.
+    #[error("receipts differ")]
+    Mismatch,
+}

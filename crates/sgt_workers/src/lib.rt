@@ -1,0 +1,31 @@
+//! Workers that run jobs as transactions of one engine, and the test of what they report.
+//!
+//! A job is one call of a procedure. What became of it is an [`Outcome`], which names entries of the engine's history or
+//! transactions in it. What each outcome says of the history stands in `specs/Outcomes.antt`. [`audit`] looks whether the
+//! outcomes of a report say so: each of its job, none of what another names, and none too few.
+//!
+//! It knows nothing of procedures, accesses and conflicts: that the history is legal is the engine's promise.
+//!
+//! ```
+//! // Entry 4 commits the transaction of the first job; the second job's start was refused by entry 5.
+//! let outcomes = vec![in alloc; Outcome::Done(4), Outcome::Refused(5)]?;
+//! let stands = audit(alloc, engine.history(), &jobs, &outcomes, 1, 100)?;
+//! ```
+#![tactic(auto)]
+
+mod attempts;
+mod counts;
+mod errors;
+mod gate;
+mod live_count;
+mod lives;
+mod names;
+mod outcome;
+mod replies;
+mod reports;
+mod stands;
+
+pub use errors::PoolError;
+pub use gate::{Gate, Pass};
+pub use outcome::Outcome;
+pub use reports::audit;

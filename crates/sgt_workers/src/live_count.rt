@@ -1,0 +1,37 @@
+//! How many transactions are live.
+ghost use Rattle.std.specs.Prelude.{◌≡◌, ◌↔◌, ℕ, ◌+◌, ◌<◌, ◌≤◌, ◌^◌, IsTrue, length, reverse};
+ghost use Rattle.sgt_model.specs.Settings.{Setting};
+ghost use Rattle.sgt_model.specs.Legality.{Legal};
+ghost use Rattle.sgt_workers.specs.LiveCount.{started_by, ended_by};
+ghost use Rattle.sgt_workers.specs.Reports.{FewLive};
+
+use sgt_model::{Entry, Reply};
+
+/// Whether at no place more transactions are live than there are workers.
+pub fn few_live(history: &[Entry], workers: u32) -> bool
+    requires { (s : Setting) × Legal s (reverse history.now) }
+    ensures { IsTrue result ↔ FewLive history.now workers }
+{
+    let mut live = 0;
+    for entry in history {
+        live = live_after(live, &entry.reply);
+        if live > workers as usize {
+            return false;
+        }
+    }
+    true
+}
+
+/// How many are live after a reply.
+fn live_after(live: usize, reply: &Reply) -> usize
+    requires few { live < 2 ^ 32 }
+    requires enough { ended_by reply.now ≤ live }
+    ensures { result + ended_by reply.now ≡ live + started_by reply.now }
+{
+    match reply {
+        Reply::Started(_) => live + 1,
+        Reply::Committed(_) => live - 1,
+        Reply::Aborted { fell, .. } => live - 1 - fell.len(),
+        _ => live,
+    }
+}

@@ -1,0 +1,80 @@
+//! Whether each outcome says of the history and its job what is so.
+ghost use Rattle.std.specs.Prelude.{◌≡◌, ◌↔◌, ℕ, IsTrue, Option, length, reverse};
+ghost use Rattle.std.specs.List.{AllZip};
+ghost use Rattle.sgt_workers.specs.Lives.{AreLives};
+ghost use Rattle.sgt_workers.specs.Outcomes.{is_commit, is_ask, Ends, IsRefused, Stands};
+
+use crate::attempts::gave_up;
+use crate::lives::Life;
+use crate::outcome::Outcome;
+use crate::replies::{asks_for, is_ask, is_commit, is_refusal, names_one_of};
+use sgt_dispatch::Job;
+use sgt_model::Entry;
+
+/// Whether there is one outcome for each job, and each says what is so.
+pub fn all_stand<N>(
+    history: &[Entry],
+    lives: &[Life],
+    jobs: &[Job],
+    outcomes: &[Outcome<N>],
+    tries: u32,
+) -> bool
+    requires { AreLives (reverse history.now) lives.now }
+    ensures { IsTrue result ↔ AllZip (Stands history.now tries) jobs.now outcomes.now }
+{
+    if jobs.len() != outcomes.len() {
+        return false;
+    }
+    for i in 0..jobs.len() {
+        if !stands(history, lives, &jobs[i], &outcomes[i], tries) {
+            return false;
+        }
+    }
+    true
+}
+
+/// Whether an outcome says what is so.
+fn stands<N>(history: &[Entry], lives: &[Life], job: &Job, outcome: &Outcome<N>, tries: u32) -> bool
+    requires { AreLives (reverse history.now) lives.now }
+    ensures { IsTrue result ↔ Stands history.now tries job.now outcome.now }
+{
+    match outcome {
+        Outcome::Done(n) => is_committed(history, lives, job, *n),
+        Outcome::Asked(n) => is_asked(history, lives, job, *n),
+        Outcome::Gave(attempts) => gave_up(lives, tries, job, attempts.as_slice()),
+        Outcome::Refused(n) => is_refused(history, job, *n),
+        Outcome::Left(_) | Outcome::Untaken | Outcome::NoMemory => true,
+    }
+}
+
+/// Whether entry n committed a transaction of the job.
+fn is_committed(history: &[Entry], lives: &[Life], job: &Job, n: u64) -> bool
+    requires { AreLives (reverse history.now) lives.now }
+    ensures { IsTrue result ↔ Ends is_commit history.now job.now n }
+{
+    match history.get(n as usize) {
+        Some(entry) => is_commit(&entry.reply) && names_one_of(&entry.event, lives, job),
+        None => false,
+    }
+}
+
+/// Whether entry n aborted a transaction of the job that asked a code.
+fn is_asked(history: &[Entry], lives: &[Life], job: &Job, n: u64) -> bool
+    requires { AreLives (reverse history.now) lives.now }
+    ensures { IsTrue result ↔ Ends is_ask history.now job.now n }
+{
+    match history.get(n as usize) {
+        Some(entry) => is_ask(&entry.reply) && names_one_of(&entry.event, lives, job),
+        None => false,
+    }
+}
+
+/// Whether entry n refused a start with the job's procedure and arguments.
+fn is_refused(history: &[Entry], job: &Job, n: u64) -> bool
+    ensures { IsTrue result ↔ IsRefused history.now job.now n }
+{
+    match history.get(n as usize) {
+        Some(entry) => is_refusal(&entry.reply) && asks_for(&entry.event, job),
+        None => false,
+    }
+}
