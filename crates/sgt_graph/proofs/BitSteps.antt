@@ -2,6 +2,7 @@
 use Rattle.std.specs.Prelude.{◌≡◌, ◌≢◌, ℕ, ◌+◌, ◌<◌, ◌≤◌, ◌⊎◌, ◌↔◌, Bool, true, false, not, ◌&&◌, ◌||◌, nat_eq, nat_lt, List, [], ◌∷◌, map, length, slice_index, slice_set, cond, Option, Some, None, IfSome}
 use Rattle.std.proofs.Common.{zero, suc, refl, sym, ◌∙◌, ap, subst, inl, inr, arith}
 use Rattle.std.proofs.lemmas.List.{get_or-set_same, get_or-set_other}
+use Rattle.std.proofs.Math.ListN.{length-set}
 use Rattle.std.proofs.lemmas.Bool.{eqb-true, eq-eqb, le-ltb, and_parts, and_from, or_cases, or_left, or_right, both_ways, cases_lt, false_from_ne_true, cases_eq}
 use Rattle.sgt_model.specs.Walks.{PathOf, last_of, Member, Distinct, Reaches, AtMost}
 use Rattle.sgt_model.proofs.Paths.{path_map}
@@ -10,12 +11,12 @@ use Rattle.sgt_cycle.specs.Walk.{Holds, IsWalk}
 use Rattle.sgt_graph.specs.Closures.{Leads, IsClosure}
 use Rattle.sgt_graph.specs.BitGraphs.{is_at, last_below, place_of, is_placed, is_pair, IsBitGraph, IsPlaceVerdict, IsLeastAt}
 use Rattle.sgt_graph.specs.Graphs.{IsLeastPred}
-use Rattle.sgt_graph.specs.Verdicts.{IsVerdict}
+use Rattle.sgt_graph.specs.Verdicts.{IsVerdict, Inserts}
 use Rattle.sgt_graph.specs.declared.verdict.Verdict.{Verdict}
 use Rattle.sgt_graph.specs.declared.verdict.Verdict.TheVariants.{Accepted, Closes}
 use Rattle.sgt_graph.proofs.Room.{distinct_fits}
 use Rattle.sgt_graph.proofs.RowSteps.{none_in, leads_step, leads_join}
-use Rattle.sgt_graph.proofs.Placed.{same_test, Placed, placed, at_from, at_parts, placed_at, place_is, at_placed, pair_from, pair_at, accepted, closes}
+use Rattle.sgt_graph.proofs.Placed.{same_test, Placed, placed, at_from, at_parts, placed_at, place_is, at_placed, pair_from, pair_at, accepted, closes, inserted}
 
 -- rows of nothing
 abbrev pub zeros : ℕ → List ℕ
@@ -39,8 +40,9 @@ pub none_placed : (taken : ℕ) (tids : List ℕ) (u : ℕ) → ((i : ℕ) → i
 none_placed taken tids u none =
     le-ltb (place_of taken tids u) 32 (let e : place_of taken tids u ≡ 32 = last_none (is_at taken tids u) (λ i. ap (λ x. x && nat_eq (slice_index tids i) u) (none i)) 32 in omega arith)
 
-pub empty_graph : (tids rows : List ℕ) → ((i j : ℕ) → is_bit rows i j ≡ false) → IsBitGraph 0 tids rows rows
-empty_graph tids rows none = record {
+pub empty_graph : (tids rows : List ℕ) → length tids ≡ 32 → ((i j : ℕ) → is_bit rows i j ≡ false) → IsBitGraph 0 tids rows rows
+empty_graph tids rows size none = record {
+  size = size;
   apart = λ i j t a b. absurd (both_ways _ (none_in i) (and_parts (is_set 0 i) _ a).0);
   low = λ i h. absurd (both_ways _ (none_in i) h);
   of_taken = λ i j h. absurd (both_ways _ (none i j) h);
@@ -53,8 +55,11 @@ empty_graph tids rows none = record {
 }
 
 -- a transaction more, at a free place
-module _ (taken : ℕ) (tids pairs reached : List ℕ) (g : IsBitGraph taken tids pairs reached) (t p taken' : ℕ) (low : p < 32) (size : length tids ≡ 32)
+module _ (taken : ℕ) (tids pairs reached : List ℕ) (g : IsBitGraph taken tids pairs reached) (t p taken' : ℕ) (low : p < 32)
     (is_free : is_set taken p ≡ false) (new : is_placed taken tids t ≡ false) (more : (i : ℕ) → is_set taken' i ≡ (is_set taken i || nat_eq i p)) where
+  here : p < length tids
+  here = subst (λ n. p < n) (sym g.size) low
+
   not_there : (i : ℕ) → is_at taken tids t i ≡ true → ⊥
   not_there i h = both_ways _ new (at_placed taken tids (placed taken tids pairs reached g) t i h)
 
@@ -62,7 +67,7 @@ module _ (taken : ℕ) (tids pairs reached : List ℕ) (g : IsBitGraph taken tid
   at_cases u i h =
       let parts = at_parts taken' (slice_set tids p t) u i h in
       elim (cases_eq i p) [
-        | inl e ↦ inr (e, sym parts.1 ∙ ap (λ x. slice_index (slice_set tids p t) x) e ∙ get_or-set_same tids p t 0 (omega arith))
+        | inl e ↦ inr (e, sym parts.1 ∙ ap (λ x. slice_index (slice_set tids p t) x) e ∙ get_or-set_same tids p t 0 here)
         | inr other ↦ elim (or_cases (is_set taken i) _ (sym (more i) ∙ parts.0)) [
           | inl old ↦ inl (at_from taken tids u i old (sym (get_or-set_other tids p i t 0 other) ∙ parts.1))
           | inr same ↦ absurd (other (eqb-true i p same))
@@ -76,10 +81,11 @@ module _ (taken : ℕ) (tids pairs reached : List ℕ) (g : IsBitGraph taken tid
       at_from taken' (slice_set tids p t) u i (more i ∙ or_left (is_set taken i) _ parts.0) (get_or-set_other tids p i t 0 other ∙ parts.1)
 
   new_at : is_at taken' (slice_set tids p t) t p ≡ true
-  new_at = at_from taken' (slice_set tids p t) t p (more p ∙ or_right (is_set taken p) _ (eq-eqb p p refl)) (get_or-set_same tids p t 0 (omega arith))
+  new_at = at_from taken' (slice_set tids p t) t p (more p ∙ or_right (is_set taken p) _ (eq-eqb p p refl)) (get_or-set_same tids p t 0 here)
 
   pub grown : IsBitGraph taken' (slice_set tids p t) pairs reached
   grown = record {
+    size = length-set tids p t ∙ g.size;
     apart = λ i j u a b. elim (at_cases u i a) [
       | inl x ↦ elim (at_cases u j b) [
         | inl y ↦ g.apart i j u x y
@@ -162,6 +168,7 @@ module _ (taken : ℕ) (tids pairs reached : List ℕ) (g : IsBitGraph taken tid
 
     pub joined_graph : IsBitGraph taken tids new after
     joined_graph = record {
+      size = g.size;
       apart = g.apart;
       low = g.low;
       of_taken = λ i j h. elim ((new_is i j).0 h) [ inl o ↦ g.of_taken i j o | inr n ↦ (sources i n.0, subst (λ x. is_set taken x ≡ true) (sym n.1) there) ];
@@ -214,6 +221,7 @@ module _ (taken : ℕ) (tids pairs reached : List ℕ) (g : IsBitGraph taken tid
 
   pub freed : (after : List ℕ) → IsClosure new after → ((i j : ℕ) → Leads pairs i j → is_bit reached i j ≡ true) → IsBitGraph taken' tids new after
   freed after closure all = record {
+    size = g.size;
     apart = λ i j u a b. g.apart i j u (was_at u i a).0 (was_at u j b).0;
     low = λ i h. g.low i (and_parts (is_set taken i) _ (sym (left i) ∙ h)).0;
     of_taken = λ i j h.
@@ -257,7 +265,7 @@ module _ (taken : ℕ) (tids pairs reached : List ℕ) (g : IsBitGraph taken tid
     apart_from u i a other e =
         both_ways _ (ap not (eq-eqb t u (sym (at_parts taken tids t p here).1 ∙ ap (λ x. slice_index tids x) (sym e) ∙ (at_parts taken tids u i a).1))) other
 
-    pub freed_nodes : (u : ℕ) → is_placed taken' tids u ≡ (is_placed taken tids u && not (nat_eq t u))
+    freed_nodes : (u : ℕ) → is_placed taken' tids u ≡ (is_placed taken tids u && not (nat_eq t u))
     freed_nodes u = same_test _ _
         (λ k. let (a, other) = was_at u (place_of taken' tids u) (placed_at taken' tids u k) in
             and_from _ _ (at_placed taken tids (placed taken tids pairs reached g) u _ a) (not_it u _ a other))
@@ -265,7 +273,7 @@ module _ (taken : ℕ) (tids pairs reached : List ℕ) (g : IsBitGraph taken tid
             let a = placed_at taken tids u old in
             at_placed taken' tids (placed taken' tids new after h) u _ (still_at u _ a (apart_from u _ a other)))
 
-    pub freed_pairs : (u v : ℕ) → is_pair taken' tids new u v ≡ (is_pair taken tids pairs u v && (not (nat_eq t u) && not (nat_eq t v)))
+    freed_pairs : (u v : ℕ) → is_pair taken' tids new u v ≡ (is_pair taken tids pairs u v && (not (nat_eq t u) && not (nat_eq t v)))
     freed_pairs u v = same_test _ _
         (λ k.
             let (i, j, a, b, step) = pair_at taken' tids (placed taken' tids new after h) new h.of_taken u v k in
@@ -280,6 +288,13 @@ module _ (taken : ℕ) (tids pairs reached : List ℕ) (g : IsBitGraph taken tid
             let j_other : j ≢ p = apart_from v j b second in
             pair_from taken' tids (placed taken' tids new after h) new u v i j (still_at u i a i_other) (still_at v j b j_other)
             ∙ new_is i j ∙ and_from _ _ step (and_from _ _ (is_other i i_other) (is_other j j_other)))
+
+    -- the same where the transactions stand in an equal list
+    pub removed_nodes : (tids' : List ℕ) → tids' ≡ tids → (u : ℕ) → is_placed taken' tids' u ≡ (is_placed taken tids u && not (nat_eq t u))
+    removed_nodes tids' same u = ap (λ x. is_placed taken' x u) same ∙ freed_nodes u
+
+    pub removed_pairs : (tids' : List ℕ) → tids' ≡ tids → (u v : ℕ) → is_pair taken' tids' new u v ≡ (is_pair taken tids pairs u v && (not (nat_eq t u) && not (nat_eq t v)))
+    removed_pairs tids' same u v = ap (λ x. is_pair taken' x new u v) same ∙ freed_pairs u v
 
 -- a walk over places goes through places below 32
 pub walk_low : (taken : ℕ) (tids pairs reached : List ℕ) → IsBitGraph taken tids pairs reached → (p from : ℕ) (path : List ℕ) → p < 32
@@ -301,6 +316,17 @@ module _ (taken : ℕ) (tids pairs reached : List ℕ) (g : IsBitGraph taken tid
   verdict_of others Accepted v = accepted taken tids pairs reached g t place targets preds here exact others v
   verdict_of others (Closes walk) (path, is, same) = closes taken tids pairs reached g t place targets preds here exact path walk is same
 
+  -- pairs from the targets to the place are what an insertion adds
+  pub inserts : ((u : ℕ) → Member u preds → is_placed taken tids u ≡ true) → (verdict : Verdict) → verdict ≡ Accepted → (taken' : ℕ) (tids' new reached' : List ℕ)
+      → taken' ≡ taken → tids' ≡ tids → ((i j : ℕ) → is_bit new i j ≡ (is_bit pairs i j || (is_set targets i && nat_eq j place))) → IsBitGraph taken' tids' new reached'
+      → Inserts (is_pair taken tids pairs) (is_pair taken' tids' new) t preds verdict
+  inserts nodes verdict is taken' tids' new reached' same_taken same_tids more after =
+      subst (λ x. Inserts (is_pair taken tids pairs) (is_pair taken' tids' new) t preds x) (sym is) (λ u v.
+          subst (λ x. (is_pair x tids' new u v ≡ true) ↔ ((is_pair taken tids pairs u v ≡ true) ⊎ ((v ≡ t) × Member u preds))) (sym same_taken)
+          (subst (λ x. (is_pair taken x new u v ≡ true) ↔ ((is_pair taken tids pairs u v ≡ true) ⊎ ((v ≡ t) × Member u preds))) (sym same_tids)
+          (inserted taken tids pairs reached g t place targets preds here exact new more
+            (subst (λ x. (i j : ℕ) → is_bit new i j ≡ true → (is_set x i ≡ true) × (is_set x j ≡ true)) same_taken after.of_taken) nodes u v)))
+
 -- a transaction that is nowhere has no pairs
 pub none_in_place : (taken : ℕ) (tids pairs reached : List ℕ) → IsBitGraph taken tids pairs reached → (t : ℕ) → ((i : ℕ) → is_at taken tids t i ≡ false)
     → (u : ℕ) → is_pair taken tids pairs u t ≡ false
@@ -308,6 +334,24 @@ none_in_place taken tids pairs reached g t none u = false_from_ne_true (is_pair 
     let (i, j, a, b, step) = pair_at taken tids (placed taken tids pairs reached g) pairs g.of_taken u t h in
     both_ways _ (none j) b)
 
+-- without it nothing changes
+module _ (taken : ℕ) (tids pairs reached : List ℕ) (g : IsBitGraph taken tids pairs reached) (t : ℕ) (none : (i : ℕ) → is_at taken tids t i ≡ false) where
+  other_than : (u i : ℕ) → is_at taken tids u i ≡ true → not (nat_eq t u) ≡ true
+  other_than u i a = ap not (false_from_ne_true (nat_eq t u) (λ e. both_ways _ (none i) (subst (λ x. is_at taken tids x i ≡ true) (sym (eqb-true t u e)) a)))
+
+  pub absent_nodes : (u : ℕ) → is_placed taken tids u ≡ (is_placed taken tids u && not (nat_eq t u))
+  absent_nodes u = same_test _ _
+      (λ h. and_from _ _ h (other_than u (place_of taken tids u) (placed_at taken tids u h)))
+      (λ h. (and_parts (is_placed taken tids u) _ h).0)
+
+  pub absent_pairs : (u v : ℕ) → is_pair taken tids pairs u v ≡ (is_pair taken tids pairs u v && (not (nat_eq t u) && not (nat_eq t v)))
+  absent_pairs u v = same_test _ _
+      (λ h.
+          let (i, j, a, b, step) = pair_at taken tids (placed taken tids pairs reached g) pairs g.of_taken u v h in
+          and_from _ _ h (and_from _ _ (other_than u i a) (other_than v j b)))
+      (λ h. (and_parts (is_pair taken tids pairs u v) _ h).0)
+
+-- the column of a place: who has a pair to it
 module _ (taken : ℕ) (tids pairs reached : List ℕ) (g : IsBitGraph taken tids pairs reached) (t place : ℕ) (here : is_at taken tids t place ≡ true) (column alone : ℕ)
     (alone_is : (i : ℕ) → is_set alone i ≡ nat_eq i place)
     (column_is : (i : ℕ) → (is_set column i ≡ true) ↔ ((j : ℕ) × (is_bit pairs i j ≡ true) × (is_set alone j ≡ true))) where

@@ -1,5 +1,5 @@
 -- A graph as 32 places: the transactions at the places that are taken, and rows of places.
-use Rattle.std.specs.Prelude.{◌≡◌, ℕ, ◌<◌, ◌≤◌, Bool, true, false, ◌&&◌, nat_eq, nat_lt, List, slice_index, map, cond}
+use Rattle.std.specs.Prelude.{◌≡◌, ℕ, ◌<◌, ◌≤◌, Bool, true, false, ◌&&◌, nat_eq, nat_lt, List, length, slice_index, map, cond}
 use Rattle.std.proofs.Common.{zero, suc}
 use Rattle.sgt_cycle.specs.Places.{is_set, is_bit, places}
 use Rattle.sgt_cycle.specs.Walk.{IsWalk}
@@ -28,8 +28,9 @@ is_placed taken tids t = nat_lt (place_of taken tids t) 32
 abbrev pub is_pair : ℕ → List ℕ → List ℕ → ℕ → ℕ → Bool
 is_pair taken tids pairs u v = is_bit pairs (place_of taken tids u) (place_of taken tids v)
 
--- no transaction has two places, pairs are of places that are taken, and the rows reached are those of the pairs, without a cycle
+-- there are 32 places, no transaction has two of them, pairs are of places that are taken, and the rows reached are those of the pairs, without a cycle
 pub record IsBitGraph (taken : ℕ) (tids pairs reached : List ℕ) : Type 0 where
+  pub size : length tids ≡ 32
   pub apart : (i j t : ℕ) → is_at taken tids t i ≡ true → is_at taken tids t j ≡ true → i ≡ j
   pub low : (i : ℕ) → is_set taken i ≡ true → i < 32
   pub of_taken : (i j : ℕ) → is_bit pairs i j ≡ true → (is_set taken i ≡ true) × (is_set taken j ≡ true)

@@ -103,6 +103,7 @@ impl BitGraph {
 
     /// Adds pairs from the places of the set to this one, and what is reached by them.
     fn add_pairs(&mut self, from: u32, place: u8)
+        requires low { place < 32 }
         requires taken { is_set self.old.0 place ≡ true }
         requires of_taken { (i : ℕ) → is_set from i ≡ true → is_set self.old.0 i ≡ true }
         requires apart { is_set from place ≡ false }

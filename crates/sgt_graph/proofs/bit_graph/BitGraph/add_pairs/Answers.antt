@@ -7,9 +7,6 @@ use Rattle.sgt_graph.specs.BitGraphs.{is_at, is_placed, is_pair, IsBitGraph}
 use Rattle.sgt_graph.proofs.BitSteps.{joined_graph}
 use Rattle.sgt_graph.proofs.bit_graph.BitGraph.add_pairs.Goals as goal
 
-pub only-to-requires : goal.only-to-requires
-only-to-requires c = c.self.invariant.low c.args.place (subst (λ (v : ℕ × List ℕ × List ℕ × List ℕ). is_set v.0 c.args.place ≡ true) (sym c.self.view_is) c.requires.taken)
-
 pub invariant_of-self : goal.invariant_of-self
 invariant_of-self c =
     let from : ℕ = c.args.from in
