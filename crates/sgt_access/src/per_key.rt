@@ -7,7 +7,11 @@ use sgt_model::{Key, Kind, NoMemory, Tid, Tids};
 use std::alloc::Global;
 use std::marker::Model;
 
-/// The accesses ordered by key.
+/// The accesses in the order of their keys, those of one key side by side and oldest first.
+///
+/// `rivals` searches for the key and looks at its accesses alone. `note` searches for the place behind them and moves the
+/// accesses of later keys up by one. `forget` goes once through the accesses of those who are live. Nothing is kept of a key
+/// without accesses. The order in which accesses of different keys were noted is there for proofs alone.
 #[derive(Drop)]
 pub struct PerKey {
     by_key: Vec<Access>,
@@ -32,7 +36,7 @@ impl PerKey {
     ghost use Rattle.sgt_model.specs.declared.kind.Kind.{Kind as K};
     ghost use Rattle.sgt_model.specs.AccessList.{lists_conflicting, is_listed};
 
-    // The accesses of a key.
+    // The accesses of a key: they conflict with an access of the key as all accesses do.
     fn of_key(&self, key: Key) -> &[Access]
         ensures conflicting { (u : ℕ) (kind : K) → lists_conflicting result.now u key kind
             ≡ lists_conflicting self.now.0 u key kind }

@@ -7,7 +7,8 @@ use std::marker::Model;
 use std::mem;
 use std::snapshot::Snapshot;
 
-/// The calls that a list has had. A snapshot has no bytes: what came before is there for proofs alone.
+/// The calls that a list has had, from the newest to the one that made it. A snapshot has no bytes, so the calls before the
+/// newest are there for proofs alone.
 #[derive(Drop)]
 pub enum Calls {
     Empty,
@@ -21,7 +22,7 @@ pub enum Calls {
     },
 }
 
-/// The whole access list as contracts see it. It has no bytes, and its calls do nothing when the program runs.
+/// The whole access list, as contracts see it. It has no bytes, and its calls do nothing when the program runs.
 #[derive(Drop)]
 pub struct WholeList {
     calls: Snapshot<Calls>,

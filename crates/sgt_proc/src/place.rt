@@ -189,13 +189,7 @@ fn branch_of<'a>(statement: &'a Statement, held: bool) -> &'a [Statement]
     ensures { (rest : Block) → block_of result.now ≡ branch held (before statement.now rest) }
 {
     match statement {
-        Statement::If { yes, no, .. } => {
-            if held {
-                yes.as_slice()
-            } else {
-                no.as_slice()
-            }
-        }
+        Statement::If { yes, no, .. } => { if held { yes.as_slice() } else { no.as_slice() } }
         Statement::Look { .. }
         | Statement::Put { .. }
         | Statement::Let { .. }

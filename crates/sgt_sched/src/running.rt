@@ -18,10 +18,15 @@ pub struct Running {
 }
 
 impl Model for Running {
+    ghost use Rattle.std.specs.Coded.{codes};
     ghost use Rattle.std.specs.Prelude.{ℕ};
+    ghost use Rattle.sgt_model.specs.Codes.{coded_program};
+    ghost use Rattle.sgt_proc.specs.Cursors.{coded_left};
     ghost use Rattle.sgt_sched.specs.LiveProgress.{Progress};
 
     ghost Value = { ℕ × Progress };
+
+    ghost coded = { Prim.hlevel (codes, coded_program, coded_left) };
 
     ghost view = { λ r. (
       r.tid,
@@ -39,7 +44,7 @@ impl Running {
         ensures next { seen result ≡ next_left (left_kept self.now.1) }
         ensures in_range { StoresValue result }
     {
-        self.cursor.next(&procedures[usize::from(self.procedure)])
+        self.cursor.next(self.checked(procedures))
     }
 
     /// Goes on behind a look, which found this.
@@ -47,7 +52,8 @@ impl Running {
         requires along { IsAlong procedures.now self.old.1 }
         ensures { self.new ≡ (self.old.0, looked value self.old.1) }
     {
-        self.cursor.looked(&procedures[usize::from(self.procedure)], value);
+        let checked = self.checked(procedures);
+        self.cursor.looked(checked, value);
     }
 
     /// Goes on behind a store.
@@ -55,6 +61,15 @@ impl Running {
         requires along { IsAlong procedures.now self.old.1 }
         ensures { self.new ≡ (self.old.0, stored self.old.1) }
     {
-        self.cursor.stored(&procedures[usize::from(self.procedure)]);
+        let checked = self.checked(procedures);
+        self.cursor.stored(checked);
+    }
+
+    // The procedure that it goes along.
+    fn checked<'a>(&self, procedures: &'a [Checked]) -> &'a Checked
+        requires along { IsAlong procedures.now self.now.1 }
+        ensures { result.now ≡ self.now.1.cursor.0 }
+    {
+        &procedures[usize::from(self.procedure)]
     }
 }

@@ -61,8 +61,10 @@ pub good : (n : ℕ) (es : List Entry) (S : List (List Receipt)) → Merge n es 
 good n [] S m = each_empty (Good n []) (tt, tt) S m
 good n (e ∷ es) S m = each_unset (Good (n + 1) es) (Good n (e ∷ es)) S m.0 (receipt_of n e ∷ m.1) m.1 m.2
     (λ rs g. (g.0, each_map (λ r. (n + 1 ≤ r.number) × (slice_get es (r.number - (n + 1)) ≡ Some (entry_of r))) (λ r. (n ≤ r.number) × (slice_get (e ∷ es) (r.number - n) ≡ Some (entry_of r))) (later n e es) rs g.1))
-    (λ g. ((each_all (λ s. n < s.number) m.1 (each_map (λ r. (n + 1 ≤ r.number) × (slice_get es (r.number - (n + 1)) ≡ Some (entry_of r))) (λ s. n < s.number) (λ r h. omega (arith, h.0)) m.1 g.1), g.0),
-      ((omega arith, here n e es), each_map (λ r. (n + 1 ≤ r.number) × (slice_get es (r.number - (n + 1)) ≡ Some (entry_of r))) (λ r. (n ≤ r.number) × (slice_get (e ∷ es) (r.number - n) ≡ Some (entry_of r))) (later n e es) m.1 g.1)))
+    (λ g. (
+      (each_all (λ s. n < s.number) m.1 (each_map (λ r. (n + 1 ≤ r.number) × (slice_get es (r.number - (n + 1)) ≡ Some (entry_of r))) (λ s. n < s.number) (λ r h. omega (arith, h.0)) m.1 g.1), g.0),
+      ((omega arith, here n e es), each_map (λ r. (n + 1 ≤ r.number) × (slice_get es (r.number - (n + 1)) ≡ Some (entry_of r))) (λ r. (n ≤ r.number) × (slice_get (e ∷ es) (r.number - n) ≡ Some (entry_of r))) (later n e es) m.1 g.1),
+    ))
     (good (n + 1) es (set S m.0 m.1) m.3)
 
 is_empty : {A : Type 0} (xs : List A) → length xs ≡ 0 → xs ≡ []
@@ -121,8 +123,8 @@ named_once p n [] S m low high = absurd (omega arith)
 named_once p n (e ∷ es) S m low high =
     let s = named_unset p S m.0 (receipt_of n e) m.1 m.2 in
     ⊎_elim (λ (lt : n < p). let r = named_once p (n + 1) es (set S m.0 m.1) m.3 (omega arith) (omega arith) in let t = test_later n p lt in omega (arith, r, s, t))
-        (λ (is : p ≡ n). let r = none_below p (n + 1) es (set S m.0 m.1) m.3 (omega arith) in let t : ◌≡◌ {A = ℕ} (cond (nat_eq n p) 1 0) 1 = rw is (test_yes n) in omega (arith, r, s, t))
-        (above_or n p low)
+    (λ (is : p ≡ n). let r = none_below p (n + 1) es (set S m.0 m.1) m.3 (omega arith) in let t : ◌≡◌ {A = ℕ} (cond (nat_eq n p) 1 0) 1 = rw is (test_yes n) in omega (arith, r, s, t))
+    (above_or n p low)
 
 pub totals : (S : List (List Receipt)) → total S ≡ sum_by length S
 totals [] = refl
@@ -144,8 +146,8 @@ begins (suc k) (rs ∷ S) le = ap (λ T. rs ∷ T) (begins k S (omega arith))
 -- one receipt more is taken
 pub takes : (at : List ℕ) (S : List (List Receipt)) (i : ℕ) (r : Receipt) → i < length S → length S ≤ length at → slice_get (slice_index_or S i []) (slice_index at i) ≡ Some r
     → (slice_get (left at S) i ≡ Some (r ∷ drop (slice_index at i + 1) (slice_index_or S i [])))
-        × (left (set at i (slice_index at i + 1)) S ≡ set (left at S) i (drop (slice_index at i + 1) (slice_index_or S i [])))
-        × (total (left (set at i (slice_index at i + 1)) S) + 1 ≡ total (left at S))
+    × (left (set at i (slice_index at i + 1)) S ≡ set (left at S) i (drop (slice_index at i + 1) (slice_index_or S i [])))
+    × (total (left (set at i (slice_index at i + 1)) S) + 1 ≡ total (left at S))
 takes at [] i r lt le get = absurd (omega arith)
 takes [] (rs ∷ S) i r lt le get = absurd (omega arith)
 takes (a ∷ at) (rs ∷ S) zero r lt le get =

@@ -9,6 +9,7 @@ use Rattle.sgt_session.specs.declared.close.CloseError.{CloseError}
 use Rattle.sgt_session.specs.declared.close.CloseError.TheVariants.{StillHeld, Mismatch}
 
 -- what was given comes back: a session is missing, or none is
-abbrev pub Held : {N R A G : Type 0} {n : NamedGhosts N} {r : RecordsGhosts R} {a : AccessesGhosts A} {g : GraphGhosts G} → CloseError N R A G n r a g → List (List Receipt) → ℕ → Type 0
+abbrev pub Held : {N R A G : Type 0} {n : NamedGhosts N} {r : RecordsGhosts R} {a : AccessesGhosts A} {g : GraphGhosts G}
+    → CloseError N R A G n r a g → List (List Receipt) → ℕ → Type 0
 Held (StillHeld shared back) sessions all = (back.items ≡ sessions) × (length sessions < all)
 Held (Mismatch shared back) sessions all = (back.items ≡ sessions) × (all ≤ length sessions)

@@ -24,14 +24,21 @@ pub struct Closed<N: Named, R: Records, A: Accesses, G: Graph> {
 /// Why `close` did not close. What was given is handed back.
 #[derive(Drop)]
 pub enum CloseError<N: Named, R: Records, A: Accesses, G: Graph> {
-    /// A session is missing.
+    /// Fewer sessions were given than were made. This is tested first.
     StillHeld(Shared<N, R, A, G>, Vec<Session<N>>),
-    /// The receipts are not the entries.
+    /// The receipts are not the entries, each once, or those of a session do not rise by number.
     Mismatch(Shared<N, R, A, G>, Vec<Session<N>>),
 }
 
 impl<N: Named, R: Records, A: Accesses, G: Graph> Shared<N, R, A, G> {
-    /// Takes the engine out of its lock, where all sessions are there and their receipts are the entries.
+    /// Takes the engine out of its lock, where all sessions are there and their receipts are the entries of its history, each
+    /// once; those of each session rise by number, in the order of its calls. So each call's reply rests on all that its
+    /// session had seen. The history is gone through once, and compared with the next receipt of each session; this takes no
+    /// memory.
+    ///
+    /// A session of another `Shared` has another type, so none can be among them.
+    ///
+    /// `StillHeld` and `Mismatch` hand back what was given.
     pub fn close(
         self,
         sessions: Vec<Session<N>>,

@@ -1,4 +1,56 @@
-//! Sessions: many threads on one engine.
+//! Sessions: threads that share one engine, under one lock, with a receipt for each call and an account that closes.
+//!
+//! [`Shared`] is an engine under its lock. A [`Session`] is one caller's way to it: each of its calls is one hold of the lock,
+//! one event of the engine, and one [`Receipt`] that the session keeps, filed in the same hold. A commit that has to wait
+//! begins to wait in that hold and is made again after each end of a transaction. [`Shared::close`] takes the engine back out,
+//! where all sessions are there and their receipts are the entries of its history, each once.
+//!
+//! So what holds of the engine's history holds of what the threads were told: its events are theirs, in the order of their
+//! holds. It is no scheduler of threads: which of them comes next, whether one that waits is ever woken, and how long anything
+//! takes is not promised. A thread that ends should end its transactions, or commits that have to wait for them never go on.
+//!
+//! Which engine a session is of is told by its type: a name `N` that a call of a program picks, with the setting of the engine
+//! and the number of sessions. So a session fits its own `Shared` alone. A function that works with sessions is generic over
+//! the name, and is called once with `Brand`; what the name stands for is picked in the caller's proof (`Named`).
+//!
+//! ```
+//! fn two_threads<N: Named + Send + Sync, R: Threads + Wait + Sync>(
+//!     rt: &R,
+//!     alloc: Global,
+//!     engine: Engine<ListRecords, OneList, PairGraph>,
+//!     blank: Blank,
+//! ) -> Option<Engine<ListRecords, OneList, PairGraph>>
+//!     requires setting { setting_of engine ≡ N.setting }
+//!     requires empty { engine.past ≡ [] }
+//!     requires blank { (blank.name ≡ N.name) × (blank.parts ≡ N.parts) × (blank.parts ≡ 2) × (N.sessions ≡ 2) }
+//!     ensures legal { IfSome result (λ e. Legal N.setting e.past) }
+//! {
+//!     let (shared, sessions) = Shared::<N, _, _, _>::new(alloc, engine, blank, 2).ok()?;
+//!     let lock = &shared;
+//!     let sessions = thread::map_vec(rt, sessions, &|session| deposit(rt, lock, session)).ok()?;
+//!     Some(shared.close(sessions).ok()?.engine)
+//! }
+//!
+//! fn deposit<N: Named, W: Wait>(
+//!     rt: &W,
+//!     shared: &Shared<N, ListRecords, OneList, PairGraph>,
+//!     mut session: Session<N>,
+//! ) -> Session<N> {
+//!     let _ = session.call(rt, shared, Event::Start { procedure: 1, args }); // the receipt has Started(t)
+//!     ..                                                                     // steps, until Ended
+//!     let _ = session.commit(rt, shared, t);                                 // waits where it has to
+//!     session
+//! }
+//!
+//! two_threads::<Brand, _>(&rt, alloc, engine, Blank::new(2))
+//! ```
+//!
+//! The caller's `Invariants.antt` has the picks:
+//!
+//! ```
+//! ghosts-two_threads-N-Ledger g a = record { name = a.blank.name; parts = a.blank.parts }
+//! ghosts-two_threads-N-Named g a = record { setting = setting_of a.engine; sessions = a.blank.parts }
+//! ```
 #![tactic(auto)]
 
 mod accounts;

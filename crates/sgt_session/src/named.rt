@@ -5,12 +5,13 @@ ghost use Rattle.sgt_session.specs.Settings.{none};
 use std::marker::Brand;
 use std::sync::ledger::Ledger;
 
-/// Which engine the sessions are of. Each call of a program picks it.
+/// Which engine the sessions are of: the name of a ledger of their calls, that stands for a setting too. A program's type of
+/// that name is `Brand`, and each call that passes it picks what the name stands for.
 pub trait Named: Ledger {
-    /// What the engine was made of.
+    /// What the engine was made of: its opening contents, its procedures and its limits.
     ghost setting: { Setting };
 
-    /// How many sessions there are.
+    /// How many sessions there are. They are the parts of the ledger; `Shared::new` and `close` ask for that.
     ghost sessions: { ℕ };
 }
 

@@ -14,7 +14,7 @@ use std::alloc::Global;
 use std::sync::Mutex;
 use std::sync::ledger::{Blank, Share};
 
-/// The engine and the blank, handed back for want of memory.
+/// What was given to `Shared::new`, handed back for want of memory.
 #[derive(Drop)]
 pub struct NewError<R: Records, A: Accesses, G: Graph> {
     pub engine: Engine<R, A, G>,
@@ -22,7 +22,10 @@ pub struct NewError<R: Records, A: Accesses, G: Graph> {
 }
 
 impl<N: Named, R: Records, A: Accesses, G: Graph> Shared<N, R, A, G> {
-    /// Puts an engine with no history under a lock, with as many sessions as the ledger has parts.
+    /// Puts an engine with an empty history under a lock, and makes 1 to 64 sessions for it, each with one part of the ledger
+    /// and no receipt.
+    ///
+    /// `NewError` where a growth was refused.
     pub fn new(
         alloc: Global,
         engine: Engine<R, A, G>,

@@ -2,7 +2,7 @@ ghost use Rattle.std.specs.Prelude.{◌≡◌};
 
 use sgt_model::{Event, Reply};
 
-/// What a session was told of one call: the entry's place in the history, counted from 0, and the entry.
+/// What a session was told of one call: the entry of the history that the call is, and its place there, counted from 0.
 #[derive(Debug, Drop, PartialEq, Eq)]
 pub struct Receipt {
     pub number: u64,

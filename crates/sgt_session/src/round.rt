@@ -65,7 +65,8 @@ impl<N: Named, R: Records, A: Accesses, G: Graph> Round<N, R, A, G> {
         ensures adds { IfOk result (λ r. self.new ≡ with_entry r.event r.reply self.old) }
         ensures reply { IfOk result (λ r. LegalReply (setting_of self.old) self.old.past r.event r.reply) }
         ensures filed { IfOk result (λ r. receipts.new.items ≡ receipts.old.items ++ r ∷ []) }
-        ensures counted { OnOk result ((mine.new.amount ≡ mine.old.amount + 1) × (vec_len receipts.new ≡ vec_len receipts.old + 1)) }
+        ensures counted { OnOk result ((mine.new.amount ≡ mine.old.amount + 1)
+            × (vec_len receipts.new ≡ vec_len receipts.old + 1)) }
         ensures parts { mine.new.parts ≡ mine.old.parts }
         ensures capacity { vec_capacity receipts.new ≡ vec_capacity receipts.old }
         ensures refused { OnErr result ((self.new ≡ self.old) × (mine.new ≡ mine.old) × (receipts.new ≡ receipts.old)) }

@@ -18,7 +18,10 @@ use std::marker::Model;
 use std::sync::Wait;
 use std::sync::ledger::{Book, Share};
 
-/// One caller of the engine. Contracts see it as its receipts, in the order of its calls.
+/// One caller's way to the engine. Contracts see it as its receipts, in the order of its calls.
+///
+/// It holds one part of the ledger of all calls, and has counted there as many calls as it has receipts. It keeps room for
+/// the receipt of one end of each transaction that it started and does not know to have ended.
 #[derive(Drop)]
 pub struct Session<N: Named> {
     share: Share<N>,
@@ -62,7 +65,12 @@ impl<N: Named> Session<N> {
         self.receipts.as_slice()
     }
 
-    /// One event, under one hold of the lock.
+    /// One event of the engine, under one hold of the lock. Its receipt is filed in that hold, and handed out. A reply that
+    /// ends a live transaction wakes the commits that wait.
+    ///
+    /// `NoMemory` where a growth was refused; then there is no receipt, and the engine has not changed. What the session
+    /// needs is taken before the lock. For a quit of a transaction that this session started and does not know to have ended
+    /// it needs nothing, and the engine needs nothing where that transaction is live: so such a quit is not refused.
     pub fn call<R: Records, A: Accesses, G: Graph, W: Wait>(
         &mut self,
         rt: &W,
@@ -82,7 +90,12 @@ impl<N: Named> Session<N> {
         Ok(receipt)
     }
 
-    /// Commits, and waits where another transaction has to end first.
+    /// Commits, and waits where another transaction has to end first: it makes the event anew after each wake, until the reply
+    /// is another than `Waits`. Each of these calls has its receipt; the last one is handed out. Where it has to wait it
+    /// begins to do so in the hold of the call that was answered so, so no end of a transaction is missed in between.
+    ///
+    /// `NoMemory` where a growth was refused; the receipts so far stay. Nothing says that it returns: the transaction that it
+    /// waits for has to end, and its thread has to be given its turn.
     pub fn commit<R: Records, A: Accesses, G: Graph, W: Wait>(
         &mut self,
         rt: &W,
@@ -102,7 +115,7 @@ impl<N: Named> Session<N> {
         unreachable!()
     }
 
-    // One commit. Where it has to wait for another transaction, it begins to wait in the same hold, and returns after a wake.
+    /// One commit. Where it has to wait for another transaction, it begins to wait in the same hold, and returns after a wake.
     fn try_commit<R: Records, A: Accesses, G: Graph, W: Wait>(
         &mut self,
         rt: &W,

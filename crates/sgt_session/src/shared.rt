@@ -8,7 +8,8 @@ use sgt_graph::Graph;
 use sgt_records::Records;
 use std::sync::Mutex;
 
-/// An engine under its lock.
+/// An engine under its lock, for the sessions that were made with it. Whenever the lock is free the engine has the setting of
+/// N and a legal history, with as many entries as all sessions have made calls.
 #[derive(Drop)]
 pub struct Shared<N: Named, R: Records, A: Accesses, G: Graph> {
     pub(crate) round: Mutex<Round<N, R, A, G>>,

@@ -19,12 +19,13 @@ impl Waiters {
         }
     }
 
-    /// Lets go of the lock and begins to wait in one step, and takes the lock again after a wake.
+    /// Begins to wait in the hold of the lock that it is given, and takes the lock again after a wake.
     pub fn wait<'b, W: Wait, T>(&self, rt: &W, guard: MutexGuard<'b, T>) -> MutexGuard<'b, T> {
         self.ended.wait(rt, guard)
     }
 
-    /// Wakes all who wait where the reply ends a live transaction, and tells whether it did. No other reply lets a commit go on.
+    /// Wakes all who wait where the reply ends a live transaction, and tells whether it did. No other reply lets a commit go
+    /// on.
     pub fn wake_after(&self, reply: &Reply) -> bool
         ensures { result ≡ is_ending reply.now }
     {

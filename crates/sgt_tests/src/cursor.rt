@@ -71,7 +71,8 @@ fn branches_are_entered_and_left(rt: HostRuntime) -> Result<(), Fail> {
 }
 
 /// An Ask in a branch, and a Let that goes out of range behind it.
-const STOPS: &str = "[1,[[\"if\",[\"same\",[\"arg\",0],0],[[\"put\",0,1,1],[\"ask\",3],[\"put\",0,2,2]],[[\"put\",0,3,3]]],\
+const STOPS: &str =
+    "[1,[[\"if\",[\"same\",[\"arg\",0],0],[[\"put\",0,1,1],[\"ask\",3],[\"put\",0,2,2]],[[\"put\",0,3,3]]],\
     [\"let\",4,[\"sum\",[\"arg\",0],999999999999999]],[\"put\",0,4,[\"reg\",4]]]]";
 
 #[test]

@@ -29,6 +29,8 @@ mod records_replay;
 #[cfg(test)]
 mod scheduler;
 #[cfg(test)]
+mod sessions;
+#[cfg(test)]
 mod smallbank;
 #[cfg(test)]
 mod streams;
