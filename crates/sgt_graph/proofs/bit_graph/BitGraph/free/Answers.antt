@@ -14,7 +14,7 @@ invariant_of-self c =
     let p : ℕ = c.args.place in
     let pairs : List ℕ = c.self.inside.pairs in
     let left : (i : ℕ) → is_set c.minus-self-inside.result i ≡ (is_set c.self.inside.taken i && not (nat_eq i p)) = λ i. c.minus-self-inside.ensures.places i ∙ ap (λ x. is_set c.self.inside.taken i && not x) (c.only-alone.ensures i) in
-    let none : (i : ℕ) → is_bit pairs i p ≡ true → ⊥ = λ i step. let e1 = c.if-is_first.ensures in let e2 = c.is_none-is_first.ensures in both_ways _ (? i) ((c.meeting.ensures i).1 (p, step, c.only-alone.ensures p ∙ eq-eqb p p refl)) in
+    let none : (i : ℕ) → is_bit pairs i p ≡ true → ⊥ = λ i step. both_ways _ (c.least.ensures.none c.if-is_first.ensures i) ((c.meeting.ensures i).1 (p, step, c.only-alone.ensures p ∙ eq-eqb p p refl)) in
     freed c.self.inside.taken c.self.inside.tids pairs c.self.inside.reached c.self.invariant p c.minus-self-inside.result c.take_out.new.rows left c.take_out.ensures
     c.take_out-then-is_first.new.rows
     (first_freed c.self.inside.taken c.self.inside.tids pairs c.self.inside.reached c.self.invariant p c.minus-self-inside.result c.take_out.new.rows left c.take_out.ensures c.take_out-then-is_first.new.rows none c.take_out-then-is_first.ensures)
