@@ -1,4 +1,4 @@
-use Rattle.std.proofs.Common.{◌≡◌, ◌<◌, ◌+◌, ◌∙◌, ℕ, List, Option, Some, true, ap, sym, subst, arith, slice_index}
+use Rattle.std.proofs.Common.{◌+◌, ◌∙◌, Some, ap, sym, subst, arith, slice_index}
 use Rattle.sgt_graph.proofs.RowSteps.{low_place}
 use Rattle.sgt_graph.proofs.LeastPlaces.{LeastBelow, least_skip, least_more, least_some, least_none, any_default}
 use Rattle.sgt_graph.proofs.tids.least_at.Goals as goal

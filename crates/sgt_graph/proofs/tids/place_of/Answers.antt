@@ -1,4 +1,4 @@
-use Rattle.std.proofs.Common.{◌≡◌, ◌<◌, ℕ, ap, false, inl, inr, arith, nat_eq, slice_index}
+use Rattle.std.proofs.Common.{ap, inl, inr, arith, nat_eq, slice_index}
 use Rattle.std.specs.Prelude.{◌&&◌}
 use Rattle.std.proofs.lemmas.Bool.{cases_lt}
 use Rattle.sgt_graph.proofs.RowSteps.{none_above}

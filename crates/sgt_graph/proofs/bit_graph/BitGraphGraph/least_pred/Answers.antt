@@ -1,12 +1,7 @@
-use Rattle.std.proofs.Common.{◌≡◌, ◌≢◌, ◌<◌, ◌≤◌, ◌+◌, ◌∙◌, ℕ, List, [], ◌∷◌, true, false, ap, sym, subst, refl, inl, inr, arith, nat_eq, length, slice_index, slice_set, map, true≢false, IfSome, eqb-true, eq-eqb}
-use Rattle.std.specs.Prelude.{◌&&◌, ◌||◌, ◌⊎◌, ◌↔◌, not}
-use Rattle.std.proofs.lemmas.Bool.{and_parts, and_from, or_cases, or_left, or_right, both_ways, false_from_ne_true, cases_lt}
-use Rattle.sgt_model.specs.Walks.{Member}
-use Rattle.sgt_cycle.specs.Places.{is_set, is_bit, places}
-use Rattle.sgt_graph.specs.BitGraphs.{is_at, is_placed, is_pair, IsBitGraph}
+use Rattle.std.proofs.Common.{◌≡◌, ℕ, List, false, subst, refl, IfSome}
+use Rattle.sgt_graph.specs.BitGraphs.{is_placed, is_pair}
 use Rattle.sgt_graph.specs.Graphs.{OfNodes, NoCycle, IsLeastPred}
-use Rattle.sgt_graph.specs.Verdicts.{IsVerdict}
-use Rattle.sgt_graph.proofs.Placed.{Placed, placed, placed_at, at_parts, at_from, at_placed, pair_at, pair_from, bit_of_nodes, bit_acyclic, inserted}
+use Rattle.sgt_graph.proofs.Placed.{bit_of_nodes, bit_acyclic}
 use Rattle.sgt_graph.proofs.BitSteps.{none_in_place, least_pred_of, no_pred_of}
 use Rattle.sgt_graph.proofs.bit_graph.BitGraphGraph.least_pred.Goals as goal
 

@@ -1,12 +1,8 @@
-use Rattle.std.proofs.Common.{◌≡◌, ◌≢◌, ◌<◌, ◌≤◌, ◌+◌, ◌∙◌, ℕ, List, [], ◌∷◌, true, false, ap, sym, subst, refl, inl, inr, arith, nat_eq, length, slice_index, slice_set, map, true≢false, eqb-true, eq-eqb}
-use Rattle.std.specs.Prelude.{◌&&◌, ◌||◌, ◌⊎◌, ◌↔◌, not}
-use Rattle.std.proofs.lemmas.Bool.{and_parts, and_from, or_cases, or_left, or_right, both_ways, false_from_ne_true, cases_lt}
-use Rattle.sgt_model.specs.Walks.{Member}
-use Rattle.sgt_cycle.specs.Places.{is_set, is_bit, places}
+use Rattle.std.proofs.Common.{◌≡◌, ℕ, List, true, subst, refl, nat_eq}
+use Rattle.std.specs.Prelude.{◌&&◌, not}
 use Rattle.sgt_graph.specs.BitGraphs.{is_at, is_placed, is_pair, IsBitGraph}
 use Rattle.sgt_graph.specs.Graphs.{OfNodes, NoCycle}
-use Rattle.sgt_graph.specs.Verdicts.{IsVerdict}
-use Rattle.sgt_graph.proofs.Placed.{Placed, placed, placed_at, at_parts, at_from, at_placed, pair_at, pair_from, bit_of_nodes, bit_acyclic, inserted}
+use Rattle.sgt_graph.proofs.Placed.{bit_of_nodes, bit_acyclic}
 use Rattle.sgt_graph.proofs.BitSteps.{removed_nodes, removed_pairs, absent_nodes, absent_pairs}
 use Rattle.sgt_graph.proofs.bit_graph.BitGraphGraph.remove.Goals as goal
 
