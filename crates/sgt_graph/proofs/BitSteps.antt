@@ -1,10 +1,10 @@
 -- The places stay a graph: with a transaction more, with pairs into one place, without a place.
-use Rattle.std.specs.Prelude.{◌≡◌, ◌≢◌, ℕ, ◌+◌, ◌<◌, ◌≤◌, ◌⊎◌, ◌↔◌, Bool, true, false, not, ◌&&◌, ◌||◌, nat_eq, nat_lt, List, [], ◌∷◌, map, length, slice_index, slice_set, cond, Option, Some, None, IfSome}
+use Rattle.std.specs.Prelude.{◌≡◌, ◌≢◌, ℕ, ◌<◌, ◌≤◌, ◌⊎◌, ◌↔◌, Bool, true, false, not, ◌&&◌, ◌||◌, nat_eq, List, [], ◌∷◌, map, length, slice_index, slice_set, cond, Option, Some, None, IfSome}
 use Rattle.std.proofs.Common.{zero, suc, refl, sym, ◌∙◌, ap, subst, inl, inr, arith}
 use Rattle.std.proofs.lemmas.List.{get_or-set_same, get_or-set_other}
 use Rattle.std.proofs.Math.ListN.{length-set}
-use Rattle.std.proofs.lemmas.Bool.{eqb-true, eq-eqb, le-ltb, and_parts, and_from, or_cases, or_left, or_right, both_ways, cases_lt, false_from_ne_true, cases_eq}
-use Rattle.sgt_model.specs.Walks.{PathOf, last_of, Member, Distinct, Reaches, AtMost}
+use Rattle.std.proofs.lemmas.Bool.{eqb-true, eq-eqb, le-ltb, and_parts, and_from, or_cases, or_left, or_right, both_ways, false_from_ne_true, cases_eq}
+use Rattle.sgt_model.specs.Walks.{PathOf, Member, Distinct, AtMost}
 use Rattle.sgt_model.proofs.Paths.{path_map}
 use Rattle.sgt_cycle.specs.Places.{is_set, is_bit, places}
 use Rattle.sgt_cycle.specs.Walk.{Holds, IsWalk}
@@ -16,7 +16,7 @@ use Rattle.sgt_graph.specs.declared.verdict.Verdict.{Verdict}
 use Rattle.sgt_graph.specs.declared.verdict.Verdict.TheVariants.{Accepted, Closes}
 use Rattle.sgt_graph.proofs.Room.{distinct_fits}
 use Rattle.sgt_graph.proofs.RowSteps.{none_in, leads_step, leads_join}
-use Rattle.sgt_graph.proofs.Placed.{same_test, Placed, placed, at_from, at_parts, placed_at, place_is, at_placed, pair_from, pair_at, accepted, closes, inserted}
+use Rattle.sgt_graph.proofs.Placed.{same_test, placed, at_from, at_parts, placed_at, at_placed, pair_from, pair_at, accepted, closes, inserted}
 
 -- rows of nothing
 abbrev pub zeros : ℕ → List ℕ

@@ -1,5 +1,5 @@
 -- The least transaction at some places, one place after another.
-use Rattle.std.specs.Prelude.{◌≡◌, ◌≢◌, ℕ, ◌<◌, ◌≤◌, ◌+◌, min, unwrap_or, true, false, List, [], ◌∷◌, length, slice_index, slice_index_or, Option, Some, None, IfSome, IsNone}
+use Rattle.std.specs.Prelude.{◌≡◌, ℕ, ◌<◌, ◌≤◌, ◌+◌, min, unwrap_or, true, false, List, [], ◌∷◌, length, slice_index, slice_index_or, Option, Some, None, IfSome, IsNone}
 use Rattle.std.proofs.Common.{zero, suc, refl, sym, ◌∙◌, ap, subst, inl, inr, arith}
 use Rattle.std.proofs.lemmas.Bool.{both_ways, false_from_ne_true, cases_lt, cases_eq}
 use Rattle.sgt_cycle.specs.Places.{is_set}

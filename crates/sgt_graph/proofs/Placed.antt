@@ -1,13 +1,12 @@
 -- Transactions at places: what holds of rows of places holds of the transactions.
-use Rattle.std.specs.Prelude.{◌≡◌, ◌≢◌, ℕ, ◌+◌, ◌<◌, ◌≤◌, ◌⊎◌, ◌↔◌, Bool, true, false, not, ◌&&◌, ◌||◌, nat_eq, nat_lt, List, [], ◌∷◌, ◌++◌, map, length, slice_index, slice_set, cond}
+use Rattle.std.specs.Prelude.{◌≡◌, ◌≢◌, ℕ, ◌<◌, ◌≤◌, ◌⊎◌, ◌↔◌, Bool, true, false, ◌&&◌, ◌||◌, nat_eq, List, [], ◌∷◌, map, slice_index, cond}
 use Rattle.std.proofs.Common.{zero, suc, refl, sym, ◌∙◌, ap, subst, inl, inr, arith}
-use Rattle.std.proofs.lemmas.List.{get_or-set_same, get_or-set_other}
-use Rattle.std.proofs.lemmas.Bool.{eqb-true, eq-eqb, ltb-true, lt-ltb, and_parts, and_from, or_cases, or_left, or_right, both_ways, cases_lt, false_from_ne_true, cases_eq}
-use Rattle.sgt_model.specs.Walks.{PathOf, last_of, Member, Distinct, Reaches, Acyclic, AtMost}
+use Rattle.std.proofs.lemmas.Bool.{eqb-true, eq-eqb, ltb-true, lt-ltb, and_parts, and_from, or_cases, or_left, or_right, both_ways, cases_eq}
+use Rattle.sgt_model.specs.Walks.{PathOf, last_of, Member, Distinct}
 use Rattle.sgt_cycle.specs.Places.{is_set, is_bit, places_below, places}
-use Rattle.sgt_cycle.specs.Walk.{Holds, Walk, IsWalk, NoWalk}
+use Rattle.sgt_cycle.specs.Walk.{Holds, IsWalk, NoWalk}
 use Rattle.sgt_graph.specs.Graphs.{NoCycle, OfNodes}
-use Rattle.sgt_graph.specs.Closures.{Leads, IsClosure}
+use Rattle.sgt_graph.specs.Closures.{Leads}
 use Rattle.sgt_graph.specs.BitGraphs.{is_at, last_below, place_of, is_placed, is_pair, IsBitGraph}
 
 -- two tests that hold together are the same

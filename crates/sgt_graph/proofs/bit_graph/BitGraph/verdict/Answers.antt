@@ -1,9 +1,5 @@
-use Rattle.std.proofs.Common.{◌≡◌, ◌≢◌, ◌<◌, ◌≤◌, ◌+◌, ◌∙◌, ℕ, List, [], ◌∷◌, true, false, ap, sym, subst, refl, inl, inr, arith, nat_eq, length, slice_index, slice_set, map, true≢false, eqb-true, eq-eqb}
-use Rattle.std.specs.Prelude.{◌&&◌, ◌||◌, ◌⊎◌, ◌↔◌, not}
-use Rattle.std.proofs.lemmas.Bool.{and_parts, and_from, or_cases, or_left, or_right, both_ways, false_from_ne_true, cases_lt}
-use Rattle.sgt_model.specs.Walks.{Member}
-use Rattle.sgt_cycle.specs.Places.{is_set, is_bit, places}
-use Rattle.sgt_graph.specs.BitGraphs.{is_at, is_placed, is_pair, IsBitGraph}
+use Rattle.std.proofs.Common.{◌≡◌, true, subst, refl}
+use Rattle.sgt_cycle.specs.Places.{is_bit, places}
 use Rattle.sgt_graph.proofs.Insertion.{no_path}
 use Rattle.sgt_graph.proofs.Placed.{member_place}
 use Rattle.sgt_graph.proofs.RowSteps.{leads_reach, low_place}

@@ -1,12 +1,12 @@
-use Rattle.std.proofs.Common.{◌≡◌, ◌≢◌, ◌<◌, ◌≤◌, ◌+◌, ◌∙◌, ℕ, List, [], ◌∷◌, true, false, ap, sym, subst, refl, inl, inr, arith, nat_eq, length, slice_index, slice_set, map, true≢false, eqb-true, eq-eqb}
-use Rattle.std.specs.Prelude.{◌&&◌, ◌||◌, ◌⊎◌, ◌↔◌, not}
-use Rattle.std.proofs.lemmas.Bool.{and_parts, and_from, or_cases, or_left, or_right, both_ways, false_from_ne_true, cases_lt}
+use Rattle.std.proofs.Common.{◌≡◌, ℕ, List, true, sym, subst, refl, slice_index}
+use Rattle.std.specs.Prelude.{◌↔◌}
+use Rattle.std.proofs.lemmas.Bool.{both_ways}
 use Rattle.sgt_model.specs.Walks.{Member}
-use Rattle.sgt_cycle.specs.Places.{is_set, is_bit, places}
+use Rattle.sgt_cycle.specs.Places.{is_set}
 use Rattle.sgt_graph.specs.BitGraphs.{is_at, is_placed, is_pair, IsBitGraph, IsPlaceVerdict}
 use Rattle.sgt_graph.specs.Graphs.{OfNodes, NoCycle}
-use Rattle.sgt_graph.specs.Verdicts.{IsVerdict, Inserts}
-use Rattle.sgt_graph.proofs.Placed.{placed_at, bit_of_nodes, bit_acyclic, inserted}
+use Rattle.sgt_graph.specs.Verdicts.{IsVerdict}
+use Rattle.sgt_graph.proofs.Placed.{placed_at, bit_of_nodes, bit_acyclic}
 use Rattle.sgt_graph.proofs.BitSteps.{verdict_of, inserts}
 use Rattle.sgt_graph.proofs.bit_graph.BitGraphGraph.insert.Goals as goal
 
