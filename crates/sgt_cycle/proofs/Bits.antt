@@ -73,12 +73,9 @@ has_set a k within = ap (λ m. not (nat_eq (bit_and a m) 0)) (one_shl k 32 withi
   | inr e ↦ ap (λ d. not (nat_eq (d * 2 ^ k) 0)) e ∙ some_test (2 ^ k) (pow_pos k) ∙ sym (ap (λ x. nat_eq x 1) e)
 ]
 
--- all places but one
-pub others_set : (k i : ℕ) → k < 32 → i < 32 → is_set (4294967295 - 1 * 2 ^ k % 4294967296) i ≡ not (nat_eq i k)
+pub complement_set : (a i : ℕ) → a < 2 ^ 32 → i < 32 → is_set (4294967295 - a) i ≡ not (is_set a i)
 unfolding is_set
-others_set k i within low =
-    let fits : 1 * 2 ^ k % 4294967296 < 2 ^ 32 = omega arith in
-    ap (λ x. nat_eq x 1) (bit_at_not w32 (1 * 2 ^ k % 4294967296) i fits low) ∙ flip (bit_at (1 * 2 ^ k % 4294967296) i) (bit_at-lt (1 * 2 ^ k % 4294967296) i) ∙ ap not (only_set k i within)
+complement_set a i fits low = ap (λ x. nat_eq x 1) (bit_at_not w32 a i fits low) ∙ flip (bit_at a i) (bit_at-lt a i)
   where
     flip : (x : ℕ) → x < 2 → nat_eq (1 - x) 1 ≡ not (nat_eq x 1)
     flip x p = elim (digit x p) [ inl e ↦ rw e refl | inr e ↦ rw e refl ]

@@ -2,7 +2,8 @@
 //! some targets.
 //!
 //! [`walk`] is exact: it answers a walk from the source to a target that passes no number twice, and `None` only where there
-//! is none. [`is_walk`] tests a path. Neither takes memory, keeps a link, or knows what the links mean.
+//! is none. [`walk_rows`] does the same over rows of bits, where the numbers are places below 32 and [`places`] has the sets of
+//! them. [`is_walk`] tests a path. None of them takes memory, keeps a link, or knows what the links mean.
 //!
 //! ```
 //! let links = [(Tid(0), Tid(1)), (Tid(1), Tid(2))];

@@ -18,12 +18,11 @@ pub fn has(set: u32, place: u8) -> bool
     set & (1 << place) != 0
 }
 
-/// All places but this.
-pub fn others(place: u8) -> u32
-    requires { place < 32 }
-    ensures { (i : ℕ) → i < 32 → is_set result i ≡ not (nat_eq i place) }
+/// The places that are not in the set.
+pub fn complement(set: u32) -> u32
+    ensures { (i : ℕ) → i < 32 → is_set result i ≡ not (is_set set i) }
 {
-    !(1 << place)
+    !set
 }
 
 /// The places of both sets together.

@@ -2,7 +2,7 @@ ghost use Rattle.std.specs.Prelude.{◌≡◌, ◌<◌, IfSome, IsNone};
 ghost use Rattle.sgt_cycle.specs.Places.{is_bit, places};
 ghost use Rattle.sgt_cycle.specs.Walk.{IsWalk, NoWalk};
 
-use crate::places::{common, has, least, minus, only, others};
+use crate::places::{common, complement, has, least, minus, only};
 use arrayvec::ArrayVec;
 use sgt_model::Bounded;
 
@@ -17,7 +17,7 @@ pub fn walk_rows(rows: &[u32; 32], source: u8, targets: u32) -> Option<Bounded<u
 {
     let mut path: ArrayVec<u8, 32> = ArrayVec::new();
     path.push(source);
-    let mut fresh = others(source);
+    let mut fresh = complement(only(source));
     while let Some(here) = path.pop() {
         if has(targets, here) {
             path.push(here);

@@ -3,3 +3,7 @@ pub mod Room
 pub mod Kept
 pub mod Insertion
 pub mod Least
+pub mod RowSteps
+pub mod Placed
+pub mod BitSteps
+pub mod LeastPlaces

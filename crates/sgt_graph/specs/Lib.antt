@@ -1,3 +1,5 @@
 pub mod Graphs
 pub mod Verdicts
 pub mod PairGraphs
+pub mod Closures
+pub mod BitGraphs

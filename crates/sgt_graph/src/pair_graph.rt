@@ -100,7 +100,7 @@ impl PairGraph {
 }
 
 /// The smaller of the least so far, if there is one, and another.
-fn smaller(least: Option<Tid>, t: Tid) -> Tid
+pub fn smaller(least: Option<Tid>, t: Tid) -> Tid
     ensures { result ≡ min (unwrap_or least t) t }
 {
     match least {

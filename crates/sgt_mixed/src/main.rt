@@ -18,7 +18,7 @@ use crate::draws::Draws;
 use crate::events::event_for;
 use sgt_access::OneList;
 use sgt_engine::Engine;
-use sgt_graph::PairGraph;
+use sgt_graph::BitGraph;
 use sgt_model::{Entry, Event, Key, Limits, NoMemory};
 use sgt_records::ListRecords;
 use sgt_smallbank::{Account, opening, procedures};
@@ -26,7 +26,7 @@ use std::alloc::{AllocGlobal, Global};
 use std::io;
 use std::io::Print;
 
-type ListEngine = Engine<ListRecords, OneList, PairGraph>;
+type ListEngine = Engine<ListRecords, OneList, BitGraph>;
 
 /// How many events the list has.
 const EVENTS: u32 = 10_000;

@@ -2,7 +2,7 @@ use crate::machine::Machine;
 use sgt_access::PerKey;
 use sgt_engine::Engine;
 use sgt_format::Opening;
-use sgt_graph::PairGraph;
+use sgt_graph::BitGraph;
 use sgt_model::{Database, Event, MakeError, NoMemory, Reply};
 use sgt_records::SlabRecords;
 use std::alloc::Global;
@@ -11,7 +11,7 @@ use std::alloc::Global;
 /// bodies of the layers that it names.
 #[derive(Drop)]
 pub(crate) struct SmallBankEngine {
-    engine: Engine<SlabRecords, PerKey, PairGraph>,
+    engine: Engine<SlabRecords, PerKey, BitGraph>,
 }
 
 impl Machine for SmallBankEngine {

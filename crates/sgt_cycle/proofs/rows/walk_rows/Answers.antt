@@ -18,7 +18,8 @@ no_items (x ∷ xs) none = absurd (none (omega arith))
 
 pub loop-here-init : goal.loop-here-init
 loop-here-init c = rw (c.push.ensures.items, c.new-path.ensures)
-    (search_starts c.args.rows.now c.args.source c.args.targets c.others-fresh.result c.requires.place c.others-fresh.ensures
+    (search_starts c.args.rows.now c.args.source c.args.targets c.complement-fresh.result c.requires.place
+    (λ i low. c.complement-fresh.ensures i low ∙ ap not (c.only.ensures i))
     (λ i high. none_above c.args.targets i c.ranges.targets.fits high) (λ i j high. no_row c.args.rows.now i j (omega (arith, c.told-rows)) high))
 
 pub has-requires : goal.has-requires
@@ -74,7 +75,7 @@ loop-here-preserved-in-Some-least c =
     let step : is_bit c.args.rows.now here next ≡ true = subst (λ i. is_bit c.args.rows.now i next ≡ true) c.from.ensures both.0 in
     rw (c.push-in-Some-least-2.ensures.items, c.push-in-Some-least.ensures.items)
     (search_push c.args.rows.now c.args.source c.args.targets c.loop-here.fresh path here s next c.minus-fresh.result c.in-Some-least.ensures.some.0 step both.1
-    (λ i. c.minus-fresh.ensures.places i ∙ ap (λ x. is_set c.loop-here.fresh i && not x) (c.only.ensures i)))
+    (λ i. c.minus-fresh.ensures.places i ∙ ap (λ x. is_set c.loop-here.fresh i && not x) (c.only-in-Some-least.ensures i)))
 
 
 pub loop-here-preserved : goal.loop-here-preserved

@@ -1,0 +1,30 @@
+use Rattle.std.proofs.Common.{◌≡◌, ◌∙◌, ℕ, List, true, ap, refl, nat_eq, eq-eqb}
+use Rattle.std.specs.Prelude.{◌&&◌, not}
+use Rattle.std.proofs.lemmas.Bool.{both_ways}
+use Rattle.sgt_cycle.specs.Places.{is_set, is_bit}
+use Rattle.sgt_graph.proofs.Placed.{leads_reached}
+use Rattle.sgt_graph.proofs.BitSteps.{freed, first_freed}
+use Rattle.sgt_graph.proofs.bit_graph.BitGraph.free.Goals as goal
+
+pub invariant_of-self : goal.invariant_of-self
+invariant_of-self c =
+    let p : ℕ = c.args.place in
+    let pairs : List ℕ = c.self.inside.pairs in
+    let left : (i : ℕ) → is_set c.minus-self-inside.result i ≡ (is_set c.self.inside.taken i && not (nat_eq i p)) = λ i. c.minus-self-inside.ensures.places i ∙ ap (λ x. is_set c.self.inside.taken i && not x) (c.only-alone.ensures i) in
+    let none : (i : ℕ) → is_bit pairs i p ≡ true → ⊥ = λ i step. both_ways _ (c.least.ensures.none c.if-is_first.ensures i) ((c.meeting.ensures i).1 (p, step, c.only-alone.ensures p ∙ eq-eqb p p refl)) in
+    freed c.self.inside.taken c.self.inside.tids pairs c.self.inside.reached c.self.invariant p c.minus-self-inside.result c.take_out.new.rows left c.take_out.ensures
+    c.take_out-then-is_first.new.rows
+    (first_freed c.self.inside.taken c.self.inside.tids pairs c.self.inside.reached c.self.invariant p c.minus-self-inside.result c.take_out.new.rows left c.take_out.ensures c.take_out-then-is_first.new.rows none c.take_out-then-is_first.ensures)
+    (leads_reached c.self.inside.taken c.self.inside.tids pairs c.self.inside.reached c.self.invariant)
+
+pub invariant_of-self-else-is_first : goal.invariant_of-self-else-is_first
+invariant_of-self-else-is_first c =
+    let left : (i : ℕ) → is_set c.minus-self-inside.result i ≡ (is_set c.self.inside.taken i && not (nat_eq i c.args.place)) = λ i. c.minus-self-inside.ensures.places i ∙ ap (λ x. is_set c.self.inside.taken i && not x) (c.only-alone.ensures i) in
+    freed c.self.inside.taken c.self.inside.tids c.self.inside.pairs c.self.inside.reached c.self.invariant c.args.place c.minus-self-inside.result c.take_out.new.rows left c.take_out.ensures
+    c.closure-self-inside.result c.closure-self-inside.ensures (leads_reached c.self.inside.taken c.self.inside.tids c.self.inside.pairs c.self.inside.reached c.self.invariant)
+
+pub returns-then-is_first-clause-graph : goal.returns-then-is_first-clause-graph
+returns-then-is_first-clause-graph c = invariant_of-self c
+
+pub returns-else-is_first-clause-graph : goal.returns-else-is_first-clause-graph
+returns-else-is_first-clause-graph c = invariant_of-self-else-is_first c

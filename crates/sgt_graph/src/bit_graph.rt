@@ -1,0 +1,142 @@
+ghost use Rattle.std.specs.Prelude.{◌≡◌, ℕ, ◌<◌, true, false, not, ◌||◌, ◌&&◌, nat_eq, slice_index};
+ghost use Rattle.sgt_cycle.specs.Places.{is_set, is_bit};
+ghost use Rattle.sgt_graph.specs.BitGraphs.{is_placed, is_pair, IsPlaceVerdict, IsBitGraph};
+
+use crate::graph::Graph;
+use crate::rows::{Rows, add, closure, meeting, take_out};
+use crate::tids::{least_at, place_of, places_of, tids_at};
+use crate::verdict::Verdict;
+use sgt_cycle::places::{complement, joined, least, meets, minus, only};
+use sgt_cycle::walk_rows;
+use sgt_model::{Tid, Tids};
+use std::marker::Model;
+
+/// A graph as 32 places, each with a transaction or free. Beside the pairs it keeps what is reached along them, so that a
+/// verdict is read and not searched for. A walk is searched for only where there is one.
+#[derive(Drop)]
+pub struct BitGraph {
+    taken: u32,
+    tids: [Tid; 32],
+    pairs: Rows,
+    reached: Rows,
+}
+
+impl Model for BitGraph {
+    ghost use Rattle.std.specs.Prelude.{ℕ, List};
+    ghost use Rattle.sgt_graph.specs.BitGraphs.{IsBitGraph};
+
+    ghost Value = { ℕ × List ℕ × List ℕ × List ℕ };
+
+    ghost view = { λ g. (g.taken, g.tids, g.pairs, g.reached) };
+
+    ghost invariant = { λ g. IsBitGraph g.taken g.tids g.pairs g.reached };
+}
+
+impl Graph for BitGraph {
+    ghost nodes = { λ g. is_placed g.0 g.1 };
+
+    ghost pairs = { λ g. is_pair g.0 g.1 g.2 };
+
+    fn empty() -> Self {
+        BitGraph {
+            taken: 0,
+            tids: [Tid(0); 32],
+            pairs: [0; 32],
+            reached: [0; 32],
+        }
+    }
+
+    fn add(&mut self, t: Tid) {
+        let Some(place) = least(complement(self.taken)) else {
+            unreachable!();
+        };
+        self.tids[usize::from(place)] = t;
+        self.taken = joined(self.taken, only(place));
+    }
+
+    fn test(&self, t: Tid, preds: &Tids) -> Verdict {
+        let Some(place) = place_of(self.taken, &self.tids, t) else {
+            unreachable!();
+        };
+        self.verdict(place, places_of(self.taken, &self.tids, preds))
+    }
+
+    fn insert(&mut self, t: Tid, preds: &Tids) -> Verdict {
+        let Some(place) = place_of(self.taken, &self.tids, t) else {
+            unreachable!();
+        };
+        let from = places_of(self.taken, &self.tids, preds);
+        let verdict = self.verdict(place, from);
+        if let Verdict::Accepted = verdict {
+            self.add_pairs(from, place);
+        }
+        verdict
+    }
+
+    fn least_pred(&self, t: Tid) -> Option<Tid> {
+        let place = place_of(self.taken, &self.tids, t)?;
+        least_at(&self.tids, meeting(&self.pairs, only(place)))
+    }
+
+    fn remove(&mut self, t: Tid) {
+        if let Some(place) = place_of(self.taken, &self.tids, t) {
+            self.free(place);
+        }
+    }
+}
+
+impl BitGraph {
+    /// Whether pairs from the places of the set to this one would leave the graph without a cycle.
+    fn verdict(&self, place: u8, from: u32) -> Verdict
+        requires low { place < 32 }
+        requires apart { is_set from place ≡ false }
+        ensures { IsPlaceVerdict self.now.1 self.now.2 self.now.3 place from result }
+    {
+        if !meets(self.reached[usize::from(place)], from) {
+            return Verdict::Accepted;
+        }
+        match walk_rows(&self.pairs, place, from) {
+            Some(walk) => Verdict::Closes(tids_at(&self.tids, walk.as_slice())),
+            None => unreachable!(),
+        }
+    }
+
+    /// Adds pairs from the places of the set to this one, and what is reached by them.
+    fn add_pairs(&mut self, from: u32, place: u8)
+        requires low { place < 32 }
+        requires taken { is_set self.old.0 place ≡ true }
+        requires of_taken { (i : ℕ) → is_set from i ≡ true → is_set self.old.0 i ≡ true }
+        requires apart { is_set from place ≡ false }
+        requires none_back { (i : ℕ) → is_set from i ≡ true → is_bit self.old.3 place i ≡ false }
+        ensures taken { self.new.0 ≡ self.old.0 }
+        ensures tids { self.new.1 ≡ self.old.1 }
+        ensures pairs { (i j : ℕ) → is_bit self.new.2 i j ≡ (is_bit self.old.2 i j || (is_set from i && nat_eq j place)) }
+        ensures graph { IsBitGraph self.new.0 self.new.1 self.new.2 self.new.3 }
+    {
+        let to = only(place);
+        let before = joined(from, meeting(&self.reached, from));
+        let after = joined(to, self.reached[usize::from(place)]);
+        add(&mut self.pairs, from, to);
+        add(&mut self.reached, before, after);
+    }
+
+    /// Frees a place. What is reached stays for the others where no pair leads to it, and is else made anew from the pairs.
+    fn free(&mut self, place: u8)
+        requires low { place < 32 }
+        ensures taken { (i : ℕ) → is_set self.new.0 i ≡ (is_set self.old.0 i && not (nat_eq i place)) }
+        ensures tids { self.new.1 ≡ self.old.1 }
+        ensures pairs { (i j : ℕ) → is_bit self.new.2 i j
+            ≡ (is_bit self.old.2 i j && (not (nat_eq i place) && not (nat_eq j place))) }
+        ensures graph { IsBitGraph self.new.0 self.new.1 self.new.2 self.new.3 }
+    {
+        let alone = only(place);
+        let is_first = least(meeting(&self.pairs, alone)).is_none();
+        self.taken = minus(self.taken, alone);
+        take_out(&mut self.pairs, place);
+        if is_first {
+            take_out(&mut self.reached, place);
+        } else {
+            self.reached = closure(&self.pairs);
+        }
+    }
+}

@@ -1,0 +1,70 @@
+//! Transactions at 32 places, some of which are taken.
+ghost use Rattle.std.specs.Prelude.{◌≡◌, ℕ, ◌<◌, ◌≤◌, true, false, ◌↔◌, IfSome, IsNone, map, length, slice_index};
+ghost use Rattle.sgt_model.specs.Walks.{Member};
+ghost use Rattle.sgt_cycle.specs.Places.{is_set};
+ghost use Rattle.sgt_graph.specs.BitGraphs.{is_at, IsLeastAt};
+
+use crate::pair_graph::smaller;
+use sgt_cycle::places::{has, joined, only};
+use sgt_model::{Tid, Tids};
+
+/// Where a transaction is.
+pub fn place_of(taken: u32, tids: &[Tid; 32], t: Tid) -> Option<u8>
+    ensures some { IfSome result (λ i. (i < 32) × (is_at taken tids.now t i ≡ true)) }
+    ensures none { IsNone result → (i : ℕ) → is_at taken tids.now t i ≡ false }
+{
+    for place in 0..32u8 {
+        if tids[usize::from(place)] == t && has(taken, place) {
+            return Some(place);
+        }
+    }
+    None
+}
+
+/// The places at which these transactions are.
+pub fn places_of(taken: u32, tids: &[Tid; 32], among: &Tids) -> u32
+    ensures { (i : ℕ) → (is_set result i ≡ true) ↔ ((is_set taken i ≡ true) × Member (slice_index tids.now i) among.now) }
+{
+    let mut found = 0;
+    for place in 0..32u8 {
+        if has(taken, place) && is_among(tids[usize::from(place)], among) {
+            found = joined(found, only(place));
+        }
+    }
+    found
+}
+
+/// Whether the transaction is one of these.
+fn is_among(t: Tid, among: &Tids) -> bool
+    ensures yes { result ≡ true → Member t among.now }
+    ensures no { result ≡ false → Member t among.now → ⊥ }
+{
+    among.as_slice().contains(&t)
+}
+
+/// The transactions at these places.
+pub fn tids_at(tids: &[Tid; 32], walk: &[u8]) -> Tids
+    requires few { length walk.now ≤ 32 }
+    requires low { (i : ℕ) → Member i walk.now → i < 32 }
+    ensures { result ≡ map (λ i. slice_index tids.now i) walk.now }
+{
+    let mut named = Tids::new();
+    for place in walk {
+        named.push(tids[usize::from(*place)]);
+    }
+    named
+}
+
+/// The least transaction at one of these places.
+pub fn least_at(tids: &[Tid; 32], set: u32) -> Option<Tid>
+    ensures some { IfSome result (IsLeastAt tids.now set) }
+    ensures none { IsNone result → (i : ℕ) → is_set set i ≡ false }
+{
+    let mut least: Option<Tid> = None;
+    for place in 0..32u8 {
+        if has(set, place) {
+            least = Some(smaller(least, tids[usize::from(place)]));
+        }
+    }
+    least
+}
