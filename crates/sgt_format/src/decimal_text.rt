@@ -7,7 +7,7 @@ use sgt_model::{Answers, Key, Tids};
 use std::alloc::AllocError;
 
 /// Adds a number in decimal.
-pub(crate) fn append_number<I: Integer>(line: &mut Vec<u8>, number: I) -> Result<(), AllocError>
+pub fn append_number<I: Integer>(line: &mut Vec<u8>, number: I) -> Result<(), AllocError>
     ensures ok { OnOk result (line.new.items ≡ line.old.items ++ I.text number) }
     ensures err { OnErr result (line.new.items ≡ line.old.items) }
 {
@@ -15,7 +15,7 @@ pub(crate) fn append_number<I: Integer>(line: &mut Vec<u8>, number: I) -> Result
 }
 
 /// Adds words and a number behind them. On an error the line still begins with what it held.
-pub(crate) fn append_numbered<I: Integer>(
+pub fn append_numbered<I: Integer>(
     line: &mut Vec<u8>,
     words: &[u8],
     number: I,
@@ -71,7 +71,7 @@ pub(crate) fn append_tids_or_none(line: &mut Vec<u8>, tids: &Tids) -> Result<(),
 }
 
 /// Adds each answer behind a blank, or `none`. On an error the line still begins with what it held.
-pub(crate) fn append_answers(line: &mut Vec<u8>, answers: &Answers) -> Result<(), AllocError>
+pub fn append_answers(line: &mut Vec<u8>, answers: &Answers) -> Result<(), AllocError>
     ensures ok { OnOk result
         (line.new.items ≡ line.old.items ++ items_or_none signed_decimal answers.now) }
     ensures err { OnErr result (take (vec_len line.old) line.new.items ≡ line.old.items) }

@@ -28,6 +28,7 @@ mod tree;
 
 pub use call::JobCall;
 pub use database_text::append_database;
+pub use decimal_text::{append_answers, append_number, append_numbered};
 pub use errors::{LineError, OpeningError};
 pub use event_line::read_event;
 pub use job_line::read_job;
