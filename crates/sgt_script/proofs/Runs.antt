@@ -75,6 +75,9 @@ wrote-fault programs i rest held fault.BadLimits start explained exact = absurd 
 wrote-fault programs i rest held (fault.BadOpening k) start explained exact = absurd explained
 wrote-fault programs i rest held (fault.ProcShape n place) start explained exact = absurd explained
 wrote-fault programs i rest held (fault.ProcFlaw n k) start explained exact = absurd explained
+wrote-fault programs i rest held fault.TooManyJobs start explained exact = absurd explained
+wrote-fault programs i rest held fault.Spawn start explained exact = absurd explained
+wrote-fault programs i rest held fault.Mismatch start explained exact = absurd explained
 
 -- where the first line was not given
 pub wrote-no-line : (programs : List Program) (i : Intake) (rest held : Option (List ℕ)) (f : Fault) (r : End) → i ≡ before_input → r ≡ Err f → Explains f i.number (cut_left i rest) → IsExact r → Wrote programs rest held held r
