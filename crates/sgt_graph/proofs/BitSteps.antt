@@ -119,12 +119,12 @@ module _ (taken : ℕ) (tids pairs reached : List ℕ) (g : IsBitGraph taken tid
   pub grown_pairs : (u v : ℕ) → is_pair taken' (slice_set tids p t) pairs u v ≡ is_pair taken tids pairs u v
   grown_pairs u v = same_test _ _
       (λ h.
-          let (i, j, a, b, step) = pair_at taken' (slice_set tids p t) (placed taken' (slice_set tids p t) pairs reached grown) pairs grown.of_taken u v h in
-          let both = g.of_taken i j step in
-          pair_from taken tids (placed taken tids pairs reached g) pairs u v i j (old u i a both.0) (old v j b both.1) ∙ step)
+      let (i, j, a, b, step) = pair_at taken' (slice_set tids p t) (placed taken' (slice_set tids p t) pairs reached grown) pairs grown.of_taken u v h in
+      let both = g.of_taken i j step in
+      pair_from taken tids (placed taken tids pairs reached g) pairs u v i j (old u i a both.0) (old v j b both.1) ∙ step)
       (λ h.
-          let (i, j, a, b, step) = pair_at taken tids (placed taken tids pairs reached g) pairs g.of_taken u v h in
-          pair_from taken' (slice_set tids p t) (placed taken' (slice_set tids p t) pairs reached grown) pairs u v i j (old_at u i a) (old_at v j b) ∙ step)
+      let (i, j, a, b, step) = pair_at taken tids (placed taken tids pairs reached g) pairs g.of_taken u v h in
+      pair_from taken' (slice_set tids p t) (placed taken' (slice_set tids p t) pairs reached grown) pairs u v i j (old_at u i a) (old_at v j b) ∙ step)
     where
       old : (u i : ℕ) → is_at taken' (slice_set tids p t) u i ≡ true → is_set taken i ≡ true → is_at taken tids u i ≡ true
       old u i h there = elim (at_cases u i h) [ inl x ↦ x | inr x ↦ absurd (both_ways _ is_free (subst (λ y. is_set taken y ≡ true) x.0 there)) ]
@@ -268,26 +268,26 @@ module _ (taken : ℕ) (tids pairs reached : List ℕ) (g : IsBitGraph taken tid
     freed_nodes : (u : ℕ) → is_placed taken' tids u ≡ (is_placed taken tids u && not (nat_eq t u))
     freed_nodes u = same_test _ _
         (λ k. let (a, other) = was_at u (place_of taken' tids u) (placed_at taken' tids u k) in
-            and_from _ _ (at_placed taken tids (placed taken tids pairs reached g) u _ a) (not_it u _ a other))
+        and_from _ _ (at_placed taken tids (placed taken tids pairs reached g) u _ a) (not_it u _ a other))
         (λ k. let (old, other) = and_parts (is_placed taken tids u) _ k in
-            let a = placed_at taken tids u old in
-            at_placed taken' tids (placed taken' tids new after h) u _ (still_at u _ a (apart_from u _ a other)))
+        let a = placed_at taken tids u old in
+        at_placed taken' tids (placed taken' tids new after h) u _ (still_at u _ a (apart_from u _ a other)))
 
     freed_pairs : (u v : ℕ) → is_pair taken' tids new u v ≡ (is_pair taken tids pairs u v && (not (nat_eq t u) && not (nat_eq t v)))
     freed_pairs u v = same_test _ _
         (λ k.
-            let (i, j, a, b, step) = pair_at taken' tids (placed taken' tids new after h) new h.of_taken u v k in
-            let (x, i_other) = was_at u i a in
-            let (y, j_other) = was_at v j b in
-            and_from _ _ (pair_from taken tids (placed taken tids pairs reached g) pairs u v i j x y ∙ (old_pair i j step).0) (and_from _ _ (not_it u i x i_other) (not_it v j y j_other)))
+        let (i, j, a, b, step) = pair_at taken' tids (placed taken' tids new after h) new h.of_taken u v k in
+        let (x, i_other) = was_at u i a in
+        let (y, j_other) = was_at v j b in
+        and_from _ _ (pair_from taken tids (placed taken tids pairs reached g) pairs u v i j x y ∙ (old_pair i j step).0) (and_from _ _ (not_it u i x i_other) (not_it v j y j_other)))
         (λ k.
-            let (old, rest) = and_parts (is_pair taken tids pairs u v) _ k in
-            let (first, second) = and_parts (not (nat_eq t u)) (not (nat_eq t v)) rest in
-            let (i, j, a, b, step) = pair_at taken tids (placed taken tids pairs reached g) pairs g.of_taken u v old in
-            let i_other : i ≢ p = apart_from u i a first in
-            let j_other : j ≢ p = apart_from v j b second in
-            pair_from taken' tids (placed taken' tids new after h) new u v i j (still_at u i a i_other) (still_at v j b j_other)
-            ∙ new_is i j ∙ and_from _ _ step (and_from _ _ (is_other i i_other) (is_other j j_other)))
+        let (old, rest) = and_parts (is_pair taken tids pairs u v) _ k in
+        let (first, second) = and_parts (not (nat_eq t u)) (not (nat_eq t v)) rest in
+        let (i, j, a, b, step) = pair_at taken tids (placed taken tids pairs reached g) pairs g.of_taken u v old in
+        let i_other : i ≢ p = apart_from u i a first in
+        let j_other : j ≢ p = apart_from v j b second in
+        pair_from taken' tids (placed taken' tids new after h) new u v i j (still_at u i a i_other) (still_at v j b j_other)
+        ∙ new_is i j ∙ and_from _ _ step (and_from _ _ (is_other i i_other) (is_other j j_other)))
 
     -- the same where the transactions stand in an equal list
     pub removed_nodes : (tids' : List ℕ) → tids' ≡ tids → (u : ℕ) → is_placed taken' tids' u ≡ (is_placed taken tids u && not (nat_eq t u))
@@ -322,10 +322,10 @@ module _ (taken : ℕ) (tids pairs reached : List ℕ) (g : IsBitGraph taken tid
       → Inserts (is_pair taken tids pairs) (is_pair taken' tids' new) t preds verdict
   inserts nodes verdict is taken' tids' new reached' same_taken same_tids more after =
       subst (λ x. Inserts (is_pair taken tids pairs) (is_pair taken' tids' new) t preds x) (sym is) (λ u v.
-          subst (λ x. (is_pair x tids' new u v ≡ true) ↔ ((is_pair taken tids pairs u v ≡ true) ⊎ ((v ≡ t) × Member u preds))) (sym same_taken)
-          (subst (λ x. (is_pair taken x new u v ≡ true) ↔ ((is_pair taken tids pairs u v ≡ true) ⊎ ((v ≡ t) × Member u preds))) (sym same_tids)
-          (inserted taken tids pairs reached g t place targets preds here exact new more
-            (subst (λ x. (i j : ℕ) → is_bit new i j ≡ true → (is_set x i ≡ true) × (is_set x j ≡ true)) same_taken after.of_taken) nodes u v)))
+      subst (λ x. (is_pair x tids' new u v ≡ true) ↔ ((is_pair taken tids pairs u v ≡ true) ⊎ ((v ≡ t) × Member u preds))) (sym same_taken)
+      (subst (λ x. (is_pair taken x new u v ≡ true) ↔ ((is_pair taken tids pairs u v ≡ true) ⊎ ((v ≡ t) × Member u preds))) (sym same_tids)
+      (inserted taken tids pairs reached g t place targets preds here exact new more
+      (subst (λ x. (i j : ℕ) → is_bit new i j ≡ true → (is_set x i ≡ true) × (is_set x j ≡ true)) same_taken after.of_taken) nodes u v)))
 
 -- a transaction that is nowhere has no pairs
 pub none_in_place : (taken : ℕ) (tids pairs reached : List ℕ) → IsBitGraph taken tids pairs reached → (t : ℕ) → ((i : ℕ) → is_at taken tids t i ≡ false)
@@ -347,8 +347,8 @@ module _ (taken : ℕ) (tids pairs reached : List ℕ) (g : IsBitGraph taken tid
   pub absent_pairs : (u v : ℕ) → is_pair taken tids pairs u v ≡ (is_pair taken tids pairs u v && (not (nat_eq t u) && not (nat_eq t v)))
   absent_pairs u v = same_test _ _
       (λ h.
-          let (i, j, a, b, step) = pair_at taken tids (placed taken tids pairs reached g) pairs g.of_taken u v h in
-          and_from _ _ h (and_from _ _ (other_than u i a) (other_than v j b)))
+      let (i, j, a, b, step) = pair_at taken tids (placed taken tids pairs reached g) pairs g.of_taken u v h in
+      and_from _ _ h (and_from _ _ (other_than u i a) (other_than v j b)))
       (λ h. (and_parts (is_pair taken tids pairs u v) _ h).0)
 
 -- the column of a place: who has a pair to it
@@ -420,6 +420,6 @@ module _ (taken : ℕ) (tids pairs reached : List ℕ) (g : IsBitGraph taken tid
   no_room room all =
       let each : (x : ℕ) → Member x (counted 32) → is_set taken x ≡ true = λ x m. all x (counted_below 32 x m) in
       let fits : length (map (λ i. slice_index tids i) (counted 32)) ≤ length room.among =
-          distinct_fits (map (λ i. slice_index tids i) (counted 32)) room.among (name_distinct (counted 32) each (counted_distinct 32)) (λ u m. room.all u (names_placed (counted 32) each u m)) in
+      distinct_fits (map (λ i. slice_index tids i) (counted 32)) room.among (name_distinct (counted 32) each (counted_distinct 32)) (λ u m. room.all u (names_placed (counted 32) each u m)) in
       let few : length room.among ≤ 31 = room.few in
       absurd (omega arith)

@@ -85,11 +85,13 @@ module _ (taken : ℕ) (tids : List ℕ) where
     pub pair_at : (pairs : List ℕ) → ((i j : ℕ) → is_bit pairs i j ≡ true → (is_set taken i ≡ true) × (is_set taken j ≡ true))
         → (u v : ℕ) → is_pair taken tids pairs u v ≡ true → (i j : ℕ) × (is_at taken tids u i ≡ true) × (is_at taken tids v j ≡ true) × (is_bit pairs i j ≡ true)
     pair_at pairs of_taken u v h =
-        let both = of_taken (place_of taken tids u) (place_of taken tids v) h in
-        (place_of taken tids u, place_of taken tids v,
+        let both = of_taken (place_of taken tids u) (place_of taken tids v) h in (
+          place_of taken tids u,
+          place_of taken tids v,
           last_passes (is_at taken tids u) 32 (omega arith) (p.low _ both.0),
           last_passes (is_at taken tids v) 32 (omega arith) (p.low _ both.1),
-          h)
+          h,
+        )
 
 -- the pairs of a graph of places
 module _ (taken : ℕ) (tids pairs reached : List ℕ) (g : IsBitGraph taken tids pairs reached) where
@@ -171,8 +173,7 @@ module _ (taken : ℕ) (tids pairs reached : List ℕ) (g : IsBitGraph taken tid
           | inl e ↦ subst (λ y. is_set taken y ≡ true) (sym e) parts.0
           | inr k ↦ steps_taken place rest w.goes x k
         ] in
-        let last = place_member 32 targets (last_of place rest) w.ends in
-        (
+        let last = place_member 32 targets (last_of place rest) w.ends in (
           map (λ i. slice_index tids i) rest,
           same ∙ ap (map (λ i. slice_index tids i)) is ∙ ap (λ x. x ∷ map (λ i. slice_index tids i) rest) parts.1,
           record {

@@ -64,7 +64,6 @@ push-requires-in-Some-least-2 c =
     let long : length c.push-in-Some-least.new.self.items ≡ length (path ++ here ∷ []) = ap length c.push-in-Some-least.ensures.items in
     (omega arith, omega (arith, length-append (path ++ here ∷ []) (next ∷ [])))
 
-
 pub loop-here-preserved-in-Some-least : goal.loop-here-preserved-in-Some-least
 loop-here-preserved-in-Some-least c =
     let path : List ℕ = c.pop.new.self.items in
@@ -77,7 +76,6 @@ loop-here-preserved-in-Some-least c =
     (search_push c.args.rows.now c.args.source c.args.targets c.loop-here.fresh path here s next c.minus-fresh.result c.in-Some-least.ensures.some.0 step both.1
     (λ i. c.minus-fresh.ensures.places i ∙ ap (λ x. is_set c.loop-here.fresh i && not x) (c.only-in-Some-least.ensures i)))
 
-
 pub loop-here-preserved : goal.loop-here-preserved
 loop-here-preserved c =
     let path : List ℕ = c.pop.new.self.items in
@@ -85,8 +83,7 @@ loop-here-preserved c =
     let s : Searching c.args.rows.now c.args.source c.args.targets c.loop-here.fresh (path ++ here ∷ []) = rw c.in-Some.ensures.items at c.loop-here.invariant in
     search_pop c.args.rows.now c.args.source c.args.targets c.loop-here.fresh path here s (sym c.if-has.ensures)
     (λ b link. false_from_ne_true (is_set c.loop-here.fresh b) (λ new. both_ways _ (c.in_default-least.ensures.none refl b)
-        (c.common.ensures b ∙ and_from _ _ (subst (λ i. is_bit c.args.rows.now i b ≡ true) (sym c.from.ensures) link) new)))
-
+    (c.common.ensures b ∙ and_from _ _ (subst (λ i. is_bit c.args.rows.now i b ≡ true) (sym c.from.ensures) link) new)))
 
 pub returns-clause-none : goal.returns-clause-none
 returns-clause-none c none =

@@ -7,8 +7,8 @@ use Rattle.sgt_graph.proofs.tids.least_at.Goals.{then-has, else-has}
 pub loop-place-preserved : goal.loop-place-preserved
 loop-place-preserved c = elim c.if-has.branch [
   | then-has w ↦ subst (λ x. LeastBelow c.args.tids.now c.args.set (c.loop-place.place + 1) x) (sym (w.least-is ∙ ap Some w.smaller.ensures))
-      (least_more c.args.tids.now c.args.set c.loop-place.place c.loop-place.least _ c.loop-place.invariant (sym w.if-has.ensures) 
-          (ap (λ i. slice_index c.args.tids.now i) (sym w.from.ensures) ∙ any_default c.args.tids.now w.from.result w.index-tids-from.result (omega (arith, c.told-tids, w.from.ensures, c.loop-place-test.true))))
+      (least_more c.args.tids.now c.args.set c.loop-place.place c.loop-place.least _ c.loop-place.invariant (sym w.if-has.ensures)
+      (ap (λ i. slice_index c.args.tids.now i) (sym w.from.ensures) ∙ any_default c.args.tids.now w.from.result w.index-tids-from.result (omega (arith, c.told-tids, w.from.ensures, c.loop-place-test.true))))
   | else-has w ↦ subst (λ x. LeastBelow c.args.tids.now c.args.set (c.loop-place.place + 1) x) (sym w.least-is)
       (least_skip c.args.tids.now c.args.set c.loop-place.place c.loop-place.least c.loop-place.invariant (sym w.if-has.ensures))
 ]

@@ -23,7 +23,7 @@ loop-place-preserved c =
     let there : c.from.result < length tids = omega (arith, c.from.ensures, c.type_inv.tids) in
     let pushed : ℕ = slice_index_or tids c.from.result c.index-tids-from.result in
     let item : pushed ≡ slice_index tids (slice_index_or walk at 0) =
-        sym (any_default tids c.from.result c.index-tids-from.result there) ∙ ap (λ i. slice_index tids i) c.from.ensures in
+    sym (any_default tids c.from.result c.index-tids-from.result there) ∙ ap (λ i. slice_index tids i) c.from.ensures in
     let grown : length c.push.new.self ≡ length c.loop-place.named + 1 = ap length c.push.ensures ∙ length-append c.loop-place.named (pushed ∷ []) in
     let few : length c.loop-place.named ≤ at = c.loop-place.invariant.few in
     record {

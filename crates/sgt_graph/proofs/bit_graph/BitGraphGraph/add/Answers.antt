@@ -65,4 +65,3 @@ returns-clause-acyclic c =
     let new : is_placed c.self.inside.taken c.self.inside.tids c.args.t ≡ false = subst (λ (v : ℕ × List ℕ × List ℕ × List ℕ). is_placed v.0 v.1 c.args.t ≡ false) (sym c.self.view_is) c.requires.new in
     let more : (i : ℕ) → is_set c.joined-self-inside.result i ≡ (is_set c.self.inside.taken i || nat_eq i p) = λ i. c.joined-self-inside.ensures i ∙ ap (λ x. is_set c.self.inside.taken i || x) (c.only.ensures i) in
     subst (λ (q : ℕ). NoCycle (is_pair c.joined-self-inside.result (slice_set c.self.inside.tids q c.args.t) c.self.inside.pairs)) (sym c.from.ensures) (bit_acyclic c.joined-self-inside.result (slice_set c.self.inside.tids p c.args.t) c.self.inside.pairs c.self.inside.reached (grown c.self.inside.taken c.self.inside.tids c.self.inside.pairs c.self.inside.reached c.self.invariant c.args.t p c.joined-self-inside.result low vacant new more))
-
