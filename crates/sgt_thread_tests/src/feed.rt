@@ -48,7 +48,10 @@ fn take_some<R: Wait>(rt: &R, mut taker: Taker, most: usize) -> (Stub, Numbers)
     ensures { result.0.feed ≡ taker.feed }
 {
     let mut numbers = Numbers::new();
-    while numbers.len() < most && !numbers.is_full() {
+    for _ in 0..most {
+        if numbers.is_full() {
+            break;
+        }
         let Take::Job(job) = taker.take(rt) else {
             break;
         };

@@ -4,11 +4,12 @@ use sgt_access::OneList;
 use sgt_dispatch::Job;
 use sgt_engine::Engine;
 use sgt_graph::PairGraph;
-use sgt_model::{Args, Event, Limits, Tid};
+use sgt_model::{Args, Event, Limits, NoMemory, Tid};
 use sgt_records::ListRecords;
 use sgt_smallbank::{Account, opening, procedures};
 use sgt_workers::{Outcome, audit};
 use std::alloc::Global;
+use std::process::Abort;
 use std::test::Fail;
 
 type Bank = Engine<ListRecords, OneList, PairGraph>;
@@ -44,14 +45,42 @@ fn bank(a: Global) -> Result<Bank, Fail> {
     Ok(Engine::new(a, opening(a, &accounts)?, procedures(a)?, limits)?)
 }
 
-/// Starts a transaction, which has this number if it is started, and lets it make so many steps.
-fn begin(bank: &mut Bank, procedure: u16, args: &[i64], t: u32, steps: u32) -> Result<(), Fail> {
+/// What is done at a bank. Of these a try is the longest: a procedure is started, which gives a transaction of this number if
+/// it is not refused, and makes so many steps.
+#[derive(Clone, Copy)]
+enum Deed<'a> {
+    Try(u16, &'a [i64], u32, u32),
+    Step(u32),
+    Commit(u32),
+    Quit(u32),
+}
+
+fn try_it(bank: &mut Bank, procedure: u16, args: &[i64], t: u32, steps: u32) -> Result<(), NoMemory> {
     let args = Args::from_slice(args).unwrap_or(Args::new());
     bank.apply(Event::Start { procedure, args })?;
     for _ in 0..steps {
         bank.apply(Event::Step(Tid(t)))?;
     }
     Ok(())
+}
+
+fn act(bank: &mut Bank, deed: Deed<'_>) -> Result<(), NoMemory> {
+    match deed {
+        Deed::Try(procedure, args, t, steps) => try_it(bank, procedure, args, t, steps)?,
+        Deed::Step(t) => drop(bank.apply(Event::Step(Tid(t)))?),
+        Deed::Commit(t) => drop(bank.apply(Event::Commit(Tid(t)))?),
+        Deed::Quit(t) => drop(bank.apply(Event::Quit(Tid(t)))?),
+    }
+    Ok(())
+}
+
+/// A bank where all this was done.
+fn bank_after(a: Global, deeds: &[Deed<'_>]) -> Result<Bank, Fail> {
+    let mut bank = bank(a)?;
+    for deed in deeds {
+        act(&mut bank, *deed)?;
+    }
+    Ok(bank)
 }
 
 /// What is told of a job.
@@ -111,166 +140,177 @@ fn stands(
     Ok(audit(a, bank.history(), &jobs, &outcomes, workers, tries)?)
 }
 
-#[test]
-fn an_entry_of_each_kind(rt: HostRuntime) -> Result<(), Fail> {
-    let a = rt.alloc();
-    let mut bank = bank(a)?;
-    begin(&mut bank, DEPOSIT_CHECKING, &[1, 100], 0, 3)?;
-    bank.apply(Event::Commit(Tid(0)))?; // entry 4
-    begin(&mut bank, TRANSACT_SAVING, &[2, -1], 1, 3)?; // entry 8 asks 3
-    begin(&mut bank, 99, &[], 2, 0)?; // entry 9: no procedure
-    begin(&mut bank, BALANCE, &[], 2, 0)?; // entry 10: bad arguments
-    let calls: [Call<'_>; 4] = [
-        (DEPOSIT_CHECKING, &[1, 100]),
-        (TRANSACT_SAVING, &[2, -1]),
-        (99, &[]),
-        (BALANCE, &[]),
-    ];
-    let right = [
-        Told::Done(4),
-        Told::Asked(8),
-        Told::Refused(9),
-        Told::Refused(10),
-    ];
-    assert!(rt; stands(a, &bank, &calls, &right, 1, 100)?);
-    assert!(rt; !stands(a, &bank, &calls, &right[..3], 1, 100)?);
-    assert!(rt; !stands(a, &bank, &calls[..3], &right, 1, 100)?);
-    let wrong = [
-        (0, Told::Done(3)),
-        (0, Told::Done(11)),
-        (0, Told::Asked(4)),
-        (0, Told::NoMemory),
-        (0, Told::Left),
-        (1, Told::Done(8)),
-        (1, Told::Asked(4)),
-        (2, Told::Refused(10)),
-        (2, Told::Refused(5)),
-    ];
-    for (place, one) in wrong {
-        let mut told = right;
-        told[place] = one;
-        assert!(rt;
-            !stands(a, &bank, &calls, &told, 1, 100)?,
-            "{place} {one:?}"
-        );
+/// What is told of calls by so many workers with so many tries.
+#[derive(Clone, Copy, Debug)]
+struct Case<'a> {
+    calls: &'a [Call<'a>],
+    told: &'a [Told<'a>],
+    workers: u32,
+    tries: u32,
+}
+
+const fn case<'a>(calls: &'a [Call<'a>], told: &'a [Told<'a>], workers: u32, tries: u32) -> Case<'a> {
+    Case {
+        calls,
+        told,
+        workers,
+        tries,
+    }
+}
+
+/// Each of the cases stands, or none does.
+fn all_stand<R: Abort>(rt: &R, a: Global, bank: &Bank, cases: &[Case<'_>], right: bool) -> Result<(), Fail> {
+    for case in cases {
+        let stood = stands(a, bank, case.calls, case.told, case.workers, case.tries)?;
+        assert!(rt; stood == right, "{case:?}");
     }
     Ok(())
 }
 
+fn compare<R: Abort>(
+    rt: &R,
+    a: Global,
+    deeds: &[Deed<'_>],
+    right: &[Case<'_>],
+    wrong: &[Case<'_>],
+) -> Result<(), Fail> {
+    let bank = bank_after(a, deeds)?;
+    all_stand(rt, a, &bank, right, true)?;
+    all_stand(rt, a, &bank, wrong, false)
+}
+
+const DEPOSIT: Call<'static> = (DEPOSIT_CHECKING, &[1, 100]);
+
+const NO_PROCEDURE: Call<'static> = (99, &[]);
+
+/// Its arguments are too few.
+const BAD_BALANCE: Call<'static> = (BALANCE, &[]);
+
+const OVERDRAWN: Call<'static> = (TRANSACT_SAVING, &[2, -1]);
+
+const GOOD_BALANCE: Call<'static> = (BALANCE, &[1]);
+
+const CHECK: Call<'static> = (WRITE_CHECK, &[1, 100]);
+
+#[test]
+fn an_entry_of_each_kind(rt: HostRuntime) -> Result<(), Fail> {
+    let deeds = [
+        Deed::Try(DEPOSIT_CHECKING, &[1, 100], 0, 3),
+        Deed::Commit(0),                               // entry 4
+        Deed::Try(TRANSACT_SAVING, &[2, -1], 1, 3), // entry 8 asks 3
+        Deed::Try(99, &[], 2, 0),                      // entry 9: no procedure
+        Deed::Try(BALANCE, &[], 2, 0),                 // entry 10: bad arguments
+    ];
+    let calls = [DEPOSIT, OVERDRAWN, NO_PROCEDURE, BAD_BALANCE];
+    let right = [Told::Done(4), Told::Asked(8), Told::Refused(9), Told::Refused(10)];
+    let wrong = [
+        case(&calls, &right[..3], 1, 100),
+        case(&calls[..3], &right, 1, 100),
+        case(&calls, &[Told::Done(3), Told::Asked(8), Told::Refused(9), Told::Refused(10)], 1, 100),
+        case(&calls, &[Told::Done(11), Told::Asked(8), Told::Refused(9), Told::Refused(10)], 1, 100),
+        case(&calls, &[Told::Asked(4), Told::Asked(8), Told::Refused(9), Told::Refused(10)], 1, 100),
+        case(&calls, &[Told::NoMemory, Told::Asked(8), Told::Refused(9), Told::Refused(10)], 1, 100),
+        case(&calls, &[Told::Left, Told::Asked(8), Told::Refused(9), Told::Refused(10)], 1, 100),
+        case(&calls, &[Told::Done(4), Told::Done(8), Told::Refused(9), Told::Refused(10)], 1, 100),
+        case(&calls, &[Told::Done(4), Told::Asked(4), Told::Refused(9), Told::Refused(10)], 1, 100),
+        case(&calls, &[Told::Done(4), Told::Asked(8), Told::Refused(10), Told::Refused(10)], 1, 100),
+        case(&calls, &[Told::Done(4), Told::Asked(8), Told::Refused(5), Told::Refused(10)], 1, 100),
+    ];
+    compare(&rt, rt.alloc(), &deeds, &[case(&calls, &right, 1, 100)], &wrong)
+}
+
 #[test]
 fn nothing_is_named_twice(rt: HostRuntime) -> Result<(), Fail> {
-    let a = rt.alloc();
-    let mut bank = bank(a)?;
-    begin(&mut bank, DEPOSIT_CHECKING, &[1, 100], 0, 3)?;
-    bank.apply(Event::Commit(Tid(0)))?; // entry 4
-    begin(&mut bank, BALANCE, &[], 1, 0)?; // entry 5: bad arguments
-    begin(&mut bank, BALANCE, &[], 1, 0)?; // entry 6: bad arguments
-    let deposit: Call<'_> = (DEPOSIT_CHECKING, &[1, 100]);
-    let (done, fifth, sixth) = (Told::Done(4), Told::Refused(5), Told::Refused(6));
-    assert!(rt; stands(a, &bank, &[deposit], &[done], 1, 1)?);
-    assert!(rt; !stands(a, &bank, &[(DEPOSIT_CHECKING, &[1, 101])], &[done], 1, 1)?);
-    assert!(rt; !stands(a, &bank, &[deposit, deposit], &[done, done], 1, 1)?);
-    let calls: [Call<'_>; 3] = [(BALANCE, &[]), (BALANCE, &[]), deposit];
-    assert!(rt; stands(a, &bank, &calls, &[fifth, sixth, done], 1, 1)?);
-    assert!(rt; !stands(a, &bank, &calls, &[fifth, fifth, done], 1, 1)?);
-    Ok(())
+    let deeds = [
+        Deed::Try(DEPOSIT_CHECKING, &[1, 100], 0, 3),
+        Deed::Commit(0),               // entry 4
+        Deed::Try(BALANCE, &[], 1, 0), // entry 5: bad arguments
+        Deed::Try(BALANCE, &[], 1, 0), // entry 6: bad arguments
+    ];
+    let calls = [BAD_BALANCE, BAD_BALANCE, DEPOSIT];
+    let right = [
+        case(&[DEPOSIT], &[Told::Done(4)], 1, 1),
+        case(&calls, &[Told::Refused(5), Told::Refused(6), Told::Done(4)], 1, 1),
+    ];
+    let wrong = [
+        case(&[(DEPOSIT_CHECKING, &[1, 101])], &[Told::Done(4)], 1, 1),
+        case(&[DEPOSIT, DEPOSIT], &[Told::Done(4), Told::Done(4)], 1, 1),
+        case(&calls, &[Told::Refused(5), Told::Refused(5), Told::Done(4)], 1, 1),
+    ];
+    compare(&rt, rt.alloc(), &deeds, &right, &wrong)
 }
 
 /// Two write the same check: both look, and the second to store closes a cycle.
 #[test]
 fn a_cycle_is_a_failed_try(rt: HostRuntime) -> Result<(), Fail> {
-    let a = rt.alloc();
-    let mut bank = bank(a)?;
-    begin(&mut bank, WRITE_CHECK, &[1, 100], 0, 3)?;
-    begin(&mut bank, WRITE_CHECK, &[1, 100], 1, 3)?;
-    bank.apply(Event::Step(Tid(0)))?;
-    bank.apply(Event::Step(Tid(1)))?;
-    bank.apply(Event::Commit(Tid(0)))?; // entry 10
-    let calls: [Call<'_>; 2] = [(WRITE_CHECK, &[1, 100]), (WRITE_CHECK, &[1, 100])];
-    let right = [Told::Done(10), Told::Gave(&[Tid(1)])];
-    assert!(rt; stands(a, &bank, &calls, &right, 2, 1)?);
-    assert!(rt; !stands(a, &bank, &calls, &right, 2, 2)?);
-    assert!(rt; !stands(a, &bank, &calls, &right, 1, 1)?);
-    assert!(rt;
-        !stands(
-            a,
-            &bank,
-            &calls,
-            &[Told::Done(10), Told::Gave(&[Tid(0)])],
-            2,
-            1
-        )?
-    );
-    assert!(rt;
-        !stands(
-            a,
-            &bank,
-            &calls,
-            &[Told::Done(10), Told::Gave(&[Tid(2)])],
-            2,
-            1
-        )?
-    );
-    Ok(())
+    let deeds = [
+        Deed::Try(WRITE_CHECK, &[1, 100], 0, 3),
+        Deed::Try(WRITE_CHECK, &[1, 100], 1, 3),
+        Deed::Step(0),
+        Deed::Step(1),
+        Deed::Commit(0), // entry 10
+    ];
+    let calls = [CHECK, CHECK];
+    let fell = [Told::Done(10), Told::Gave(&[Tid(1)])];
+    let wrong = [
+        case(&calls, &fell, 2, 2),
+        case(&calls, &fell, 1, 1),
+        case(&calls, &[Told::Done(10), Told::Gave(&[Tid(0)])], 2, 1),
+        case(&calls, &[Told::Done(10), Told::Gave(&[Tid(2)])], 2, 1),
+    ];
+    compare(&rt, rt.alloc(), &deeds, &[case(&calls, &fell, 2, 1)], &wrong)
 }
 
 /// A deposit is quit twice. With the first, two balances fall that were live at once, with the second a later one.
 #[test]
 fn tries_come_one_after_another(rt: HostRuntime) -> Result<(), Fail> {
-    let a = rt.alloc();
-    let mut bank = bank(a)?;
-    begin(&mut bank, DEPOSIT_CHECKING, &[1, 100], 0, 3)?;
-    begin(&mut bank, BALANCE, &[1], 1, 3)?;
-    begin(&mut bank, BALANCE, &[1], 2, 3)?;
-    bank.apply(Event::Quit(Tid(0)))?;
-    begin(&mut bank, DEPOSIT_CHECKING, &[1, 100], 3, 3)?;
-    begin(&mut bank, BALANCE, &[1], 4, 3)?;
-    bank.apply(Event::Quit(Tid(3)))?;
-    let deposit: Call<'_> = (DEPOSIT_CHECKING, &[1, 100]);
-    let calls = [deposit, (BALANCE, &[1]), deposit];
-    let (left, no_memory) = (Told::Left, Told::NoMemory);
-    for (first, second, right) in [
-        (1, 4, true),
-        (2, 4, true),
-        (1, 2, false),
-        (4, 1, false),
-        (1, 1, false),
-        (0, 3, false),
-        (0, 4, false),
-        (1, 9, false),
-    ] {
-        let tries = [Tid(first), Tid(second)];
-        let told = [left, Told::Gave(&tries), no_memory];
-        assert!(rt;
-            stands(a, &bank, &calls, &told, 3, 2)? == right,
-            "{first} {second}"
-        );
-    }
-    let gave = Told::Gave(&[Tid(1), Tid(4)]);
-    assert!(rt; !stands(a, &bank, &calls, &[left, gave, no_memory], 3, 3)?);
-    assert!(rt; !stands(a, &bank, &calls, &[left, gave, no_memory], 2, 2)?);
-    assert!(rt; !stands(a, &bank, &calls, &[left, gave, Told::Untaken], 3, 2)?);
-    let quits = Told::Gave(&[Tid(0), Tid(3)]);
-    assert!(rt; !stands(a, &bank, &calls, &[quits, no_memory, no_memory], 3, 2)?);
-    Ok(())
+    let deeds = [
+        Deed::Try(DEPOSIT_CHECKING, &[1, 100], 0, 3),
+        Deed::Try(BALANCE, &[1], 1, 3),
+        Deed::Try(BALANCE, &[1], 2, 3),
+        Deed::Quit(0),
+        Deed::Try(DEPOSIT_CHECKING, &[1, 100], 3, 3),
+        Deed::Try(BALANCE, &[1], 4, 3),
+        Deed::Quit(3),
+    ];
+    let calls = [DEPOSIT, GOOD_BALANCE, DEPOSIT];
+    let first = [Told::Left, Told::Gave(&[Tid(1), Tid(4)]), Told::NoMemory];
+    let right = [
+        case(&calls, &first, 3, 2),
+        case(&calls, &[Told::Left, Told::Gave(&[Tid(2), Tid(4)]), Told::NoMemory], 3, 2),
+    ];
+    let wrong = [
+        case(&calls, &[Told::Left, Told::Gave(&[Tid(1), Tid(2)]), Told::NoMemory], 3, 2),
+        case(&calls, &[Told::Left, Told::Gave(&[Tid(4), Tid(1)]), Told::NoMemory], 3, 2),
+        case(&calls, &[Told::Left, Told::Gave(&[Tid(1), Tid(1)]), Told::NoMemory], 3, 2),
+        case(&calls, &[Told::Left, Told::Gave(&[Tid(0), Tid(3)]), Told::NoMemory], 3, 2),
+        case(&calls, &[Told::Left, Told::Gave(&[Tid(0), Tid(4)]), Told::NoMemory], 3, 2),
+        case(&calls, &[Told::Left, Told::Gave(&[Tid(1), Tid(9)]), Told::NoMemory], 3, 2),
+        case(&calls, &first, 3, 3),
+        case(&calls, &first, 2, 2),
+        case(&calls, &[Told::Left, Told::Gave(&[Tid(1), Tid(4)]), Told::Untaken], 3, 2),
+        case(&calls, &[Told::Gave(&[Tid(0), Tid(3)]), Told::NoMemory, Told::NoMemory], 3, 2),
+    ];
+    compare(&rt, rt.alloc(), &deeds, &right, &wrong)
 }
 
 #[test]
 fn jobs_are_untaken_where_all_left(rt: HostRuntime) -> Result<(), Fail> {
-    let a = rt.alloc();
-    let bank = bank(a)?;
-    let balance: Call<'_> = (BALANCE, &[1]);
-    let calls = [balance, balance, balance];
-    let (left, untaken, no_memory) = (Told::Left, Told::Untaken, Told::NoMemory);
-    for workers in 1..4 {
-        let right = workers == 2;
-        assert!(rt; stands(a, &bank, &calls, &[left, left, untaken], workers, 1)? == right);
-    }
-    for workers in 1..5 {
-        let right = workers >= 3;
-        assert!(rt; stands(a, &bank, &calls, &[left, left, left], workers, 1)? == right);
-    }
-    assert!(rt; !stands(a, &bank, &calls, &[untaken, untaken, untaken], 2, 1)?);
-    assert!(rt; stands(a, &bank, &calls, &[no_memory, no_memory, no_memory], 2, 1)?);
-    Ok(())
+    let calls = [GOOD_BALANCE, GOOD_BALANCE, GOOD_BALANCE];
+    let two_left = [Told::Left, Told::Left, Told::Untaken];
+    let all_left = [Told::Left, Told::Left, Told::Left];
+    let right = [
+        case(&calls, &two_left, 2, 1),
+        case(&calls, &all_left, 3, 1),
+        case(&calls, &all_left, 4, 1),
+        case(&calls, &[Told::NoMemory, Told::NoMemory, Told::NoMemory], 2, 1),
+    ];
+    let wrong = [
+        case(&calls, &two_left, 1, 1),
+        case(&calls, &two_left, 3, 1),
+        case(&calls, &all_left, 1, 1),
+        case(&calls, &all_left, 2, 1),
+        case(&calls, &[Told::Untaken, Told::Untaken, Told::Untaken], 2, 1),
+    ];
+    compare(&rt, rt.alloc(), &[], &right, &wrong)
 }
