@@ -1,5 +1,0 @@
-pub mod Jobs
-pub mod Taking
-pub mod Inputs
-pub mod OutcomeText
-pub mod Reports
