@@ -1,7 +1,7 @@
 -- How many numbers there can be.
-use Rattle.std.specs.Prelude.{◌≡◌, ℕ, ◌<◌, ◌≤◌, ◌+◌, ◌||◌, Bool, true, false, nat_eq, nat_lt, List, [], ◌∷◌, length}
-use Rattle.std.proofs.Common.{zero, suc, refl, sym, ◌∙◌, ap, inl, inr, arith}
-use Rattle.std.proofs.lemmas.Bool.{eqb-true, eq-eqb, ltb-true, lt-ltb, le-ltb, cases_lt, cases_eq, or_cases, or_left, or_right, false_from_ne_true}
+use Rattle.std.specs.Prelude.{◌≡◌, ℕ, ◌<◌, ◌≤◌, ◌+◌, ◌||◌, true, nat_eq, List, [], ◌∷◌, length}
+use Rattle.std.proofs.Common.{zero, suc, refl, sym, inl, inr, arith}
+use Rattle.std.proofs.lemmas.Bool.{eqb-true, cases_lt, or_cases}
 use Rattle.sgt_model.specs.Walks.{Member, AtMost}
 use Rattle.sgt_cycle.specs.Links.{is_end, occurs}
 
@@ -27,26 +27,6 @@ occurs_below n links source first ends = record {
   few = omega (arith, length-below n);
   all = λ t occurs. below_has n t (elim (or_cases (nat_eq source t) _ occurs) [ inl same ↦ let e : source ≡ t = eqb-true source t same in omega arith | inr end ↦ ends t end ]);
 }
-
--- where only numbers below n pass the test, at most n do
-pub few_below : (n : ℕ) (test : ℕ → Bool) → ((t : ℕ) → test t ≡ nat_lt t n) → n ≤ 31 → AtMost 31 test
-few_below n test is few = record {
-  among = below n;
-  few = omega (arith, length-below n);
-  all = λ t passes. below_has n t (ltb-true t n (sym (is t) ∙ passes));
-}
-
--- the numbers below n, and n
-pub one_more : (n t : ℕ) → (nat_lt t n || nat_eq t n) ≡ nat_lt t (n + 1)
-one_more n t = elim (cases_lt t n) [
-  | inl early ↦ or_left (nat_lt t n) _ (lt-ltb t n early) ∙ sym (lt-ltb t (n + 1) (omega arith))
-  | inr late ↦ elim (cases_eq t n) [
-    | inl last ↦ or_right (nat_lt t n) _ (eq-eqb t n last) ∙ sym (lt-ltb t (n + 1) (omega arith))
-    | inr above ↦
-        ap (λ x. x || nat_eq t n) (le-ltb t n (omega arith)) ∙ false_from_ne_true (nat_eq t n) (λ same. above (eqb-true t n same))
-        ∙ sym (le-ltb t (n + 1) (omega arith))
-  ]
-]
 
 -- the numbers of the links
 ends_of : List (ℕ × ℕ) → List ℕ

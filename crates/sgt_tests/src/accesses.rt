@@ -1,12 +1,8 @@
 //! Which accesses rival each other, over any body.
 ghost use Rattle.std.specs.Prelude.{◌≡◌, [], ◌∷◌, ◌++◌, OnOk};
 
-use crate::mixed_list::run_mixed;
-use sgt_access::{Accesses, OneList, PerKey};
-use sgt_engine::Engine;
-use sgt_graph::PairGraph;
+use sgt_access::{Accesses, OneList};
 use sgt_model::{Key, Kind, NoMemory, Tid};
-use sgt_records::ListRecords;
 use std::process::Abort;
 use std::test::Fail;
 
@@ -46,23 +42,5 @@ fn two_readers<A: Accesses>(rt: &impl Abort, mut accesses: A, key: Key) -> Resul
 fn readers_rival_a_writer(rt: HostRuntime) -> Result<(), Fail> {
     let key = Key::new(2, 101).unwrap();
     two_readers(&rt, OneList::empty(rt.alloc()), key)?;
-    two_readers(&rt, PerKey::empty(rt.alloc()), key)?;
-    Ok(())
-}
-
-#[test]
-fn a_mixed_list_is_answered_alike_by_both_bodies(rt: HostRuntime) -> Result<(), Fail> {
-    let a = rt.alloc();
-    for live in [8, 32] {
-        let plain: Engine<ListRecords, OneList, PairGraph> = run_mixed(a, live)?;
-        let by_key: Engine<ListRecords, PerKey, PairGraph> = run_mixed(a, live)?;
-        assert_eq!(rt; plain.history().len(), 10_000);
-        assert_eq!(rt; by_key.history().len(), 10_000);
-        for (one, other) in plain.history().iter().zip(by_key.history()) {
-            assert_eq!(rt; one.event, other.event);
-            assert_eq!(rt; one.reply, other.reply);
-        }
-        assert_eq!(rt; plain.database(a)?.rows(), by_key.database(a)?.rows());
-    }
     Ok(())
 }

@@ -9,23 +9,17 @@ mod accesses;
 #[cfg(test)]
 mod cascades;
 #[cfg(test)]
-mod cursor;
-#[cfg(test)]
 mod engine;
 #[cfg(test)]
 mod formats;
 #[cfg(test)]
 mod graphs;
 #[cfg(test)]
-mod mixed_list;
-#[cfg(test)]
 mod procedures;
 #[cfg(test)]
 mod procedures_as_trees;
 #[cfg(test)]
 mod records;
-#[cfg(test)]
-mod records_replay;
 #[cfg(test)]
 mod scheduler;
 #[cfg(test)]

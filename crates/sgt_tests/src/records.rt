@@ -3,8 +3,7 @@ ghost use Rattle.std.specs.Prelude.{◌≡◌, []};
 ghost use Rattle.sgt_model.specs.Contents.{Key as K};
 
 use sgt_model::{Database, Key, NoMemory, Tid};
-use sgt_records::{ListRecords, Records, SlabRecords, Top};
-use std::alloc::Global;
+use sgt_records::{ListRecords, Records, Top};
 use std::process::Abort;
 use std::test::Fail;
 
@@ -37,27 +36,14 @@ fn written_twice<R: Records>(rt: &impl Abort, mut records: R, key: Key) -> Resul
     Ok(())
 }
 
-fn reserved_alone<R: Records>(
-    rt: &impl Abort,
-    alloc: Global,
-    mut records: R,
-    key: Key,
-) -> Result<Database, NoMemory> {
-    records.reserve(key)?;
-    assert_eq!(rt; records.top(key), Top::Nothing);
-    assert_eq!(rt; records.committed(key), None);
-    records.all(alloc)
-}
-
 #[test]
 fn an_undo_leaves_the_write_above(rt: HostRuntime) -> Result<(), Fail> {
     let key = Key::new(3, 7).unwrap();
     let mut opening = Database::empty(rt.alloc());
     opening.put(key, 1)?;
-    let list = undone_beneath(&rt, ListRecords::build(rt.alloc(), &opening)?, key)?;
-    let slab = undone_beneath(&rt, SlabRecords::build(rt.alloc(), &opening)?, key)?;
-    assert_eq!(rt; list.all(rt.alloc())?.rows(), [(key, 6)].as_slice());
-    assert_eq!(rt; slab.all(rt.alloc())?.rows(), [(key, 6)].as_slice());
+    let records = undone_beneath(&rt, ListRecords::build(rt.alloc(), &opening)?, key)?;
+    let all = records.all(rt.alloc())?;
+    assert_eq!(rt; all.rows(), [(key, 6)].as_slice());
     Ok(())
 }
 
@@ -66,17 +52,5 @@ fn an_undo_takes_the_last_write_of_two(rt: HostRuntime) -> Result<(), Fail> {
     let key = Key::new(3, 7).unwrap();
     let opening = Database::empty(rt.alloc());
     written_twice(&rt, ListRecords::build(rt.alloc(), &opening)?, key)?;
-    written_twice(&rt, SlabRecords::build(rt.alloc(), &opening)?, key)?;
-    Ok(())
-}
-
-#[test]
-fn an_empty_record_is_none(rt: HostRuntime) -> Result<(), Fail> {
-    let (a, key) = (rt.alloc(), Key::new(3, 7).unwrap());
-    let opening = Database::empty(a);
-    let list = reserved_alone(&rt, a, ListRecords::build(a, &opening)?, key)?;
-    let slab = reserved_alone(&rt, a, SlabRecords::build(a, &opening)?, key)?;
-    assert_eq!(rt; list.rows().len(), 0);
-    assert_eq!(rt; slab.rows().len(), 0);
     Ok(())
 }
