@@ -58,6 +58,10 @@ impl Graph for BitGraph {
         let Some(place) = place_of(self.taken, &self.tids, t) else {
             unreachable!();
         };
+        // Most accesses have no rival.
+        if preds.is_empty() {
+            return Verdict::Accepted;
+        }
         self.verdict(place, places_of(self.taken, &self.tids, preds))
     }
 
@@ -65,6 +69,9 @@ impl Graph for BitGraph {
         let Some(place) = place_of(self.taken, &self.tids, t) else {
             unreachable!();
         };
+        if preds.is_empty() {
+            return Verdict::Accepted;
+        }
         let from = places_of(self.taken, &self.tids, preds);
         let verdict = self.verdict(place, from);
         if let Verdict::Accepted = verdict {

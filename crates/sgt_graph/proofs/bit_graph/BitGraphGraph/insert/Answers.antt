@@ -46,3 +46,9 @@ returns-in_default-verdict-clause-of_nodes c = subst (λ (v : ℕ × List ℕ ×
 
 pub returns-in_default-verdict-clause-acyclic : goal.returns-in_default-verdict-clause-acyclic
 returns-in_default-verdict-clause-acyclic c = subst (λ (v : ℕ × List ℕ × List ℕ × List ℕ). NoCycle (is_pair v.0 v.1 v.2)) c.self.view_is (bit_acyclic c.self.inside.taken c.self.inside.tids c.self.inside.pairs c.self.inside.reached c.self.invariant)
+
+pub returns-then-is_empty-clause-of_nodes : goal.returns-then-is_empty-clause-of_nodes
+returns-then-is_empty-clause-of_nodes c = subst (λ (v : ℕ × List ℕ × List ℕ × List ℕ). OfNodes (is_placed v.0 v.1) (is_pair v.0 v.1 v.2)) c.self.view_is (bit_of_nodes c.self.inside.taken c.self.inside.tids c.self.inside.pairs c.self.inside.reached c.self.invariant)
+
+pub returns-then-is_empty-clause-acyclic : goal.returns-then-is_empty-clause-acyclic
+returns-then-is_empty-clause-acyclic c = subst (λ (v : ℕ × List ℕ × List ℕ × List ℕ). NoCycle (is_pair v.0 v.1 v.2)) c.self.view_is (bit_acyclic c.self.inside.taken c.self.inside.tids c.self.inside.pairs c.self.inside.reached c.self.invariant)
