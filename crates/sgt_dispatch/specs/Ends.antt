@@ -15,6 +15,7 @@ use Rattle.sgt_dispatch.specs.Accounts.{Accounts}
 abbrev pub FeedId : Type 0
 FeedId = TableId × Badge (Key Item)
 
+-- the feed of a pass
 abbrev pub feed_of : Pass Item Log → FeedId
 feed_of pass = (pass.table_id, pass.me.0.of)
 
@@ -30,6 +31,7 @@ pub record TakerState : Type 0 where
   pub feed : FeedId
   pub taken : List Item
 
+-- the putter or taker that holds this pass
 abbrev pub putter_of : Pass Item Log → ℕ → PutterState
 putter_of pass unjoined = record { feed = feed_of pass; put = (view pass).put; joined = (view pass).joined; unjoined = unjoined }
 
@@ -50,17 +52,18 @@ pub record IsTaker (pass : Pass Item Log) : Type 0 where
   pub is_putter : (view pass).is_putter ≡ false
   pub joined : (view pass).joined ≡ []
 
--- the ends of a new feed
+-- a putter that has put nothing, and a taker that has taken nothing
 abbrev pub new_putter : FeedId → ℕ → PutterState
 new_putter feed takers = record { feed = feed; put = []; joined = []; unjoined = takers }
 
 abbrev pub new_taker : FeedId → TakerState
 new_taker feed = record { feed = feed; taken = [] }
 
--- how many items a feed may hold, and how many takers it may have
+-- how many items a feed may hold
 abbrev pub IsRoom : ℕ → Type 0
 IsRoom room = (1 ≤ room) × (room ≤ 1024)
 
+-- how many takers it may have
 abbrev pub IsCrew : ℕ → Type 0
 IsCrew takers = (1 ≤ takers) × (takers ≤ 16)
 

@@ -7,3 +7,4 @@ pub mod Sound
 pub mod Paths
 pub mod Places
 pub mod Cursors
+pub mod Codes

@@ -27,7 +27,8 @@ pub struct Cursor {
 impl Model for Cursor {
     ghost use Rattle.sgt_model.specs.Left.{Left};
     ghost use Rattle.sgt_model.specs.Syntax.{Program};
-    ghost use Rattle.sgt_proc.specs.Cursors.{coded_cursor, left_behind, Stands};
+    ghost use Rattle.sgt_proc.specs.Codes.{coded_cursor};
+    ghost use Rattle.sgt_proc.specs.Cursors.{left_behind, Stands};
 
     ghost Value = { Program × Left };
 

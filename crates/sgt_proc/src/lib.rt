@@ -1,13 +1,15 @@
 //! The procedure language: `check` tells whether a procedure has a flaw, and a procedure that has none tells what it does
 //! next.
 //!
-//! It makes no access itself: `Checked::next` is given what the looks found so far, and answers the next access, the answers
-//! or the code that is asked. What a procedure means stands in `sgt_model`.
+//! It makes no access itself. A `Cursor` stands before a procedure's next access, tells it, and goes on behind it once it was
+//! made; `Checked::next` tells the same from the start, given what the looks found so far. Both answer the next access, the
+//! answers or the code that is asked. What a procedure means stands in `sgt_model`.
 //!
 //! ```
-//! match check(procedure) {
-//!     Ok(checked) => checked.next(&args, &[Some(101)], 1),
-//!     Err(flawed) => return Err(flawed.flaw),
+//! let checked = check(procedure)?;
+//! let mut cursor = checked.begin(&args);
+//! while let Next::Look(key) = cursor.next(&checked) {
+//!     cursor.looked(&checked, values.get(key));
 //! }
 //! ```
 #![tactic(auto)]

@@ -20,7 +20,7 @@ impl Model for Live {
     ghost use Rattle.std.specs.Coded.{codes};
     ghost use Rattle.std.specs.Prelude.{ℕ, List};
     ghost use Rattle.sgt_model.specs.Codes.{coded_program};
-    ghost use Rattle.sgt_proc.specs.Cursors.{coded_left};
+    ghost use Rattle.sgt_proc.specs.Codes.{coded_left};
     ghost use Rattle.sgt_sched.specs.LiveProgress.{Progress};
 
     ghost Value = { List (ℕ × Progress) };

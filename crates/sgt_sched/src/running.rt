@@ -21,7 +21,7 @@ impl Model for Running {
     ghost use Rattle.std.specs.Coded.{codes};
     ghost use Rattle.std.specs.Prelude.{ℕ};
     ghost use Rattle.sgt_model.specs.Codes.{coded_program};
-    ghost use Rattle.sgt_proc.specs.Cursors.{coded_left};
+    ghost use Rattle.sgt_proc.specs.Codes.{coded_left};
     ghost use Rattle.sgt_sched.specs.LiveProgress.{Progress};
 
     ghost Value = { ℕ × Progress };

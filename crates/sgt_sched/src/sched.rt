@@ -67,7 +67,7 @@ pub struct Sched<R: Records, A: Accesses, G: Graph> {
 impl<R: Records, A: Accesses, G: Graph> Model for Sched<R, A, G> {
     ghost use Rattle.std.specs.Coded.{codes};
     ghost use Rattle.sgt_model.specs.Codes.{coded_program};
-    ghost use Rattle.sgt_proc.specs.Cursors.{coded_left};
+    ghost use Rattle.sgt_proc.specs.Codes.{coded_left};
     ghost use Rattle.sgt_sched.specs.SchedulerView.{SchedulerView, IsKept};
 
     ghost Value = { SchedulerView R A G };

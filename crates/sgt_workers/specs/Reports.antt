@@ -36,7 +36,7 @@ transactions_of history (outcome.Left note) = []
 transactions_of history outcome.Untaken = []
 transactions_of history outcome.NoMemory = []
 
--- kinds of outcomes
+-- whether an outcome is of this kind
 
 abbrev pub is_done : {N : Type 0} → Outcome N → Bool
 is_done (outcome.Done n) = true
