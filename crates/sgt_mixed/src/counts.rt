@@ -1,17 +1,17 @@
 use sgt_model::{Cause, Entry, Reply, Tids};
 
 /// How many replies of each kind there were. A count stays at the greatest number of its type.
-#[derive(Drop)]
+#[derive(Clone, Copy)]
 pub struct Counts {
-    pub starts: u64,
-    pub commits: u64,
+    starts: u64,
+    commits: u64,
     /// Aborts of a transaction's own, by their causes.
-    pub cycles: u64,
-    pub asks: u64,
-    pub quits: u64,
+    cycles: u64,
+    asks: u64,
+    quits: u64,
     /// The transactions that fell with these.
-    pub fallen: u64,
-    pub waits: u64,
+    fallen: u64,
+    waits: u64,
 }
 
 impl Counts {
@@ -30,6 +30,19 @@ impl Counts {
             counts.note(&entry.reply);
         }
         counts
+    }
+
+    /// Each kind in words, with its count.
+    pub fn by_kind(&self) -> [(&'static str, u64); 7] {
+        [
+            ("starts", self.starts),
+            ("commits", self.commits),
+            ("aborts by cycle", self.cycles),
+            ("aborts by ask", self.asks),
+            ("aborts by quit", self.quits),
+            ("fallen", self.fallen),
+            ("waits", self.waits),
+        ]
     }
 
     /// Counts a reply.

@@ -1,5 +1,9 @@
-use sgt_format::append_reply;
-use sgt_model::{Entry, NoMemory};
+use sgt_access::Accesses;
+use sgt_engine::Engine;
+use sgt_format::{append_database, append_reply};
+use sgt_graph::Graph;
+use sgt_model::{Cause, Entry, Fate, NoMemory, Reply, Tids};
+use sgt_records::Records;
 use std::alloc::Global;
 
 /// Where the 64-bit FNV-1a hash begins, and what it multiplies by.
@@ -7,18 +11,96 @@ const BASIS: u64 = 14_695_981_039_346_656_037;
 
 const PRIME: u64 = 1_099_511_628_211;
 
-/// The 64-bit FNV-1a hash of the replies' lines, each with its end. A line that is refused memory is made once more.
-pub fn digest(alloc: Global, history: &[Entry]) -> Result<u64, NoMemory> {
-    let mut hash = BASIS;
-    let mut line = Vec::new(alloc);
-    for entry in history {
-        line.clear();
-        if append_reply(&mut line, &entry.reply).is_err() {
-            append_reply(&mut line, &entry.reply)?;
-        }
-        hash = hashed(hash, line.as_slice());
+/// The 64-bit FNV-1a hashes of what an engine has answered and of what it holds, each line with its end.
+#[derive(Clone, Copy)]
+pub struct Digests {
+    /// Of the replies' lines.
+    pub replies: u64,
+    /// Of the same, where each walk is told by its first member alone.
+    pub first_members: u64,
+    /// Of the committed database's lines.
+    pub database: u64,
+}
+
+impl Digests {
+    /// The digests of an engine. What is refused memory is tried once more.
+    pub fn of<R: Records, A: Accesses, G: Graph>(
+        alloc: Global,
+        engine: &Engine<R, A, G>,
+    ) -> Result<Self, NoMemory> {
+        let (replies, first_members) = of_replies(alloc, engine.history())?;
+        let database = match of_database(alloc, engine) {
+            Ok(database) => database,
+            Err(NoMemory) => of_database(alloc, engine)?,
+        };
+        Ok(Digests {
+            replies,
+            first_members,
+            database,
+        })
     }
-    Ok(hash)
+}
+
+/// The digest of the replies, and the one with the first members alone.
+fn of_replies(alloc: Global, history: &[Entry]) -> Result<(u64, u64), NoMemory> {
+    let mut line = Vec::new(alloc);
+    let mut whole = BASIS;
+    let mut first = BASIS;
+    for entry in history {
+        whole = with_line(whole, &mut line, &entry.reply)?;
+        first = with_line(first, &mut line, &by_first_member(&entry.reply))?;
+    }
+    Ok((whole, first))
+}
+
+/// The hash with a reply's line behind what it was taken of. The line is a place for the text, which is made once more where
+/// it is refused memory.
+fn with_line(hash: u64, line: &mut Vec<u8>, reply: &Reply) -> Result<u64, NoMemory> {
+    line.clear();
+    if append_reply(line, reply).is_err() {
+        append_reply(line, reply)?;
+    }
+    Ok(hashed(hash, line.as_slice()))
+}
+
+/// The digest of the committed database.
+fn of_database<R: Records, A: Accesses, G: Graph>(
+    alloc: Global,
+    engine: &Engine<R, A, G>,
+) -> Result<u64, NoMemory> {
+    let database = engine.database(alloc)?;
+    let mut lines = Vec::new(alloc);
+    append_database(&mut lines, &database)?;
+    Ok(hashed(BASIS, lines.as_slice()))
+}
+
+/// The reply, where a walk has its first member alone.
+fn by_first_member(reply: &Reply) -> Reply {
+    match reply {
+        Reply::Aborted { cause, fell } => Reply::Aborted {
+            cause: cause_by_first_member(cause),
+            fell: fell.copied(),
+        },
+        Reply::Over(Fate::Aborted(cause)) => {
+            Reply::Over(Fate::Aborted(cause_by_first_member(cause)))
+        }
+        _ => reply.copied(),
+    }
+}
+
+fn cause_by_first_member(cause: &Cause) -> Cause {
+    match cause {
+        Cause::Cycle(walk) => Cause::Cycle(first_member(walk)),
+        _ => cause.copied(),
+    }
+}
+
+fn first_member(walk: &Tids) -> Tids {
+    let mut first = Tids::new();
+    if let Some(t) = walk.as_slice().first() {
+        first.push(*t);
+    }
+    first
 }
 
 /// The hash with these bytes behind what it was taken of.

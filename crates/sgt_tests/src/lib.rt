@@ -5,28 +5,16 @@
 #![tactic(auto)]
 
 #[cfg(test)]
-mod accesses;
-#[cfg(test)]
-mod cascades;
-#[cfg(test)]
 mod engine;
 #[cfg(test)]
 mod formats;
 #[cfg(test)]
-mod graphs;
-#[cfg(test)]
 mod procedures;
 #[cfg(test)]
 mod procedures_as_trees;
-#[cfg(test)]
-mod records;
 #[cfg(test)]
 mod scheduler;
 #[cfg(test)]
 mod smallbank;
 #[cfg(test)]
 mod streams;
-#[cfg(test)]
-mod values;
-#[cfg(test)]
-mod walks;

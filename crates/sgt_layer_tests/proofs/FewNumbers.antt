@@ -1,7 +1,7 @@
 -- How many numbers there can be.
-use Rattle.std.specs.Prelude.{◌≡◌, ℕ, ◌<◌, ◌≤◌, ◌+◌, ◌||◌, true, nat_eq, List, [], ◌∷◌, length}
-use Rattle.std.proofs.Common.{zero, suc, refl, sym, inl, inr, arith}
-use Rattle.std.proofs.lemmas.Bool.{eqb-true, cases_lt, or_cases}
+use Rattle.std.specs.Prelude.{◌≡◌, ℕ, ◌<◌, ◌≤◌, ◌+◌, ◌||◌, Bool, true, nat_eq, nat_lt, List, [], ◌∷◌, length}
+use Rattle.std.proofs.Common.{zero, suc, refl, sym, ◌∙◌, inl, inr, arith}
+use Rattle.std.proofs.lemmas.Bool.{eqb-true, ltb-true, cases_lt, or_cases}
 use Rattle.sgt_model.specs.Walks.{Member, AtMost}
 use Rattle.sgt_cycle.specs.Links.{is_end, occurs}
 
@@ -26,6 +26,14 @@ occurs_below n links source first ends = record {
   among = below n;
   few = omega (arith, length-below n);
   all = λ t occurs. below_has n t (elim (or_cases (nat_eq source t) _ occurs) [ inl same ↦ let e : source ≡ t = eqb-true source t same in omega arith | inr end ↦ ends t end ]);
+}
+
+-- where only numbers below n pass the test, at most n do
+pub few_below : (n : ℕ) (test : ℕ → Bool) → ((t : ℕ) → test t ≡ nat_lt t n) → n ≤ 31 → AtMost 31 test
+few_below n test is few = record {
+  among = below n;
+  few = omega (arith, length-below n);
+  all = λ t passes. below_has n t (ltb-true t n (sym (is t) ∙ passes));
 }
 
 -- the numbers of the links

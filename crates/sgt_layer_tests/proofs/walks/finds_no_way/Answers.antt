@@ -1,6 +1,6 @@
 use Rattle.std.proofs.Common.{[], ◌∷◌, arith}
-use Rattle.sgt_tests.proofs.FewNumbers.{occurs_few}
-use Rattle.sgt_tests.proofs.walks.finds_no_way.Goals as goal
+use Rattle.sgt_layer_tests.proofs.FewNumbers.{occurs_few}
+use Rattle.sgt_layer_tests.proofs.walks.finds_no_way.Goals as goal
 
 pub walk-requires : goal.walk-requires
 walk-requires g c = record { few = occurs_few ((1, 0) ∷ []) 0 (omega arith) }

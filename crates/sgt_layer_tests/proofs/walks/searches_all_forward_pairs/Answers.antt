@@ -1,6 +1,6 @@
 use Rattle.std.proofs.Common.{arith}
-use Rattle.sgt_tests.proofs.FewNumbers.{occurs_below}
-use Rattle.sgt_tests.proofs.walks.searches_all_forward_pairs.Goals as goal
+use Rattle.sgt_layer_tests.proofs.FewNumbers.{occurs_below}
+use Rattle.sgt_layer_tests.proofs.walks.searches_all_forward_pairs.Goals as goal
 
 pub walk-requires : goal.walk-requires
 walk-requires g c = record { few = occurs_below 32 c.as_slice.result.now 0 (omega arith) (rw c.as_slice.ensures c.forward_pairs-links.ensures) }

@@ -1,0 +1,49 @@
+use crate::digest::Digests;
+use crate::list::{apply_all, open};
+use sgt_access::{Accesses, OneList, PerKey};
+use sgt_graph::{BitGraph, Graph, PairGraph};
+use sgt_model::NoMemory;
+use sgt_records::{ListRecords, Records, SlabRecords};
+use std::alloc::{AllocGlobal, Global};
+use std::io;
+use std::io::Print;
+
+/// Runs the list with up to so many live: over the plain bodies of the layers, with each other body in turn, and with all of
+/// these, as `sgt` has them. Tells the digests of each run.
+pub fn tell_runs<R: AllocGlobal + Print>(rt: &R, live: u32) -> io::Result<()> {
+    let a = rt.alloc();
+    println!(rt; "up to {live} live: replies, replies by first members, database")?;
+    let plain = run::<ListRecords, OneList, PairGraph>(a, live);
+    tell(rt, plain, "ListRecords OneList PairGraph")?;
+    let by_key = run::<ListRecords, PerKey, PairGraph>(a, live);
+    tell(rt, by_key, "ListRecords PerKey PairGraph")?;
+    let in_slab = run::<SlabRecords, OneList, PairGraph>(a, live);
+    tell(rt, in_slab, "SlabRecords OneList PairGraph")?;
+    let by_bits = run::<ListRecords, OneList, BitGraph>(a, live);
+    tell(rt, by_bits, "ListRecords OneList BitGraph")?;
+    let all = run::<SlabRecords, PerKey, BitGraph>(a, live);
+    tell(rt, all, "SlabRecords PerKey BitGraph")
+}
+
+/// The digests of a run over these bodies.
+fn run<R: Records, A: Accesses, G: Graph>(alloc: Global, live: u32) -> Result<Digests, NoMemory> {
+    let Some(mut engine) = open::<R, A, G>(alloc, live) else {
+        return Err(NoMemory);
+    };
+    apply_all(&mut engine)?;
+    Digests::of(alloc, &engine)
+}
+
+/// Tells the digests of a run over these bodies.
+fn tell(rt: &impl Print, digests: Result<Digests, NoMemory>, bodies: &str) -> io::Result<()> {
+    match digests {
+        Ok(
+            Digests {
+                replies,
+                first_members,
+                database,
+            },
+        ) => println!(rt; "{replies:016x} {first_members:016x} {database:016x} {bodies}"),
+        Err(NoMemory) => println!(rt; "no memory {bodies}"),
+    }
+}
