@@ -36,8 +36,8 @@ fn two_level_cascade(rt: HostRuntime) -> Result<(), Fail> {
     );
     assert!(rt; sched.live().is_empty());
     assert_eq!(rt; fate(&mut sched, 2), Some(Fate::Fell(Tid(0))));
-    for id in 1..4 {
-        assert_eq!(rt; committed(&sched, id), None);
+    for (id, wanted) in [(0, Some(1)), (1, None), (2, None), (3, None)] {
+        assert_eq!(rt; committed(&sched, id), wanted);
     }
     Ok(())
 }
