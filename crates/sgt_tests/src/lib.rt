@@ -21,9 +21,7 @@ mod procedures_as_trees;
 #[cfg(test)]
 mod records;
 #[cfg(test)]
-mod scheduler;
-#[cfg(test)]
-mod smallbank;
+mod runs;
 #[cfg(test)]
 mod streams;
 #[cfg(test)]
