@@ -1,159 +1,152 @@
-//! The engine's history and database after lists of events.
+//! The engine over the simple bodies of its layers: the replies to a list of events, the database behind them, and limits that
+//! are refused.
 
+use serde_json::Value;
 use sgt_access::OneList;
 use sgt_engine::{Engine, Ran, run_list};
+use sgt_format::{append_database, append_reply, read_event};
 use sgt_graph::PairGraph;
-use sgt_model::{
-    Answers, Args, Cause, Database, Event, Expr, Fate, Key, Limits, MakeError, NoMemory, Procedure,
-    Reply, Statement, Tid, Tids,
-};
+use sgt_model::{Database, Entry, Key, Limits, MakeError, NoMemory};
 use sgt_proc::{Checked, check};
 use sgt_records::ListRecords;
-use std::alloc::Global;
+use std::alloc::{AllocGlobal, Global};
+use std::process::Abort;
 use std::test::Fail;
 
-type ListRan = Ran<ListRecords, OneList, PairGraph>;
+type SimpleRan = Ran<ListRecords, OneList, PairGraph>;
 
-/// It stores 4 in record 7 of table 3, looks at it again, and answers what it finds.
-fn put_and_look(a: Global) -> Result<Vec<Checked>, NoMemory> {
-    let body = vec![in a;
-        Statement::Put {
-            table: 3,
-            id: Expr::Num(7),
-            value: Expr::Num(4)
-        },
-        Statement::Look {
-            reg: 0,
-            table: 3,
-            id: Expr::Num(7),
-            absent: 6
-        },
-        Statement::Answer {
-            value: Expr::Reg(0)
-        },
-    ]?;
+/// A list of one procedure, which stores 4 in record 7 of table 3, looks at it again, and answers what it finds.
+fn procedures(a: Global) -> Result<Vec<Checked>, Fail> {
+    let tree = Value::from_str(
+        a,
+        r#"[0,[["put",3,7,4],["look",0,3,7,6],["answer",["reg",0]]]]"#,
+    )?;
     let mut procedures = Vec::new(a);
-    if let Ok(checked) = check(Procedure { args: 0, body }) {
+    if let Ok(checked) = check(sgt_proc_json::read(a, &tree)?) {
         procedures.push(checked)?;
     }
     Ok(procedures)
 }
 
-fn run(a: Global, events: &[Event]) -> Result<ListRan, MakeError> {
+/// An engine of one live transaction, behind the events of these lines.
+fn ran(a: Global, lines: &str) -> Result<SimpleRan, Fail> {
+    let mut events = Vec::new(a);
+    for line in lines.lines() {
+        events.push(read_event(a, line.as_bytes())?)?;
+    }
     let limits = Limits {
         live: 1,
         begins: 10,
     };
-    run_list(a, Database::empty(a), put_and_look(a)?, limits, events)
+    let database = Database::empty(a);
+    Ok(run_list(a, database, procedures(a)?, limits, events.as_slice())?)
 }
 
-fn start() -> Event {
-    Event::Start {
-        procedure: 0,
-        args: Args::new(),
+/// The lines of the replies.
+fn replies(a: Global, history: &[Entry]) -> Result<Vec<u8>, NoMemory> {
+    let mut text = Vec::new(a);
+    for entry in history {
+        append_reply(&mut text, &entry.reply)?;
     }
+    Ok(text)
 }
+
+/// The lines of the replies, and those of the database behind them.
+fn told(a: Global, ran: &SimpleRan) -> Result<Vec<u8>, NoMemory> {
+    let database = ran.engine.database(a)?;
+    let mut text = replies(a, ran.engine.history())?;
+    append_database(&mut text, &database)?;
+    Ok(text)
+}
+
+/// Tests what is told behind these events, and how many were applied.
+fn tells<R: AllocGlobal + Abort>(rt: &R, lines: &str, want: &str) -> Result<(), Fail> {
+    let ran = ran(rt.alloc(), lines)?;
+    assert!(rt; ran.done == lines.lines().count());
+    assert!(rt; told(rt.alloc(), &ran)?.as_slice() == want.as_bytes());
+    Ok(())
+}
+
+/// A store, a look at it, and a commit.
+const STORE: &str = r#"["start",0,[]]
+["step",0]
+["step",0]
+["step",0]
+["commit",0]"#;
 
 #[test]
 fn own_write_read_back(rt: HostRuntime) -> Result<(), Fail> {
-    let a = rt.alloc();
-    let (Some(key), Some(answers)) = (Key::new(3, 7), Answers::from_slice(&[4])) else {
-        panic!(rt; "table 3 has a record 7");
-    };
-    let t = Tid(0);
-    let step = || Event::Step(t);
-    let ran = run(a, &[start(), step(), step(), step(), Event::Commit(t)])?;
-    assert_eq!(rt; ran.done, 5);
-    let replies = [
-        Reply::Started(t),
-        Reply::Wrote { key, value: 4 },
-        Reply::Looked {
-            key,
-            value: Some(4),
-        },
-        Reply::Ended,
-        Reply::Committed(answers),
-    ];
-    for (entry, reply) in ran.engine.history().iter().zip(&replies) {
-        assert_eq!(rt; entry.reply, *reply);
-    }
-    assert_eq!(rt; ran.engine.database(a)?.rows(), [(key, 4)].as_slice());
-    assert_eq!(rt; ran.engine.committed(key), Some(4));
+    let want = "started 0\nwrote 3/7 4\nread 3/7 4\nended\ncommitted 4\n3/7 4\n";
+    tells(&rt, STORE, want)
+}
+
+#[test]
+fn a_committed_value_is_told(rt: HostRuntime) -> Result<(), Fail> {
+    let ran = ran(rt.alloc(), STORE)?;
+    let key = Key::new(3, 7).expect(&rt, "a key");
+    assert!(rt; ran.engine.committed(key) == Some(4));
     Ok(())
+}
+
+/// A value that is stored and not committed is not in the database.
+#[test]
+fn a_value_is_not_told_before_its_commit(rt: HostRuntime) -> Result<(), Fail> {
+    let lines = r#"["start",0,[]]
+["step",0]
+["step",0]"#;
+    tells(&rt, lines, "started 0\nwrote 3/7 4\nread 3/7 4\n")
 }
 
 /// A quit after a store, with refusals round it, and then a transaction that goes the whole way: each event has its entry.
 #[test]
 fn an_abort_and_refusals_in_the_middle(rt: HostRuntime) -> Result<(), Fail> {
-    let a = rt.alloc();
-    let (Some(key), Some(answers)) = (Key::new(3, 7), Answers::from_slice(&[4])) else {
-        panic!(rt; "table 3 has a record 7");
-    };
-    let (first, second) = (Tid(0), Tid(1));
-    let (cause, fell) = (Cause::Quit, Tids::new());
-    let events = [
-        Event::Step(first),
-        start(),
-        start(),
-        Event::Step(first),
-        Event::Commit(first),
-        Event::Quit(first),
-        Event::Quit(first),
-        start(),
-        Event::Step(second),
-        Event::Step(second),
-        Event::Commit(second),
-        Event::Commit(second),
-    ];
-    let replies = [
-        Reply::Unknown,
-        Reply::Started(first),
-        Reply::Full,
-        Reply::Wrote { key, value: 4 },
-        Reply::NotEnded,
-        Reply::Aborted { cause, fell },
-        Reply::Over(Fate::Aborted(Cause::Quit)),
-        Reply::Started(second),
-        Reply::Wrote { key, value: 4 },
-        Reply::Looked {
-            key,
-            value: Some(4),
-        },
-        Reply::Committed(answers),
-        Reply::Over(Fate::Committed),
-    ];
-    let ran = run(a, &events)?;
-    assert_eq!(rt; ran.done, 12);
-    for (entry, reply) in ran.engine.history().iter().zip(&replies) {
-        assert_eq!(rt; entry.reply, *reply);
-    }
-    assert_eq!(rt; ran.engine.committed(key), Some(4));
-    let before = run(a, &events[..10])?;
-    assert_eq!(rt; before.done, 10);
-    assert_eq!(rt; before.engine.committed(key), None);
-    Ok(())
+    let lines = r#"["step",0]
+["start",0,[]]
+["start",0,[]]
+["step",0]
+["commit",0]
+["quit",0]
+["quit",0]
+["start",0,[]]
+["step",1]
+["step",1]
+["commit",1]
+["commit",1]"#;
+    let want = r#"unknown
+started 0
+full
+wrote 3/7 4
+not ended
+aborted quit fell none
+over aborted quit
+started 1
+wrote 3/7 4
+read 3/7 4
+committed 4
+over committed
+3/7 4
+"#;
+    tells(&rt, lines, want)
+}
+
+/// Whether an engine of these limits is refused for them.
+fn has_bad_limits(a: Global, live: u32, begins: u32) -> bool {
+    let limits = Limits { live, begins };
+    let made = Engine::<ListRecords, OneList, PairGraph>::new(
+        a,
+        Database::empty(a),
+        Vec::new(a),
+        limits,
+    );
+    matches!(made, Err(MakeError::BadLimits))
 }
 
 #[test]
-fn limits_are_refused(rt: HostRuntime) -> Result<(), Fail> {
-    let a = rt.alloc();
+fn limits_are_refused(rt: HostRuntime) {
     for (live, begins) in [(33, 10), (0, 10), (1, 0), (1, 4_000_000_001)] {
-        let limits = Limits { live, begins };
-        let made: Result<Engine<ListRecords, OneList, PairGraph>, MakeError> = Engine::new(
-            a,
-            Database::empty(a),
-            Vec::new(a),
-            limits,
-        );
-        let refused = match made {
-            Ok(_) => None,
-            Err(error) => Some(error),
-        };
-        assert_eq!(rt;
-            refused,
-            Some(MakeError::BadLimits),
+        assert!(rt;
+            has_bad_limits(rt.alloc(), live, begins),
             "{live} live, {begins} begins"
         );
     }
-    Ok(())
 }

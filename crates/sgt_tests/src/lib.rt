@@ -13,8 +13,6 @@ mod procedures;
 #[cfg(test)]
 mod procedures_as_trees;
 #[cfg(test)]
-mod scheduler;
-#[cfg(test)]
-mod smallbank;
+mod runs;
 #[cfg(test)]
 mod streams;

@@ -1,12 +1,13 @@
 //! What a script's run does with its reader and its writer: the limits of lines and of the input, reads and writes that fail,
 //! and that each reply is written before the next line is read.
 
-use sgt_script::run_script;
-use sgt_stream::{Fault, Reader, Writer};
-use std::alloc::Global;
+use crate::runs::run;
+use sgt_stream::Fault;
+use std::alloc::{AllocGlobal, Global};
 use std::cell::RefCell;
 use std::io;
 use std::io::{ErrorKind, Read, Write};
+use std::process::Abort;
 use std::test::Fail;
 
 const OPENING: &[u8] = b"{\"limits\":[1,10],\"accounts\":[],\"procedures\":[]}\n";
@@ -64,62 +65,61 @@ impl Read for Events {
     }
 }
 
-/// What a run over these events gives: how it ends, how many replies were written, and how many bytes were read.
-fn run_events(alloc: Global, events: Events) -> (Result<(), Fault>, usize, u64) {
-    let mut reader = Reader::new(events);
-    let mut writer = Writer::new(Vec::new(alloc));
-    let ended = run_script(alloc, &mut reader, &mut writer);
-    (ended, writer.inner.len() / UNKNOWN.len(), reader.given)
+/// What a run over these events gives: how it ends and how many replies were written, as text, and how many bytes were read.
+fn run_events(alloc: Global, events: Events) -> Result<(String, u64), Fail> {
+    let (ending, read, written) = run(alloc, events, Vec::new(alloc))?;
+    let replies = written.len() / UNKNOWN.len();
+    Ok((format!(in alloc; "{replies} replies, {ending}")?, read))
 }
 
-/// A line of the greatest length, with its byte 10 and without, and a line of one byte more; in small pieces and in large ones.
+/// Tests how a run over these events ends.
+fn ends_by<R: AllocGlobal + Abort>(rt: &R, events: Events, want: &str) -> Result<(), Fail> {
+    let (ending, _) = run_events(rt.alloc(), events)?;
+    assert_eq!(rt; ending.as_str(), want);
+    Ok(())
+}
+
+/// Tests how a run over so many bytes ends, in small pieces and in large ones.
+fn ends<R: AllocGlobal + Abort>(rt: &R, line: usize, left: usize, want: &str) -> Result<(), Fail> {
+    ends_by(rt, Events::new(line, 97, left), want)?;
+    ends_by(rt, Events::new(line, 9_999, left), want)
+}
+
+/// A line of the greatest length, with its byte 10 and without, and a line of one byte more.
 #[test]
 fn lines_of_the_greatest_length(rt: HostRuntime) -> Result<(), Fail> {
-    for most in [97, 9_999] {
-        for (line, read, replies) in [
-            (65_536, 65_537, 1),
-            (65_536, 65_536, 1),
-            (65_537, 65_538, 0),
-            (65_537, 65_537, 0),
-        ] {
-            let events = Events::new(line, most, OPENING.len() + read);
-            let (ended, written, _) = run_events(rt.alloc(), events);
-            let want = if replies == 1 {
-                Ok(())
-            } else {
-                Err(Fault::LongLine(2))
-            };
-            assert_eq!(rt; ended, want, "{read} bytes in lines of {line}");
-            assert_eq!(rt; written, replies, "{read} bytes in lines of {line}");
-        }
-    }
-    Ok(())
+    let before = OPENING.len();
+    let done = "1 replies, done";
+    let long = "0 replies, line 2: long line";
+    ends(&rt, 65_536, before + 65_537, done)?;
+    ends(&rt, 65_536, before + 65_536, done)?;
+    ends(&rt, 65_537, before + 65_538, long)?;
+    ends(&rt, 65_537, before + 65_537, long)
 }
 
 /// An input of 16,777,216 bytes, and so many lines.
 #[test]
 fn an_input_of_the_greatest_length(rt: HostRuntime) -> Result<(), Fail> {
     let events = Events::new(65_535, 99_999, 16_777_216);
-    let (ended, written, given) = run_events(rt.alloc(), events);
-    assert_eq!(rt; ended, Ok(()));
-    assert_eq!(rt; written, 256);
-    assert_eq!(rt; given, 16_777_216);
+    let (ending, read) = run_events(rt.alloc(), events)?;
+    assert!(rt; ending.as_str() == "256 replies, done" && read == 16_777_216);
     Ok(())
 }
 
-/// A reader that never ends, in lines and without any.
+/// A reader that never ends, in lines.
 #[test]
-fn readers_that_never_end(rt: HostRuntime) -> Result<(), Fail> {
+fn lines_that_never_end(rt: HostRuntime) -> Result<(), Fail> {
     let lines = Events::new(65_535, 99_999, usize::MAX);
-    let (ended, written, given) = run_events(rt.alloc(), lines);
-    assert_eq!(rt; ended, Err(Fault::TooLong));
-    assert_eq!(rt; written, 255);
-    assert_eq!(rt; given, 16_777_217);
-    let one_line = Events::new(usize::MAX, 99_999, usize::MAX);
-    let (ended, written, _) = run_events(rt.alloc(), one_line);
-    assert_eq!(rt; ended, Err(Fault::LongLine(2)));
-    assert_eq!(rt; written, 0);
+    let (ending, read) = run_events(rt.alloc(), lines)?;
+    assert!(rt; ending.as_str() == "255 replies, input too long" && read == 16_777_217);
     Ok(())
+}
+
+/// A reader that never ends, without any line.
+#[test]
+fn a_line_that_never_ends(rt: HostRuntime) -> Result<(), Fail> {
+    let one_line = Events::new(usize::MAX, 99_999, usize::MAX);
+    ends_by(&rt, one_line, "0 replies, line 2: long line")
 }
 
 /// Gives lines, one a call, and fails where what is written by then is not the replies to the lines given.
@@ -174,22 +174,6 @@ impl Write for Telling<'_> {
     }
 }
 
-/// Runs a script whose reader gives a piece a call, and asks at each call for the replies to what it gave before.
-fn converse(
-    alloc: Global,
-    turns: &[(&str, &str)],
-    written: &RefCell<Vec<u8>>,
-) -> Result<(), Fault> {
-    let mut reader = Reader::new(Asking {
-        turns,
-        given: 0,
-        expected: Vec::new(alloc),
-        written,
-    });
-    let mut writer = Writer::new(Telling { written });
-    run_script(alloc, &mut reader, &mut writer)
-}
-
 /// What comes at each read, and the replies that have to be written before the next.
 #[test]
 fn each_reply_is_written_before_the_next_read(rt: HostRuntime) -> Result<(), Fail> {
@@ -204,7 +188,14 @@ fn each_reply_is_written_before_the_next_read(rt: HostRuntime) -> Result<(), Fai
         ("[\"quit\",0]", ""),
     ];
     let written = RefCell::new(Vec::new(rt.alloc()));
-    assert_eq!(rt; converse(rt.alloc(), &turns, &written), Ok(()));
+    let reader = Asking {
+        turns: &turns,
+        given: 0,
+        expected: Vec::new(rt.alloc()),
+        written: &written,
+    };
+    let (ending, _, _) = run(rt.alloc(), reader, Telling { written: &written })?;
+    assert_eq!(rt; ending.as_str(), "done");
     let all: &[u8] = b"started 0\nfull\nunknown\nread 0/1 none\naborted quit fell none\n";
     assert!(rt; written.into_inner().as_slice() == all);
     Ok(())
@@ -228,32 +219,45 @@ impl Read for Failing {
     }
 }
 
+/// Tests what a run over this reader writes, and how it ends.
+fn ends_with<R: AllocGlobal + Abort>(
+    rt: &R,
+    reader: Failing,
+    replies: &str,
+    want: &str,
+) -> Result<(), Fail> {
+    let (ending, _, written) = run(rt.alloc(), reader, Vec::new(rt.alloc()))?;
+    assert!(rt; written.as_slice() == replies.as_bytes());
+    assert_eq!(rt; ending.as_str(), want);
+    Ok(())
+}
+
+/// Tests what a run writes, and how it ends, whose reader fails at the call of this number.
+fn reads<R: AllocGlobal + Abort>(
+    rt: &R,
+    fails_at: u64,
+    replies: &str,
+    want: &str,
+) -> Result<(), Fail> {
+    let line = OPENING.len();
+    let reader = Failing {
+        events: Events::new(line - 1, line, 4 * line),
+        calls: 0,
+        fails_at,
+    };
+    ends_with(rt, reader, replies, want)
+}
+
 /// A reader that fails at each of its calls in turn, and then at none. Its count rises only where its call failed.
 #[test]
 fn reads_that_fail(rt: HostRuntime) -> Result<(), Fail> {
-    let line = OPENING.len();
-    let all: &[u8] = b"unknown\nunknown\nunknown\n";
-    for (fails_at, replies) in [(1, 0), (2, 0), (3, 1), (4, 2), (5, 3), (6, 3)] {
-        let mut reader = Reader::new(Failing {
-            events: Events::new(line - 1, line, 4 * line),
-            calls: 0,
-            fails_at,
-        });
-        let mut writer = Writer::new(Vec::new(rt.alloc()));
-        let ended = run_script(rt.alloc(), &mut reader, &mut writer);
-        let (want, failures) = match fails_at {
-            6 => (Ok(()), 0),
-            _ => (Err(Fault::Reading), 1),
-        };
-        assert_eq!(rt; ended, want, "at call {fails_at}");
-        assert_eq!(rt; reader.failures, failures, "at call {fails_at}");
-        assert_eq!(rt; writer.failures, 0, "at call {fails_at}");
-        assert!(rt;
-            writer.inner.as_slice() == &all[..replies * UNKNOWN.len()],
-            "at call {fails_at}"
-        );
-    }
-    Ok(())
+    let failed = "reading failed, 1 read failed";
+    reads(&rt, 1, "", failed)?;
+    reads(&rt, 2, "", failed)?;
+    reads(&rt, 3, "unknown\n", failed)?;
+    reads(&rt, 4, "unknown\nunknown\n", failed)?;
+    reads(&rt, 5, "unknown\nunknown\nunknown\n", failed)?;
+    reads(&rt, 6, "unknown\nunknown\nunknown\n", "done")
 }
 
 /// Takes at most `most` bytes a call and `room` in all, and then fails or takes nothing.
@@ -281,54 +285,53 @@ impl Write for Narrow {
     }
 }
 
+/// Tests what a run writes, and how it ends, whose writer takes one byte a call and has so much room.
+fn writes<R: AllocGlobal + Abort>(
+    rt: &R,
+    room: usize,
+    fails: bool,
+    taken: &str,
+    want: &str,
+) -> Result<(), Fail> {
+    let left = OPENING.len() + 3 * (EVENT.len() + 1);
+    let writer = Narrow {
+        taken: Vec::new(rt.alloc()),
+        most: 1,
+        room,
+        fails,
+    };
+    let (ending, _, writer) = run(rt.alloc(), Events::new(EVENT.len(), 7, left), writer)?;
+    let is_taken = writer.taken.as_slice() == taken.as_bytes();
+    assert!(rt; ending.as_str() == want && is_taken, "room for {room}");
+    Ok(())
+}
+
 /// A writer that takes one byte a call is written to its end. Where it fails or takes nothing, what it took is a part from
 /// the front, and its count rises.
 #[test]
 fn writes_that_fail(rt: HostRuntime) -> Result<(), Fail> {
-    let all: &[u8] = b"unknown\nunknown\nunknown\n";
-    for (room, fails) in [
-        (0, true),
-        (0, false),
-        (9, true),
-        (23, false),
-        (24, true),
-        (24, false),
-    ] {
-        let left = OPENING.len() + 3 * (EVENT.len() + 1);
-        let mut reader = Reader::new(Events::new(EVENT.len(), 7, left));
-        let mut writer = Writer::new(Narrow {
-            taken: Vec::new(rt.alloc()),
-            most: 1,
-            room,
-            fails,
-        });
-        let ended = run_script(rt.alloc(), &mut reader, &mut writer);
-        let (want, failures) = match room {
-            24 => (Ok(()), 0),
-            _ => (Err(Fault::Writing), 1),
-        };
-        assert_eq!(rt; ended, want, "room for {room}");
-        assert_eq!(rt; writer.failures, failures, "room for {room}");
-        assert_eq!(rt; reader.failures, 0, "room for {room}");
-        assert!(rt;
-            writer.inner.taken.as_slice() == &all[..room],
-            "room for {room}"
-        );
-    }
+    let failed = "writing failed, 1 write failed";
+    let all = "unknown\nunknown\nunknown\n";
+    writes(&rt, 0, true, "", failed)?;
+    writes(&rt, 0, false, "", failed)?;
+    writes(&rt, 9, true, "unknown\nu", failed)?;
+    writes(&rt, 23, false, "unknown\nunknown\nunknown", failed)?;
+    writes(&rt, 24, true, all, "done")?;
+    writes(&rt, 24, false, all, "done")
+}
+
+/// Tests what a fault is called.
+fn is_called<R: AllocGlobal + Abort>(rt: &R, fault: Fault, want: &str) -> Result<(), Fail> {
+    assert_eq!(rt; fault.to_string(rt.alloc())?.as_str(), want);
     Ok(())
 }
 
 /// What a fault of the program's surroundings is called.
 #[test]
 fn texts_of_other_faults(rt: HostRuntime) -> Result<(), Fail> {
-    for (fault, text) in [
-        (Fault::LongLine(18), "line 18: long line"),
-        (Fault::TooLong, "input too long"),
-        (Fault::Reading, "reading failed"),
-        (Fault::Writing, "writing failed"),
-        (Fault::NoMemory, "no memory"),
-    ] {
-        assert_eq!(rt; fault.to_string(rt.alloc())?.as_str(), text);
-    }
-    Ok(())
+    is_called(&rt, Fault::LongLine(18), "line 18: long line")?;
+    is_called(&rt, Fault::TooLong, "input too long")?;
+    is_called(&rt, Fault::Reading, "reading failed")?;
+    is_called(&rt, Fault::Writing, "writing failed")?;
+    is_called(&rt, Fault::NoMemory, "no memory")
 }
