@@ -9,6 +9,8 @@ mod bank;
 #[cfg(test)]
 mod feed;
 #[cfg(test)]
+mod outcomes;
+#[cfg(test)]
 mod sessions;
 #[cfg(test)]
 mod stress;
