@@ -1,5 +1,5 @@
 //! The feed of jobs: what it refuses to make, and what becomes of jobs whose takers are threads.
-ghost use Rattle.std.specs.Prelude.{◌≡◌, All};
+ghost use Rattle.std.specs.Prelude.{◌≡◌, All, IfSome};
 
 use sgt_dispatch::{Feed, FeedError, Job, Putter, Stub, Take, Taker};
 use sgt_model::{Args, Bounded};
@@ -60,14 +60,17 @@ fn put_stops<R: Wait>(rt: &R, putter: &mut Putter, stops: usize) -> usize
     put
 }
 
-/// Puts 100 jobs, and then the stops.
-fn put_all<R: Wait>(rt: &R, putter: Putter, stops: usize) -> (Putter, Option<u32>, usize)
-    ensures { result.0.feed ≡ putter.feed }
+/// Puts jobs, and then a stop for each taker. A putter that is to go puts no stop.
+fn put_all<R: Wait>(rt: &R, putter: Putter, plan: Plan) -> (Option<Putter>, Option<u32>, usize)
+    ensures { IfSome result.0 (λ left. left.feed ≡ putter.feed) }
 {
     let mut putter = putter;
-    let back = put_jobs(rt, &mut putter, 100);
-    let stops = put_stops(rt, &mut putter, stops);
-    (putter, back, stops)
+    let back = put_jobs(rt, &mut putter, plan.put);
+    if plan.end == End::Gone {
+        return (None, back, 0);
+    }
+    let stops = put_stops(rt, &mut putter, plan.takers);
+    (Some(putter), back, stops)
 }
 
 /// Takes once, and notes the number of a job that it got. Otherwise it has to leave.
@@ -149,7 +152,7 @@ fn are_once(left: &[(Stub, Taken)], jobs: u32) -> bool {
 }
 
 /// What was seen of a feed.
-#[derive(Clone, Copy, Debug, PartialEq, Eq)]
+#[derive(Clone, Copy, PartialEq, Eq)]
 struct Fed {
     /// Whether the jobs below the number were taken, each once and each taker's in order, and the takers left for the reason.
     is_right: bool,
@@ -159,44 +162,39 @@ struct Fed {
     stops: usize,
 }
 
-/// What takers do, in a thread each, and what is to come of it.
+/// What the putter and the takers do, in a thread each, and what is to come of it.
 #[derive(Clone, Copy)]
 struct Plan {
     room: usize,
     takers: usize,
+    /// How many jobs are put.
+    put: u32,
     /// How often each takes at most.
     most: u32,
     /// How many jobs are to be taken.
-    jobs: u32,
+    taken: u32,
+    /// Why they are to leave.
     end: End,
 }
 
-/// Puts 100 jobs and a stop for each taker, while the takers take, and joins them.
+/// Feeds the takers as it is planned, and joins them.
 fn feed<R: Threads + Wait + Sync>(rt: &R, alloc: Global, plan: Plan) -> Option<Fed> {
     let (putter, takers) = Feed::make(alloc, plan.room, plan.takers).ok()?;
     let ((putter, back, stops), left) = thread::join(
         rt,
-        || put_all(rt, putter, plan.takers),
+        || put_all(rt, putter, plan),
         || thread::map_vec(rt, takers, &|taker| take_some(rt, taker, plan.most)),
     );
     let left = left.ok()?;
-    let is_right = are_in_order(left.as_slice(), plan.end) && are_once(left.as_slice(), plan.jobs);
-    drop(join_all(putter, left));
+    let is_right = are_in_order(left.as_slice(), plan.end) && are_once(left.as_slice(), plan.taken);
+    if let Some(putter) = putter {
+        drop(join_all(putter, left));
+    }
     Some(Fed {
         is_right,
         back,
         stops,
     })
-}
-
-/// A putter puts a job and goes, before two takers take.
-fn feed_and_go<R: Threads + Wait + Sync>(rt: &R, alloc: Global) -> Option<bool> {
-    let (mut putter, takers) = Feed::make(alloc, 3, 2).ok()?;
-    let back = put_jobs(rt, &mut putter, 1);
-    drop(putter);
-    let left = thread::map_vec(rt, takers, &|taker| take_some(rt, taker, 100)).ok()?;
-    let left = left.as_slice();
-    Some(back.is_none() && are_in_order(left, End::Gone) && are_once(left, 1))
 }
 
 /// How many takers a feed is made with.
@@ -224,38 +222,46 @@ fn refused_makes(rt: HostRuntime) {
     assert!(rt; made(alloc, 1024, 16) == Ok(16));
 }
 
-#[test]
-fn one_taker_takes_all(rt: HostRuntime) {
-    let plan = Plan {
-        room: 3,
-        takers: 1,
-        most: 101,
-        jobs: 100,
-        end: End::Stop,
-    };
+/// Whether none of the jobs was handed back, and so many stops were put.
+fn goes_well<R: Threads + Wait + Sync>(rt: &R, alloc: Global, plan: Plan, stops: usize) -> bool {
     let fed = Fed {
         is_right: true,
         back: None,
-        stops: 1,
+        stops,
     };
-    assert_eq!(rt; feed(&rt, rt.alloc(), plan), Some(fed));
+    feed(rt, alloc, plan) == Some(fed)
 }
 
 #[test]
 fn each_job_is_taken_once(rt: HostRuntime) {
-    let plan = Plan {
-        room: 1,
-        takers: 16,
+    let one = Plan {
+        room: 3,
+        takers: 1,
+        put: 100,
         most: 101,
-        jobs: 100,
+        taken: 100,
         end: End::Stop,
     };
-    let fed = Fed {
-        is_right: true,
-        back: None,
-        stops: 16,
+    assert!(rt; goes_well(&rt, rt.alloc(), one, 1));
+    let many = Plan {
+        room: 1,
+        takers: 16,
+        ..one
     };
-    assert_eq!(rt; feed(&rt, rt.alloc(), plan), Some(fed));
+    assert!(rt; goes_well(&rt, rt.alloc(), many, 16));
+}
+
+#[test]
+fn takers_find_the_putter_gone(rt: HostRuntime) {
+    let plan = Plan {
+        room: 3,
+        takers: 2,
+        put: 50,
+        most: 101,
+        taken: 50,
+        end: End::Gone,
+    };
+    assert!(rt; goes_well(&rt, rt.alloc(), plan, 0));
 }
 
 /// One more job may be put before the last taker leaves.
@@ -264,8 +270,9 @@ fn leaving_lets_the_putter_go(rt: HostRuntime) {
     let plan = Plan {
         room: 1,
         takers: 4,
+        put: 100,
         most: 1,
-        jobs: 4,
+        taken: 4,
         end: End::Enough,
     };
     let fed = feed(&rt, rt.alloc(), plan);
@@ -276,10 +283,5 @@ fn leaving_lets_the_putter_go(rt: HostRuntime) {
             stops: 0,
         })
     };
-    assert!(rt; fed == handed_back(4) || fed == handed_back(5), "{fed:?}");
-}
-
-#[test]
-fn the_putter_is_gone(rt: HostRuntime) {
-    assert_eq!(rt; feed_and_go(&rt, rt.alloc()), Some(true));
+    assert!(rt; fed == handed_back(4) || fed == handed_back(5));
 }

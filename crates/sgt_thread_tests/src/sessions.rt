@@ -1,10 +1,11 @@
 //! Sessions: threads that share one engine.
-ghost use Rattle.std.specs.Prelude.{◌≡◌, []};
+ghost use Rattle.std.specs.Prelude.{◌≡◌, ◌≤◌, []};
 ghost use Rattle.sgt_engine.specs.EngineView.{setting_of};
 
 use crate::bank::{BALANCE, Bank, DEPOSIT_CHECKING, SharedBank, new_bank, start};
-use sgt_model::{Event, Reply, Tid};
-use sgt_session::{CloseError, Named, Receipt, Session, Shared};
+use crate::stress::all_work;
+use sgt_model::{Entry, Event, Reply, Tid};
+use sgt_session::{CloseError, Named, Session, Shared};
 use std::alloc::Global;
 use std::marker::Brand;
 use std::sync::Wait;
@@ -15,7 +16,19 @@ use std::thread;
 use std::thread::Threads;
 
 /// How often a thread looks whether the other has come.
-const TURNS: u32 = 1_000_000;
+const TURNS: u32 = 10_000_000;
+
+/// How many calls a thread makes at most while it waits for those of the other.
+const CALLS: u32 = 1_000_000;
+
+/// What the threads do.
+#[derive(Clone, Copy)]
+pub enum Play {
+    /// The first deposits, and the second asks for the balance meanwhile.
+    Meet,
+    /// Each runs 200 transactions.
+    Press,
+}
 
 /// What two threads tell each other beside their calls.
 #[derive(Drop)]
@@ -83,7 +96,7 @@ fn lets_other_call<N: Named, W: Wait>(
     session: &mut Session<N>,
     t: Tid,
 ) {
-    for _ in 0..TURNS {
+    for _ in 0..CALLS {
         let number = calls(rt, shared, session, Event::Step(t)).unwrap_or(u64::MAX);
         let own = session.receipts().len() as u64;
         if number >= own.saturating_add(4) {
@@ -147,117 +160,16 @@ fn both_play<N: Named + Send + Sync, R: Threads + Wait + Sync>(
     );
 }
 
-/// What is compared of a reply.
-#[derive(Clone, Copy, PartialEq, Eq)]
-enum Told {
-    Started(Tid),
-    Looked(Option<i64>),
-    Wrote(i64),
-    Waits(Tid),
-    Committed(Option<i64>),
-    Other,
-}
-
-/// What is compared of a reply, unless it tells of the procedure's end.
-fn compared(reply: &Reply) -> Option<Told> {
-    match reply {
-        Reply::Started(t) => Some(Told::Started(*t)),
-        Reply::Looked { value, .. } => Some(Told::Looked(*value)),
-        Reply::Wrote { value, .. } => Some(Told::Wrote(*value)),
-        Reply::Waits(t) => Some(Told::Waits(*t)),
-        Reply::Committed(answers) => Some(Told::Committed(answers.as_slice().first().copied())),
-        Reply::Ended => None,
-        _ => Some(Told::Other),
-    }
-}
-
-/// Whether this was told, and nothing else but ends of the procedure.
-fn is_told(receipts: &[Receipt], told: &[Told]) -> bool {
-    let mut rest = told;
-    for receipt in receipts {
-        if let Some(one) = compared(&receipt.reply) {
-            match rest.split_first() {
-                Some((first, others)) if *first == one => rest = others,
-                _ => return false,
-            }
-        }
-    }
-    rest.is_empty()
-}
-
-const DEPOSITED: [Told; 5] = [
-    Told::Started(Tid(0)),
-    Told::Looked(Some(101)),
-    Told::Looked(Some(1000)),
-    Told::Wrote(1100),
-    Told::Committed(Some(1100)),
-];
-
-/// The third look finds what is not committed yet.
-const ASKED: [Told; 6] = [
-    Told::Started(Tid(1)),
-    Told::Looked(Some(101)),
-    Told::Looked(Some(500)),
-    Told::Looked(Some(1100)),
-    Told::Waits(Tid(0)),
-    Told::Committed(Some(1600)),
-];
-
-/// Whether the two sessions were told so.
-fn are_told<N: Named>(sessions: &[Session<N>]) -> bool {
-    match sessions {
-        [first, second] => {
-            is_told(first.receipts(), DEPOSITED.as_slice())
-                && is_told(second.receipts(), ASKED.as_slice())
-        }
-        _ => false,
-    }
-}
-
-/// Closes with all sessions, and tells whether they were told what they had to be.
-fn close_as_told<N: Named>(shared: SharedBank<N>, sessions: Vec<Session<N>>) -> bool
-    requires { N.sessions ≡ N.parts }
-{
-    match shared.close(sessions) {
-        Ok(closed) => are_told(closed.sessions.as_slice()),
-        Err(_) => false,
-    }
-}
-
-/// Two threads meet, and are told what they have to be.
-fn meet<N: Named + Send + Sync, R: Threads + Wait + Sync>(
+/// A thread for each session, where they do what is played.
+fn play_all<N: Named + Send + Sync, R: Threads + Wait + Sync>(
     rt: &R,
-    alloc: Global,
-    bank: Bank,
-    blank: Blank,
-) -> bool
-    requires setting { setting_of bank ≡ N.setting }
-    requires empty { bank.past ≡ [] }
-    requires blank { (blank.name ≡ N.name) × (blank.parts ≡ N.parts) × (blank.parts ≡ 2) × (N.sessions ≡ 2) }
-{
-    let Ok((shared, mut sessions)) = Shared::<N, _, _, _>::new(alloc, bank, blank, 2) else {
-        return false;
-    };
-    both_play(rt, &shared, sessions.as_mut_slice());
-    close_as_told(shared, sessions)
-}
-
-#[test]
-fn two_sessions_meet(rt: HostRuntime) -> Result<(), Fail> {
-    let bank = new_bank(rt.alloc())?;
-    assert!(rt; meet::<Brand, _>(&rt, rt.alloc(), bank, Blank::new(2)));
-    Ok(())
-}
-
-/// Makes a call in the last of the sessions.
-fn call_in_last<N: Named, W: Wait>(
-    rt: &W,
     shared: &SharedBank<N>,
     sessions: &mut [Session<N>],
-    event: Event,
+    play: Play,
 ) {
-    if let Some(session) = sessions.last_mut() {
-        let _ = calls(rt, shared, session, event);
+    match play {
+        Play::Meet => both_play(rt, shared, sessions),
+        Play::Press => all_work(rt, shared, sessions),
     }
 }
 
@@ -274,8 +186,9 @@ fn close_without_one<N: Named>(
     }
 }
 
-/// The last session is kept back while the others close, and joins those that are handed back.
-fn close_too_early<N: Named>(
+/// The last session is kept back while the others close. It joins those that are handed back, and makes one more call.
+fn close_too_early<N: Named, W: Wait>(
+    rt: &W,
     shared: SharedBank<N>,
     sessions: Vec<Session<N>>,
 ) -> Option<(SharedBank<N>, Vec<Session<N>>)>
@@ -284,46 +197,117 @@ fn close_too_early<N: Named>(
     let mut sessions = sessions;
     let last = sessions.pop();
     let (shared, mut sessions) = close_without_one(shared, sessions)?;
-    if let Some(last) = last {
+    if let Some(mut last) = last {
+        let _ = calls(rt, &shared, &mut last, Event::Quit(Tid(0)));
         let _ = sessions.push(last);
     }
     Some((shared, sessions))
 }
 
-/// How many sessions and how many entries are closed.
-fn close_all<N: Named>(shared: SharedBank<N>, sessions: Vec<Session<N>>) -> Option<(usize, usize)>
+/// Closes with all sessions.
+fn close_all<N: Named>(shared: SharedBank<N>, sessions: Vec<Session<N>>) -> Option<Bank>
     requires { N.sessions ≡ N.parts }
 {
     match shared.close(sessions) {
-        Ok(closed) => Some((closed.sessions.len(), closed.engine.history().len())),
+        Ok(closed) => Some(closed.engine),
         Err(_) => None,
     }
 }
 
-/// One of the two sessions is kept back at first.
-fn keep_one_back<N: Named, W: Wait>(
-    rt: &W,
+/// So many threads play, each with a session, and leave a bank behind. A close without one of the sessions hands all back, and
+/// one with all of them closes.
+pub fn run<N: Named + Send + Sync, R: Threads + Wait + Sync>(
+    rt: &R,
     alloc: Global,
     bank: Bank,
     blank: Blank,
-) -> Option<(usize, usize)>
+    threads: u16,
+    play: Play,
+) -> Option<Bank>
     requires setting { setting_of bank ≡ N.setting }
     requires empty { bank.past ≡ [] }
-    requires blank { (blank.name ≡ N.name) × (blank.parts ≡ N.parts) × (blank.parts ≡ 2) × (N.sessions ≡ 2) }
+    requires blank { (blank.name ≡ N.name) × (blank.parts ≡ N.parts) × (blank.parts ≡ threads) }
+    requires threads { (N.sessions ≡ threads) × (1 ≤ threads) × (threads ≤ 64) }
 {
-    let Ok((shared, mut sessions)) = Shared::<N, _, _, _>::new(alloc, bank, blank, 2) else {
+    let Ok((shared, mut sessions)) = Shared::<N, _, _, _>::new(alloc, bank, blank, threads) else {
         return None;
     };
-    call_in_last(rt, &shared, sessions.as_mut_slice(), start(BALANCE, &[1]));
-    let (shared, mut sessions) = close_too_early(shared, sessions)?;
-    call_in_last(rt, &shared, sessions.as_mut_slice(), Event::Quit(Tid(0)));
+    play_all(rt, &shared, sessions.as_mut_slice(), play);
+    let (shared, sessions) = close_too_early(rt, shared, sessions)?;
     close_all(shared, sessions)
 }
 
+/// What is compared of a reply.
+#[derive(Clone, Copy, PartialEq, Eq)]
+enum Told {
+    Started,
+    Looked(Option<i64>),
+    Wrote(i64),
+    Waits(Tid),
+    Committed(Option<i64>),
+}
+
+/// What is compared of an entry of a transaction: its start, its accesses, and its commits.
+fn compared(entry: &Entry, t: Tid) -> Option<Told> {
+    match (&entry.event, &entry.reply) {
+        (Event::Start { .. }, Reply::Started(s)) if *s == t => Some(Told::Started),
+        (Event::Step(s), Reply::Looked { value, .. }) if *s == t => Some(Told::Looked(*value)),
+        (Event::Step(s), Reply::Wrote { value, .. }) if *s == t => Some(Told::Wrote(*value)),
+        (Event::Commit(s), Reply::Waits(first)) if *s == t => Some(Told::Waits(*first)),
+        (Event::Commit(s), Reply::Committed(answers)) if *s == t => {
+            Some(Told::Committed(answers.as_slice().first().copied()))
+        }
+        _ => None,
+    }
+}
+
+/// Whether the transaction was told just this.
+fn is_told(history: &[Entry], t: Tid, all: &[Told]) -> bool {
+    let mut rest = all;
+    for entry in history {
+        if let Some(one) = compared(entry, t) {
+            match rest.split_first() {
+                Some((first, others)) if *first == one => rest = others,
+                _ => return false,
+            }
+        }
+    }
+    rest.is_empty()
+}
+
+const DEPOSITED: [Told; 5] = [
+    Told::Started,
+    Told::Looked(Some(101)),
+    Told::Looked(Some(1000)),
+    Told::Wrote(1100),
+    Told::Committed(Some(1100)),
+];
+
+/// The third look finds what is not committed yet.
+const ASKED: [Told; 6] = [
+    Told::Started,
+    Told::Looked(Some(101)),
+    Told::Looked(Some(500)),
+    Told::Looked(Some(1100)),
+    Told::Waits(Tid(0)),
+    Told::Committed(Some(1600)),
+];
+
+/// Whether the two transactions of the threads that met were told so.
+fn have_met(bank: Option<Bank>) -> bool {
+    match bank {
+        Some(bank) => {
+            is_told(bank.history(), Tid(0), DEPOSITED.as_slice())
+                && is_told(bank.history(), Tid(1), ASKED.as_slice())
+        }
+        None => false,
+    }
+}
+
 #[test]
-fn close_without_a_session_hands_all_back(rt: HostRuntime) -> Result<(), Fail> {
+fn two_sessions_meet(rt: HostRuntime) -> Result<(), Fail> {
     let bank = new_bank(rt.alloc())?;
-    let closed = keep_one_back::<Brand, _>(&rt, rt.alloc(), bank, Blank::new(2));
-    assert!(rt; closed == Some((2, 2)));
+    let bank = run::<Brand, _>(&rt, rt.alloc(), bank, Blank::new(2), 2, Play::Meet);
+    assert!(rt; have_met(bank));
     Ok(())
 }

@@ -1,14 +1,11 @@
 //! Many threads on few records: what they leave behind, and the same one after another.
-ghost use Rattle.std.specs.Prelude.{◌≡◌, []};
-ghost use Rattle.sgt_engine.specs.EngineView.{setting_of};
-
 use crate::bank::{
     AMALGAMATE, BALANCE, Bank, DEPOSIT_CHECKING, SharedBank, TRANSACT_SAVING, bank_after, new_bank,
     start,
 };
-use crate::sessions::starts;
+use crate::sessions::{Play, run, starts};
 use sgt_model::{Entry, Event, Key, NoMemory, Reply, Tid};
-use sgt_session::{Named, Session, Shared};
+use sgt_session::{Named, Session};
 use std::alloc::Global;
 use std::marker::Brand;
 use std::sync::Wait;
@@ -73,8 +70,8 @@ fn works<N: Named, W: Wait>(rt: &W, shared: &SharedBank<N>, session: &mut Sessio
     }
 }
 
-/// A thread for each of eight sessions.
-fn all_work<N: Named + Send + Sync, R: Threads + Wait + Sync>(
+/// Each session in a thread of its own.
+pub fn all_work<N: Named + Send + Sync, R: Threads + Wait + Sync>(
     rt: &R,
     shared: &SharedBank<N>,
     sessions: &mut [Session<N>],
@@ -198,17 +195,15 @@ fn has_same_answers(alloc: Global, bank: &Bank, other: &Bank) -> Result<bool, No
     Ok(answers_in(alloc, bank.history())? == answers_in(alloc, other.history())?)
 }
 
-fn has_same_rows(alloc: Global, bank: &Bank, other: &Bank) -> Result<bool, NoMemory> {
-    Ok(bank.database(alloc)?.rows() == other.database(alloc)?.rows())
-}
-
-/// What a bank holds.
-fn held_in(alloc: Global, bank: &Bank) -> Result<i64, NoMemory> {
-    Ok(held(bank.database(alloc)?.rows()))
+/// Whether the committed databases are the same, and what the first holds.
+fn rows_and_held(alloc: Global, bank: &Bank, other: &Bank) -> Result<(bool, i64), NoMemory> {
+    let database = bank.database(alloc)?;
+    let other = other.database(alloc)?;
+    Ok((database.rows() == other.rows(), held(database.rows())))
 }
 
 /// What a run left behind, beside the same transactions one after another.
-#[derive(Clone, Copy, Debug, PartialEq, Eq)]
+#[derive(Clone, Copy, PartialEq, Eq)]
 struct Left {
     starts: u32,
     live: usize,
@@ -221,53 +216,28 @@ struct Left {
 }
 
 fn compare(alloc: Global, bank: &Bank, alone: &Bank) -> Option<Left> {
-    let held = held_in(alloc, bank).ok()?;
+    let (rows, held) = rows_and_held(alloc, bank, alone).ok()?;
     Some(Left {
         starts: starts_in(bank.history()),
         live: bank.sched().live().len(),
         answers: has_same_answers(alloc, bank, alone).ok()?,
-        rows: has_same_rows(alloc, bank, alone).ok()?,
+        rows,
         surplus: held
             .wrapping_sub(7500)
             .wrapping_sub(put_in_all(alone.history())),
     })
 }
 
-/// Closes with all sessions, and compares what they left behind.
-fn close_and_compare<N: Named>(
-    alloc: Global,
-    shared: SharedBank<N>,
-    sessions: Vec<Session<N>>,
-) -> Option<Left>
-    requires { N.sessions ≡ N.parts }
-{
-    match shared.close(sessions) {
-        Ok(closed) => compare(alloc, &closed.engine, &alone(alloc, &closed.engine)?),
-        Err(_) => None,
-    }
-}
-
-/// Eight threads, each with a session, and what they leave behind.
-fn press<N: Named + Send + Sync, R: Threads + Wait + Sync>(
-    rt: &R,
-    alloc: Global,
-    bank: Bank,
-    blank: Blank,
-) -> Option<Left>
-    requires setting { setting_of bank ≡ N.setting }
-    requires empty { bank.past ≡ [] }
-    requires blank { (blank.name ≡ N.name) × (blank.parts ≡ N.parts) × (blank.parts ≡ 8) × (N.sessions ≡ 8) }
-{
-    let Ok((shared, mut sessions)) = Shared::<N, _, _, _>::new(alloc, bank, blank, 8) else {
-        return None;
-    };
-    all_work(rt, &shared, sessions.as_mut_slice());
-    close_and_compare(alloc, shared, sessions)
+/// What a bank that was left behind holds, beside the same transactions one after another.
+fn left_in(alloc: Global, bank: Option<Bank>) -> Option<Left> {
+    let bank = bank?;
+    compare(alloc, &bank, &alone(alloc, &bank)?)
 }
 
 #[test]
 fn eight_threads_on_five_accounts(rt: HostRuntime) -> Result<(), Fail> {
     let bank = new_bank(rt.alloc())?;
+    let bank = run::<Brand, _>(&rt, rt.alloc(), bank, Blank::new(8), 8, Play::Press);
     let left = Left {
         starts: 1600,
         live: 0,
@@ -275,9 +245,6 @@ fn eight_threads_on_five_accounts(rt: HostRuntime) -> Result<(), Fail> {
         rows: true,
         surplus: 0,
     };
-    assert_eq!(rt;
-        press::<Brand, _>(&rt, rt.alloc(), bank, Blank::new(8)),
-        Some(left)
-    );
+    assert!(rt; left_in(rt.alloc(), bank) == Some(left));
     Ok(())
 }
