@@ -1,4 +1,4 @@
-use Rattle.std.proofs.Common.{◌≡◌, ℕ, All, vec_len}
+use Rattle.std.proofs.Common.{◌≡◌, All, vec_len}
 use Rattle.sgt_thread_tests.proofs.feed.join_all.Given as goal
 
 abbrev pub invariant-loop-stub : goal.invariant-loop-stub

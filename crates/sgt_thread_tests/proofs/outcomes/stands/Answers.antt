@@ -1,4 +1,4 @@
-use Rattle.std.proofs.Common.{◌≡◌, sym, subst}
+use Rattle.std.proofs.Common.{sym, subst}
 use Rattle.sgt_model.specs.Legality.{Legal}
 use Rattle.sgt_engine.specs.EngineView.{setting_of}
 use Rattle.sgt_thread_tests.proofs.outcomes.stands.Goals as goal
