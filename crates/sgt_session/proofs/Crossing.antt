@@ -40,5 +40,5 @@ module _ (R A G : RattleType) (r : records.Ghosts R.Denot) (a : accesses.Ghosts 
     round_send : IsSend N → IsSend R → IsSend A → IsSend G → IsSend (Round.the_field N R A G n l r a g).row
     round_send sn sr sa sg = let e = engine_send sr sa sg in search (sendable, crosses, book.the_send) depth 40
 
-    pub shared_sync : IsSend N → IsSend R → IsSend A → IsSend G → IsSync (Shared.the_field N R A G n r a g l).row
+    pub shared_sync : IsSend N → IsSend R → IsSend A → IsSend G → IsSync (Shared.the_row N R A G n r a g l)
     shared_sync sn sr sa sg = let d = round_send sn sr sa sg in search (sendable, crosses) depth 40
