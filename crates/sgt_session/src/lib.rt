@@ -51,6 +51,9 @@
 //! ghosts-two_threads-N-Ledger g a = record { name = a.blank.name; parts = a.blank.parts }
 //! ghosts-two_threads-N-Named g a = record { setting = setting_of a.engine; sessions = a.blank.parts }
 //! ```
+//!
+//! That a reference to a `Shared` may cross threads is too deep for one search. `shared_sync` of `proofs/Crossing.antt` says it;
+//! an `Answers.antt` gives it to the search, with what says the same of the layers.
 #![tactic(auto)]
 
 mod accounts;

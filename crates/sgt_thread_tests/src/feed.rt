@@ -1,0 +1,287 @@
+//! The feed of jobs: what it refuses to make, and what becomes of jobs whose takers are threads.
+ghost use Rattle.std.specs.Prelude.{◌≡◌, All, IfSome};
+
+use sgt_dispatch::{Feed, FeedError, Job, Putter, Stub, Take, Taker};
+use sgt_model::{Args, Bounded};
+use std::alloc::Global;
+use std::sync::Wait;
+use std::thread;
+use std::thread::Threads;
+
+/// Why a taker left.
+#[derive(Clone, Copy, PartialEq, Eq)]
+enum End {
+    /// It had taken as many as it was to take.
+    Enough,
+    /// It took a stop.
+    Stop,
+    /// The putter was gone.
+    Gone,
+}
+
+/// What a taker did.
+#[derive(Drop)]
+struct Taken {
+    /// The numbers of its jobs, in the order of its takes.
+    numbers: Bounded<u32, 100>,
+    end: End,
+}
+
+fn job(number: u32) -> Job {
+    Job {
+        number,
+        procedure: 2,
+        args: Args::new(),
+    }
+}
+
+/// Puts the jobs below a number, until one is handed back: it answers that one's number.
+fn put_jobs<R: Wait>(rt: &R, putter: &mut Putter, jobs: u32) -> Option<u32>
+    ensures { putter.new.feed ≡ putter.old.feed }
+{
+    for number in 0..jobs {
+        if let Err(job) = putter.put(rt, job(number)) {
+            return Some(job.number);
+        }
+    }
+    None
+}
+
+/// Puts so many stops, and answers how many of them were put.
+fn put_stops<R: Wait>(rt: &R, putter: &mut Putter, stops: usize) -> usize
+    ensures { putter.new.feed ≡ putter.old.feed }
+{
+    let mut put = 0;
+    for done in 0..stops {
+        if putter.stop(rt) {
+            put = done + 1;
+        }
+    }
+    put
+}
+
+/// Puts jobs, and then a stop for each taker. A putter that is to go puts no stop.
+fn put_all<R: Wait>(rt: &R, putter: Putter, plan: Plan) -> (Option<Putter>, Option<u32>, usize)
+    ensures { IfSome result.0 (λ left. left.feed ≡ putter.feed) }
+{
+    let mut putter = putter;
+    let back = put_jobs(rt, &mut putter, plan.put);
+    if plan.end == End::Gone {
+        return (None, back, 0);
+    }
+    let stops = put_stops(rt, &mut putter, plan.takers);
+    (Some(putter), back, stops)
+}
+
+/// Takes once, and notes the number of a job that it got. Otherwise it has to leave.
+fn take<R: Wait>(rt: &R, taker: &mut Taker, numbers: &mut Bounded<u32, 100>) -> Option<End>
+    ensures { taker.new.feed ≡ taker.old.feed }
+{
+    match taker.take(rt) {
+        Take::Job(job) => {
+            if numbers.is_full() {
+                return Some(End::Enough);
+            }
+            numbers.push(job.number);
+            None
+        }
+        Take::Stop => Some(End::Stop),
+        Take::Gone => Some(End::Gone),
+    }
+}
+
+/// Takes up to so many jobs, or until it gets a stop, and leaves.
+fn take_some<R: Wait>(rt: &R, taker: Taker, most: u32) -> (Stub, Taken)
+    ensures { result.0.feed ≡ taker.feed }
+{
+    let mut taker = taker;
+    let mut numbers = Bounded::new();
+    let mut end = End::Enough;
+    for _ in 0..most {
+        if let Some(reason) = take(rt, &mut taker, &mut numbers) {
+            end = reason;
+            break;
+        }
+    }
+    (taker.leave(), Taken { numbers, end })
+}
+
+/// Joins what the takers left.
+fn join_all(putter: Putter, left: Vec<(Stub, Taken)>) -> Putter
+    requires { All (λ taker. taker.0.feed ≡ putter.feed) left.items }
+{
+    let mut putter = putter;
+    let mut left = left;
+    while let Some((stub, _)) = left.pop() {
+        putter = putter.join(stub);
+    }
+    putter
+}
+
+/// Whether each taker took its jobs in order, and left for this reason.
+fn are_in_order(left: &[(Stub, Taken)], end: End) -> bool {
+    for (_, taken) in left {
+        if taken.end != end || !taken.numbers.as_slice().is_sorted() {
+            return false;
+        }
+    }
+    true
+}
+
+/// How often a job was taken.
+fn times(left: &[(Stub, Taken)], number: u32) -> u32 {
+    let mut times = 0u32;
+    for (_, taken) in left {
+        for one in taken.numbers.as_slice() {
+            if *one == number {
+                times = times.saturating_add(1);
+            }
+        }
+    }
+    times
+}
+
+/// Whether of 100 jobs just those below a number were taken, each once.
+fn are_once(left: &[(Stub, Taken)], jobs: u32) -> bool {
+    for number in 0..100 {
+        if times(left, number) != u32::from(number < jobs) {
+            return false;
+        }
+    }
+    true
+}
+
+/// What was seen of a feed.
+#[derive(Clone, Copy, PartialEq, Eq)]
+struct Fed {
+    /// Whether the jobs below the number were taken, each once and each taker's in order, and the takers left for the reason.
+    is_right: bool,
+    /// The number of the job that was handed back, if one was.
+    back: Option<u32>,
+    /// How many stops were put.
+    stops: usize,
+}
+
+/// What the putter and the takers do, in a thread each, and what is to come of it.
+#[derive(Clone, Copy)]
+struct Plan {
+    room: usize,
+    takers: usize,
+    /// How many jobs are put.
+    put: u32,
+    /// How often each takes at most.
+    most: u32,
+    /// How many jobs are to be taken.
+    taken: u32,
+    /// Why they are to leave.
+    end: End,
+}
+
+/// Feeds the takers as it is planned, and joins them.
+fn feed<R: Threads + Wait + Sync>(rt: &R, alloc: Global, plan: Plan) -> Option<Fed> {
+    let (putter, takers) = Feed::make(alloc, plan.room, plan.takers).ok()?;
+    let ((putter, back, stops), left) = thread::join(
+        rt,
+        || put_all(rt, putter, plan),
+        || thread::map_vec(rt, takers, &|taker| take_some(rt, taker, plan.most)),
+    );
+    let left = left.ok()?;
+    let is_right = are_in_order(left.as_slice(), plan.end) && are_once(left.as_slice(), plan.taken);
+    if let Some(putter) = putter {
+        drop(join_all(putter, left));
+    }
+    Some(Fed {
+        is_right,
+        back,
+        stops,
+    })
+}
+
+/// How many takers a feed is made with.
+fn made(alloc: Global, room: usize, takers: usize) -> Result<usize, FeedError> {
+    let (_, takers) = Feed::make(alloc, room, takers)?;
+    Ok(takers.len())
+}
+
+/// Whether each of these rooms and numbers of takers is refused for this.
+fn are_refused(alloc: Global, sizes: &[(usize, usize)], error: FeedError) -> bool {
+    for (room, takers) in sizes {
+        if made(alloc, *room, *takers) != Err(error) {
+            return false;
+        }
+    }
+    true
+}
+
+#[test]
+fn refused_makes(rt: HostRuntime) {
+    let alloc = rt.alloc();
+    assert!(rt; are_refused(alloc, &[(0, 1), (1025, 1), (0, 17)], FeedError::BadRoom));
+    assert!(rt; are_refused(alloc, &[(1, 0), (1024, 17)], FeedError::BadTakers));
+    assert!(rt; made(alloc, 1, 1) == Ok(1));
+    assert!(rt; made(alloc, 1024, 16) == Ok(16));
+}
+
+/// Whether none of the jobs was handed back, and so many stops were put.
+fn goes_well<R: Threads + Wait + Sync>(rt: &R, alloc: Global, plan: Plan, stops: usize) -> bool {
+    let fed = Fed {
+        is_right: true,
+        back: None,
+        stops,
+    };
+    feed(rt, alloc, plan) == Some(fed)
+}
+
+#[test]
+fn each_job_is_taken_once(rt: HostRuntime) {
+    let one = Plan {
+        room: 3,
+        takers: 1,
+        put: 100,
+        most: 101,
+        taken: 100,
+        end: End::Stop,
+    };
+    assert!(rt; goes_well(&rt, rt.alloc(), one, 1));
+    let many = Plan {
+        room: 1,
+        takers: 16,
+        ..one
+    };
+    assert!(rt; goes_well(&rt, rt.alloc(), many, 16));
+}
+
+#[test]
+fn takers_find_the_putter_gone(rt: HostRuntime) {
+    let plan = Plan {
+        room: 3,
+        takers: 2,
+        put: 50,
+        most: 101,
+        taken: 50,
+        end: End::Gone,
+    };
+    assert!(rt; goes_well(&rt, rt.alloc(), plan, 0));
+}
+
+/// One more job may be put before the last taker leaves.
+#[test]
+fn leaving_lets_the_putter_go(rt: HostRuntime) {
+    let plan = Plan {
+        room: 1,
+        takers: 4,
+        put: 100,
+        most: 1,
+        taken: 4,
+        end: End::Enough,
+    };
+    let fed = feed(&rt, rt.alloc(), plan);
+    let handed_back = |number| {
+        Some(Fed {
+            is_right: true,
+            back: Some(number),
+            stops: 0,
+        })
+    };
+    assert!(rt; fed == handed_back(4) || fed == handed_back(5));
+}
