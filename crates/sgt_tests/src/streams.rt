@@ -219,19 +219,6 @@ impl Read for Failing {
     }
 }
 
-/// Tests what a run over this reader writes, and how it ends.
-fn ends_with<R: AllocGlobal + Abort>(
-    rt: &R,
-    reader: Failing,
-    replies: &str,
-    want: &str,
-) -> Result<(), Fail> {
-    let (ending, _, written) = run(rt.alloc(), reader, Vec::new(rt.alloc()))?;
-    assert!(rt; written.as_slice() == replies.as_bytes());
-    assert_eq!(rt; ending.as_str(), want);
-    Ok(())
-}
-
 /// Tests what a run writes, and how it ends, whose reader fails at the call of this number.
 fn reads<R: AllocGlobal + Abort>(
     rt: &R,
@@ -245,7 +232,12 @@ fn reads<R: AllocGlobal + Abort>(
         calls: 0,
         fails_at,
     };
-    ends_with(rt, reader, replies, want)
+    let (ending, _, written) = run(rt.alloc(), reader, Vec::new(rt.alloc()))?;
+    assert!(rt;
+        ending.as_str() == want && written.as_slice() == replies.as_bytes(),
+        "{fails_at}"
+    );
+    Ok(())
 }
 
 /// A reader that fails at each of its calls in turn, and then at none. Its count rises only where its call failed.
