@@ -1,5 +1,5 @@
 -- A history as the merge of the sessions' receipts.
-use Rattle.std.proofs.Common.{◌≡◌, ◌≢◌, ℕ, zero, suc, ◌+◌, ◌-◌, ◌<◌, ◌≤◌, nat_eq, Bool, true, false, cond, List, [], ◌∷◌, ◌++◌, All, length, drop, set, replicate, get_or, slice_get, slice_index, slice_index_or, Some, None, refl, ap, sym, subst, ◌∙◌, ⊎_elim, ◌⊎◌, arith}
+use Rattle.std.proofs.Common.{◌≡◌, ℕ, zero, suc, ◌+◌, ◌-◌, ◌<◌, ◌≤◌, nat_eq, true, false, cond, List, [], ◌∷◌, All, length, drop, set, replicate, slice_get, slice_index, slice_index_or, Some, refl, ap, sym, subst, ◌∙◌, ⊎_elim, ◌⊎◌, arith}
 use Rattle.std.specs.Prelude.{count_by}
 use Rattle.std.specs.List.{sum_by}
 use Rattle.std.proofs.lemmas.List.Sums.{sum_by-cons}

@@ -1,12 +1,11 @@
 -- How many transactions a session has to hold for live.
-use Rattle.std.proofs.Common.{◌≡◌, ℕ, ◌+◌, ◌<◌, ◌≤◌, Bool, true, false, not, cond, nat_eq, List, [], ◌∷◌, ◌++◌, length, Option, Some, None, refl, sym, ap, ◌∙◌, arith}
+use Rattle.std.proofs.Common.{◌≡◌, ℕ, ◌+◌, ◌<◌, ◌≤◌, Bool, true, false, cond, List, [], ◌∷◌, ◌++◌, length, Option, Some, None, refl, sym, arith}
 use Rattle.std.proofs.lemmas.List.{length-append}
-use Rattle.std.specs.List.{filter, list_any}
 use Rattle.sgt_model.specs.declared.event.Event.{Event}
 use Rattle.sgt_model.specs.declared.event.Event.TheVariants.{Start, Step, Commit, Quit}
 use Rattle.sgt_model.specs.declared.reply.Reply.{Reply}
 use Rattle.sgt_session.specs.declared.receipt.Receipt.{Receipt}
-use Rattle.sgt_session.specs.Own.{started_number, started_by, tells_end, ended_by, with_one, without, is_open, open_by, open_from, open_of, places}
+use Rattle.sgt_session.specs.Own.{started_number, started_by, tells_end, with_one, without, is_open, open_by, open_from, open_of, places}
 
 -- one is taken out
 pub without-few : (t : ℕ) (own : List ℕ) → length (without (Some t) own) ≤ length own

@@ -57,7 +57,15 @@ pub struct Caller<'a, N: Named, R: Records, A: Accesses, G: Graph, T: Gate, W: W
     pub session: Session<N>,
 }
 
-impl<'a, N: Named, R: Records, A: Accesses, G: Graph, T: Gate, W: Wait> Caller<'a, N, R, A, G, T, W> {
+impl<'a, N: Named, R: Records, A: Accesses, G: Graph, T: Gate, W: Wait> Caller<
+    'a,
+    N,
+    R,
+    A,
+    G,
+    T,
+    W,
+> {
     /// Tries the job until an attempt does not fail, at most so many times.
     pub fn run_job(&mut self, alloc: Global, job: &Job, tries: u32) -> Outcome<T::Note> {
         let mut attempts = Vec::new(alloc);

@@ -96,9 +96,7 @@ pub fn run_crew<
             ensures putter { KeepsTakers putter result.0 }
             ensures ended { (vec_len result.1 ≤ vec_len team) × All (λ e. e.stub.feed ≡ putter.feed) result.1.items }
         {
-            let running = start_all(
-                scope, rt, shared, gate, outcomes, &putter, running, team,
-            );
+            let running = start_all(scope, rt, shared, gate, outcomes, &putter, running, team);
             let jobs = if running.len() == count { jobs } else { &[] };
             let putter = put_all(rt, putter, jobs, running.len());
             let ended = join_all(rt, &putter, running, ended);
@@ -139,8 +137,7 @@ fn start_all<
     let mut running = running;
     for worker in team {
         let promise = SameFeed(Snapshot::of(&worker.taker));
-        let Ok(handle) =
-            scope.spawn_with(promise, move || work(rt, shared, gate, outcomes, worker))
+        let Ok(handle) = scope.spawn_with(promise, move || work(rt, shared, gate, outcomes, worker))
         else {
             break;
         };

@@ -1,12 +1,19 @@
 //! Workers that run jobs as transactions of one engine, and the test of what they report.
 //!
-//! A job is one call of a procedure. What became of it is an [`Outcome`], which names entries of the engine's history or
-//! transactions in it. What each outcome says of the history stands in `specs/Outcomes.antt`. [`audit`] looks whether the
-//! outcomes of a report say so: each of its job, none of what another names, and none too few.
+//! A job is one call of a procedure. [`run`] has up to 16 threads take jobs from a feed and make their calls to one engine,
+//! with one hold of its lock for each call. A [`Gate`] is asked before each call. What became of a job is an [`Outcome`], which names
+//! entries of the engine's history or transactions in it. What each outcome says of the history stands in
+//! `specs/Outcomes.antt`. [`audit`] looks whether the outcomes of a report say so: each of its job, none of what another
+//! names, and none too few; `run` hands out no report of which that is not so.
 //!
-//! It knows nothing of procedures, accesses and conflicts: that the history is legal is the engine's promise.
+//! It knows nothing of procedures, accesses and conflicts: that the history is legal is the engine's promise. Nothing says
+//! that a run comes to its end, nor which worker takes which job.
 //!
 //! ```
+//! // Four workers, each job tried up to 100 times. `Open` is a gate that lets everybody go.
+//! let bank = Bank { opening, procedures, limits };
+//! let report = run::<ListRecords, OneList, PairGraph, Open, _>(&rt, alloc, bank, &jobs, 4, 100, &Open)?;
+//!
 //! // Entry 4 commits the transaction of the first job; the second job's start was refused by entry 5.
 //! let outcomes = vec![in alloc; Outcome::Done(4), Outcome::Refused(5)]?;
 //! let stands = audit(alloc, engine.history(), &jobs, &outcomes, 1, 100)?;

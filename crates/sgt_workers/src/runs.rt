@@ -135,9 +135,7 @@ fn run_bank<R: Records, A: Accesses, G: Graph, T: Gate + Sync, W: Threads + Wait
         return Err(PoolError::NoMemory);
     };
     let blank = Blank::new(u64::from(workers));
-    run_named::<Brand, R, A, G, T, W>(
-        rt, alloc, engine, blank, jobs, workers as u16, tries, gate,
-    )
+    run_named::<Brand, R, A, G, T, W>(rt, alloc, engine, blank, jobs, workers as u16, tries, gate)
 }
 
 /// The same, where the engine has a name.
@@ -174,10 +172,12 @@ fn run_named<
     let team = team_of(alloc, tries, &putter, sessions, takers)?;
     let (putter, ended) = run_crew(rt, alloc, &shared, gate, &outcomes, jobs, putter, team)?;
     let sessions = settle(alloc, putter, ended)?;
-    let Ok(Closed {
-        engine,
-        sessions: _,
-    }) = shared.close(sessions)
+    let Ok(
+        Closed {
+            engine,
+            sessions: _,
+        },
+    ) = shared.close(sessions)
     else {
         return Err(PoolError::Mismatch);
     };

@@ -1,4 +1,4 @@
-use Rattle.std.proofs.Common.{◌≡◌, rules, arith}
+use Rattle.std.proofs.Common.{◌≡◌, arith}
 use Rattle.sgt_session.specs.Own.{places}
 use Rattle.sgt_session.proofs.Owns.{places-enough}
 use Rattle.sgt_session.proofs.own.make_room.Goals as goal

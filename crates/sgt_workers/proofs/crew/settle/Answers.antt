@@ -1,4 +1,4 @@
-use Rattle.std.proofs.Common.{◌≡◌, ℕ, ◌∙◌, ap, sym, subst, All, length, arith}
+use Rattle.std.proofs.Common.{◌≡◌, ◌∙◌, ap, sym, length, arith}
 use Rattle.sgt_dispatch.specs.Ends.{PutterState}
 use Rattle.sgt_workers.proofs.Loops.{first_and_rest}
 use Rattle.sgt_workers.proofs.crew.settle.Goals as goal

@@ -1,4 +1,4 @@
-use Rattle.std.proofs.Common.{◌≡◌, List, reverse}
+use Rattle.std.proofs.Common.{◌≡◌, reverse}
 use Rattle.sgt_model.specs.Contents.{Key}
 use Rattle.sgt_model.specs.Databases.{contents_of}
 use Rattle.sgt_model.specs.Aborts.{AbortsHaveCause}
