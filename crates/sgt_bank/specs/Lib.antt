@@ -1,0 +1,5 @@
+pub mod Jobs
+pub mod Taking
+pub mod Inputs
+pub mod OutcomeText
+pub mod Reports
