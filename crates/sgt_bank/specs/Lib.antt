@@ -3,3 +3,4 @@ pub mod Taking
 pub mod Inputs
 pub mod OutcomeText
 pub mod Reports
+pub mod Banks
