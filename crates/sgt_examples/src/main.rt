@@ -9,6 +9,9 @@
 
 ghost use Rattle.std.specs.Prelude.{◌≤◌};
 
+mod endless;
+
+use endless::run_faults;
 use sgt_bank::run_jobs;
 use sgt_script::run_script;
 use sgt_stream::{Fault, Reader, Writer};
@@ -117,5 +120,6 @@ fn main(rt: HostRuntime) -> io::Result<()> {
     compare_banks(&rt, "examples/bank_one_worker", 1)?;
     compare_banks(&rt, "examples/bank_eight_workers", 8)?;
     compare_banks(&rt, "bank_faults", 2)?;
-    compare_banks(&rt, "bank_rows", 1)
+    compare_banks(&rt, "bank_rows", 1)?;
+    run_faults(&rt)
 }
