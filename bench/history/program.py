@@ -1,6 +1,7 @@
 """Builds `main.rt` beside this file as a crate over the repository's, in a folder of its own, and gives the program."""
 
 import os
+import shutil
 import subprocess
 
 HERE = os.path.dirname(os.path.abspath(__file__))
@@ -9,13 +10,12 @@ CRATES = "sgt_model sgt_access sgt_records sgt_graph sgt_proc sgt_proc_json sgt_
 
 
 def make(room):
-    """Makes the crate below this folder, beside links to the repository's crates."""
+    """Makes the crate below this folder, beside a copy of the repository's crates as far as they are built."""
     crates = os.path.join(room, "crates")
+    shutil.copytree(os.path.join(TOP, "crates"), crates, ignore=shutil.ignore_patterns("incremental", "must-fail", "data"))
     os.makedirs(os.path.join(crates, "sgt_history", "src"))
     os.makedirs(os.path.join(crates, "sgt_history", "specs"))
-    for name in os.listdir(os.path.join(TOP, "crates")):
-        os.symlink(os.path.abspath(os.path.join(TOP, "crates", name)), os.path.join(crates, name))
-    os.symlink(os.path.join(HERE, "main.rt"), os.path.join(crates, "sgt_history", "src", "main.rt"))
+    shutil.copy(os.path.join(HERE, "main.rt"), os.path.join(crates, "sgt_history", "src", "main.rt"))
     open(os.path.join(crates, "sgt_history", "specs", "Lib.antt"), "w").close()
     with open(os.path.join(TOP, "crates.txt")) as old, open(os.path.join(room, "crates.txt"), "w") as new:
         new.write(old.read() + f"sgt_history: {CRATES}\n")

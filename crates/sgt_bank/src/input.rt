@@ -1,6 +1,5 @@
-ghost use Rattle.std.specs.Prelude.{◌≡◌, ◌≢◌, ℕ, IfOk, IfErr, IfSome, Err, Some, ◌+◌, ◌^◌, ◌<◌, ◌≤◌, length, slice_get};
-ghost use Rattle.sgt_model.specs.Bounds.{AreInRange};
-ghost use Rattle.sgt_dispatch.specs.declared.job.Job.{Job as J};
+ghost use Rattle.std.specs.Prelude.{◌≡◌, ◌≢◌, IfOk, IfErr, IfSome, Err, ◌+◌, ◌^◌, ◌<◌, ◌≤◌};
+ghost use Rattle.sgt_workers.specs.Banks.{AreLimitsFor, AreJobs};
 ghost use Rattle.sgt_bank.specs.Inputs.{InputAsks, InputFails};
 ghost use Rattle.sgt_stream.specs.Ends.{IsOfInput};
 
@@ -23,11 +22,8 @@ pub fn read_input<S: Source>(
     requires { S.failures source.old + 1 < 2 ^ 64 }
     ensures input { IfOk result (λ input. IfSome (S.rest source.old) (λ bytes.
         InputAsks workers bytes input.0 input.1.items)) }
-    ensures limits { IfOk result (λ input.
-        AreInRange input.0.limits × (workers ≤ input.0.limits.live)) }
-    ensures few { IfOk result (λ input. length input.1.items ≤ 1000000) }
-    ensures numbered { IfOk result (λ input. (i : ℕ) (job : J) →
-        slice_get input.1.items i ≡ Some job → job.number ≡ i) }
+    ensures limits { IfOk result (λ input. AreLimitsFor workers input.0.limits) }
+    ensures numbered { IfOk result (λ input. AreJobs input.1.items) }
     ensures fault { IfErr result (λ f. IsOfInput f → IfSome (S.rest source.old) (λ bytes.
         InputFails workers bytes f)) }
     ensures bounded { S.given source.new ≤ S.given source.old + 16777217 }

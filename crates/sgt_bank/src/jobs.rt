@@ -1,10 +1,10 @@
-ghost use Rattle.std.specs.Prelude.{◌≡◌, ◌≢◌, ℕ, List, IfOk, IfErr, IfSome, IsNone, Err, Ok, Some, [], ◌+◌, ◌^◌, ◌<◌, ◌≤◌, length, slice_get};
-ghost use Rattle.sgt_dispatch.specs.declared.job.Job.{Job as J};
+ghost use Rattle.std.specs.Prelude.{◌≡◌, ◌≢◌, ℕ, List, IfOk, IfErr, IfSome, IsNone, Err, Ok, [], ◌+◌, ◌^◌, ◌<◌, ◌≤◌};
 ghost use Rattle.sgt_format.specs.JobLines.{job_of};
 ghost use Rattle.sgt_format.specs.declared.errors.LineError.{LineError as E};
 ghost use Rattle.sgt_stream.specs.Lines.{AtEnd};
 ghost use Rattle.sgt_stream.specs.Intake.{EndsAs, come, cut_left};
 ghost use Rattle.sgt_stream.specs.Ends.{IsOfInput, fault_in};
+ghost use Rattle.sgt_workers.specs.Banks.{AreJobs};
 ghost use Rattle.sgt_bank.specs.Jobs.{calls, numbered, end_of};
 ghost use Rattle.sgt_bank.specs.Taking.{Asks, EndsWith};
 
@@ -74,9 +74,7 @@ pub(crate) fn read_jobs<S: Source>(
     requires few { come lines.old ≤ 16777217 }
     ensures jobs { IfOk result (λ jobs. IfSome (cut_left lines.old (S.rest source.old)) (λ c.
         (jobs.items ≡ numbered 0 (calls c.given)) × (end_of 2 c.given c.ending ≡ Ok tt))) }
-    ensures few { IfOk result (λ jobs. length jobs.items ≤ 1000000) }
-    ensures numbered { IfOk result (λ jobs. (i : ℕ) (job : J) →
-        slice_get jobs.items i ≡ Some job → job.number ≡ i) }
+    ensures numbered { IfOk result (λ jobs. AreJobs jobs.items) }
     ensures fault { IfErr result (λ f. IsOfInput f →
         EndsWith 2 (Err f) (cut_left lines.old (S.rest source.old))) }
     ensures bounded { S.given source.new + come lines.old ≤ S.given source.old + 16777217 }

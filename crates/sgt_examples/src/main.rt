@@ -10,8 +10,10 @@
 ghost use Rattle.std.specs.Prelude.{◌≤◌};
 
 mod endless;
+mod outcomes;
 
 use endless::run_faults;
+use outcomes::write_outcomes;
 use sgt_bank::run_jobs;
 use sgt_script::run_script;
 use sgt_stream::{Fault, Reader, Writer};
@@ -121,5 +123,6 @@ fn main(rt: HostRuntime) -> io::Result<()> {
     compare_banks(&rt, "examples/bank_eight_workers", 8)?;
     compare_banks(&rt, "bank_faults", 2)?;
     compare_banks(&rt, "bank_rows", 1)?;
-    run_faults(&rt)
+    run_faults(&rt)?;
+    write_outcomes(&rt)
 }

@@ -49,14 +49,12 @@ loop-jobs-preserved g c =
       reading = search rules;
     }
 
-pub returns-clause-few : goal.returns-clause-few
-returns-clause-few g c =
-    let start = c.loop-jobs.invariant.asked in
-    let jobs : length c.loop-jobs.jobs.items ≡ length start.0 = ap length start.1 ∙ length-numbered 0 start.0 in
-    subst (λ n. n ≤ 1000000) (sym jobs) start.3
-
 pub returns-clause-numbered : goal.returns-clause-numbered
-returns-clause-numbered g c = λ i job at.
+returns-clause-numbered g c =
     let start = c.loop-jobs.invariant.asked in
-    let from_zero : 0 + i ≡ i = omega arith in
-    numbered-at 0 start.0 i job (subst (λ js. slice_get js i ≡ Some job) start.1 at) ∙ from_zero
+    let jobs : length c.loop-jobs.jobs.items ≡ length start.0 = ap length start.1 ∙ length-numbered 0 start.0 in (
+      subst (λ n. n ≤ 1000000) (sym jobs) start.3,
+      λ i job at.
+          let from_zero : 0 + i ≡ i = omega arith in
+          numbered-at 0 start.0 i job (subst (λ js. slice_get js i ≡ Some job) start.1 at) ∙ from_zero,
+    )
