@@ -107,5 +107,8 @@ pub fn run_faults<R: AllocGlobal + Print + Threads + Wait + Sync>(rt: &R) -> io:
     run_endless(rt, "jobs in lines of 65,535 bytes", 65_535)?;
     run_endless(rt, "jobs in lines of 65,537 bytes", 65_537)?;
     run_unread(rt)?;
-    run_unwritten(rt)
+    run_unwritten(rt)?;
+    // Two that no run here can be brought to.
+    println!(rt; "{}", Fault::Spawn)?;
+    println!(rt; "{}", Fault::Mismatch)
 }
