@@ -17,6 +17,7 @@ ghost use Rattle.sgt_model.specs.Walks.{Acyclic};
 ghost use Rattle.sgt_sched.specs.Endings.{is_ending};
 ghost use Rattle.sgt_engine.specs.EngineView.{setting_of, made_of, with_entry};
 
+use crate::past::Past;
 use crate::room::make_room;
 use sgt_access::Accesses;
 use sgt_graph::Graph;
@@ -190,5 +191,24 @@ impl<R: Records, A: Accesses, G: Graph> Engine<R, A, G> {
     {
         replay_is_serial();
         self.sched.records().all(alloc)
+    }
+
+    /// The opening and the history, of an engine that takes no more events. This takes no memory.
+    pub fn into_past(self) -> Past
+        ensures opening { result.opening ≡ self.opening }
+        ensures entries { reverse result.history.items ≡ self.past }
+        ensures legal { Legal (setting_of self) self.past }
+        ensures replay { IsSerializable (setting_of self) self.past }
+        ensures no_cycle { Acyclic (Pair self.past) }
+        ensures causes { AbortsHaveCause (setting_of self) self.past }
+        ensures order { CommitsInOrder self.past }
+    {
+        headline_holds();
+        let Engine {
+            opening,
+            sched: _,
+            history,
+        } = self;
+        Past { opening, history }
     }
 }

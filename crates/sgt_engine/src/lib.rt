@@ -15,8 +15,10 @@
 #![tactic(auto)]
 
 mod engine;
+mod past;
 mod room;
 mod run;
 
 pub use engine::Engine;
+pub use past::Past;
 pub use run::{Ran, run_list};

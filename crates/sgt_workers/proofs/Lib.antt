@@ -3,3 +3,6 @@ pub mod Numbers
 pub mod LiveCount
 pub mod Rows
 pub mod Named
+pub mod Loops
+pub mod Pasts
+pub mod Crossing

@@ -1,3 +1,6 @@
+-- what a run of jobs is given, and what its crew leaves behind
+pub mod Banks
+pub mod Crews
 -- what the outcomes of jobs say of a history
 pub mod Places
 pub mod Outcomes

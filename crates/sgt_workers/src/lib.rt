@@ -14,7 +14,10 @@
 #![tactic(auto)]
 
 mod attempts;
+mod bank;
+mod caller;
 mod counts;
+mod crew;
 mod errors;
 mod gate;
 mod live_count;
@@ -22,10 +25,16 @@ mod lives;
 mod names;
 mod outcome;
 mod replies;
+mod report;
 mod reports;
+mod runs;
 mod stands;
+mod worker;
 
+pub use bank::{Bank, MOST_JOBS, MOST_TRIES, MOST_WORKERS};
 pub use errors::PoolError;
 pub use gate::{Gate, Pass};
 pub use outcome::Outcome;
+pub use report::Report;
 pub use reports::audit;
+pub use runs::run;

@@ -1,0 +1,32 @@
+-- What a run of jobs is given.
+use Rattle.std.specs.Prelude.{◌≡◌, ℕ, ◌≤◌, List, length, Some, slice_get}
+use Rattle.sgt_model.specs.declared.limits.Limits.{Limits}
+use Rattle.sgt_model.specs.Bounds.{AreInRange}
+use Rattle.sgt_model.specs.Databases.{contents_of}
+use Rattle.sgt_model.specs.Settings.{Setting, setting}
+use Rattle.sgt_dispatch.specs.declared.job.Job.{Job}
+use Rattle.sgt_workers.specs.declared.bank.Bank.{Bank}
+
+-- what the engine of a bank is made of
+abbrev pub setting_of : Bank → Setting
+setting_of bank = setting (contents_of bank.opening) bank.procedures.items bank.limits
+
+-- how many workers there may be
+abbrev pub AreWorkers : ℕ → Type 0
+AreWorkers workers = (1 ≤ workers) × (workers ≤ 16)
+
+-- how many tries a job may have
+abbrev pub AreTries : ℕ → Type 0
+AreTries tries = (1 ≤ tries) × (tries ≤ 1000)
+
+-- an engine can have these limits, and each worker may have a transaction live
+abbrev pub AreLimitsFor : ℕ → Limits → Type 0
+AreLimitsFor workers limits = AreInRange limits × (workers ≤ limits.live)
+
+-- each job's number is its place
+abbrev pub AreNumbered : List Job → Type 0
+AreNumbered jobs = (i : ℕ) (job : Job) → slice_get jobs i ≡ Some job → job.number ≡ i
+
+-- there are not too many jobs, and they are numbered from 0
+abbrev pub AreJobs : List Job → Type 0
+AreJobs jobs = (length jobs ≤ 1000000) × AreNumbered jobs

@@ -1,0 +1,19 @@
+-- What running a crew leaves behind.
+use Rattle.std.specs.Prelude.{◌≡◌}
+use Rattle.sgt_dispatch.specs.Ends.{PutterState}
+use Rattle.sgt_workers.specs.declared.errors.PoolError.{PoolError}
+use Rattle.sgt_workers.specs.declared.errors.PoolError.TheVariants as error
+
+-- an error of the run itself, and not of what it was given
+abbrev pub IsRunError : PoolError → Type 0
+IsRunError error.BadWorkers = ⊥
+IsRunError error.BadTries = ⊥
+IsRunError error.BadLimits = ⊥
+IsRunError error.BadJobs = ⊥
+IsRunError error.NoMemory = Unit {0}
+IsRunError error.Spawn = Unit {0}
+IsRunError error.Mismatch = Unit {0}
+
+-- the same feed, with the same takers joined and not joined
+abbrev pub KeepsTakers : PutterState → PutterState → Type 0
+KeepsTakers old new = (new.feed ≡ old.feed) × (new.joined ≡ old.joined) × (new.unjoined ≡ old.unjoined)

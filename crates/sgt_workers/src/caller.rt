@@ -1,0 +1,165 @@
+//! The calls that a worker makes for a job.
+use crate::gate::{Gate, Pass};
+use crate::outcome::Outcome;
+use sgt_access::Accesses;
+use sgt_dispatch::Job;
+use sgt_graph::Graph;
+use sgt_model::{Cause, Event, Fate, NoMemory, Reply, Tid};
+use sgt_records::Records;
+use sgt_session::{Named, Receipt, Session, Shared};
+use std::alloc::Global;
+use std::sync::Wait;
+
+/// What one attempt at a job came to.
+#[derive(Drop)]
+enum Attempt<X> {
+    /// This transaction was aborted by a cycle, or fell. The job may be tried again.
+    Failed(Tid),
+    /// The job needs no further attempt.
+    Final(Outcome<X>),
+}
+
+/// Why a worker stops in the midst of an attempt. A transaction that is live then is to be quit.
+#[derive(Drop)]
+enum Halt<X> {
+    /// The gate makes it leave.
+    Leave(X),
+    /// A call was refused memory.
+    NoMemory,
+    /// No history allows this reply.
+    Astray(u64),
+}
+
+impl<X> From<NoMemory> for Halt<X> {
+    fn from(_: NoMemory) -> Self {
+        Halt::NoMemory
+    }
+}
+
+impl<X> Halt<X> {
+    /// What becomes of the job. The audit finds that a reply which no history allows is no refusal.
+    fn into_outcome(self) -> Outcome<X> {
+        match self {
+            Halt::Leave(note) => Outcome::Left(note),
+            Halt::NoMemory => Outcome::NoMemory,
+            Halt::Astray(number) => Outcome::Refused(number),
+        }
+    }
+}
+
+/// One worker's session, and who is asked before each call of it.
+#[derive(Drop)]
+pub struct Caller<'a, N: Named, R: Records, A: Accesses, G: Graph, T: Gate, W: Wait> {
+    pub rt: &'a W,
+    pub shared: &'a Shared<N, R, A, G>,
+    pub gate: &'a T,
+    pub number: u8,
+    pub session: Session<N>,
+}
+
+impl<'a, N: Named, R: Records, A: Accesses, G: Graph, T: Gate, W: Wait> Caller<'a, N, R, A, G, T, W> {
+    /// Tries the job until an attempt does not fail, at most so many times.
+    pub fn run_job(&mut self, alloc: Global, job: &Job, tries: u32) -> Outcome<T::Note> {
+        let mut attempts = Vec::new(alloc);
+        for _ in 0..tries {
+            match self.attempt(job) {
+                Attempt::Final(outcome) => return outcome,
+                Attempt::Failed(t) => {
+                    if attempts.push(t).is_err() {
+                        return Outcome::NoMemory;
+                    }
+                }
+            }
+        }
+        Outcome::Gave(attempts)
+    }
+
+    /// One attempt. Whatever it comes to, its transaction is not live any more.
+    fn attempt(&mut self, job: &Job) -> Attempt<T::Note> {
+        let start = Event::Start {
+            procedure: job.procedure,
+            args: job.args.copied(),
+        };
+        match self.call(start) {
+            Ok(receipt) => match started(&receipt.reply) {
+                Some(t) => self.attempt_with(t),
+                None => Attempt::Final(Outcome::Refused(receipt.number)),
+            },
+            Err(halt) => Attempt::Final(halt.into_outcome()),
+        }
+    }
+
+    /// The attempt with a transaction that was started for it.
+    fn attempt_with(&mut self, t: Tid) -> Attempt<T::Note> {
+        match self.run_transaction(t) {
+            Ok(attempt) => attempt,
+            Err(halt) => {
+                self.quit(t);
+                Attempt::Final(halt.into_outcome())
+            }
+        }
+    }
+
+    /// Steps until the procedure is at its end, and commits.
+    fn run_transaction(&mut self, t: Tid) -> Result<Attempt<T::Note>, Halt<T::Note>> {
+        for _ in self.rt.forever() {
+            let receipt = self.call(Event::Step(t))?;
+            match receipt.reply {
+                Reply::Looked { .. } | Reply::Wrote { .. } => (),
+                Reply::Ended => break,
+                _ => return attempt_of(t, &receipt),
+            }
+        }
+        self.pass()?;
+        let receipt = self.session.commit(self.rt, self.shared, t)?;
+        attempt_of(t, &receipt)
+    }
+
+    /// One call, where the gate lets it go.
+    fn call(&mut self, event: Event) -> Result<Receipt, Halt<T::Note>> {
+        self.pass()?;
+        Ok(self.session.call(self.rt, self.shared, event)?)
+    }
+
+    /// Asks the gate. It is told how many calls the session has made: as many as it has receipts.
+    fn pass(&self) -> Result<(), Halt<T::Note>> {
+        match self
+            .gate
+            .pass(self.number, self.session.receipts().len() as u64)
+        {
+            Pass::Go => Ok(()),
+            Pass::Leave(note) => Err(Halt::Leave(note)),
+        }
+    }
+
+    /// Quits a transaction, so that nobody waits for it. Where it is live this takes no memory and succeeds; where it is not,
+    /// it does nothing.
+    fn quit(&mut self, t: Tid) {
+        let _ = self.session.call(self.rt, self.shared, Event::Quit(t));
+    }
+}
+
+/// The transaction that the reply tells to have been started, if it does.
+fn started(reply: &Reply) -> Option<Tid> {
+    match reply {
+        Reply::Started(t) => Some(*t),
+        _ => None,
+    }
+}
+
+/// What the reply that ended a transaction makes of the attempt.
+fn attempt_of<X>(t: Tid, receipt: &Receipt) -> Result<Attempt<X>, Halt<X>> {
+    match &receipt.reply {
+        Reply::Committed(_) => Ok(Attempt::Final(Outcome::Done(receipt.number))),
+        Reply::Aborted {
+            cause: Cause::Asked(_),
+            ..
+        } => Ok(Attempt::Final(Outcome::Asked(receipt.number))),
+        Reply::Aborted {
+            cause: Cause::Cycle(_),
+            ..
+        }
+        | Reply::Over(Fate::Fell(_)) => Ok(Attempt::Failed(t)),
+        _ => Err(Halt::Astray(receipt.number)),
+    }
+}

@@ -1,0 +1,105 @@
+ghost use Rattle.std.specs.Prelude.{◌≡◌, ◌↔◌, IsTrue, IfOk, IfErr, reverse};
+ghost use Rattle.std.specs.List.{count_by};
+ghost use Rattle.sgt_model.specs.Aborts.{AbortsHaveCause};
+ghost use Rattle.sgt_model.specs.CommitOrder.{CommitsInOrder};
+ghost use Rattle.sgt_model.specs.Contents.{Key as K};
+ghost use Rattle.sgt_model.specs.Databases.{contents_of, IsByKey};
+ghost use Rattle.sgt_model.specs.Legality.{Legal};
+ghost use Rattle.sgt_model.specs.Pairs.{Pair};
+ghost use Rattle.sgt_model.specs.Replay.{folded, IsSerializable};
+ghost use Rattle.sgt_model.specs.Values.{settled};
+ghost use Rattle.sgt_model.specs.Walks.{Acyclic};
+ghost use Rattle.sgt_engine.specs.EngineView.{setting_of};
+ghost use Rattle.sgt_workers.specs.Crews.{IsRunError};
+ghost use Rattle.sgt_workers.specs.Reports.{is_no_memory, OutcomesStand};
+
+use crate::errors::PoolError;
+use crate::outcome::Outcome;
+use crate::reports::audit;
+use sgt_access::Accesses;
+use sgt_dispatch::Job;
+use sgt_engine::{Engine, Past};
+use sgt_graph::Graph;
+use sgt_model::{Database, Entry};
+use sgt_records::Records;
+use std::alloc::Global;
+
+/// What became of the jobs.
+#[derive(Drop)]
+pub struct Report<N> {
+    /// The database before the first job.
+    pub opening: Database,
+    /// All that the workers asked, and were answered, oldest entry first.
+    pub history: Vec<Entry>,
+    /// By the jobs' numbers.
+    pub outcomes: Vec<Outcome<N>>,
+    /// The database after the last job.
+    pub database: Database,
+}
+
+/// The report of a run, where its outcomes stand in the history of the engine.
+///
+/// `Mismatch` where one does not; `NoMemory` where a growth was refused, now or to a worker.
+pub fn report_of<R: Records, A: Accesses, G: Graph, X: Drop>(
+    alloc: Global,
+    engine: Engine<R, A, G>,
+    outcomes: Vec<Outcome<X>>,
+    jobs: &[Job],
+    workers: u32,
+    tries: u32,
+) -> Result<Report<X>, PoolError>
+    ensures opening { IfOk result (λ r. (k : K) → contents_of r.opening k ≡ contents_of engine.opening k) }
+    ensures history { IfOk result (λ r. reverse r.history.items ≡ engine.past) }
+    ensures legal { IfOk result (λ _. Legal (setting_of engine) engine.past) }
+    ensures values { IfOk result (λ r. (k : K) →
+        contents_of r.database k ≡ settled (contents_of engine.opening) engine.past k) }
+    ensures replayed { IfOk result (λ r. (k : K) →
+        contents_of r.database k ≡ (folded (setting_of engine) engine.past).last k) }
+    ensures by_key { IfOk result (λ r. IsByKey r.database) }
+    ensures outcomes { IfOk result (λ r. OutcomesStand r.history.items jobs.now r.outcomes.items workers tries) }
+    ensures memory { IfOk result (λ r. count_by is_no_memory r.outcomes.items ≡ 0) }
+    ensures replay { IfOk result (λ _. IsSerializable (setting_of engine) engine.past) }
+    ensures no_cycle { IfOk result (λ _. Acyclic (Pair engine.past)) }
+    ensures causes { IfOk result (λ _. AbortsHaveCause (setting_of engine) engine.past) }
+    ensures order { IfOk result (λ _. CommitsInOrder engine.past) }
+    ensures error { IfErr result IsRunError }
+{
+    let Ok(database) = engine.database(alloc) else {
+        return Err(PoolError::NoMemory);
+    };
+    let Past { opening, history } = engine.into_past();
+    let Ok(stands) = audit(
+        alloc,
+        history.as_slice(),
+        jobs,
+        outcomes.as_slice(),
+        workers,
+        tries,
+    ) else {
+        return Err(PoolError::NoMemory);
+    };
+    if !stands {
+        return Err(PoolError::Mismatch);
+    }
+    if !had_memory(outcomes.as_slice()) {
+        return Err(PoolError::NoMemory);
+    }
+    Ok(Report {
+        opening,
+        history,
+        outcomes,
+        database,
+    })
+}
+
+/// Whether no worker was refused memory.
+fn had_memory<X>(outcomes: &[Outcome<X>]) -> bool
+    ensures { IsTrue result ↔ (count_by is_no_memory outcomes.now ≡ 0) }
+{
+    for outcome in outcomes {
+        if matches!(outcome, Outcome::NoMemory) {
+            return false;
+        }
+    }
+    true
+}

@@ -1,0 +1,198 @@
+ghost use Rattle.std.specs.Prelude.{◌≡◌, ◌↔◌, ◌≤◌, ◌<◌, [], Result, Ok, Err, IfOk, IfErr, All, reverse, vec_len};
+ghost use Rattle.std.specs.List.{count_by};
+ghost use Rattle.sgt_model.specs.Aborts.{AbortsHaveCause};
+ghost use Rattle.sgt_model.specs.CommitOrder.{CommitsInOrder};
+ghost use Rattle.sgt_model.specs.Contents.{Key as K};
+ghost use Rattle.sgt_model.specs.Databases.{contents_of, IsByKey};
+ghost use Rattle.sgt_model.specs.Legality.{Legal};
+ghost use Rattle.sgt_model.specs.Pairs.{Pair};
+ghost use Rattle.sgt_model.specs.Replay.{folded, IsSerializable};
+ghost use Rattle.sgt_model.specs.Values.{settled};
+ghost use Rattle.sgt_model.specs.Walks.{Acyclic};
+ghost use Rattle.sgt_engine.specs.EngineView.{setting_of as made_with};
+ghost use Rattle.sgt_workers.specs.declared.errors.PoolError.TheVariants as PoolError;
+ghost use Rattle.sgt_workers.specs.Banks.{setting_of, AreWorkers, AreTries, AreLimitsFor, AreJobs};
+ghost use Rattle.sgt_workers.specs.Crews.{IsRunError};
+ghost use Rattle.sgt_workers.specs.Reports.{is_no_memory, OutcomesStand};
+
+use crate::bank::{Bank, check};
+use crate::crew::{run_crew, settle, team_of};
+use crate::errors::PoolError;
+use crate::gate::Gate;
+use crate::outcome::Outcome;
+use crate::report::{Report, report_of};
+use sgt_access::Accesses;
+use sgt_dispatch::{Feed, Job};
+use sgt_engine::Engine;
+use sgt_graph::Graph;
+use sgt_records::Records;
+use sgt_session::{Closed, Named, Shared};
+use std::alloc::Global;
+use std::marker::Brand;
+use std::sync::ledger::Blank;
+use std::sync::{Mutex, Wait};
+use std::thread::Threads;
+
+/// How many items the workers' feed holds.
+const ROOM: usize = 8;
+
+/// Runs the jobs as transactions of a new engine, each worker in a thread of its own, and reports what became of them.
+///
+/// A worker takes a job, starts a transaction for it, steps until its procedure is at its end, and commits. An attempt that was
+/// aborted by a cycle, or fell, is made again, up to `tries` in all. The gate is asked before each of these calls.
+///
+/// `BadWorkers` where the workers are not from 1 to `MOST_WORKERS`; `BadTries` where the tries are not from 1 to `MOST_TRIES`;
+/// `BadLimits` where a limit is out of its range, or fewer transactions may be live than there are workers; `BadJobs` where
+/// there are over `MOST_JOBS`, or a job's number is not its place. These are tested in this order, before any growth. Then
+/// `NoMemory` where a growth was refused, to a worker too; `Spawn` where a thread could not be made; and `Mismatch` where the
+/// receipts are not the history's entries, or an outcome does not stand in it.
+pub fn run<R: Records, A: Accesses, G: Graph, T: Gate + Sync, W: Threads + Wait + Sync>(
+    rt: &W,
+    alloc: Global,
+    bank: Bank,
+    jobs: &[Job],
+    workers: u32,
+    tries: u32,
+    gate: &T,
+) -> Result<Report<T::Note>, PoolError>
+    ensures opening { IfOk result (λ r. (k : K) → contents_of r.opening k ≡ contents_of bank.opening k) }
+    ensures legal { IfOk result (λ r. Legal (setting_of bank) (reverse r.history.items)) }
+    ensures values { IfOk result (λ r. (k : K) →
+        contents_of r.database k ≡ settled (contents_of bank.opening) (reverse r.history.items) k) }
+    ensures replayed { IfOk result (λ r. (k : K) →
+        contents_of r.database k ≡ (folded (setting_of bank) (reverse r.history.items)).last k) }
+    ensures by_key { IfOk result (λ r. IsByKey r.database) }
+    ensures outcomes { IfOk result (λ r. OutcomesStand r.history.items jobs.now r.outcomes.items workers tries) }
+    ensures memory { IfOk result (λ r. count_by is_no_memory r.outcomes.items ≡ 0) }
+    ensures replay { IfOk result (λ r. IsSerializable (setting_of bank) (reverse r.history.items)) }
+    ensures no_cycle { IfOk result (λ r. Acyclic (Pair (reverse r.history.items))) }
+    ensures causes { IfOk result (λ r. AbortsHaveCause (setting_of bank) (reverse r.history.items)) }
+    ensures order { IfOk result (λ r. CommitsInOrder (reverse r.history.items)) }
+    ensures bad_workers { (result ≡ Err PoolError.BadWorkers) ↔ (¬ AreWorkers workers) }
+    ensures bad_tries { (result ≡ Err PoolError.BadTries) ↔ (AreWorkers workers × (¬ AreTries tries)) }
+    ensures bad_limits { (result ≡ Err PoolError.BadLimits)
+        ↔ (AreWorkers workers × AreTries tries × (¬ AreLimitsFor workers bank.limits)) }
+    ensures bad_jobs { (result ≡ Err PoolError.BadJobs)
+        ↔ (AreWorkers workers × AreTries tries × AreLimitsFor workers bank.limits × (¬ AreJobs jobs.now)) }
+{
+    if let Err(fault) = check(&bank.limits, jobs, workers, tries) {
+        return Err(fault);
+    }
+    run_checked::<R, A, G, T, W>(rt, alloc, bank, jobs, workers, tries, gate)
+}
+
+/// The same, of what a run can be made of.
+fn run_checked<R: Records, A: Accesses, G: Graph, T: Gate + Sync, W: Threads + Wait + Sync>(
+    rt: &W,
+    alloc: Global,
+    bank: Bank,
+    jobs: &[Job],
+    workers: u32,
+    tries: u32,
+    gate: &T,
+) -> Result<Report<T::Note>, PoolError>
+    requires { AreWorkers workers }
+    ensures opening { IfOk result (λ r. (k : K) → contents_of r.opening k ≡ contents_of bank.opening k) }
+    ensures legal { IfOk result (λ r. Legal (setting_of bank) (reverse r.history.items)) }
+    ensures values { IfOk result (λ r. (k : K) →
+        contents_of r.database k ≡ settled (contents_of bank.opening) (reverse r.history.items) k) }
+    ensures replayed { IfOk result (λ r. (k : K) →
+        contents_of r.database k ≡ (folded (setting_of bank) (reverse r.history.items)).last k) }
+    ensures by_key { IfOk result (λ r. IsByKey r.database) }
+    ensures outcomes { IfOk result (λ r. OutcomesStand r.history.items jobs.now r.outcomes.items workers tries) }
+    ensures memory { IfOk result (λ r. count_by is_no_memory r.outcomes.items ≡ 0) }
+    ensures replay { IfOk result (λ r. IsSerializable (setting_of bank) (reverse r.history.items)) }
+    ensures no_cycle { IfOk result (λ r. Acyclic (Pair (reverse r.history.items))) }
+    ensures causes { IfOk result (λ r. AbortsHaveCause (setting_of bank) (reverse r.history.items)) }
+    ensures order { IfOk result (λ r. CommitsInOrder (reverse r.history.items)) }
+    ensures error { IfErr result IsRunError }
+{
+    let ran = run_bank::<R, A, G, T, W>(rt, alloc, bank, jobs, workers, tries, gate)?;
+    let (engine, outcomes) = ran;
+    report_of(alloc, engine, outcomes, jobs, workers, tries)
+}
+
+/// The engine that the jobs were run on, and what became of them.
+fn run_bank<R: Records, A: Accesses, G: Graph, T: Gate + Sync, W: Threads + Wait + Sync>(
+    rt: &W,
+    alloc: Global,
+    bank: Bank,
+    jobs: &[Job],
+    workers: u32,
+    tries: u32,
+    gate: &T,
+) -> Result<(Engine<R, A, G>, Vec<Outcome<T::Note>>), PoolError>
+    requires { AreWorkers workers }
+    ensures setting { IfOk result (λ r. made_with r.0 ≡ setting_of bank) }
+    ensures error { IfErr result IsRunError }
+{
+    let Bank {
+        opening,
+        procedures,
+        limits,
+    } = bank;
+    let Ok(engine) = Engine::<R, A, G>::new(alloc, opening, procedures, limits) else {
+        return Err(PoolError::NoMemory);
+    };
+    let blank = Blank::new(u64::from(workers));
+    run_named::<Brand, R, A, G, T, W>(
+        rt, alloc, engine, blank, jobs, workers as u16, tries, gate,
+    )
+}
+
+/// The same, where the engine has a name.
+fn run_named<
+    N: Named + Send + Sync,
+    R: Records,
+    A: Accesses,
+    G: Graph,
+    T: Gate + Sync,
+    W: Threads + Wait + Sync,
+>(
+    rt: &W,
+    alloc: Global,
+    engine: Engine<R, A, G>,
+    blank: Blank,
+    jobs: &[Job],
+    workers: u16,
+    tries: u32,
+    gate: &T,
+) -> Result<(Engine<R, A, G>, Vec<Outcome<T::Note>>), PoolError>
+    requires engine { (made_with engine ≡ N.setting) × (engine.past ≡ []) }
+    requires blank { (blank.name ≡ N.name) × (blank.parts ≡ N.parts) × (blank.parts ≡ workers) × (N.sessions ≡ workers) }
+    requires workers { AreWorkers workers }
+    ensures setting { IfOk result (λ r. made_with r.0 ≡ N.setting) }
+    ensures error { IfErr result IsRunError }
+{
+    let outcomes = Mutex::new(all_untaken::<T::Note>(alloc, jobs.len())?);
+    let Ok((shared, sessions)) = Shared::<N, R, A, G>::new(alloc, engine, blank, workers) else {
+        return Err(PoolError::NoMemory);
+    };
+    let Ok((putter, takers)) = Feed::make(alloc, ROOM, usize::from(workers)) else {
+        return Err(PoolError::NoMemory);
+    };
+    let team = team_of(alloc, tries, &putter, sessions, takers)?;
+    let (putter, ended) = run_crew(rt, alloc, &shared, gate, &outcomes, jobs, putter, team)?;
+    let sessions = settle(alloc, putter, ended)?;
+    let Ok(Closed {
+        engine,
+        sessions: _,
+    }) = shared.close(sessions)
+    else {
+        return Err(PoolError::Mismatch);
+    };
+    Ok((engine, outcomes.into_inner()))
+}
+
+/// An outcome for each job, which nobody has taken yet.
+fn all_untaken<X: Drop>(alloc: Global, jobs: usize) -> Result<Vec<Outcome<X>>, PoolError>
+    ensures error { IfErr result IsRunError }
+{
+    let Ok(mut outcomes) = Vec::with_capacity(alloc, jobs) else {
+        return Err(PoolError::NoMemory);
+    };
+    for _ in 0..jobs {
+        outcomes.push_reserved(Outcome::Untaken);
+    }
+    Ok(outcomes)
+}

@@ -1,0 +1,98 @@
+//! One worker.
+ghost use Rattle.std.specs.Prelude.{◌≡◌};
+
+use crate::caller::Caller;
+use crate::gate::Gate;
+use crate::outcome::Outcome;
+use sgt_access::Accesses;
+use sgt_dispatch::{Stub, Take, Taker};
+use sgt_graph::Graph;
+use sgt_records::Records;
+use sgt_session::{Named, Session, Shared};
+use std::alloc::Global;
+use std::snapshot::Snapshot;
+use std::sync::{Mutex, Wait};
+use std::thread::Promise;
+
+/// What a worker is given for itself.
+#[derive(Drop)]
+pub struct Worker<N: Named> {
+    pub number: u8,
+    /// How many attempts at a job it makes at most.
+    pub tries: u32,
+    /// Where it keeps the attempts at a job.
+    pub alloc: Global,
+    pub session: Session<N>,
+    pub taker: Taker,
+}
+
+/// What a worker leaves behind.
+#[derive(Drop)]
+pub struct Ended<N: Named> {
+    pub session: Session<N>,
+    pub stub: Stub,
+}
+
+/// A worker's promise: what it leaves behind is of its feed.
+#[derive(Drop)]
+pub struct SameFeed(pub Snapshot<Taker>);
+
+impl<N: Named> Promise<Ended<N>> for SameFeed {
+    ghost kept_by = { λ p r. r.stub.feed ≡ p.0.value.feed };
+}
+
+/// Takes jobs and runs them until it takes a stop, or the gate makes it leave. What became of each stands at the job's place
+/// among the outcomes. A worker that ends leaves its feed at once.
+pub fn work<N: Named, R: Records, A: Accesses, G: Graph, T: Gate, W: Wait>(
+    rt: &W,
+    shared: &Shared<N, R, A, G>,
+    gate: &T,
+    outcomes: &Mutex<Vec<Outcome<T::Note>>>,
+    worker: Worker<N>,
+) -> Ended<N>
+    ensures { result.stub.feed ≡ worker.taker.feed }
+{
+    let Worker {
+        number,
+        tries,
+        alloc,
+        session,
+        mut taker,
+    } = worker;
+    let mut caller = Caller {
+        rt,
+        shared,
+        gate,
+        number,
+        session,
+    };
+    for _ in rt.forever() {
+        let Take::Job(job) = taker.take(rt) else {
+            break;
+        };
+        let outcome = caller.run_job(alloc, &job, tries);
+        gate.finished(number, job.number, &outcome);
+        let leaves = matches!(outcome, Outcome::Left(_));
+        put_outcome(rt, outcomes, job.number, outcome);
+        if leaves {
+            break;
+        }
+    }
+    Ended {
+        session: caller.session,
+        stub: taker.leave(),
+    }
+}
+
+/// Puts the outcome at its job's place.
+fn put_outcome<X: Drop, W: Wait>(
+    rt: &W,
+    outcomes: &Mutex<Vec<Outcome<X>>>,
+    job: u32,
+    outcome: Outcome<X>,
+) {
+    let mut outcomes = outcomes.lock(rt);
+    if let Some(place) = outcomes.get_mut(job as usize) {
+        *place = outcome;
+    }
+}
