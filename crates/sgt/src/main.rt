@@ -1,11 +1,17 @@
 //! The program: `sgt script` runs a script of JSON lines from standard input on an engine, writes a line for each reply to
-//! standard output and then the committed database, and tells a fault on standard error, with status 2.
+//! standard output and then the committed database. `sgt bank` runs jobs on worker threads, and writes a line for what became of
+//! each and then the committed database. Both tell a fault on standard error, with status 2.
 //!
-//! It has the command line and nothing else: what a script's run writes is said and proved in `sgt_script`.
+//! It has the command line and nothing else: what a script's run writes is said and proved in `sgt_script`, and what a bank's
+//! run writes in `sgt_bank`.
 #![tactic(auto)]
 
-use clap::Command;
+ghost use Rattle.std.specs.Prelude.{◌≤◌};
+
+use clap::builder::ValueParser;
 use clap::error::ErrorKind;
+use clap::{Arg, ArgMatches, Command};
+use sgt_bank::run_jobs;
 use sgt_script::run_script;
 use sgt_stream::{Fault, Reader, Writer};
 use std::alloc::{AllocError, Global};
@@ -13,6 +19,8 @@ use std::env;
 use std::fmt::Display;
 use std::io::{self, Eprint, Input, Print};
 use std::process::ExitCode;
+use std::sync::Wait;
+use std::thread::Threads;
 
 const VERSION: &str = "0.1.0";
 
@@ -45,6 +53,48 @@ These four events are answered
 where 0/1 is record 1 of table 0. A transaction is named by the number that its start was answered with.
 docs/FORMATS.md of the repository has every line and reply, docs/LANGUAGE.md the procedures, examples/ whole scripts."#;
 
+/// What `sgt bank --help` tells behind the options.
+const BANK_HELP: &str =
+    r#"Line 1 opens as in a script, and each later line is a job: one call of a procedure. The workers take the jobs in turn and run
+them at the same time, each as a transaction of its own. One that is aborted by a conflict is tried again. At the end comes a
+line for each job, by its number from 0, and then the committed database:
+
+  {"limits":[32,1000],"accounts":[[1,101,500,1000]],"procedures":[]}
+  ["job",1,[1,50]]
+  ["job",0,[9]]
+  ["job",99,[]]
+
+gives
+
+  0 committed 1050
+  1 asked 1
+  2 refused 1
+  0/1 101
+  1/101 500
+  2/101 1050
+
+  job         a procedure's number and its arguments, as at a start in a script
+  committed   the answers of its procedure, or none
+  asked       its procedure asked this code, and changed nothing
+  gave        all its tries were aborted: how many they were
+  refused     it was not started: 1 no such procedure, 2 bad arguments, 3 no start is left, 4 no place is left
+
+All jobs are read before the first one runs. The first number of the limits has to be at least the number of workers. Which of
+two jobs comes first is not said, but run one after another in the order of their commits they give the same answers and the
+same database. docs/FORMATS.md of the repository has every line, examples/ whole banks."#;
+
+/// How many workers there are where the words name no number.
+const WORKERS: u32 = 4;
+
+/// How many workers there may be.
+const MOST_WORKERS: u32 = 16;
+
+/// How many tries a job has where the words name no number.
+const TRIES: u32 = 100;
+
+/// How many tries a job may have.
+const MOST_TRIES: u32 = 1000;
+
 /// What is told of words that are no text, as `clap` would.
 const NO_TEXT: &str = "error: invalid UTF-8 was detected in one or more arguments
 
@@ -57,19 +107,59 @@ fn command<'a>(alloc: Global) -> Result<Command<'a>, AllocError> {
     let script = Command::new(alloc, "script")
         .about("Runs a script: an opening and then events, a JSON line each, from standard input")
         .after_help(SCRIPT_HELP);
+    let workers = Arg::new(alloc, "workers")
+        .long("workers")
+        .help("How many jobs run at the same time, from 1 to 16")
+        .value_parser(ValueParser::unsigned(1, 16))
+        .default_value("4");
+    let tries = Arg::new(alloc, "tries")
+        .long("tries")
+        .help("How often a job is tried before it is given up, from 1 to 1000")
+        .value_parser(ValueParser::unsigned(1, 1000))
+        .default_value("100");
+    let bank = Command::new(alloc, "bank")
+        .about(
+            "Runs jobs on worker threads: an opening and then jobs, a JSON line each, from standard input",
+        )
+        .after_help(BANK_HELP)
+        .arg(workers)?
+        .arg(tries)?;
     Command::new(alloc, "sgt")
         .about("An in-memory transaction engine that schedules by serialization graph testing")
         .version(VERSION)
         .subcommand_required(true)
         .arg_required_else_help(true)
-        .subcommand(script)
+        .subcommand(script)?
+        .subcommand(bank)
 }
 
-/// Runs a script from standard input to standard output.
-fn run<R: Print + Input>(rt: &R, alloc: Global) -> Result<(), Fault> {
+/// A number of the options. `clap` gives it a default, and keeps it from 1 to the most.
+fn number(options: &ArgMatches<'_>, name: &str, default: u32, most: u32) -> u32
+    requires { 1 ≤ most }
+    ensures { (1 ≤ result) × (result ≤ most) }
+{
+    options
+        .get_one::<u32>(name)
+        .unwrap_or(default)
+        .clamp(1, most)
+}
+
+/// Runs what the words ask for from standard input to standard output.
+fn run<R: Print + Input + Threads + Wait + Sync>(
+    rt: &R,
+    alloc: Global,
+    matches: &ArgMatches<'_>,
+) -> Result<(), Fault> {
     let mut reader = Reader::new(rt.reader());
     let mut writer = Writer::new(io::writer(rt));
-    run_script(alloc, &mut reader, &mut writer)
+    match matches.subcommand() {
+        Some(("bank", options)) => {
+            let workers = number(options, "workers", WORKERS, MOST_WORKERS);
+            let tries = number(options, "tries", TRIES, MOST_TRIES);
+            run_jobs(rt, alloc, &mut reader, &mut writer, workers, tries)
+        }
+        _ => run_script(alloc, &mut reader, &mut writer),
+    }
 }
 
 /// Tells a text on standard error, and gives the status of a failure. Where that fails too, the status is all that is left.
@@ -102,11 +192,11 @@ fn main(rt: HostRuntime) -> ExitCode {
         Ok(command) => command,
         Err(_) => return tell(&rt, Fault::NoMemory),
     };
-    // `script` is the one subcommand, and one is required.
-    if let Err(error) = command.try_get_matches_from(words.as_slice()) {
-        return refuse(&rt, &error);
-    }
-    match run(&rt, alloc) {
+    let matches = match command.try_get_matches_from(words.as_slice()) {
+        Ok(matches) => matches,
+        Err(error) => return refuse(&rt, &error),
+    };
+    match run(&rt, alloc, &matches) {
         Ok(()) => ExitCode::SUCCESS,
         Err(fault) => tell(&rt, fault),
     }

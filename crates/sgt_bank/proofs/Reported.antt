@@ -1,0 +1,98 @@
+-- Laws of a bank's report.
+use Rattle.std.proofs.Common.{◌≡◌, ℕ, zero, suc, ◌+◌, ◌<◌, ◌≤◌, List, [], ◌∷◌, ◌++◌, refl, sym, ◌∙◌, ap, subst, arith}
+use Rattle.std.specs.Prelude.{cond, Option, None, Some, IfSome, reverse}
+use Rattle.std.specs.List.{All, count_by}
+use Rattle.std.proofs.lemmas.List.Sums.{sum_by-cons}
+use Rattle.std.specs.declared.convert.Infallible.{Infallible}
+use Rattle.sgt_workers.specs.declared.outcome.Outcome.{Outcome}
+use Rattle.sgt_workers.specs.declared.outcome.Outcome.TheVariants as outcome
+use Rattle.sgt_workers.specs.Reports.{is_left, is_untaken, is_no_memory}
+use Rattle.sgt_workers.specs.Banks.{setting_of}
+use Rattle.sgt_workers.specs.declared.bank.Bank.{Bank}
+use Rattle.sgt_model.specs.declared.entry.Entry.{Entry}
+use Rattle.sgt_model.specs.Numbers.{IsValue}
+use Rattle.sgt_model.specs.Databases.{Row, contents_of}
+use Rattle.sgt_model.specs.Settings.{setting}
+use Rattle.sgt_model.specs.StoredValues.{HoldValues}
+use Rattle.sgt_smallbank.specs.Texts.{procedures}
+use Rattle.sgt_smallbank.specs.Replays.{ReplayIsBank, OpeningsHoldValues}
+use Rattle.sgt_format.specs.Openings.{Opens}
+use Rattle.sgt_format.specs.declared.opening.Opening.{Opening}
+use Rattle.sgt_dispatch.specs.declared.job.Job.{Job}
+use Rattle.sgt_stream.specs.Lines.{Ending, cut}
+use Rattle.sgt_bank.specs.Inputs.{InputAsks, LinesAsk}
+use Rattle.sgt_bank.specs.Banks.{opened_setting, HasRun, AreRun, IsReport}
+use Rattle.sgt_bank.specs.Reports.{report_text}
+
+-- no note can be made
+no-note : Infallible → ⊥
+no-note note = elim note [ ]
+
+-- so none was left
+none-left : (os : List (Outcome Infallible)) → count_by is_left os ≡ 0
+none-left [] = refl
+none-left (outcome.Done n ∷ os) = none-left os
+none-left (outcome.Asked n ∷ os) = none-left os
+none-left (outcome.Gave attempts ∷ os) = none-left os
+none-left (outcome.Refused n ∷ os) = none-left os
+none-left (outcome.Left note ∷ os) = absurd (no-note note)
+none-left (outcome.Untaken ∷ os) = none-left os
+none-left (outcome.NoMemory ∷ os) = none-left os
+
+-- one more
+all-cons : (o : Outcome Infallible) (os : List (Outcome Infallible)) → HasRun o → All HasRun os → All HasRun (o ∷ os)
+all-cons o os first later zero d within = first
+all-cons o os first later (suc k) d within = later k d (omega (arith, within))
+
+-- where none is untaken, and none was refused memory, each was run
+all-run : (os : List (Outcome Infallible)) → count_by is_untaken os ≡ 0 → count_by is_no_memory os ≡ 0 → All HasRun os
+all-run [] taken memory = λ k d within. absurd (omega (arith, within))
+all-run (outcome.Done n ∷ os) taken memory = all-cons (outcome.Done n) os tt (all-run os taken memory)
+all-run (outcome.Asked n ∷ os) taken memory = all-cons (outcome.Asked n) os tt (all-run os taken memory)
+all-run (outcome.Gave attempts ∷ os) taken memory = all-cons (outcome.Gave attempts) os tt (all-run os taken memory)
+all-run (outcome.Refused n ∷ os) taken memory = all-cons (outcome.Refused n) os tt (all-run os taken memory)
+all-run (outcome.Left note ∷ os) taken memory = absurd (no-note note)
+all-run (outcome.Untaken ∷ os) taken memory = let one_more : 1 + count_by is_untaken os ≡ 0 = sym (sum_by-cons (λ (o : Outcome Infallible). cond (is_untaken o) 1 0) outcome.Untaken os) ∙ taken in absurd (omega (arith, one_more))
+all-run (outcome.NoMemory ∷ os) taken memory = let one_more : 1 + count_by is_no_memory os ≡ 0 = sym (sum_by-cons (λ (o : Outcome Infallible). cond (is_no_memory o) 1 0) outcome.NoMemory os) ∙ memory in absurd (omega (arith, one_more))
+
+-- all is taken where no worker has left
+all-taken : (workers left untaken : ℕ) → 1 ≤ workers → left ≡ 0 → (0 < untaken → left ≡ workers) → untaken ≡ 0
+all-taken workers left zero some none full = refl
+all-taken workers left (suc untaken) some none full = absurd (omega (arith, some, none, full (omega arith)))
+
+-- each job of a report without notes was run
+pub each-run : (os : List (Outcome Infallible)) (workers : ℕ) → 1 ≤ workers → count_by is_no_memory os ≡ 0 → (0 < count_by is_untaken os → count_by is_left os ≡ workers) → All HasRun os
+each-run os workers some memory full = all-run os (all-taken workers _ _ some (none-left os) full) memory
+
+-- a bank made of an opening has the opening's setting
+pub setting-same : (b : Bank) (o : Opening) → b.opening ≡ o.database → b.procedures.items ≡ procedures ++ o.procedures.items → b.limits ≡ o.limits → setting_of b ≡ opened_setting o
+setting-same b o database programs limits =
+    ap (λ rows. setting (contents_of rows) b.procedures.items b.limits) database
+    ∙ ap (λ ps. setting (contents_of o.database) ps b.limits) programs
+    ∙ ap (λ ls. setting (contents_of o.database) (procedures ++ o.procedures.items) ls) limits
+
+-- the first line of an input of jobs opens
+opens-first : (workers : ℕ) (ls : List (List ℕ)) (ending : Ending) (o : Opening) (jobs : List Job) → LinesAsk workers ls ending o jobs → (line : List ℕ) × Opens workers line o
+opens-first workers [] ending o jobs asks = absurd asks
+opens-first workers (line ∷ later) ending o jobs asks = (line, asks.opens)
+
+-- the text of jobs that were run is a report
+module _ (accounts : OpeningsHoldValues) (bank : ReplayIsBank) where
+  holds-values : (workers : ℕ) (line : List ℕ) (o : Opening) → Opens workers line o → HoldValues (contents_of o.database)
+  holds-values workers line o opens k = subst (λ v. IfSome v IsValue) (sym (opens.opens.contents k)) (accounts opens.sheet.accounts opens.opens.no_fault k)
+
+  pub is-report : (workers tries : ℕ) (rest : Option (List ℕ)) (o : Opening) (jobs : List Job) (history : List Entry) (outcomes : List (Outcome Infallible)) (rows : List Row) (out : List ℕ) → IfSome rest (λ bytes. InputAsks workers bytes o jobs) → AreRun o jobs workers tries history outcomes rows → out ≡ report_text history outcomes rows → IfSome rest (λ bytes. IsReport workers tries bytes out)
+  is-report workers tries None o jobs history outcomes rows out asks run text = tt
+  is-report workers tries (Some bytes) o jobs history outcomes rows out asks run text =
+      let opens = opens-first workers (cut bytes).given (cut bytes).ending o jobs asks in
+      record {
+        opening = o;
+        jobs = jobs;
+        asks = asks;
+        history = history;
+        outcomes = outcomes;
+        rows = rows;
+        are_run = run;
+        bank = bank (contents_of o.database) o.procedures.items o.limits (reverse history) (holds-values workers opens.0 o opens.1) run.legal;
+        text = text;
+      }

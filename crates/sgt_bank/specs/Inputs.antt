@@ -1,0 +1,55 @@
+-- What an input of a bank asks for, and what its first fault is.
+use Rattle.std.specs.Prelude.{◌≡◌, ◌≢◌, ◌⊎◌, ℕ, List, [], ◌∷◌, Ok, Err}
+use Rattle.sgt_format.specs.Openings.{Opens, Refuses}
+use Rattle.sgt_format.specs.declared.opening.Opening.{Opening}
+use Rattle.sgt_format.specs.declared.errors.OpeningError.{OpeningError}
+use Rattle.sgt_format.specs.declared.errors.OpeningError.TheVariants as opening_error
+use Rattle.sgt_dispatch.specs.declared.job.Job.{Job}
+use Rattle.sgt_stream.specs.declared.fault.Fault.{Fault}
+use Rattle.sgt_stream.specs.declared.fault.Fault.TheVariants as fault
+use Rattle.sgt_stream.specs.Lines.{Ending, cut}
+use Rattle.sgt_stream.specs.Ends.{IsOfInput, fault_of_opening, no_opening}
+use Rattle.sgt_bank.specs.Jobs.{calls, numbered, end_of}
+
+-- line 1 opens, with a place for each worker, and each later line asks for a job
+pub record IsInput (workers : ℕ) (line : List ℕ) (later : List (List ℕ)) (ending : Ending) (opening : Opening) (jobs : List Job) : Type 0 where
+  pub opens : Opens workers line opening
+  pub jobs_are : jobs ≡ numbered 0 (calls later)
+  pub no_fault : end_of 2 later ending ≡ Ok tt
+
+-- so it is with these lines: the first of them opens
+abbrev pub LinesAsk : ℕ → List (List ℕ) → Ending → Opening → List Job → Type 0
+LinesAsk workers [] ending opening jobs = ⊥
+LinesAsk workers (line ∷ later) ending opening jobs = IsInput workers line later ending opening jobs
+
+-- these bytes ask for these jobs behind this opening
+abbrev pub InputAsks : ℕ → List ℕ → Opening → List Job → Type 0
+InputAsks workers bytes opening jobs = LinesAsk workers (cut bytes).given (cut bytes).ending opening jobs
+
+-- line 1 is refused as an opening, with this fault
+pub record IsRefused (workers : ℕ) (line : List ℕ) (f : Fault) : Type 0 where
+  pub error : OpeningError
+  pub refuses : Refuses workers line error
+  pub known : error ≢ opening_error.NoMemory
+  pub fault_is : f ≡ fault_of_opening error
+
+-- line 1 opens, and the first fault behind it is this one
+pub record IsBehind (workers : ℕ) (line : List ℕ) (later : List (List ℕ)) (ending : Ending) (f : Fault) : Type 0 where
+  pub opening : Opening
+  pub opens : Opens workers line opening
+  pub ends : end_of 2 later ending ≡ Err f
+
+-- the first fault of these lines
+abbrev pub LinesFail : ℕ → List (List ℕ) → Ending → Fault → Type 0
+LinesFail workers [] ending f = no_opening ending ≡ Err f
+LinesFail workers (line ∷ later) ending f = IsRefused workers line f ⊎ IsBehind workers line later ending f
+
+-- the first fault of these bytes
+abbrev pub InputFails : ℕ → List ℕ → Fault → Type 0
+InputFails workers bytes f = LinesFail workers (cut bytes).given (cut bytes).ending f
+
+-- a fault of the input, and not of what runs it
+abbrev pub IsOfText : Fault → Type 0
+IsOfText fault.Spawn = ⊥
+IsOfText fault.Mismatch = ⊥
+IsOfText f = IsOfInput f

@@ -1,0 +1,6 @@
+pub mod Jobs
+pub mod Taking
+pub mod Inputs
+pub mod OutcomeText
+pub mod Reports
+pub mod Banks

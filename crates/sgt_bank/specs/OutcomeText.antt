@@ -1,0 +1,53 @@
+-- The line of a job's outcome.
+use Rattle.std.specs.Prelude.{ℕ, List, [], ◌++◌, length, Option, Some, None, slice_get, codes}
+use Rattle.std.specs.Fmt.{decimal}
+use Rattle.sgt_model.specs.declared.reply.Reply.{Reply}
+use Rattle.sgt_model.specs.declared.reply.Reply.TheVariants as reply
+use Rattle.sgt_model.specs.declared.reply.Cause.{Cause}
+use Rattle.sgt_model.specs.declared.reply.Cause.TheVariants as cause
+use Rattle.sgt_model.specs.declared.entry.Entry.{Entry}
+use Rattle.sgt_format.specs.ReplyText.{committed_text}
+use Rattle.sgt_workers.specs.declared.outcome.Outcome.{Outcome}
+use Rattle.sgt_workers.specs.declared.outcome.Outcome.TheVariants as outcome
+
+-- a commit, with its answers
+abbrev pub commit_words : Reply → List ℕ
+commit_words (reply.Committed answers) = committed_text answers
+commit_words _ = []
+
+-- a code that was asked
+abbrev pub code_words : Cause → List ℕ
+code_words (cause.Asked code) = codes "asked " ++ decimal code
+code_words _ = []
+
+-- an abort because a code was asked
+abbrev pub ask_words : Reply → List ℕ
+ask_words (reply.Aborted why fell) = code_words why
+ask_words _ = []
+
+-- a refused start, with the number of its reply
+abbrev pub refusal_words : Reply → List ℕ
+refusal_words reply.NoProcedure = codes "refused 1"
+refusal_words reply.BadArgs = codes "refused 2"
+refusal_words reply.Spent = codes "refused 3"
+refusal_words reply.Full = codes "refused 4"
+refusal_words _ = []
+
+-- the words that an entry's reply has, where the entry is there
+abbrev pub words_at : (Reply → List ℕ) → Option Entry → List ℕ
+words_at words None = []
+words_at words (Some e) = words e.reply
+
+-- the words of an outcome, by the history whose entries it names
+abbrev pub outcome_words : {N : Type 0} → List Entry → Outcome N → List ℕ
+outcome_words history (outcome.Done n) = words_at commit_words (slice_get history n)
+outcome_words history (outcome.Asked n) = words_at ask_words (slice_get history n)
+outcome_words history (outcome.Gave attempts) = codes "gave " ++ decimal (length attempts.items)
+outcome_words history (outcome.Refused n) = words_at refusal_words (slice_get history n)
+outcome_words history (outcome.Left note) = codes "left"
+outcome_words history outcome.Untaken = codes "untaken"
+outcome_words history outcome.NoMemory = codes "no memory"
+
+-- its line, behind the job's number
+abbrev pub outcome_text : {N : Type 0} → ℕ → List Entry → Outcome N → List ℕ
+outcome_text number history o = decimal number ++ codes " " ++ outcome_words history o ++ codes "\n"

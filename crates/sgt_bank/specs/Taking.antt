@@ -1,0 +1,23 @@
+-- How far the jobs of an input are read.
+use Rattle.std.specs.Prelude.{◌≡◌, ℕ, ◌+◌, ⊤, List, ◌∷◌, ◌++◌, length, Option, None, Some, IfSome, Ok}
+use Rattle.sgt_format.specs.JobLines.{job_of}
+use Rattle.sgt_format.specs.declared.call.JobCall.{JobCall}
+use Rattle.sgt_stream.specs.Lines.{Cut}
+use Rattle.sgt_stream.specs.Ends.{End}
+use Rattle.sgt_bank.specs.Jobs.{calls, end_of}
+
+-- known lines begin with one that asks for this call, and then come these
+abbrev pub Asks : Option Cut → JobCall → Option Cut → Type 0
+Asks None call new = ⊤
+Asks (Some old) call None = ⊥
+Asks (Some old) call (Some new) = (line : List ℕ) × (old.given ≡ line ∷ new.given) × (job_of line ≡ Ok call) × (old.ending ≡ new.ending)
+
+-- known lines from number 2 on begin with those that ask for these calls, and then come these
+abbrev pub Asked : Option Cut → List JobCall → Option Cut → Type 0
+Asked None asked new = ⊤
+Asked (Some old) asked None = ⊥
+Asked (Some old) asked (Some new) = (calls old.given ≡ asked ++ calls new.given) × (end_of 2 old.given old.ending ≡ end_of (length asked + 2) new.given new.ending)
+
+-- known lines from number n on end so at the next line, or where there is none
+abbrev pub EndsWith : ℕ → End → Option Cut → Type 0
+EndsWith n end known = IfSome known (λ c. end_of n c.given c.ending ≡ end)

@@ -1,0 +1,103 @@
+ghost use Rattle.std.specs.Prelude.{◌≡◌, ◌≢◌, ℕ, List, IfOk, IfErr, IfSome, IsNone, Err, Ok, [], ◌+◌, ◌^◌, ◌<◌, ◌≤◌};
+ghost use Rattle.sgt_format.specs.JobLines.{job_of};
+ghost use Rattle.sgt_format.specs.declared.errors.LineError.{LineError as E};
+ghost use Rattle.sgt_stream.specs.Lines.{AtEnd};
+ghost use Rattle.sgt_stream.specs.Intake.{EndsAs, come, cut_left};
+ghost use Rattle.sgt_stream.specs.Ends.{IsOfInput, fault_in};
+ghost use Rattle.sgt_workers.specs.Banks.{AreJobs};
+ghost use Rattle.sgt_bank.specs.Jobs.{calls, numbered, end_of};
+ghost use Rattle.sgt_bank.specs.Taking.{Asks, EndsWith};
+
+use sgt_dispatch::Job;
+use sgt_format::{JobCall, read_job};
+use sgt_stream::{Fault, Lines, Source, line_fault};
+use std::alloc::Global;
+
+/// The most jobs that an input may have.
+const MOST_JOBS: usize = 1_000_000;
+
+/// The call that the line given last asks for.
+fn call_of(alloc: Global, lines: &Lines) -> Result<JobCall, Fault>
+    ensures call { IfOk result (λ call. job_of lines.now.line ≡ Ok call) }
+    ensures fault { IfErr result (λ f. f ≢ Fault.NoMemory →
+        (e : E) × (job_of lines.now.line ≡ Err e) × (f ≡ fault_in lines.now.number e)) }
+{
+    match read_job(alloc, lines.line()) {
+        Ok(call) => Ok(call),
+        Err(error) => Err(line_fault(lines.number(), error)),
+    }
+}
+
+/// The call that the next line asks for, if there is a line.
+fn next_call<S: Source>(
+    alloc: Global,
+    lines: &mut Lines,
+    source: &mut S,
+) -> Result<Option<JobCall>, Fault>
+    requires { S.failures source.old + 1 < 2 ^ 64 }
+    ensures call { IfOk result (λ next. IfSome next (λ call.
+        Asks (cut_left lines.old (S.rest source.old)) call (cut_left lines.new (S.rest source.new)))) }
+    ensures end { IfOk result (λ next. IsNone next →
+        EndsAs AtEnd (cut_left lines.old (S.rest source.old))) }
+    ensures fault { IfErr result (λ f. IsOfInput f →
+        EndsWith (lines.old.number + 1) (Err f) (cut_left lines.old (S.rest source.old))) }
+    ensures number { IfOk result (λ next. IfSome next (λ _. lines.new.number ≡ lines.old.number + 1)) }
+    ensures nearer { IfOk result (λ next. IfSome next (λ _. lines.new.within < lines.old.within)) }
+    ensures come { S.given source.new + come lines.old ≤ S.given source.old + come lines.new }
+    ensures few { come lines.new ≤ 16777217 }
+    ensures writing { result ≢ Err Fault.Writing }
+    ensures well { result ≢ Err Fault.Reading →
+        S.failures source.new ≡ S.failures source.old }
+    ensures failed { result ≡ Err Fault.Reading →
+        S.failures source.new ≡ S.failures source.old + 1 }
+{
+    if !lines.next_line(source)? {
+        return Ok(None);
+    }
+    let call = call_of(alloc, lines)?;
+    Ok(Some(call))
+}
+
+/// The jobs that the lines behind the opening ask for, numbered from 0. It reads to the end of the input.
+///
+/// # Errors
+///
+/// The fault of the first line that asks for no job or is too long, or of the input; `TooManyJobs` at the job behind the
+/// 1,000,000th; and `Reading` and `NoMemory`.
+pub(crate) fn read_jobs<S: Source>(
+    alloc: Global,
+    lines: &mut Lines,
+    source: &mut S,
+) -> Result<Vec<Job>, Fault>
+    requires reading { S.failures source.old + 1 < 2 ^ 64 }
+    requires second { lines.old.number ≡ 1 }
+    requires few { come lines.old ≤ 16777217 }
+    ensures jobs { IfOk result (λ jobs. IfSome (cut_left lines.old (S.rest source.old)) (λ c.
+        (jobs.items ≡ numbered 0 (calls c.given)) × (end_of 2 c.given c.ending ≡ Ok tt))) }
+    ensures numbered { IfOk result (λ jobs. AreJobs jobs.items) }
+    ensures fault { IfErr result (λ f. IsOfInput f →
+        EndsWith 2 (Err f) (cut_left lines.old (S.rest source.old))) }
+    ensures bounded { S.given source.new + come lines.old ≤ S.given source.old + 16777217 }
+    ensures writing { result ≢ Err Fault.Writing }
+    ensures well { result ≢ Err Fault.Reading →
+        S.failures source.new ≡ S.failures source.old }
+    ensures failed { result ≡ Err Fault.Reading →
+        S.failures source.new ≡ S.failures source.old + 1 }
+{
+    let mut jobs = Vec::new(alloc);
+    while let Some(call) = next_call(alloc, lines, source)? {
+        if jobs.len() == MOST_JOBS {
+            return Err(Fault::TooManyJobs);
+        }
+        let JobCall { procedure, args } = call;
+        let job = Job {
+            number: jobs.len() as u32,
+            procedure,
+            args,
+        };
+        if jobs.push(job).is_err() {
+            return Err(Fault::NoMemory);
+        }
+    }
+    Ok(jobs)
+}

@@ -1,0 +1,25 @@
+//! The whole of `sgt bank` over a source and a sink: bytes in, jobs, worker threads, outcomes, text out. `specs/Banks.antt` says
+//! what a bank's run writes.
+//!
+//! An input is an opening, as that of a script, and behind it a job a line; [`read_input`] reads it whole. `specs/Inputs.antt`
+//! says what it asks for, and what its first fault is. [`outcome_line`] is the line of a job's outcome, and [`report_text`] all
+//! of them with the database behind. [`run_jobs`] joins these by `run` of `sgt_workers`, which makes the threads.
+//!
+//! ```
+//! let mut reader = Reader::new(rt.reader());
+//! let mut writer = Writer::new(io::writer(&rt));
+//! run_jobs(&rt, alloc, &mut reader, &mut writer, 4, 100)?; // four workers, a hundred tries for each job
+//! ```
+#![tactic(auto)]
+
+mod gate;
+mod input;
+mod jobs;
+mod outcome_text;
+mod report;
+mod run;
+
+pub use input::read_input;
+pub use outcome_text::outcome_line;
+pub use report::report_text;
+pub use run::run_jobs;

@@ -1,0 +1,141 @@
+ghost use Rattle.std.specs.Prelude.{◌≡◌, ◌++◌, take, vec_len, slice_get, IfOk, OnOk, OnErr};
+ghost use Rattle.sgt_bank.specs.OutcomeText.{commit_words, code_words, ask_words, refusal_words, words_at, outcome_words, outcome_text};
+
+use sgt_format::{append_answers, append_number, append_numbered};
+use sgt_model::{Cause, Entry, NoMemory, Reply};
+use sgt_workers::Outcome;
+use std::alloc::{AllocError, Global};
+
+/// The line of a job's outcome, with its end: the job's number, and what became of it. The history is the one whose entries
+/// the outcome names; of an entry that is not there, or that has not such a reply, nothing is told.
+///
+/// `NoMemory` where a growth was refused.
+pub fn outcome_line<N>(
+    alloc: Global,
+    number: u32,
+    outcome: &Outcome<N>,
+    history: &[Entry],
+) -> Result<Vec<u8>, NoMemory>
+    ensures { IfOk result (λ line. line.items ≡ outcome_text number history.now outcome.now) }
+{
+    let mut line = Vec::new(alloc);
+    append_outcome(&mut line, number, outcome, history)?;
+    Ok(line)
+}
+
+/// Adds the line of a job's outcome. On an error the lines still begin with what they held.
+pub(crate) fn append_outcome<N>(
+    lines: &mut Vec<u8>,
+    number: u32,
+    outcome: &Outcome<N>,
+    history: &[Entry],
+) -> Result<(), AllocError>
+    ensures ok { OnOk result
+        (lines.new.items ≡ lines.old.items ++ outcome_text number history.now outcome.now) }
+    ensures err { OnErr result (take (vec_len lines.old) lines.new.items ≡ lines.old.items) }
+{
+    append_number(lines, number)?;
+    lines.extend_from_slice(b" ")?;
+    append_words(lines, outcome, history)?;
+    lines.extend_from_slice(b"\n")
+}
+
+/// Adds the words of an outcome. On an error the line still begins with what it held.
+fn append_words<N>(
+    line: &mut Vec<u8>,
+    outcome: &Outcome<N>,
+    history: &[Entry],
+) -> Result<(), AllocError>
+    ensures ok { OnOk result
+        (line.new.items ≡ line.old.items ++ outcome_words history.now outcome.now) }
+    ensures err { OnErr result (take (vec_len line.old) line.new.items ≡ line.old.items) }
+{
+    match outcome {
+        Outcome::Done(n) => append_commit(line, history, *n),
+        Outcome::Asked(n) => append_ask(line, history, *n),
+        Outcome::Gave(attempts) => append_numbered(line, b"gave ", attempts.len()),
+        Outcome::Refused(n) => append_refusal(line, history, *n),
+        Outcome::Left(_) => line.extend_from_slice(b"left"),
+        Outcome::Untaken => line.extend_from_slice(b"untaken"),
+        Outcome::NoMemory => line.extend_from_slice(b"no memory"),
+    }
+}
+
+fn append_commit(line: &mut Vec<u8>, history: &[Entry], n: u64) -> Result<(), AllocError>
+    ensures ok { OnOk result
+        (line.new.items ≡ line.old.items ++ words_at commit_words (slice_get history.now n)) }
+    ensures err { OnErr result (take (vec_len line.old) line.new.items ≡ line.old.items) }
+{
+    match history.get(n as usize) {
+        Some(entry) => append_commit_words(line, &entry.reply),
+        None => Ok(()),
+    }
+}
+
+fn append_commit_words(line: &mut Vec<u8>, reply: &Reply) -> Result<(), AllocError>
+    ensures ok { OnOk result (line.new.items ≡ line.old.items ++ commit_words reply.now) }
+    ensures err { OnErr result (take (vec_len line.old) line.new.items ≡ line.old.items) }
+{
+    match reply {
+        Reply::Committed(answers) => {
+            line.extend_from_slice(b"committed")?;
+            append_answers(line, answers)
+        }
+        _ => Ok(()),
+    }
+}
+
+fn append_ask(line: &mut Vec<u8>, history: &[Entry], n: u64) -> Result<(), AllocError>
+    ensures ok { OnOk result
+        (line.new.items ≡ line.old.items ++ words_at ask_words (slice_get history.now n)) }
+    ensures err { OnErr result (take (vec_len line.old) line.new.items ≡ line.old.items) }
+{
+    match history.get(n as usize) {
+        Some(entry) => append_ask_words(line, &entry.reply),
+        None => Ok(()),
+    }
+}
+
+fn append_ask_words(line: &mut Vec<u8>, reply: &Reply) -> Result<(), AllocError>
+    ensures ok { OnOk result (line.new.items ≡ line.old.items ++ ask_words reply.now) }
+    ensures err { OnErr result (take (vec_len line.old) line.new.items ≡ line.old.items) }
+{
+    match reply {
+        Reply::Aborted { cause, .. } => append_code(line, cause),
+        _ => Ok(()),
+    }
+}
+
+fn append_code(line: &mut Vec<u8>, cause: &Cause) -> Result<(), AllocError>
+    ensures ok { OnOk result (line.new.items ≡ line.old.items ++ code_words cause.now) }
+    ensures err { OnErr result (take (vec_len line.old) line.new.items ≡ line.old.items) }
+{
+    match cause {
+        Cause::Asked(code) => append_numbered(line, b"asked ", *code),
+        _ => Ok(()),
+    }
+}
+
+fn append_refusal(line: &mut Vec<u8>, history: &[Entry], n: u64) -> Result<(), AllocError>
+    ensures ok { OnOk result
+        (line.new.items ≡ line.old.items ++ words_at refusal_words (slice_get history.now n)) }
+    ensures err { OnErr result (take (vec_len line.old) line.new.items ≡ line.old.items) }
+{
+    match history.get(n as usize) {
+        Some(entry) => append_refusal_words(line, &entry.reply),
+        None => Ok(()),
+    }
+}
+
+fn append_refusal_words(line: &mut Vec<u8>, reply: &Reply) -> Result<(), AllocError>
+    ensures ok { OnOk result (line.new.items ≡ line.old.items ++ refusal_words reply.now) }
+    ensures err { OnErr result (take (vec_len line.old) line.new.items ≡ line.old.items) }
+{
+    match reply {
+        Reply::NoProcedure => line.extend_from_slice(b"refused 1"),
+        Reply::BadArgs => line.extend_from_slice(b"refused 2"),
+        Reply::Spent => line.extend_from_slice(b"refused 3"),
+        Reply::Full => line.extend_from_slice(b"refused 4"),
+        _ => Ok(()),
+    }
+}

@@ -1,0 +1,42 @@
+ghost use Rattle.std.specs.Prelude.{◌≡◌, ◌++◌, ◌≤◌, length, IfOk, OnOk};
+ghost use Rattle.sgt_bank.specs.Reports.{outcome_lines, report_text};
+
+use crate::outcome_text::append_outcome;
+use sgt_format::append_database;
+use sgt_model::{Database, Entry, NoMemory};
+use sgt_workers::Outcome;
+use std::alloc::{AllocError, Global};
+
+/// The text of a report: a line for each job's outcome, by number, and then the database.
+///
+/// `NoMemory` where a growth was refused.
+pub fn report_text<N>(
+    alloc: Global,
+    history: &[Entry],
+    outcomes: &[Outcome<N>],
+    database: &Database,
+) -> Result<Vec<u8>, NoMemory>
+    requires { length outcomes.now ≤ 1000000 }
+    ensures { IfOk result (λ text. text.items ≡ report_text history.now outcomes.now database.now) }
+{
+    let mut text = Vec::new(alloc);
+    append_outcomes(&mut text, history, outcomes)?;
+    append_database(&mut text, database)?;
+    Ok(text)
+}
+
+/// Adds the lines of all outcomes.
+fn append_outcomes<N>(
+    text: &mut Vec<u8>,
+    history: &[Entry],
+    outcomes: &[Outcome<N>],
+) -> Result<(), AllocError>
+    requires { length outcomes.now ≤ 1000000 }
+    ensures { OnOk result
+        (text.new.items ≡ text.old.items ++ outcome_lines 0 history.now outcomes.now) }
+{
+    for number in 0..outcomes.len() {
+        append_outcome(text, number as u32, &outcomes[number], history)?;
+    }
+    Ok(())
+}

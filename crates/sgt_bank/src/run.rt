@@ -1,0 +1,165 @@
+ghost use Rattle.std.specs.Prelude.{◌≡◌, ◌≢◌, ℕ, List, IfOk, IfErr, IfSome, Err, Ok, take, ◌++◌, ◌+◌, ◌^◌, ◌<◌, ◌≤◌};
+ghost use Rattle.std.specs.Io.KnownBytes.{Appends};
+ghost use Rattle.sgt_smallbank.specs.Texts.{procedures};
+ghost use Rattle.sgt_stream.specs.Ends.{IsOfInput};
+ghost use Rattle.sgt_workers.specs.Banks.{AreWorkers, AreTries, AreLimitsFor, AreJobs};
+ghost use Rattle.sgt_bank.specs.Inputs.{InputFails, IsOfText};
+ghost use Rattle.sgt_bank.specs.Banks.{AreRun, IsReport};
+
+use crate::gate::OpenGate;
+use crate::input::read_input;
+use crate::report::report_text;
+use sgt_access::PerKey;
+use sgt_dispatch::Job;
+use sgt_format::Opening;
+use sgt_graph::BitGraph;
+use sgt_model::NoMemory;
+use sgt_records::SlabRecords;
+use sgt_smallbank::replay_is_bank;
+use sgt_stream::{Fault, Sink, Source, write_all};
+use sgt_workers::{Bank, PoolError, Report, run};
+use std::alloc::Global;
+use std::convert::Infallible;
+use std::sync::Wait;
+use std::thread::Threads;
+
+/// What the jobs of an opening are run on: SmallBank's procedures, and behind them those of the opening.
+fn bank_of(alloc: Global, opening: Opening) -> Result<Bank, NoMemory>
+    ensures database { IfOk result (λ b. b.opening ≡ opening.database) }
+    ensures procedures { IfOk result (λ b. b.procedures.items ≡ procedures ++ opening.procedures.items) }
+    ensures limits { IfOk result (λ b. b.limits ≡ opening.limits) }
+{
+    let Opening {
+        limits,
+        database,
+        mut procedures,
+    } = opening;
+    let mut all = sgt_smallbank::procedures(alloc)?;
+    all.append(&mut procedures)?;
+    Ok(Bank {
+        opening: database,
+        procedures: all,
+        limits,
+    })
+}
+
+/// Runs the jobs behind an opening, each worker in a thread of its own.
+///
+/// # Errors
+///
+/// `Spawn`, `Mismatch` and `NoMemory`.
+fn run_opened<W: Threads + Wait + Sync>(
+    rt: &W,
+    alloc: Global,
+    opening: Opening,
+    jobs: &[Job],
+    workers: u32,
+    tries: u32,
+) -> Result<Report<Infallible>, Fault>
+    requires workers { AreWorkers workers }
+    requires tries { AreTries tries }
+    requires limits { AreLimitsFor workers opening.limits }
+    requires jobs { AreJobs jobs.now }
+    ensures report { IfOk result (λ r.
+        AreRun opening jobs.now workers tries r.history.items r.outcomes.items r.database) }
+    ensures fault { IfErr result (λ f. ¬ IsOfText f) }
+    ensures own { (result ≢ Err Fault.Reading) × (result ≢ Err Fault.Writing) }
+{
+    let bank = bank_of(alloc, opening)?;
+    match run::<SlabRecords, PerKey, BitGraph, OpenGate, W>(
+        rt, alloc, bank, jobs, workers, tries, &OpenGate,
+    ) {
+        Ok(report) => Ok(report),
+        Err(PoolError::NoMemory) => Err(Fault::NoMemory),
+        Err(PoolError::Spawn) => Err(Fault::Spawn),
+        Err(PoolError::Mismatch) => Err(Fault::Mismatch),
+        Err(_) => unreachable!(),
+    }
+}
+
+/// The text of the report on the jobs of an input.
+///
+/// # Errors
+///
+/// The first fault of the input; and `Reading`, `Spawn`, `Mismatch` and `NoMemory`.
+fn report_of<S: Source, W: Threads + Wait + Sync>(
+    rt: &W,
+    alloc: Global,
+    source: &mut S,
+    workers: u32,
+    tries: u32,
+) -> Result<Vec<u8>, Fault>
+    requires reading { S.failures source.old + 1 < 2 ^ 64 }
+    requires workers { AreWorkers workers }
+    requires tries { AreTries tries }
+    ensures report { IfOk result (λ text. IfSome (S.rest source.old) (λ bytes.
+        IsReport workers tries bytes text.items)) }
+    ensures fault { IfErr result (λ f. IsOfText f → IfSome (S.rest source.old) (λ bytes.
+        InputFails workers bytes f)) }
+    ensures bounded { S.given source.new ≤ S.given source.old + 16777217 }
+    ensures writing { result ≢ Err Fault.Writing }
+    ensures well { result ≢ Err Fault.Reading →
+        S.failures source.new ≡ S.failures source.old }
+    ensures failed { result ≡ Err Fault.Reading →
+        S.failures source.new ≡ S.failures source.old + 1 }
+{
+    // In every legal history over the opening SmallBank's procedures did the bank's arithmetic.
+    replay_is_bank();
+    let (opening, jobs) = read_input(alloc, source, workers)?;
+    let report = run_opened(rt, alloc, opening, jobs.as_slice(), workers, tries)?;
+    let text = report_text(
+        alloc,
+        report.history.as_slice(),
+        report.outcomes.as_slice(),
+        &report.database,
+    )?;
+    Ok(text)
+}
+
+/// Runs the jobs of an input on worker threads, and writes what became of them: a line for each job, by number, and then the
+/// committed database. Line 1 opens, as in a script, with a place for each worker, and each later line asks for a job. All
+/// input is read before the first thread is made, and nothing is written before all jobs have ended.
+///
+/// What is written is the text of a report: the history behind it is legal, each outcome stands in it, and run one after
+/// another in commit order the committed jobs' procedures give the answers that were told, and end in that database.
+///
+/// # Errors
+///
+/// The first fault of the input; and `Reading`, `NoMemory`, `Spawn` where a thread could not be made, `Mismatch` where what the
+/// workers were told is not what the history says, and `Writing`. Nothing is written then, but for what went well of a write
+/// that failed.
+pub fn run_jobs<S: Source, T: Sink, W: Threads + Wait + Sync>(
+    rt: &W,
+    alloc: Global,
+    source: &mut S,
+    sink: &mut T,
+    workers: u32,
+    tries: u32,
+) -> Result<(), Fault>
+    requires reading { S.failures source.old + 1 < 2 ^ 64 }
+    requires writing { T.failures sink.old + 1 < 2 ^ 64 }
+    requires workers { AreWorkers workers }
+    requires tries { AreTries tries }
+    ensures report { result ≡ Ok tt → IfSome (S.rest source.old) (λ bytes. (out : List ℕ)
+        × IsReport workers tries bytes out × Appends (T.held sink.old) (T.held sink.new) out) }
+    ensures fault { IfErr result (λ f. IsOfText f → IfSome (S.rest source.old) (λ bytes.
+        InputFails workers bytes f)) }
+    ensures nothing { IfErr result (λ f. f ≢ Fault.Writing → sink.new ≡ sink.old) }
+    ensures part { result ≡ Err Fault.Writing → IfSome (S.rest source.old) (λ bytes. (out : List ℕ) × (k : ℕ)
+        × IsReport workers tries bytes out × Appends (T.held sink.old) (T.held sink.new) (take k out)) }
+    ensures bounded { S.given source.new ≤ S.given source.old + 16777217 }
+    ensures read_well { result ≢ Err Fault.Reading →
+        S.failures source.new ≡ S.failures source.old }
+    ensures read_failed { result ≡ Err Fault.Reading →
+        S.failures source.new ≡ S.failures source.old + 1 }
+    ensures wrote_well { result ≢ Err Fault.Writing →
+        T.failures sink.new ≡ T.failures sink.old }
+    ensures write_failed { result ≡ Err Fault.Writing →
+        T.failures sink.new ≡ T.failures sink.old + 1 }
+{
+    let text = report_of(rt, alloc, source, workers, tries)?;
+    if write_all(sink, text.as_slice()).is_err() {
+        return Err(Fault::Writing);
+    }
+    Ok(())
+}
