@@ -1,4 +1,4 @@
-"""Builds `main.rt` beside this file as a crate over the repository's, in a folder of its own, and gives the program."""
+"""Builds `main.rattle` beside this file as a crate over the repository's, in a folder of its own, and gives the program."""
 
 import os
 import shutil
@@ -15,7 +15,7 @@ def make(room):
     shutil.copytree(os.path.join(TOP, "crates"), crates, ignore=shutil.ignore_patterns("incremental", "must-fail", "data"))
     os.makedirs(os.path.join(crates, "sgt_history", "src"))
     os.makedirs(os.path.join(crates, "sgt_history", "specs"))
-    shutil.copy(os.path.join(HERE, "main.rt"), os.path.join(crates, "sgt_history", "src", "main.rt"))
+    shutil.copy(os.path.join(HERE, "main.rattle"), os.path.join(crates, "sgt_history", "src", "main.rt"))
     open(os.path.join(crates, "sgt_history", "specs", "Lib.antt"), "w").close()
     with open(os.path.join(TOP, "crates.txt")) as old, open(os.path.join(room, "crates.txt"), "w") as new:
         new.write(old.read() + f"sgt_history: {CRATES}\n")
