@@ -1,5 +1,5 @@
 -- How a run over an input ends.
-use Rattle.std.specs.Prelude.{◌≡◌, ℕ, ⊤, Result, Ok, Err}
+use Rattle.std.specs.Prelude.{ℕ, ⊤, Result, Ok, Err}
 use Rattle.sgt_proc.specs.Flaws.{number}
 use Rattle.sgt_smallbank.specs.Accounts.{number_of}
 use Rattle.sgt_format.specs.declared.errors.LineError.{LineError}

@@ -1,7 +1,7 @@
 ghost use Rattle.std.specs.Prelude.{◌≡◌};
 ghost use Rattle.sgt_stream.specs.declared.fault.Fault.TheVariants as fault;
 
-use sgt_proc_json::Place;
+use crate::misfit::Misfit;
 use thiserror::Error;
 
 /// How a run can end before its end. Lines are numbered from 1, and the opening is line 1.
@@ -24,7 +24,7 @@ pub enum Fault {
     BadOpening(u8),
     /// The procedure of this number in the opening spells none, and its first misfit is at this place.
     #[error("line 1: procedure {0} shape {1}")]
-    ProcShape(u64, Place),
+    ProcShape(u64, Misfit),
     /// The procedure of this number in the opening has a flaw, and this is the number of the least.
     #[error("line 1: procedure {0} flaw {1}")]
     ProcFlaw(u64, u8),

@@ -4,8 +4,7 @@
 //! A reader is a [`Source`] and a writer a [`Sink`], two small traits with bodies over any `Read` and `Write`, that count
 //! their failed calls; a source counts the bytes that it gives, too. [`Lines`] cuts what a source gives into lines within the
 //! limits, and keeps a piece of fixed size, however long the input is. `specs/Lines.antt` says what the lines of a text are.
-//! [`opening_of`]
-//! takes a line as the opening of a run. What a line spells is said in `sgt_format`.
+//! [`opening_of`] takes a line as the opening of a run. What a line spells is said in `sgt_format`.
 //!
 //! ```
 //! let mut source = Reader::new(rt.reader());
@@ -20,6 +19,7 @@ mod buffer;
 mod fault;
 mod line_errors;
 mod lines;
+mod misfit;
 mod opening;
 mod sink;
 mod source;
@@ -27,6 +27,7 @@ mod source;
 pub use fault::Fault;
 pub use line_errors::line_fault;
 pub use lines::Lines;
+pub use misfit::Misfit;
 pub use opening::opening_of;
 pub use sink::{Sink, Writer, write_all};
 pub use source::{Failed, Reader, Source};

@@ -5,6 +5,7 @@ ghost use Rattle.sgt_stream.specs.Ends.{IsOfInput, fault_of_opening};
 
 use crate::fault::Fault;
 use crate::lines::Lines;
+use crate::misfit::Misfit;
 use sgt_format::{Opening, OpeningError, read_opening};
 use std::alloc::Global;
 
@@ -21,7 +22,10 @@ pub fn opening_of(alloc: Global, least: u32, lines: &Lines) -> Result<Opening, F
         Err(OpeningError::BadLine) => Err(Fault::BadLine(1)),
         Err(OpeningError::BadLimits) => Err(Fault::BadLimits),
         Err(OpeningError::BadOpening(kind)) => Err(Fault::BadOpening(kind.number())),
-        Err(OpeningError::ProcShape(number, place)) => Err(Fault::ProcShape(number, place)),
+        Err(OpeningError::ProcShape(number, place)) => match Misfit::at(alloc, place) {
+            Ok(misfit) => Err(Fault::ProcShape(number, misfit)),
+            Err(_) => Err(Fault::NoMemory),
+        },
         Err(OpeningError::ProcFlaw(number, flaw)) => Err(Fault::ProcFlaw(number, flaw.number())),
         Err(OpeningError::NoMemory) => Err(Fault::NoMemory),
     }
