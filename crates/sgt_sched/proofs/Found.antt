@@ -1,6 +1,6 @@
 -- Whether a transaction is live, by the list of the live ones.
-use Rattle.std.proofs.Common.{◌≡◌, ℕ, ℤ, ◌<◌, Bool, true, false, nat_eq, cond, ◌⊎◌, inl, inr, List, [], ◌∷◌, length, Option, Some, None, refl, sym, ap, ◌∙◌, subst, subst₂, find}
-use Rattle.std.proofs.lemmas.Bool.{eqb-true, eqb-false, lt-ltb}
+use Rattle.std.proofs.Common.{◌≡◌, ℕ, ℤ, Bool, true, false, nat_eq, cond, ◌⊎◌, inl, inr, List, [], ◌∷◌, length, Option, Some, None, refl, sym, ap, ◌∙◌, subst, subst₂, find}
+use Rattle.std.proofs.lemmas.Bool.{eqb-true, eqb-false, lt-ltb, ltb-true}
 use Rattle.std.proofs.lemmas.Option.{same_Some}
 use Rattle.sgt_model.specs.Contents.{Key}
 use Rattle.sgt_model.specs.Walks.{Member}
@@ -8,7 +8,7 @@ use Rattle.sgt_model.specs.AccessList.{ListedAccess}
 use Rattle.sgt_model.specs.Syntax.{Program}
 use Rattle.sgt_sched.specs.LiveProgress.{Progress}
 use Rattle.sgt_sched.specs.LiveList.{numbers, has_number, progress_at}
-use Rattle.sgt_sched.specs.SchedulerView.{SchedulerView, fate_at, IsAlong, IsKept, state_of}
+use Rattle.sgt_sched.specs.SchedulerView.{SchedulerView, IsAlong, IsKept, state_of}
 use Rattle.sgt_sched.specs.Steps.{IsUnended}
 
 -- one that is found has that number, and its progress
@@ -39,8 +39,8 @@ module _ {R A G : Type 0} {chain : R → Key → List (ℕ × ℤ)} {settled : R
   found_node r e = (kept.sound.listed t).1 (found_member p.live t r e).0
 
   -- one that is not found was not started, or has ended
-  pub not_found : find (has_number t) p.live ≡ None → t < length p.fates → fate_at p.fates t ≡ None → ⊥
-  not_found e begun none = none_member p.live t e ((kept.sound.listed t).0 ((kept.unended t).1 (begun, none)))
+  pub not_unended : find (has_number t) p.live ≡ None → IsUnended (state_of chain settled list nodes pairs p) t → ⊥
+  not_unended e u = none_member p.live t e ((kept.sound.listed t).0 ((kept.unended t).1 (ltb-true t (length p.fates) u.begun, u.unended)))
 
   -- a node was started, and has not ended
   pub unended : nodes p.graph t ≡ true → IsUnended (state_of chain settled list nodes pairs p) t

@@ -1,4 +1,4 @@
-ghost use Rattle.std.specs.Prelude.{◌≡◌, ◌≤◌, ◌<◌, ℕ, true, false, [], length, nat_lt, Result, Ok, Err, IfOk, OnOk, OnErr, IsTrue, ◌⊎◌, ◌↔◌};
+ghost use Rattle.std.specs.Prelude.{◌≡◌, ◌≤◌, ◌<◌, ℕ, true, false, [], length, nat_lt, Result, Ok, Err, IfOk, OnErr, IfSome, IsSome, IsTrue, ◌⊎◌, ◌↔◌};
 ghost use Rattle.std.specs.Result.{IfErr, IsOk};
 ghost use Rattle.sgt_model.specs.declared.event.Event.TheVariants.{Step, Commit};
 ghost use Rattle.sgt_model.specs.declared.reply.Reply.{Reply as Answer};
@@ -209,9 +209,8 @@ impl<R: Records, A: Accesses, G: Graph> Sched<R, A, G> {
         ensures refused { OnErr result (Same (⟦<Self as Scheduler>⟧.state self.old) (⟦<Self as Scheduler>⟧.state self.new)) }
         ensures no_memory { EndsOne (Step t) (⟦<Self as Scheduler>⟧.state self.old) → IsOk result }
     {
-        let next = match self.next(t) {
-            Ok(next) => next,
-            Err(reply) => return Ok(reply),
+        let Some(next) = self.next(t) else {
+            return Ok(self.closed(t));
         };
         match next {
             Next::Look(key) => self.look(t, key),
@@ -231,12 +230,12 @@ impl<R: Records, A: Accesses, G: Graph> Sched<R, A, G> {
         ensures limits { self.new.limits ≡ self.old.limits }
     {
         match self.next(t) {
-            Ok(Next::Ends(answers)) => match decide(&self.graph, t) {
+            Some(Next::Ends(answers)) => match decide(&self.graph, t) {
                 Some(first) => Reply::Waits(first),
                 None => self.settle(t, answers),
             },
-            Ok(_) => Reply::NotEnded,
-            Err(reply) => reply,
+            Some(_) => Reply::NotEnded,
+            None => self.closed(t),
         }
     }
 
@@ -248,41 +247,46 @@ impl<R: Records, A: Accesses, G: Graph> Sched<R, A, G> {
         ensures procedures { self.new.procedures ≡ self.old.procedures }
         ensures limits { self.new.limits ≡ self.old.limits }
     {
-        match self.running(t) {
-            Ok(_) => self.abort(t, Cause::Quit),
-            Err(reply) => reply,
+        if self.is_live(t) {
+            return self.abort(t, Cause::Quit);
+        }
+        self.closed(t)
+    }
+
+    // Whether the transaction is live.
+    fn is_live(&self, t: Tid) -> bool
+        ensures live { IsTrue result → (⟦<Self as Scheduler>⟧.state self.now).nodes t ≡ true }
+        ensures unended { IsTrue result ↔ IsUnended (⟦<Self as Scheduler>⟧.state self.now) t }
+    {
+        match self.live.get(t) {
+            Some(_) => true,
+            None => false,
         }
     }
 
-    // A live transaction, or what an event of another is answered.
-    fn running(&self, t: Tid) -> Result<&Running, Reply>
-        ensures live { OnOk result ((⟦<Self as Scheduler>⟧.state self.now).nodes t ≡ true) }
-        ensures unended { OnOk result (IsUnended (⟦<Self as Scheduler>⟧.state self.now) t) }
-        ensures progress { IfOk result (λ running. running.now ≡ (t, progress_at self.now.live t)) }
-        ensures closed { IfErr result (IsClosed (⟦<Self as Scheduler>⟧.state self.now) t) }
+    // What an event of a transaction that is not live is answered.
+    fn closed(&self, t: Tid) -> Reply
+        requires not_live { IsUnended (⟦<Self as Scheduler>⟧.state self.now) t → ⊥ }
+        ensures { IsClosed (⟦<Self as Scheduler>⟧.state self.now) t result }
     {
-        if let Some(running) = self.live.get(t) {
-            return Ok(running);
-        }
         match self.fates.get(t.0 as usize) {
-            Some(Some(fate)) => Err(Reply::Over(fate.copied())),
+            Some(Some(fate)) => Reply::Over(fate.copied()),
             Some(None) => unreachable!(),
-            None => Err(Reply::Unknown),
+            None => Reply::Unknown,
         }
     }
 
-    // What the procedure of a live transaction does next, or what an event of another is answered.
-    fn next(&self, t: Tid) -> Result<Next, Reply>
-        ensures live { OnOk result ((⟦<Self as Scheduler>⟧.state self.now).nodes t ≡ true) }
-        ensures unended { OnOk result (IsUnended (⟦<Self as Scheduler>⟧.state self.now) t) }
-        ensures next { IfOk result (λ next.
+    // What the procedure of the transaction does next, if it is live.
+    fn next(&self, t: Tid) -> Option<Next>
+        ensures live { IsSome result → (⟦<Self as Scheduler>⟧.state self.now).nodes t ≡ true }
+        ensures unended { IsSome result ↔ IsUnended (⟦<Self as Scheduler>⟧.state self.now) t }
+        ensures next { IfSome result (λ next.
             seen next ≡ next_left ((⟦<Self as Scheduler>⟧.state self.now).left t)) }
-        ensures in_range { IfOk result StoresValue }
-        ensures closed { IfErr result (IsClosed (⟦<Self as Scheduler>⟧.state self.now) t) }
+        ensures in_range { IfSome result StoresValue }
     {
-        match self.running(t) {
-            Ok(running) => Ok(running.next(self.procedures.as_slice())),
-            Err(reply) => Err(reply),
+        match self.live.get(t) {
+            Some(running) => Some(running.next(self.procedures.as_slice())),
+            None => None,
         }
     }
 
@@ -400,7 +404,7 @@ impl<R: Records, A: Accesses, G: Graph> Sched<R, A, G> {
             Event::Start { .. } => false,
             Event::Step(t) => self.step_ends(*t),
             Event::Commit(t) => self.commit_ends(*t),
-            Event::Quit(t) => self.running(*t).is_ok(),
+            Event::Quit(t) => self.is_live(*t),
         }
     }
 
@@ -408,9 +412,8 @@ impl<R: Records, A: Accesses, G: Graph> Sched<R, A, G> {
     fn step_ends(&self, t: Tid) -> bool
         ensures { IsTrue result ↔ EndsOne (Step t) (⟦<Self as Scheduler>⟧.state self.now) }
     {
-        let next = match self.next(t) {
-            Ok(next) => next,
-            Err(_) => return false,
+        let Some(next) = self.next(t) else {
+            return false;
         };
         match next {
             Next::Look(key) => self.is_blocked(t, key, Kind::Look),
@@ -437,9 +440,8 @@ impl<R: Records, A: Accesses, G: Graph> Sched<R, A, G> {
         ensures { IsTrue result ↔ EndsOne (Commit t) (⟦<Self as Scheduler>⟧.state self.now) }
     {
         match self.next(t) {
-            Ok(Next::Ends(_)) => decide(&self.graph, t).is_none(),
-            Ok(_) => false,
-            Err(_) => false,
+            Some(Next::Ends(_)) => decide(&self.graph, t).is_none(),
+            _ => false,
         }
     }
 

@@ -1,5 +1,7 @@
 use Rattle.sgt_sched.proofs.Stepped.{if_unended}
 use Rattle.sgt_sched.proofs.sched.Sched.quit.Goals as goal
 
-pub returns-in-Ok-clause-done : goal.returns-in-Ok-clause-done
-returns-in-Ok-clause-done g c = if_unended _ _ _ _ _ _ c.in-Ok.ensures.unended.begun c.in-Ok.ensures.unended.unended c.abort.ensures.aborts
+pub returns-then-is_live-clause-done : goal.returns-then-is_live-clause-done
+returns-then-is_live-clause-done g c =
+    let u = c.is_live.ensures.unended.0 c.if-is_live.true in
+    if_unended _ _ _ _ _ _ u.begun u.unended c.abort.ensures.aborts
