@@ -31,10 +31,11 @@ pub record TakerState : Type 0 where
   pub feed : FeedId
   pub taken : List Item
 
--- the putter or taker that holds this pass
+-- the putter that holds this pass, with so many takers not joined
 abbrev pub putter_of : Pass Item Log → ℕ → PutterState
 putter_of pass unjoined = record { feed = feed_of pass; put = (view pass).put; joined = (view pass).joined; unjoined = unjoined }
 
+-- the taker that holds this pass
 abbrev pub taker_of : Pass Item Log → TakerState
 taker_of pass = record { feed = feed_of pass; taken = (view pass).taken }
 
@@ -52,10 +53,11 @@ pub record IsTaker (pass : Pass Item Log) : Type 0 where
   pub is_putter : (view pass).is_putter ≡ false
   pub joined : (view pass).joined ≡ []
 
--- a putter that has put nothing, and a taker that has taken nothing
+-- a putter that has put nothing
 abbrev pub new_putter : FeedId → ℕ → PutterState
 new_putter feed takers = record { feed = feed; put = []; joined = []; unjoined = takers }
 
+-- a taker that has taken nothing
 abbrev pub new_taker : FeedId → TakerState
 new_taker feed = record { feed = feed; taken = [] }
 

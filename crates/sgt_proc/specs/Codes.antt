@@ -10,11 +10,12 @@ use Rattle.sgt_model.specs.Left.{Rest, Left, ToRun, ToAsk}
 abbrev pub coded_rest : Coded Rest
 coded_rest = code_by (Block × (List ℤ × (List (Option ℤ) × List ℤ))) (coded× coded_block (coded× (coded_list coded_ℤ) (coded× (coded_list (coded_option coded_ℤ)) (coded_list coded_ℤ)))) (λ r. (r.statements, (r.args, (r.registers, r.answers)))) (λ q. record { statements = q.0; args = q.1.0; registers = q.1.1.0; answers = q.1.1.1 }) (λ _. refl)
 
--- what is left, as one of two, and back
+-- what is left, as one of two
 abbrev pub either_left : Left → Rest ⊎ ℕ
 either_left (ToRun r) = inl r
 either_left (ToAsk code) = inr code
 
+-- and back
 abbrev pub left_either : Rest ⊎ ℕ → Left
 left_either (inl r) = ToRun r
 left_either (inr code) = ToAsk code
