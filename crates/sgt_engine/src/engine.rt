@@ -1,4 +1,4 @@
-ghost use Rattle.std.specs.Prelude.{◌≡◌, ℕ, true, Result, Ok, Err, IfOk, OnErr, ◌↔◌, reverse};
+ghost use Rattle.std.specs.Prelude.{◌≡◌, ℕ, true, Result, Ok, Err, IfOk, OnOk, OnErr, ◌↔◌, reverse};
 ghost use Rattle.std.specs.Result.{IsOk};
 ghost use Rattle.sgt_model.specs.declared.event.Event.TheVariants.{Quit};
 ghost use Rattle.sgt_model.specs.declared.reply.Reply.{Reply as Answer};
@@ -47,6 +47,8 @@ pub struct Engine<R: Records, A: Accesses, G: Graph> {
     opening: Database,
     sched: Sched<R, A, G>,
     history: Vec<Entry>,
+    // Where the scheduler writes a reply that holds lists, before it is filed.
+    place: Reply,
 }
 
 impl<R: Records, A: Accesses, G: Graph> Model for Engine<R, A, G> {
@@ -100,6 +102,7 @@ impl<R: Records, A: Accesses, G: Graph> Engine<R, A, G> {
             opening,
             sched,
             history: Vec::new(alloc),
+            place: Reply::Ended,
         })
     }
 
@@ -128,6 +131,28 @@ impl<R: Records, A: Accesses, G: Graph> Engine<R, A, G> {
             → IsOk result }
         ensures quits { (t : ℕ) → event ≡ Quit t → live self.old.past t ≡ true → IsOk result }
     {
+        self.answer(event)?;
+        match self.history.last() {
+            Some(entry) => Ok(entry.reply.copied()),
+            None => unreachable!(),
+        }
+    }
+
+    /// The same, where the reply is not handed out: it stands in the last entry of [`Engine::history`].
+    pub fn answer(&mut self, event: Event) -> Result<(), NoMemory>
+        ensures adds { OnOk result ((r : Answer) × (self.new ≡ with_entry event r self.old)
+            × LegalReply (setting_of self.old) self.old.past event r) }
+        ensures legal { Legal (setting_of self.new) self.new.past }
+        ensures replay { IsSerializable (setting_of self.new) self.new.past }
+        ensures no_cycle { Acyclic (Pair self.new.past) }
+        ensures causes { AbortsHaveCause (setting_of self.new) self.new.past }
+        ensures order { CommitsInOrder self.new.past }
+        ensures refused { OnErr result (self.new ≡ self.old) }
+        ensures no_memory { (r : Answer) → LegalReply (setting_of self.old) self.old.past event r
+            → is_ending r ≡ true
+            → IsOk result }
+        ensures quits { (t : ℕ) → event ≡ Quit t → live self.old.past t ≡ true → IsOk result }
+    {
         // The laws that the proof rests on, which do nothing when it runs: of calls and states, and of legal histories.
         calls_simulate();
         states_are_sound();
@@ -137,12 +162,12 @@ impl<R: Records, A: Accesses, G: Graph> Engine<R, A, G> {
         headline_holds();
 
         make_room(&mut self.history, &self.sched, &event)?;
-        let reply = self.sched.call(&event)?;
+        let brief = self.sched.answer(&event, &mut self.place)?;
         self.history.push_reserved(Entry {
             event,
-            reply: reply.copied(),
+            reply: brief.reply(&self.place),
         });
-        Ok(reply)
+        Ok(())
     }
 
     /// The scheduler with its layers. It holds just what the history says of the live transactions, how the others ended, and
@@ -208,6 +233,7 @@ impl<R: Records, A: Accesses, G: Graph> Engine<R, A, G> {
             opening,
             sched: _,
             history,
+            place: _,
         } = self;
         Past { opening, history }
     }

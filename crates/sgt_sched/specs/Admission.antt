@@ -6,6 +6,8 @@ use Rattle.sgt_model.specs.declared.reply.Reply.TheVariants as reply
 use Rattle.sgt_model.specs.State.{State}
 use Rattle.sgt_model.specs.Settings.{Rules}
 use Rattle.sgt_model.specs.CallEffects.{start_answer, StartOn}
+use Rattle.sgt_sched.specs.declared.brief.Brief.{Brief}
+use Rattle.sgt_sched.specs.Briefs.{told}
 
 -- t is the next number, and the limits have room for it
 pub record HasRoom (limits : Limits) (c : State) (t : ℕ) : Type 0 where
@@ -14,6 +16,6 @@ pub record HasRoom (limits : Limits) (c : State) (t : ℕ) : Type 0 where
   pub live : length c.live < limits.live
 
 -- with this number, for which there is room; or the start is answered so, and does nothing
-abbrev pub Admits : Rules → State → ℕ → List ℤ → Result ℕ Reply → Type 0
+abbrev pub Admits : Rules → State → ℕ → List ℤ → Result ℕ Brief → Type 0
 Admits rules c procedure args (Ok t) = (reply.Started t ≡ start_answer rules c procedure args) × HasRoom rules.limits c t
-Admits rules c procedure args (Err r) = (r ≡ start_answer rules c procedure args) × StartOn (rules.procedures procedure) args c r c
+Admits rules c procedure args (Err b) = (place : Reply) → (told b place ≡ start_answer rules c procedure args) × StartOn (rules.procedures procedure) args c (told b place) c

@@ -16,6 +16,7 @@
 #![tactic(auto)]
 
 mod arguments;
+mod brief;
 mod laws;
 mod leave;
 mod live;
@@ -24,6 +25,7 @@ mod running;
 mod sched;
 mod scheduler;
 
+pub use brief::Brief;
 pub use laws::endings_agree;
 pub use sched::Sched;
 pub use scheduler::Scheduler;

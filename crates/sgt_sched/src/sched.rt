@@ -16,11 +16,13 @@ ghost use Rattle.sgt_model.specs.State.{State};
 ghost use Rattle.sgt_model.specs.Walks.{Rising};
 ghost use Rattle.sgt_proc.specs.Nexts.{seen, StoresValue};
 ghost use Rattle.sgt_sched.specs.Admission.{Admits};
+ghost use Rattle.sgt_sched.specs.Briefs.{told};
 ghost use Rattle.sgt_sched.specs.Endings.{EndsAborted, EndsOne, IsBlocked, is_ending};
 ghost use Rattle.sgt_sched.specs.SchedulerView.{rules_of};
 ghost use Rattle.sgt_sched.specs.Steps.{IsClosed, IsUnended};
 
 use crate::arguments::args_fit;
+use crate::brief::Brief;
 use crate::leave::leave;
 use crate::live::Live;
 use crate::reads::note_read;
@@ -144,11 +146,26 @@ impl<R: Records, A: Accesses, G: Graph> Sched<R, A, G> {
         ensures refused { OnErr result (Same (⟦<Self as Scheduler>⟧.state self.old) (⟦<Self as Scheduler>⟧.state self.new)) }
         ensures no_memory { EndsOne event.now (⟦<Self as Scheduler>⟧.state self.old) → IsOk result }
     {
+        let mut place = Reply::Ended;
+        let brief = self.answer(event, &mut place)?;
+        Ok(brief.reply(&place))
+    }
+
+    /// Makes that call, and tells its reply in short: one that holds lists is written into the place.
+    ///
+    /// `NoMemory` where a growth was refused; then nothing has changed. An event that ends a live transaction takes no memory.
+    pub fn answer(&mut self, event: &Event, place: &mut Reply) -> Result<Brief, NoMemory>
+        ensures done { IfOk result (λ b. CallEffect (rules_of self.old) event.now (⟦<Self as Scheduler>⟧.state self.old) (told b place.new) (⟦<Self as Scheduler>⟧.state self.new)) }
+        ensures procedures { self.new.procedures ≡ self.old.procedures }
+        ensures limits { self.new.limits ≡ self.old.limits }
+        ensures refused { OnErr result (Same (⟦<Self as Scheduler>⟧.state self.old) (⟦<Self as Scheduler>⟧.state self.new)) }
+        ensures no_memory { EndsOne event.now (⟦<Self as Scheduler>⟧.state self.old) → IsOk result }
+    {
         match event {
-            Event::Start { procedure, args } => self.start(*procedure, args),
-            Event::Step(t) => self.step(*t),
-            Event::Commit(t) => Ok(self.commit(*t)),
-            Event::Quit(t) => Ok(self.quit(*t)),
+            Event::Start { procedure, args } => self.answer_start(*procedure, args),
+            Event::Step(t) => self.answer_step(*t, place),
+            Event::Commit(t) => Ok(self.answer_commit(*t, place)),
+            Event::Quit(t) => Ok(self.answer_quit(*t, place)),
         }
     }
 
@@ -164,34 +181,45 @@ impl<R: Records, A: Accesses, G: Graph> Sched<R, A, G> {
         ensures limits { self.new.limits ≡ self.old.limits }
         ensures refused { OnErr result (Same (⟦<Self as Scheduler>⟧.state self.old) (⟦<Self as Scheduler>⟧.state self.new)) }
     {
+        let brief = self.answer_start(procedure, args)?;
+        Ok(brief.reply(&Reply::Ended))
+    }
+
+    // The same, in short. No reply to a start is placed.
+    fn answer_start(&mut self, procedure: u16, args: &Args) -> Result<Brief, NoMemory>
+        ensures done { IfOk result (λ b. (place : Answer) → StartEffect (rules_of self.old) procedure args.now (⟦<Self as Scheduler>⟧.state self.old) (told b place) (⟦<Self as Scheduler>⟧.state self.new)) }
+        ensures procedures { self.new.procedures ≡ self.old.procedures }
+        ensures limits { self.new.limits ≡ self.old.limits }
+        ensures refused { OnErr result (Same (⟦<Self as Scheduler>⟧.state self.old) (⟦<Self as Scheduler>⟧.state self.new)) }
+    {
         let t = match self.admit(procedure, args) {
             Ok(t) => t,
-            Err(reply) => return Ok(reply),
+            Err(brief) => return Ok(brief),
         };
         self.fates.reserve(1)?;
         let cursor = self.procedures[usize::from(procedure)].begin(args);
         self.live.start(t, procedure, cursor)?;
         self.graph.add(t);
         self.fates.push_reserved(None);
-        Ok(Reply::Started(t))
+        Ok(Brief::Started(t))
     }
 
     // The number of a transaction that may start, or why it may not.
-    fn admit(&self, procedure: u16, args: &Args) -> Result<Tid, Reply>
+    fn admit(&self, procedure: u16, args: &Args) -> Result<Tid, Brief>
         ensures { Admits (rules_of self.now) (⟦<Self as Scheduler>⟧.state self.now) procedure args.now result }
     {
         let count = match self.procedures.get(usize::from(procedure)) {
             Some(checked) => checked.args(),
-            None => return Err(Reply::NoProcedure),
+            None => return Err(Brief::NoProcedure),
         };
         if !args_fit(count, args) {
-            return Err(Reply::BadArgs);
+            return Err(Brief::BadArgs);
         }
         if self.fates.len() == self.limits.begins as usize {
-            return Err(Reply::Spent);
+            return Err(Brief::Spent);
         }
         if self.live.len() == self.limits.live as usize {
-            return Err(Reply::Full);
+            return Err(Brief::Full);
         }
         Ok(Tid(self.fates.len() as u32))
     }
@@ -209,14 +237,27 @@ impl<R: Records, A: Accesses, G: Graph> Sched<R, A, G> {
         ensures refused { OnErr result (Same (⟦<Self as Scheduler>⟧.state self.old) (⟦<Self as Scheduler>⟧.state self.new)) }
         ensures no_memory { EndsOne (Step t) (⟦<Self as Scheduler>⟧.state self.old) → IsOk result }
     {
+        let mut place = Reply::Ended;
+        let brief = self.answer_step(t, &mut place)?;
+        Ok(brief.reply(&place))
+    }
+
+    // The same, in short.
+    fn answer_step(&mut self, t: Tid, place: &mut Reply) -> Result<Brief, NoMemory>
+        ensures done { IfOk result (λ b. StepEffect t (⟦<Self as Scheduler>⟧.state self.old) (told b place.new) (⟦<Self as Scheduler>⟧.state self.new)) }
+        ensures procedures { self.new.procedures ≡ self.old.procedures }
+        ensures limits { self.new.limits ≡ self.old.limits }
+        ensures refused { OnErr result (Same (⟦<Self as Scheduler>⟧.state self.old) (⟦<Self as Scheduler>⟧.state self.new)) }
+        ensures no_memory { EndsOne (Step t) (⟦<Self as Scheduler>⟧.state self.old) → IsOk result }
+    {
         let Some(next) = self.next(t) else {
-            return Ok(self.closed(t));
+            return Ok(self.closed(t, place));
         };
         match next {
-            Next::Look(key) => self.look(t, key),
-            Next::Put(key, value) => self.store(t, key, value),
-            Next::Ends(_) => Ok(Reply::Ended),
-            Next::Asks(code) => Ok(self.abort(t, Cause::Asked(code))),
+            Next::Look(key) => self.look(t, key, place),
+            Next::Put(key, value) => self.store(t, key, value, place),
+            Next::Ends(_) => Ok(Brief::Ended),
+            Next::Asks(code) => Ok(self.abort(t, Cause::Asked(code), place)),
         }
     }
 
@@ -229,13 +270,24 @@ impl<R: Records, A: Accesses, G: Graph> Sched<R, A, G> {
         ensures procedures { self.new.procedures ≡ self.old.procedures }
         ensures limits { self.new.limits ≡ self.old.limits }
     {
+        let mut place = Reply::Ended;
+        let brief = self.answer_commit(t, &mut place);
+        brief.reply(&place)
+    }
+
+    // The same, in short.
+    fn answer_commit(&mut self, t: Tid, place: &mut Reply) -> Brief
+        ensures done { CommitEffect t (⟦<Self as Scheduler>⟧.state self.old) (told result place.new) (⟦<Self as Scheduler>⟧.state self.new) }
+        ensures procedures { self.new.procedures ≡ self.old.procedures }
+        ensures limits { self.new.limits ≡ self.old.limits }
+    {
         match self.next(t) {
             Some(Next::Ends(answers)) => match decide(&self.graph, t) {
-                Some(first) => Reply::Waits(first),
-                None => self.settle(t, answers),
+                Some(first) => Brief::Waits(first),
+                None => self.settle(t, answers, place),
             },
-            Some(_) => Reply::NotEnded,
-            None => self.closed(t),
+            Some(_) => Brief::NotEnded,
+            None => self.closed(t, place),
         }
     }
 
@@ -247,10 +299,21 @@ impl<R: Records, A: Accesses, G: Graph> Sched<R, A, G> {
         ensures procedures { self.new.procedures ≡ self.old.procedures }
         ensures limits { self.new.limits ≡ self.old.limits }
     {
+        let mut place = Reply::Ended;
+        let brief = self.answer_quit(t, &mut place);
+        brief.reply(&place)
+    }
+
+    // The same, in short.
+    fn answer_quit(&mut self, t: Tid, place: &mut Reply) -> Brief
+        ensures done { QuitEffect t (⟦<Self as Scheduler>⟧.state self.old) (told result place.new) (⟦<Self as Scheduler>⟧.state self.new) }
+        ensures procedures { self.new.procedures ≡ self.old.procedures }
+        ensures limits { self.new.limits ≡ self.old.limits }
+    {
         if self.is_live(t) {
-            return self.abort(t, Cause::Quit);
+            return self.abort(t, Cause::Quit, place);
         }
-        self.closed(t)
+        self.closed(t, place)
     }
 
     // Whether the transaction is live.
@@ -265,14 +328,17 @@ impl<R: Records, A: Accesses, G: Graph> Sched<R, A, G> {
     }
 
     // What an event of a transaction that is not live is answered.
-    fn closed(&self, t: Tid) -> Reply
+    fn closed(&self, t: Tid, place: &mut Reply) -> Brief
         requires not_live { IsUnended (⟦<Self as Scheduler>⟧.state self.now) t → ⊥ }
-        ensures { IsClosed (⟦<Self as Scheduler>⟧.state self.now) t result }
+        ensures { IsClosed (⟦<Self as Scheduler>⟧.state self.now) t (told result place.new) }
     {
         match self.fates.get(t.0 as usize) {
-            Some(Some(fate)) => Reply::Over(fate.copied()),
+            Some(Some(fate)) => {
+                *place = Reply::Over(fate.copied());
+                Brief::Placed
+            }
             Some(None) => unreachable!(),
-            None => Reply::Unknown,
+            None => Brief::Unknown,
         }
     }
 
@@ -291,9 +357,9 @@ impl<R: Records, A: Accesses, G: Graph> Sched<R, A, G> {
     }
 
     // Aborts a live transaction, and those that have read from it with it.
-    fn abort(&mut self, t: Tid, cause: Cause) -> Reply
+    fn abort(&mut self, t: Tid, cause: Cause, place: &mut Reply) -> Brief
         requires live { (⟦<Self as Scheduler>⟧.state self.old).nodes t ≡ true }
-        ensures aborts { AbortsIn t cause (⟦<Self as Scheduler>⟧.state self.old) result (⟦<Self as Scheduler>⟧.state self.new) }
+        ensures aborts { AbortsIn t cause (⟦<Self as Scheduler>⟧.state self.old) (told result place.new) (⟦<Self as Scheduler>⟧.state self.new) }
         ensures procedures { self.new.procedures ≡ self.old.procedures }
         ensures limits { self.new.limits ≡ self.old.limits }
     {
@@ -302,7 +368,8 @@ impl<R: Records, A: Accesses, G: Graph> Sched<R, A, G> {
         for reader in fell.as_slice() {
             self.end_aborted(*reader, Fate::Fell(t));
         }
-        Reply::Aborted { cause, fell }
+        *place = Reply::Aborted { cause, fell };
+        Brief::Placed
     }
 
     // Those that fall with a live transaction, when it aborts.
@@ -326,9 +393,9 @@ impl<R: Records, A: Accesses, G: Graph> Sched<R, A, G> {
     }
 
     // Makes a look of a live transaction, or aborts it where the look would close a cycle.
-    fn look(&mut self, t: Tid, key: Key) -> Result<Reply, NoMemory>
+    fn look(&mut self, t: Tid, key: Key, place: &mut Reply) -> Result<Brief, NoMemory>
         requires live { (⟦<Self as Scheduler>⟧.state self.old).nodes t ≡ true }
-        ensures done { IfOk result (λ r. RefusesIn t key Look (⟦<Self as Scheduler>⟧.state self.old) r (⟦<Self as Scheduler>⟧.state self.new) ⊎ MakesLook t key (⟦<Self as Scheduler>⟧.state self.old) r (⟦<Self as Scheduler>⟧.state self.new)) }
+        ensures done { IfOk result (λ b. RefusesIn t key Look (⟦<Self as Scheduler>⟧.state self.old) (told b place.new) (⟦<Self as Scheduler>⟧.state self.new) ⊎ MakesLook t key (⟦<Self as Scheduler>⟧.state self.old) (told b place.new) (⟦<Self as Scheduler>⟧.state self.new)) }
         ensures procedures { self.new.procedures ≡ self.old.procedures }
         ensures limits { self.new.limits ≡ self.old.limits }
         ensures refused { OnErr result (Same (⟦<Self as Scheduler>⟧.state self.old) (⟦<Self as Scheduler>⟧.state self.new)) }
@@ -336,7 +403,7 @@ impl<R: Records, A: Accesses, G: Graph> Sched<R, A, G> {
     {
         let rivals = self.accesses.rivals(t, key, Kind::Look);
         match self.graph.test(t, &rivals) {
-            Verdict::Closes(walk) => Ok(self.abort(t, Cause::Cycle(walk))),
+            Verdict::Closes(walk) => Ok(self.abort(t, Cause::Cycle(walk), place)),
             Verdict::Accepted => {
                 let top = self.records.top(key);
                 let value = top.value();
@@ -347,16 +414,16 @@ impl<R: Records, A: Accesses, G: Graph> Sched<R, A, G> {
                 self.accesses.note(t, key, Kind::Look);
                 note_read(&mut self.read_from, &top, t);
                 self.live.look(t, self.procedures.as_slice(), value);
-                Ok(Reply::Looked { key, value })
+                Ok(Brief::Looked { key, value })
             }
         }
     }
 
     // Makes a store of a live transaction, or aborts it where the store would close a cycle.
-    fn store(&mut self, t: Tid, key: Key, value: i64) -> Result<Reply, NoMemory>
+    fn store(&mut self, t: Tid, key: Key, value: i64, place: &mut Reply) -> Result<Brief, NoMemory>
         requires live { (⟦<Self as Scheduler>⟧.state self.old).nodes t ≡ true }
         requires in_range { IsValue value }
-        ensures done { IfOk result (λ r. RefusesIn t key Store (⟦<Self as Scheduler>⟧.state self.old) r (⟦<Self as Scheduler>⟧.state self.new) ⊎ MakesStore t key value (⟦<Self as Scheduler>⟧.state self.old) r (⟦<Self as Scheduler>⟧.state self.new)) }
+        ensures done { IfOk result (λ b. RefusesIn t key Store (⟦<Self as Scheduler>⟧.state self.old) (told b place.new) (⟦<Self as Scheduler>⟧.state self.new) ⊎ MakesStore t key value (⟦<Self as Scheduler>⟧.state self.old) (told b place.new) (⟦<Self as Scheduler>⟧.state self.new)) }
         ensures procedures { self.new.procedures ≡ self.old.procedures }
         ensures limits { self.new.limits ≡ self.old.limits }
         ensures refused { OnErr result (Same (⟦<Self as Scheduler>⟧.state self.old) (⟦<Self as Scheduler>⟧.state self.new)) }
@@ -364,7 +431,7 @@ impl<R: Records, A: Accesses, G: Graph> Sched<R, A, G> {
     {
         let rivals = self.accesses.rivals(t, key, Kind::Store);
         match self.graph.test(t, &rivals) {
-            Verdict::Closes(walk) => Ok(self.abort(t, Cause::Cycle(walk))),
+            Verdict::Closes(walk) => Ok(self.abort(t, Cause::Cycle(walk), place)),
             Verdict::Accepted => {
                 self.records.reserve(key)?;
                 self.accesses.reserve(key)?;
@@ -373,23 +440,24 @@ impl<R: Records, A: Accesses, G: Graph> Sched<R, A, G> {
                 self.records.write(t, key, value);
                 self.accesses.note(t, key, Kind::Store);
                 self.live.store(t, self.procedures.as_slice());
-                Ok(Reply::Wrote { key, value })
+                Ok(Brief::Wrote { key, value })
             }
         }
     }
 
     // Commits a live transaction that has no predecessor.
-    fn settle(&mut self, t: Tid, answers: Answers) -> Reply
+    fn settle(&mut self, t: Tid, answers: Answers, place: &mut Reply) -> Brief
         requires live { (⟦<Self as Scheduler>⟧.state self.old).nodes t ≡ true }
         requires first { (u : ℕ) → (⟦<Self as Scheduler>⟧.state self.old).pairs u t ≡ false }
-        ensures commits { CommitsIn t answers (⟦<Self as Scheduler>⟧.state self.old) result (⟦<Self as Scheduler>⟧.state self.new) }
+        ensures commits { CommitsIn t answers (⟦<Self as Scheduler>⟧.state self.old) (told result place.new) (⟦<Self as Scheduler>⟧.state self.new) }
         ensures procedures { self.new.procedures ≡ self.old.procedures }
         ensures limits { self.new.limits ≡ self.old.limits }
     {
         finish(&mut self.records, &mut self.accesses, &mut self.graph, t);
         leave(&mut self.live, &mut self.read_from, t);
         self.fates[t.0 as usize] = Some(Fate::Committed);
-        Reply::Committed(answers)
+        *place = Reply::Committed(answers);
+        Brief::Placed
     }
 
     /// Whether the reply to this event would end a live transaction: `Committed` or `Aborted`. The events of which this is true

@@ -3,10 +3,10 @@ use Rattle.std.proofs.Common.{rules, refl, get_or, ◌≡◌, ◌<◌, Some, Non
 use Rattle.sgt_sched.specs.Admission.{HasRoom}
 use Rattle.sgt_sched.specs.SchedulerView.{SchedulerView, state_of, rules_of}
 use Rattle.sgt_sched.proofs.Started.{start_new, named_seen, start_room, start_done, start_effect}
-use Rattle.sgt_sched.proofs.sched.Sched.start.Goals as goal
+use Rattle.sgt_sched.proofs.sched.Sched.answer_start.Goals as goal
 
 pub returns-in-Err-clause-done : goal.returns-in-Err-clause-done
-returns-in-Err-clause-done g c = record { reply = c.in-Err.ensures.0; does = c.in-Err.ensures.1 }
+returns-in-Err-clause-done g c = λ place. (let said = c.in-Err.ensures place in record { reply = said.0; does = said.1 })
 
 pub index-requires : goal.index-requires
 index-requires g c =
@@ -30,7 +30,7 @@ invariant_of-self-2 g c =
     (start_done c.self.invariant c.args.procedure c.index.result.now c.args.args.now c.in-Ok.t admitted.next c.add.new.self c.start.new.self c.push_reserved.new.self.items c.add.ensures.nodes c.add.ensures.pairs (c.in_ok-start.ensures.ok ∙ ap (λ l. c.self.inside.live ++ (c.in-Ok.t, record { procedure = c.args.procedure; cursor = l }) ∷ []) c.begin-cursor.ensures) (c.push_reserved.ensures.items ∙ ap (λ l. l ++ None ∷ []) c.reserve.ensures.items) named admitted.live admitted.begins).0
 
 pub returns-clause-done : goal.returns-clause-done
-returns-clause-done g c =
+returns-clause-done g c = λ _.
     let admitted = subst (λ (p : SchedulerView _ _ _). HasRoom p.limits (state_of g.R.Records.chain g.R.Records.settled g.A.Accesses.list g.G.Graph.nodes g.G.Graph.pairs p) c.in-Ok.t) (sym c.self.view_is) c.in-Ok.ensures.1 in
     let named : slice_get c.self.inside.procedures.items c.args.procedure ≡ Some c.index.result.now = slice_get_read c.self.inside.procedures.items _ c.args.procedure c.index.result.now refl (named_seen (state_of g.R.Records.chain g.R.Records.settled g.A.Accesses.list g.G.Graph.nodes g.G.Graph.pairs) _ c.args.self.now c.self.view_is c.args.procedure c.in-Ok.t c.args.args.now c.in-Ok.ensures.0) (c.index.ensures ∙ ap (λ n. get_or c.self.inside.procedures.items n c.index.result.now) c.from.ensures) in
     let done = start_done c.self.invariant c.args.procedure c.index.result.now c.args.args.now c.in-Ok.t admitted.next c.add.new.self c.start.new.self c.push_reserved.new.self.items c.add.ensures.nodes c.add.ensures.pairs (c.in_ok-start.ensures.ok ∙ ap (λ l. c.self.inside.live ++ (c.in-Ok.t, record { procedure = c.args.procedure; cursor = l }) ∷ []) c.begin-cursor.ensures) (c.push_reserved.ensures.items ∙ ap (λ l. l ++ None ∷ []) c.reserve.ensures.items) named admitted.live admitted.begins in

@@ -1,5 +1,5 @@
 use Rattle.sgt_sched.proofs.Stepped.{if_unended}
-use Rattle.sgt_sched.proofs.sched.Sched.quit.Goals as goal
+use Rattle.sgt_sched.proofs.sched.Sched.answer_quit.Goals as goal
 
 pub returns-then-is_live-clause-done : goal.returns-then-is_live-clause-done
 returns-then-is_live-clause-done g c =
