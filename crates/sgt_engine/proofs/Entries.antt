@@ -14,7 +14,7 @@ use Rattle.sgt_model.specs.Legality.{Legal, LegalReply}
 use Rattle.sgt_model.specs.State.{State}
 use Rattle.sgt_model.specs.StateAfter.{IsStateAfter}
 use Rattle.sgt_model.specs.CallEffects.{CallEffect}
-use Rattle.sgt_engine.specs.EngineView.{EngineView, setting_of, made_of}
+use Rattle.sgt_engine.specs.EngineView.{EngineView, setting_of, made_of, with_entry}
 use Rattle.sgt_model.specs.Histories.{events_of}
 use Rattle.sgt_model.specs.Refinement.{CallsSimulate}
 
@@ -40,6 +40,12 @@ kept_entry calls_simulate s s' items new before after event r same is kept done 
     let continues = calls_simulate s (reverse items) kept.0 before kept.1 event r after done in
     subst₂ (λ (x : Setting) (l : List Entry). Kept x l after) same (sym (longer items new (record { event = event; reply = r }) is)) ((kept.0, continues.0), continues.1)
 
+-- the engine has this entry more
+pub entry_added : (opening : List Row) (procedures procedures' : List Program) (limits limits' : Limits) (items new : List Entry) (event : Event) (r : Reply) (now : EngineView) → procedures' ≡ procedures → limits' ≡ limits → new ≡ items ++ record { event = event; reply = r } ∷ [] → record { opening = opening; procedures = procedures; limits = limits; past = reverse items } ≡ now → record { opening = opening; procedures = procedures'; limits = limits'; past = reverse new } ≡ with_entry event r now
+entry_added opening procedures procedures' limits limits' items new event r now p l is seen = now_same ∙ ap (with_entry event r) seen where
+  now_same : (record { opening = opening; procedures = procedures'; limits = limits'; past = reverse new }) ≡ with_entry event r (record { opening = opening; procedures = procedures; limits = limits; past = reverse items })
+  now_same = λ i. record { opening = opening; procedures = p i; limits = l i; past = longer items new (record { event = event; reply = r }) is i }
+
 -- its reply is legal
 pub legal_reply : CallsSimulate → (s s' : Setting) (past past' : List Entry) (before after : State) (event : Event) (r : Reply) → s ≡ s' → past ≡ past' → Kept s past before → CallEffect s.rules event before r after → LegalReply s' past' event r
 legal_reply calls_simulate s s' past past' before after event r same seen kept done =
@@ -48,10 +54,6 @@ legal_reply calls_simulate s s' past past' before after event r same seen kept d
 -- the history of a new engine is legal
 pub legal_new : (e : EngineView) (opening : List Row) (procedures : List Program) (limits : Limits) → e ≡ made_of opening procedures limits → Legal (setting_of e) e.past
 legal_new e opening procedures limits is = subst (λ (x : EngineView). Legal (setting_of x) x.past) (sym is) tt
-
--- a history that stays is legal still
-pub legal_same : (s s' : Setting) (items new : List Entry) → s ≡ s' → new ≡ items → Legal s (reverse items) → Legal s' (reverse new)
-legal_same s s' items new same is legal = subst₂ (λ (x : Setting) (l : List Entry). Legal x (reverse l)) same (sym is) legal
 
 -- the events of a history with one entry more
 pub events_of-entry : (e : Entry) (past : List Entry) → events_of (e ∷ past) ≡ events_of past ++ e.event ∷ []

@@ -132,7 +132,7 @@ impl<R: Records, A: Accesses, G: Graph> Engine<R, A, G> {
         ensures quits { (t : ℕ) → event ≡ Quit t → live self.old.past t ≡ true → IsOk result }
     {
         self.answer(event)?;
-        match self.history.last() {
+        match self.history().last() {
             Some(entry) => Ok(entry.reply.copied()),
             None => unreachable!(),
         }

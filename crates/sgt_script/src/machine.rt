@@ -1,10 +1,12 @@
 use sgt_format::Opening;
-use sgt_model::{Database, Event, NoMemory, Reply};
+use sgt_model::{Database, Entry, Event, NoMemory};
 use std::alloc::Global;
 
 /// What a script runs on: it is made from an opening, answers events and keeps their history.
 pub(crate) trait Machine: Drop {
-    ghost use Rattle.std.specs.Prelude.{◌≡◌, IfOk, OnErr, List, [], ◌∷◌};
+    ghost use Rattle.std.specs.Prelude.{◌≡◌, IfOk, OnOk, OnErr, List, [], ◌∷◌, slice_get};
+    ghost use Rattle.std.specs.Option.{option_copied};
+    ghost use Rattle.sgt_model.specs.declared.reply.Reply.{Reply};
     ghost use Rattle.sgt_model.specs.declared.entry.Entry.{Entry};
     ghost use Rattle.sgt_model.specs.Bounds.{AreInRange};
     ghost use Rattle.sgt_model.specs.Contents.{Key};
@@ -39,12 +41,16 @@ pub(crate) trait Machine: Drop {
     /// # Errors
     ///
     /// `NoMemory` where a growth was refused. The history is as before.
-    fn apply(&mut self, event: Event) -> Result<Reply, NoMemory>
+    fn answer(&mut self, event: Event) -> Result<(), NoMemory>
         ensures setting { setting self.new ≡ setting self.old }
-        ensures entry { IfOk result (λ r.
-            past self.new ≡ record { event = event; reply = r } ∷ past self.old) }
+        ensures entry { OnOk result ((r : Reply) ×
+            (past self.new ≡ record { event = event; reply = r } ∷ past self.old)) }
         ensures legal { Legal (setting self.new) (past self.new) }
         ensures err { OnErr result (past self.new ≡ past self.old) };
+
+    /// The newest entry of its history, if there is one.
+    fn newest(&self) -> Option<&Entry>
+        ensures { option_copied result ≡ slice_get (past self.now) 0 };
 
     /// The committed database.
     ///

@@ -64,8 +64,11 @@ fn answer_line<S: Source, M: Machine>(
         return Ok(false);
     }
     let event = event_of(alloc, lines)?;
-    let reply = machine.apply(event)?;
-    append_reply(replies, &reply)?;
+    machine.answer(event)?;
+    match machine.newest() {
+        Some(entry) => append_reply(replies, &entry.reply)?,
+        None => unreachable!(),
+    }
     Ok(true)
 }
 

@@ -3,7 +3,7 @@ use sgt_access::PerKey;
 use sgt_engine::Engine;
 use sgt_format::Opening;
 use sgt_graph::BitGraph;
-use sgt_model::{Database, Event, MakeError, NoMemory, Reply};
+use sgt_model::{Database, Entry, Event, MakeError, NoMemory};
 use sgt_records::SlabRecords;
 use std::alloc::Global;
 
@@ -39,8 +39,12 @@ impl Machine for SmallBankEngine {
         }
     }
 
-    fn apply(&mut self, event: Event) -> Result<Reply, NoMemory> {
-        self.engine.apply(event)
+    fn answer(&mut self, event: Event) -> Result<(), NoMemory> {
+        self.engine.answer(event)
+    }
+
+    fn newest(&self) -> Option<&Entry> {
+        self.engine.history().last()
     }
 
     fn database(&self, alloc: Global) -> Result<Database, NoMemory> {
