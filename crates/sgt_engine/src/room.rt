@@ -27,7 +27,7 @@ pub fn make_room<R: Records, A: Accesses, G: Graph>(
     ensures no_memory { EndsOne event.now (⟦<Sched<R, A, G> as Scheduler>⟧.state sched.now) → IsOk result }
 {
     // Whether it ends one is worked out only where the growth was refused.
-    if history.reserve(sched.live().len() + 2).is_ok() || sched.ends(event) {
+    if history.reserve(sched.live_count() + 2).is_ok() || sched.ends(event) {
         return Ok(());
     }
     Err(NoMemory)

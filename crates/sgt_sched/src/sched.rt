@@ -521,6 +521,13 @@ impl<R: Records, A: Accesses, G: Graph> Sched<R, A, G> {
         self.live.numbers()
     }
 
+    /// How many transactions are live.
+    pub fn live_count(&self) -> usize
+        ensures { result ≡ length (⟦<Self as Scheduler>⟧.state self.now).live }
+    {
+        self.live.len()
+    }
+
     /// The records: the committed values, and above them what the live transactions have stored.
     pub fn records(&self) -> &R
         ensures { result.now ≡ self.now.records }
