@@ -141,10 +141,3 @@ by_key_inserted xs i a within sorted before after k d low high =
 -- the rest of a list
 pub rest_of : {X : Type 0} (xs : List X) (n : ℕ) → take (length xs - n) (drop n xs) ≡ drop n xs
 rest_of xs n = take_all _ _ (let long = length-drop n xs in omega arith)
-
--- the rest of accesses by key are by key
-pub by_key_dropped : (xs : List ListedAccess) (n : ℕ) → IsByKey xs → IsByKey (drop n xs)
-by_key_dropped xs n sorted k d low high =
-    let long = length-drop n xs in
-    let next : n + k + 1 ≡ n + (k + 1) = omega arith in
-    rw (get_or-drop n xs (k + 1) d, get_or-drop n xs k d) (subst (λ m. is_lt (key_cmp (get_or xs m d).key (get_or xs (n + k) d).key) ≡ false) next (sorted (n + k) d (omega arith) (omega arith)))

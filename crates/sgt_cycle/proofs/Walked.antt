@@ -20,16 +20,6 @@ pub record Walked (test : ℕ → ℕ → Bool) (source : ℕ) (seen : List ℕ)
   pub behind : (x : ℕ) → Member x (source ∷ rest) → (i : ℕ) × (at ≤ i) × (i < length seen) × (slice_index seen i ≡ x)
 
 module _ (test : ℕ → ℕ → Bool) (source : ℕ) (seen : List ℕ) where
-  pub walked_start : (at : ℕ) → at < length seen → slice_index seen at ≡ source → Walked test source seen at (source ∷ [])
-  walked_start at below is = record {
-    rest = [];
-    is = refl;
-    goes = tt;
-    distinct = ((λ m. m), tt);
-    ends = sym is;
-    behind = λ x m. elim m [ inl e ↦ (at, omega arith, below, is ∙ sym e) | inr none ↦ absurd none ];
-  }
-
   -- a step to a place before
   walked_push : (at : ℕ) (path : List ℕ) (i : ℕ) → Distinct seen → Walked test source seen at path → at < length seen → i < at
       → Holds test (slice_index seen at) (slice_index seen i) → Walked test source seen i (path ++ slice_index seen i ∷ [])
@@ -62,19 +52,6 @@ module _ (test : ℕ → ℕ → Bool) (source : ℕ) (seen : List ℕ) where
       let on : Holds test (slice_index seen at) (slice_index seen next) = rw (← here, ← there) link in
       let u_is : u ≡ slice_index seen next = to ∙ any_default seen next u 0 inside in
       (inside, subst (λ x. Walked test source seen next (path ++ x ∷ [])) (sym u_is) (walked_push at path next distinct w below less on))
-
-  -- at a target it is whole
-  pub walked_ends : (targets : List ℕ) (at : ℕ) (path : List ℕ) (r : ℕ) → Walked test source seen at path → at < length seen → r ≡ slice_index_or seen at r
-      → Member r targets → IsWalk test source targets path
-  walked_ends targets at path r w below is target = (
-    w.rest,
-    w.is,
-    record {
-      distinct = w.distinct;
-      goes = w.goes;
-      ends = subst (λ x. Member x targets) (is ∙ any_default seen at r 0 below ∙ sym w.ends) target;
-    },
-  )
 
   -- and it never stops short of one
   pub walked_stops : (targets : List ℕ) (at r s : ℕ) → LeadsBack test targets seen → at < length seen

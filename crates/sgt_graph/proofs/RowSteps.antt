@@ -42,36 +42,6 @@ pub record Changed (now : ℕ → ℕ → Bool) (old : List ℕ) (n : ℕ) (rows
   pub left : (i : ℕ) → n ≤ i → slice_index rows i ≡ slice_index old i
 
 module _ (now : ℕ → ℕ → Bool) (old : List ℕ) where
-  pub changed_none : length old ≡ 32 → Changed now old 0 old
-  changed_none size = record { size = size; done = λ i j below. absurd (omega arith); left = λ i above. refl }
-
-  -- the next row is as it should be
-  pub changed_skip : (n : ℕ) (rows : List ℕ) → Changed now old n rows → ((j : ℕ) → is_bit old n j ≡ now n j) → Changed now old (n + 1) rows
-  changed_skip n rows c same = record {
-    size = c.size;
-    done = λ i j below. elim (cases_lt i n) [
-      | inl early ↦ c.done i j early
-      | inr here ↦
-          let is : i ≡ n = omega arith in
-          subst (λ k. is_bit rows k j ≡ now k j) (sym is) (ap (λ x. is_set x j) (c.left n (omega arith)) ∙ same j)
-    ];
-    left = λ i above. c.left i (omega arith);
-  }
-
-  -- or it is written
-  pub changed_write : (n v : ℕ) (rows : List ℕ) → n < 32 → Changed now old n rows → ((j : ℕ) → is_set v j ≡ now n j) → Changed now old (n + 1) (slice_set rows n v)
-  changed_write n v rows low c is_now = record {
-    size = length-set rows n v ∙ c.size;
-    done = λ i j below. elim (cases_lt i n) [
-      | inl early ↦ ap (λ x. is_set x j) (get_or-set_other rows n i v 0 (λ e. absurd (omega arith))) ∙ c.done i j early
-      | inr here ↦
-          let is : i ≡ n = omega arith in
-          let size : length rows ≡ 32 = c.size in
-          subst (λ k. is_bit (slice_set rows n v) k j ≡ now k j) (sym is) (ap (λ x. is_set x j) (get_or-set_same rows n v 0 (omega arith)) ∙ is_now j)
-    ];
-    left = λ i above. get_or-set_other rows n i v 0 (λ e. absurd (omega arith)) ∙ c.left i (omega arith);
-  }
-
   -- all are changed
   pub changed_all : (n : ℕ) (rows : List ℕ) → 32 ≤ n → Changed now old n rows → ((i j : ℕ) → 32 ≤ i → now i j ≡ false) → (i j : ℕ) → is_bit rows i j ≡ now i j
   changed_all n rows high c none i j = elim (cases_lt i 32) [
@@ -123,9 +93,6 @@ module _ (rows : List ℕ) where
 
   pub leads_join : (i j k : ℕ) → Leads rows i j → Leads rows j k → Leads rows i k
   leads_join i j k (m, step, rest) second = (m, step, reaches_trans (Holds (is_bit rows)) m j k rest (leads_reach j k second))
-
-  pub closed_start : ClosedBelow rows 0 rows
-  closed_start = record { each = λ i j h. h; joins = λ i k j below first second. absurd (omega arith); leads = leads_step }
 
   pub closed_next : (n : ℕ) (old new : List ℕ) → ClosedBelow rows n old → ((i j : ℕ) → (is_bit new i j ≡ true) ↔ ((is_bit old i j ≡ true) ⊎ ((is_bit old i n ≡ true) × (is_bit old n j ≡ true)))) → ClosedBelow rows (n + 1) new
   closed_next n old new c more = record {

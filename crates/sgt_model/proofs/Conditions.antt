@@ -22,10 +22,6 @@ module _ (most : ℕ) (c : State) (sound : Sound most c) where
   pub may_settle : (t : ℕ) → ((u : ℕ) → c.pairs u t ≡ true → ⊥) → (k : Key) → IsFirstIn t (c.chain k)
   may_settle t none k = is_first (PairIn c) t (c.chain k) (sound.order k) (λ u n m p. none u p)
 
-  -- of `test` and `insert`: rivals are nodes
-  pub rival_node : (t : ℕ) (k : Key) (kind : Kind) (u : ℕ) → IsRival c t k kind u → c.nodes u ≡ true
-  rival_node t k kind u r = sound.access_nodes u k kind r.has_conflicting
-
   -- of `add`: the next number is no node
   pub next_no_node : c.nodes c.starts ≡ true → ⊥
   next_no_node h = absurd (let lt = sound.begun c.starts h in omega arith)

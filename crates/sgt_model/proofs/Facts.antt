@@ -199,9 +199,6 @@ committed-fate past t h = go (fate_of past t) h
     go (Some (fate.Aborted why)) h = absurd (cc)
     go (Some (fate.Fell u)) h = absurd (cc)
 
-pub committed-started : (s : Setting) (past : List Entry) → Legal s past → (t : ℕ) → committed past t ≡ true → t < starts past
-committed-started s past h t c = ended-started s past h t fate.Committed (committed-fate past t c)
-
 pub committed-stays : (s : Setting) (e : Entry) (past : List Entry) → Legal s (e ∷ past) → (t : ℕ) → committed past t ≡ true → committed (e ∷ past) t ≡ true
 committed-stays s e past h t c = ap is_commit (fate-final s e past h t fate.Committed (committed-fate past t c))
 
@@ -211,9 +208,6 @@ aborted_fate (Some f) h = (f, refl)
 
 pub aborted-fate : (past : List Entry) (t : ℕ) → aborted past t ≡ true → (f : Fate) × (fate_of past t ≡ Some f) × (is_abort (Some f) ≡ true)
 aborted-fate past t h = let a = aborted_fate (fate_of past t) h in (a.0, a.1, sym (ap is_abort a.1) ∙ h)
-
-pub aborted-started : (s : Setting) (past : List Entry) → Legal s past → (t : ℕ) → aborted past t ≡ true → t < starts past
-aborted-started s past h t a = let f = aborted-fate past t a in ended-started s past h t f.0 f.1
 
 pub aborted-stays : (s : Setting) (e : Entry) (past : List Entry) → Legal s (e ∷ past) → (t : ℕ) → aborted past t ≡ true → aborted (e ∷ past) t ≡ true
 aborted-stays s e past h t a = let f = aborted-fate past t a in ap is_abort (fate-final s e past h t f.0 f.1) ∙ f.2
@@ -293,14 +287,6 @@ pub precedes-started : (s : Setting) (past : List Entry) → Legal s past → (t
 precedes-started s [] h t u p = absurd p
 precedes-started s (e ∷ past) h t u (inl now) = let f = follows-access past (access_of e) t u now in (started-stays e past t (has_conflicting-started s past h.0 t _ _ f.access_list), started-stays e past u (subst (λ v. v < starts past) f.by (live-started past _ (access-live s past e.event e.reply h.1 f.access f.is))))
 precedes-started s (e ∷ past) h t u (inr before) = let p = precedes-started s past h.0 t u before in (started-stays e past t p.0, started-stays e past u p.1)
-
--- accesses of a transaction that has ended never come later
-pub access-after_end : (s : Setting) (e : Entry) (past : List Entry) → Legal s (e ∷ past) → (t : ℕ) (f : Fate) → fate_of past t ≡ Some f → (a : Access) → access_of e ≡ Some a → a.by ≡ t → ⊥
-access-after_end s e past h t f ended a is by = cc (sym (live-no_fate past t (subst (λ u. live past u ≡ true) by (access-live s past e.event e.reply h.1 a is))) ∙ ended)
-
--- those that fall had not ended
-pub fell-no_fate : (past : List Entry) (t : ℕ) (fell : List ℕ) → Falls past t fell → (u : ℕ) → Member u fell → fate_of past u ≡ None
-fell-no_fate past t fell h u m = live-no_fate past u (h.each u m).0
 
 -- an entry at which nothing commits
 pub record Uncommitted (s : Setting) (past : List Entry) (event : Event) (r : Reply) : Type 0 where

@@ -15,25 +15,6 @@ use Rattle.sgt_model.specs.StateAfter.{IsStateAfter}
 use Rattle.sgt_model.specs.Soundness.{Sound}
 use Rattle.sgt_model.specs.NewState.{IsNew}
 
-pub sound_new : (most : ℕ) (opening : Contents) (c : State) → IsNew opening c → Sound most c
-sound_new most opening c n = record {
-  begun = λ t q. absurd (both_ways (c.nodes t) (n.nodes t) q);
-  listed = λ t. ((λ q. absurd (both_ways (c.nodes t) (n.nodes t) q)), (λ m. absurd (subst (λ l. Member t l) n.live m)));
-  few = subst (λ l. length l ≤ most) (sym n.live) (omega arith);
-  pair_nodes = λ t u q. absurd (both_ways (c.pairs t u) (n.pairs t u) q);
-  pair_apart = λ t u q. absurd (both_ways (c.pairs t u) (n.pairs t u) q);
-  access_nodes = λ t k kind q. absurd (none t k kind (ap (λ l. lists_conflicting l t k kind) (sym n.accesses) ∙ q));
-  read_nodes = λ u t q. absurd (subst (λ l. Has l u t) n.read_from q);
-  writers = λ k t m. absurd (no_writer t (ap (writes_in t) (sym (n.chain k)) ∙ m));
-  order = λ k. subst (λ l. InOrder (PairIn c) l) (sym (n.chain k)) tt;
-}
-  where
-    none : (t : ℕ) (k : Key) (kind : Kind) → lists_conflicting [] t k kind ≡ true → ⊥
-    none t k kind q = cc
-
-    no_writer : (t : ℕ) → writes_in t [] ≡ true → ⊥
-    no_writer t q = cc
-
 pub state_new : (s : Setting) (c : State) → IsNew s.opening c → IsStateAfter s [] c
 state_new s c n = record {
   lives = n.live;

@@ -17,12 +17,6 @@ use Rattle.sgt_model.proofs.Facts.{some_is, option_or-cases, committed-stands}
 use Rattle.sgt_model.proofs.PairOrder.{pair_commits_before}
 use Rattle.sgt_model.proofs.Stores.{Stored, stores-some, stored-conflicts, newest-by, store_follows, newest-precedes}
 
--- the settled value of a key is by the one of its committed writers that committed last
-pub settled_by_last : (s : Setting) (past : List Entry) → Legal s past → (k : Key) (t u : ℕ) → t ≢ u → committed past t ≡ true → has_conflicting past t k Look ≡ true → IsBy (newest_store (committed past) k past) u → CommitsBefore past t u
-settled_by_last s past h k t u apart ct stored newest =
-    let cu = (newest-by (committed past) k past u newest).0 in
-    pair_commits_before s past h t u ct cu (record { apart = apart; first_stands = committed-stands past t ct; second_stands = committed-stands past u cu; precedes = newest-precedes (committed past) k past t u apart ct stored newest })
-
 map_some : (o : Option Access) (n p : ℕ) → option_map (λ (a : Access). n) o ≡ Some p → (a : Access) × (o ≡ Some a) × (n ≡ p)
 map_some None n p e = absurd (cc)
 map_some (Some a) n p e = (a, refl, some_is n p e)

@@ -114,10 +114,6 @@ module _ (m n : BTreeMap Key Record) (key : Key) (r : Record) (told : Updates ke
       go true e = same ∙ ap (committed_of m) (key_eq-true key k e)
       go false e = refl
 
-  -- the key has a record
-  pub record_kept : is_kept n key ≡ true
-  record_kept = ap is_some told.1
-
   -- no key has a chain, if the record has none
   pub still_none : r.place ≡ None → ((k : Key) → place_of m k ≡ None) → (k : Key) → place_of n k ≡ None
   still_none here none k = place_told k ∙ go (key_eq key k)

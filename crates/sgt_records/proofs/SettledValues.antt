@@ -52,10 +52,6 @@ module _ (m n : BTreeMap Key (Option ℤ)) (key : Key) (content : Option ℤ) (t
       go true = refl
       go false = h
 
-  -- the key has a record
-  pub record_there : has_record n key ≡ true
-  record_there = ap is_some told.1
-
 -- a value that is put
 pub value_put : (m n : BTreeMap Key (Option ℤ)) (key : Key) (v : ℤ) → Updates key_cmp m n key (Some (Some v)) → (k : Key) → settled_in n k ≡ put_in (settled_in m) key v k
 value_put m n key v told = value_told m n key (Some v) told

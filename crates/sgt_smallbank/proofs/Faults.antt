@@ -51,14 +51,6 @@ neither (Some f) p e = absurd cc
 fault_later : (earlier later : List Account) (a : Account) → fault_behind earlier a ≡ None → first_fault earlier (a ∷ later) ≡ first_fault (earlier ++ a ∷ []) later
 fault_later earlier later a none = ap (λ o. option_or o (first_fault (earlier ++ a ∷ []) later)) none
 
--- the first fault, past an account at i that has none
-pub fault_next : (accounts : List Account) (i : ℕ) (d : Account) (found : Option OpeningFault) → i < length accounts → first_fault (take i accounts) (drop i accounts) ≡ found → fault_behind (take i accounts) (get_or accounts i d) ≡ None → first_fault (take (i + 1) accounts) (drop (i + 1) accounts) ≡ found
-fault_next accounts i d found within is none =
-    ap (λ earlier. first_fault earlier (drop (i + 1) accounts)) (take_more accounts i d within)
-    ∙ sym (fault_later (take i accounts) (drop (i + 1) accounts) (get_or accounts i d) none)
-    ∙ ap (first_fault (take i accounts)) (sym (drop_more accounts i d within))
-    ∙ is
-
 -- ---- accounts without a fault
 
 in_range_where : (b : Bool) (o : Option OpeningFault) → cond b o (Some Range) ≡ None → b ≡ true

@@ -107,10 +107,6 @@ cut-first k line rest none short fits =
       ap (λ b. ending_of b (counted k (line ++ 10 ∷ rest))) (same_within k line rest fits) ∙ ap (λ ls. ending_of (nat_le (length rest) after) ls) (counted_first k line rest none fits) ∙ rw test refl,
     )
 
--- the cut of nothing
-pub cut-nothing : (k : ℕ) → cut_within k [] ≡ record { given = []; ending = AtEnd }
-cut-nothing k = rw (le-leb 0 k (omega arith)) refl
-
 -- the cut of a last line
 pub cut-last : (k m : ℕ) (line : List ℕ) → has_break line ≡ false → 0 < length line → length line ≤ 65536 → length line ≤ k → ((cut_within k line).given ≡ line ∷ (cut_within m []).given) × ((cut_within k line).ending ≡ (cut_within m []).ending)
 cut-last k m [] none some short fits = absurd (omega arith)
