@@ -63,8 +63,9 @@ impl Tids {
         requires { length self.old < 32 }
         ensures { self.new ≡ self.old ++ item ∷ [] }
     {
-        self.items[self.count as usize] = item;
-        self.count += 1;
+        let count = self.count;
+        self.items[count as usize] = item;
+        self.count = count + 1;
     }
 
     /// The transactions, in order.

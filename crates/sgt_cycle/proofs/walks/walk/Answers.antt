@@ -1,4 +1,4 @@
-use Rattle.std.proofs.Common.{arith, refl, sym, ◌<◌, ◌≤◌, ℕ, List, [], ◌∷◌, ◌++◌, length, true≢false, length-append}
+use Rattle.std.proofs.Common.{arith, refl, sym, ◌≤◌, ℕ, List, [], ◌∷◌, ◌++◌, length, true≢false, length-append}
 use Rattle.sgt_model.specs.Walks.{Member, Distinct}
 use Rattle.sgt_cycle.specs.Links.{is_link}
 use Rattle.sgt_cycle.specs.Search.{LeadsBack}
