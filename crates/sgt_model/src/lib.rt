@@ -51,6 +51,7 @@ mod procedure;
 mod refinement;
 mod reply;
 mod tid;
+mod tids;
 
 pub use bounded::Bounded;
 pub use database::Database;
@@ -73,4 +74,5 @@ pub use refinement::{
     calls_simulate, found_is_visible, new_is_empty, nexts_agree, states_are_sound, verdicts_agree,
 };
 pub use reply::{Cause, Fate, Reply};
-pub use tid::{Tid, Tids};
+pub use tid::Tid;
+pub use tids::Tids;

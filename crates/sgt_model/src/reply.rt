@@ -2,7 +2,8 @@ ghost use Rattle.std.specs.Prelude.{◌≡◌};
 
 use crate::event::Answers;
 use crate::key::Key;
-use crate::tid::{Tid, Tids};
+use crate::tid::Tid;
+use crate::tids::Tids;
 
 /// Why a transaction was aborted.
 #[derive(Debug, Drop, PartialEq, Eq)]

@@ -1,4 +1,3 @@
-use crate::bounded::Bounded;
 use std::marker::Model;
 
 /// The number of a transaction: how many were started before it.
@@ -14,6 +13,3 @@ impl Model for Tid {
 
     ghost inverse = { λ n. record { 0 = n } };
 }
-
-/// At most 32 transactions.
-pub type Tids = Bounded<Tid, 32>;

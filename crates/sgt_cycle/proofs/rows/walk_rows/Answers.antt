@@ -1,5 +1,5 @@
-use Rattle.std.proofs.Common.{◌≡◌, ◌<◌, ◌≤◌, ◌+◌, ◌*◌, ◌∙◌, ℕ, List, true, false, [], ◌∷◌, ◌++◌, length, ap, sym, subst, refl, arith, length-append, slice_index, true≢false, IsSome, IfSome, IsNone, Option, Some, None}
-use Rattle.std.specs.Prelude.{◌&&◌, not, nat_eq}
+use Rattle.std.proofs.Common.{◌≡◌, ◌<◌, ◌≤◌, ◌+◌, ◌∙◌, ℕ, List, true, [], ◌∷◌, ◌++◌, length, ap, sym, subst, refl, arith, length-append, slice_index, true≢false, IfSome, Option, Some, None}
+use Rattle.std.specs.Prelude.{◌&&◌, not}
 use Rattle.std.proofs.lemmas.Bool.{and_parts, and_from, both_ways, false_from_ne_true}
 use Rattle.sgt_cycle.specs.Places.{is_set, is_bit, places}
 use Rattle.sgt_cycle.specs.Walk.{IsWalk}

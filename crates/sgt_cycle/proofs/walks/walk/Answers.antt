@@ -1,4 +1,4 @@
-use Rattle.std.proofs.Common.{arith, refl, sym, ◌<◌, ◌≤◌, ℕ, List, [], ◌∷◌, ◌++◌, length, true≢false, length-append}
+use Rattle.std.proofs.Common.{arith, refl, sym, ◌≤◌, ℕ, List, [], ◌∷◌, ◌++◌, length, true≢false, length-append}
 use Rattle.sgt_model.specs.Walks.{Member, Distinct}
 use Rattle.sgt_cycle.specs.Links.{is_link}
 use Rattle.sgt_cycle.specs.Search.{LeadsBack}
@@ -28,8 +28,7 @@ push-requires-in-loop-list c =
     let h = walked_next (is_link c.args.links.now) c.args.source list c.loop-list.at path c.in-Some.next c.index-list-at-in-loop-list.result u distinct
     c.loop-list.invariant.1 c.loop-list.invariant.0 c.index-list-at-in-loop-list.is c.in-Some.ensures.within c.in-Some.ensures.link c.index-list-next.is in
     let fits : length (path ++ u ∷ []) ≤ 32 = walked_fits c.args.links.now c.args.source list c.in-Some.next (path ++ u ∷ []) c.requires.few h.1 in
-    let room : length path < 32 = omega (arith, length-append path (u ∷ [])) in
-    (omega arith, room)
+    omega (arith, length-append path (u ∷ []))
 
 pub loop-list-preserved : goal.loop-list-preserved
 loop-list-preserved c =
