@@ -1,10 +1,13 @@
-ghost use Rattle.std.specs.Prelude.{◌≡◌, ◌++◌, take, OnOk, OnErr, vec_len, codes};
+ghost use Rattle.std.specs.Prelude.{◌≡◌, ◌<◌, ◌≤◌, ◌+◌, ◌∷◌, ◌++◌, length, take, drop, OnOk, OnErr, vec_len, codes};
 ghost use Rattle.std.specs.Fmt.{decimal, signed_decimal};
 ghost use Rattle.sgt_format.specs.Decimals.{key_text, record_text, each_item, items_or_none};
 
-use itoa::{Buffer, Integer};
+use itoa::{Buffer, Integer, write_digits};
 use sgt_model::{Answers, Key, Tids};
 use std::alloc::AllocError;
+
+/// At least as many bytes as a key and a value can have.
+const LONGEST_RECORD: usize = 64;
 
 /// Adds a number in decimal.
 pub fn append_number<I: Integer>(line: &mut Vec<u8>, number: I) -> Result<(), AllocError>
@@ -37,14 +40,42 @@ pub(crate) fn append_key(line: &mut Vec<u8>, key: &Key) -> Result<(), AllocError
     append_number(line, key.id())
 }
 
-/// Adds a key and a value. On an error the line still begins with what it held.
+/// Adds a key and a value, which are written from the last byte to the first and then added at once. On an error the line
+/// still begins with what it held.
 pub(crate) fn append_record(line: &mut Vec<u8>, key: &Key, value: i64) -> Result<(), AllocError>
     ensures ok { OnOk result (line.new.items ≡ line.old.items ++ record_text key.now value) }
     ensures err { OnErr result (take (vec_len line.old) line.new.items ≡ line.old.items) }
 {
-    append_key(line, key)?;
-    line.extend_from_slice(b" ")?;
-    append_number(line, value)
+    let mut text = [0; LONGEST_RECORD];
+    let start = write_signed(value, &mut text, LONGEST_RECORD);
+    let start = write_byte(b' ', &mut text, start);
+    let start = write_signed(key.id(), &mut text, start);
+    let start = write_byte(b'/', &mut text, start);
+    let start = write_digits(u64::from(key.table()), &mut text, start);
+    line.extend_from_slice(&text[start..])
+}
+
+/// Writes a number in decimal so that it ends at `end`, and tells where it starts.
+fn write_signed(number: i64, text: &mut [u8], end: usize) -> usize
+    requires { (20 ≤ end) × (end ≤ length text.old) }
+    ensures start { (result ≤ end) × (end ≤ result + 20) }
+    ensures written { drop result text.new ≡ signed_decimal number ++ drop end text.old }
+{
+    let start = write_digits(number.unsigned_abs(), text, end);
+    if number < 0 {
+        return write_byte(b'-', text, start);
+    }
+    start
+}
+
+/// Writes a byte before `end`, and tells where it is.
+fn write_byte(byte: u8, text: &mut [u8], end: usize) -> usize
+    requires { (0 < end) × (end ≤ length text.old) }
+    ensures start { result + 1 ≡ end }
+    ensures written { drop result text.new ≡ byte ∷ drop end text.old }
+{
+    text[end - 1] = byte;
+    end - 1
 }
 
 /// Adds each number behind a blank. On an error the line still begins with what it held.

@@ -11,7 +11,10 @@ use std::alloc::Global;
 pub(crate) fn read_tree(alloc: Global, line: &[u8]) -> Result<Option<Value>, NoMemory>
     ensures { IfOk result (λ tree. option_map view tree ≡ tree_of line.now) }
 {
-    match Value::from_slice(alloc, line) {
+    let Ok(text) = str::from_utf8(line) else {
+        return Ok(None);
+    };
+    match Value::from_str(alloc, text) {
         Ok(tree) => Ok(Some(tree)),
         Err(error) => if error.is_memory() {
             Err(NoMemory)

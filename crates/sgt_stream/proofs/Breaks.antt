@@ -1,22 +1,19 @@
 -- Laws of bytes 10.
-use Rattle.std.proofs.Common.{◌≡◌, ◌≢◌, ℕ, zero, suc, ◌+◌, ◌<◌, ◌≤◌, true, false, List, [], ◌∷◌, ◌++◌, length, take, get_or, refl, ap, sym, ◌∙◌, arith, add-one}
+use Rattle.std.proofs.Common.{◌≡◌, ◌≢◌, ℕ, zero, suc, ◌+◌, ◌<◌, ◌≤◌, true, false, List, [], ◌∷◌, ◌++◌, length, take, get_or, refl, ap, sym, ◌∙◌, arith, suc-le-suc, subst, ◌-◌, drop}
 use Rattle.std.proofs.lemmas.Grind.{common_steps}
 use Rattle.std.proofs.lemmas.Bool.Decides.{nat_tests}
-use Rattle.std.proofs.Math.Seq.{take-suc}
-use Rattle.std.specs.Prelude.{Option, None, Some, is_some}
-use Rattle.std.proofs.lemmas.Bool.{true≢false}
+use Rattle.std.proofs.Math.Seq.{take-add, take-append-add}
+use Rattle.std.proofs.lemmas.List.{get_or-append-add, length-append}
+use Rattle.std.specs.Prelude.{Option, None, Some, is_some, min}
+use Rattle.std.proofs.lemmas.Bool.{true≢false, eqb-true, eq-eqb}
+use Rattle.std.specs.Option.{option_map}
+use Rattle.memchr.specs.Find.{IsFirstByte, is_byte}
 use Rattle.sgt_stream.specs.Lines.{has_break, IsBreak}
 
 -- no byte 10 among these and those
 pub no_break-append : (xs ys : List ℕ) → has_break xs ≡ false → has_break ys ≡ false → has_break (xs ++ ys) ≡ false
 no_break-append [] ys first second = second
 no_break-append (x ∷ xs) ys first second = grind (arith, nat_tests, no_break-append xs ys)
-
--- one more byte that is not 10
-pub no_break-next : (bytes : List ℕ) (n : ℕ) → n < length bytes → has_break (take n bytes) ≡ false → get_or bytes n 0 ≢ 10 → has_break (take (n + 1) bytes) ≡ false
-no_break-next bytes n inside before other =
-    let one : has_break (get_or bytes n 0 ∷ []) ≡ false = grind (arith, nat_tests) in
-    rw (add-one n, take-suc bytes n 0 inside) (no_break-append (take n bytes) (get_or bytes n 0 ∷ []) before one)
 
 -- a byte 10 among the first n, or at place n
 pub has_break-at : (bytes : List ℕ) (n : ℕ) → n < length bytes → get_or bytes n 0 ≡ 10 → has_break bytes ≡ true
@@ -52,3 +49,25 @@ long-found within n held at long =
     let few : n < length held = grind (arith, common_steps, at.0) in
     let same : take n (take within held) ≡ take n held = grind (arith, common_steps, inside) in
     (no_break-fewer 65537 n held long (ap has_break (sym same) ∙ at.2), omega arith, omega arith)
+
+-- no byte 10 among bytes of which none is 10
+no_break-each : (bytes : List ℕ) → ((k : ℕ) → k < length bytes → get_or bytes k 0 ≢ 10) → has_break bytes ≡ false
+no_break-each [] other = refl
+no_break-each (x ∷ xs) other = grind (arith, nat_tests, other 0, no_break-each xs (λ k inside. other (suc k) (suc-le-suc inside)))
+
+-- the first byte 10 behind bytes of which none is 10
+pub break-behind : (front bytes : List ℕ) (found : Option ℕ) → has_break front ≡ false → IsFirstByte (is_byte 10) bytes found → IsBreak (front ++ bytes) (option_map (λ n. length front + n) found)
+break-behind front bytes None none first = no_break-append front bytes none (no_break-each bytes (λ k inside ten. first k (omega arith) inside (eq-eqb _ 10 ten)))
+break-behind front bytes (Some n) none first = (
+  omega (arith, length-append front bytes, first.0.high),
+  get_or-append-add front bytes n 0 ∙ eqb-true _ 10 first.1,
+  ap has_break (take-append-add front bytes n) ∙ no_break-append front (take n bytes) none (no_break-each (take n bytes) (λ k inside ten. grind (arith, common_steps, first.0.before k, eq-eqb (get_or bytes k 0) 10))),
+)
+
+-- the same in a part of the bytes
+pub break-within : (bytes : List ℕ) (from within stop : ℕ) (found : Option ℕ) → stop ≡ min within (length bytes) → from ≤ within → from ≤ length bytes → has_break (take from bytes) ≡ false → IsFirstByte (is_byte 10) (take (stop - from) (drop from bytes)) found → IsBreak (take within bytes) (option_map (λ n. from + n) found)
+break-within bytes from within stop found is inside fits none first =
+    let size : length (take from bytes) ≡ from = grind (arith, common_steps) in
+    let whole : take from bytes ++ take (stop - from) (drop from bytes) ≡ take within bytes = sym (take-add from (stop - from) bytes) ∙ grind (arith, common_steps) in
+    subst (λ n. IsBreak (take within bytes) (option_map (λ k. n + k) found)) size
+    (subst (λ xs. IsBreak xs (option_map (λ k. length (take from bytes) + k) found)) whole (break-behind (take from bytes) (take (stop - from) (drop from bytes)) found none first))

@@ -6,6 +6,7 @@ ghost use Rattle.sgt_stream.specs.Intake.{before_input, has_whole_line, left, wo
 use crate::buffer::Buffer;
 use crate::fault::Fault;
 use crate::source::{Failed, Source};
+use memchr::memchr;
 use sgt_model::NoMemory;
 use std::alloc::Global;
 use std::marker::Model;
@@ -23,15 +24,11 @@ fn find_break(bytes: &[u8], from: usize, within: usize) -> Option<usize>
     requires bounds { from ≤ length bytes.now }
     ensures { IsBreak (take within bytes.now) result }
 {
-    let mut at = from;
     let stop = within.min(bytes.len());
-    while at < stop {
-        if bytes[at] == 10 {
-            return Some(at);
-        }
-        at += 1;
+    match memchr(b'\n', &bytes[from..stop]) {
+        Some(n) => Some(from + n),
+        None => None,
     }
-    None
 }
 
 /// Cuts the bytes of a source into lines, within the limits. It keeps a piece of fixed size, however long the input is.

@@ -1,11 +1,15 @@
-use Rattle.std.proofs.Common.{◌<◌, length, arith}
-use Rattle.std.proofs.lemmas.Grind.{common_steps}
-use Rattle.sgt_stream.proofs.Breaks.{no_break-next}
+use Rattle.std.proofs.Common.{subst, take, ◌+◌}
+use Rattle.std.specs.Option.{option_map}
+use Rattle.sgt_stream.specs.Lines.{IsBreak}
+use Rattle.sgt_stream.proofs.Breaks.{break-within}
 use Rattle.sgt_stream.proofs.lines.find_break.Goals as goal
 
-pub loop-at-preserved : goal.loop-at-preserved
-loop-at-preserved c =
-    let inside : c.loop-at.at < length c.args.bytes.now = grind (arith, common_steps) in record {
-      within = omega arith;
-      passed = no_break-next c.args.bytes.now c.loop-at.at inside c.loop-at.invariant.passed c.if-bytes-at-eq10.false;
-    }
+pub returns-in-Some : goal.returns-in-Some
+returns-in-Some c =
+    subst (λ found. IsBreak (take c.args.within c.args.bytes.now) (option_map (λ n. c.args.from + n) found)) c.in-Some.is
+    (break-within c.args.bytes.now c.args.from c.args.within c.min-stop.result c.memchr.result c.min-stop.ensures c.requires.within c.requires.bounds c.requires.known c.memchr.ensures)
+
+pub returns-in-None : goal.returns-in-None
+returns-in-None c =
+    subst (λ found. IsBreak (take c.args.within c.args.bytes.now) (option_map (λ n. c.args.from + n) found)) c.in-None.is
+    (break-within c.args.bytes.now c.args.from c.args.within c.min-stop.result c.memchr.result c.min-stop.ensures c.requires.within c.requires.bounds c.requires.known c.memchr.ensures)
