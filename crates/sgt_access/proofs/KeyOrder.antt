@@ -1,5 +1,5 @@
 -- Keys in order, and accesses in the order of their keys.
-use Rattle.std.proofs.Common.{◌≡◌, ℕ, ◌+◌, ◌-◌, ◌≤◌, Bool, true, false, ◌&&◌, nat_eq, Some, List, length, get_or, take, drop, arith, refl, sym, ap, subst, ◌∙◌, ⊎_elim}
+use Rattle.std.proofs.Common.{◌≡◌, ℕ, ◌+◌, ◌-◌, ◌<◌, ◌≤◌, Bool, true, false, ◌&&◌, nat_eq, Some, List, length, get_or, take, drop, arith, refl, sym, ap, subst, ◌∙◌, ⊎_elim}
 use Rattle.std.specs.declared.cmp.Ordering.{Ordering}
 use Rattle.std.specs.declared.cmp.Ordering.TheVariants.{Less, Equal, Greater}
 use Rattle.std.specs.Ordering.{nat_cmp, int_cmp, int_eq, is_lt, is_le, is_some_and, ordering_reverse, ordering_index, partial_ordering_then}
@@ -8,7 +8,7 @@ use Rattle.std.specs.List.{insert, AllWithin}
 use Rattle.std.specs.List.Sorted.{IsPartitionedBy}
 use Rattle.std.proofs.lemmas.Bool.{true≢false, cases_lt, cases_eq, and_parts, eqb-true}
 use Rattle.std.proofs.lemmas.Bool.Decides.{Decides-int_eq}
-use Rattle.std.proofs.lemmas.List.{take_all, get_or-drop, length-drop}
+use Rattle.std.proofs.lemmas.List.{take_all, get_or-drop, get_or_default, length-drop}
 use Rattle.std.proofs.lemmas.Cmp.{then_total, on_total, nat_cmp_total, int_cmp_total}
 use Rattle.std.proofs.lemmas.List.Edits.{length-insert, get_or-insert_below, get_or-insert_at, get_or-insert_above}
 use Rattle.std.proofs.lemmas.List.Sorted.{ranks_by, searchable_from_sorted}
@@ -141,3 +141,24 @@ by_key_inserted xs i a within sorted before after k d low high =
 -- the rest of a list
 pub rest_of : {X : Type 0} (xs : List X) (n : ℕ) → take (length xs - n) (drop n xs) ≡ drop n xs
 rest_of xs n = take_all _ _ (let long = length-drop n xs in omega arith)
+
+-- the default of a read within a list does not matter
+read_at : (xs : List ListedAccess) (i : ℕ) (x d : ListedAccess) → i < length xs → x ≡ get_or xs i x → get_or xs i d ≡ x
+read_at xs i x d short is = get_or_default xs i d x short ∙ sym is
+
+-- after one that is after a key, all are
+pub after_from : (xs : List ListedAccess) (k : Key) (i : ℕ) (x : ListedAccess) → IsByKey xs → i < length xs → x ≡ get_or xs i x → key_lt k x.key ≡ true
+    → AllWithin (λ (a : ListedAccess). key_lt k a.key ≡ true) xs i (length xs)
+after_from xs k i x sorted within is after n d low high = at (is_le (key_cmp (get_or xs n d).key k)) refl
+  where
+    there : key_lt k (get_or xs i d).key ≡ true
+    there = rw (read_at xs i x d within is) after
+
+    at : (b : Bool) → is_le (key_cmp (get_or xs n d).key k) ≡ b → key_lt k (get_or xs n d).key ≡ true
+    at false e = is_after _ k e
+    at true e = absurd (true≢false (sym there ∙ not_after (get_or xs i d).key k (parted_through xs k sorted i n d low high e)))
+
+-- one more that is not after it
+pub through_next : (xs : List ListedAccess) (k : Key) (i : ℕ) (x : ListedAccess) → i < length xs → x ≡ get_or xs i x → key_lt k x.key ≡ false
+    → AllWithin (λ (a : ListedAccess). key_lt k a.key ≡ false) xs 0 i → AllWithin (λ (a : ListedAccess). key_lt k a.key ≡ false) xs 0 (i + 1)
+through_next xs k i x within is through before n d low high = ⊎_elim (λ below. before n d low below) (λ from. let same : n ≡ i = omega arith in rw (same, read_at xs i x d within is) through) (cases_lt n i)

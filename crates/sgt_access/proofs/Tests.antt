@@ -1,10 +1,10 @@
 -- Tests on lists: what passes them in parts of a list, with one more, and without some.
-use Rattle.std.proofs.Common.{◌≡◌, ℕ, zero, suc, Bool, true, false, ◌||◌, ◌&&◌, cond, List, [], ◌∷◌, length, take, drop, filter, arith, refl, sym, ap, ◌∙◌}
+use Rattle.std.proofs.Common.{◌≡◌, ◌<◌, ℕ, zero, suc, Bool, true, false, ◌||◌, ◌&&◌, cond, List, [], ◌∷◌, length, get_or, set, take, drop, filter, arith, refl, sym, ap, ◌∙◌}
 use Rattle.std.specs.List.{list_any, insert, AllWithin}
 use Rattle.std.proofs.lemmas.List.{take-append-drop}
 use Rattle.std.proofs.lemmas.List.Folds.{list_any-append}
 use Rattle.std.proofs.lemmas.List.Sorted.{IsPermutation-insert, list_any-IsPermutation}
-use Rattle.std.proofs.lemmas.Bool.{or_left, or_right}
+use Rattle.std.proofs.lemmas.Bool.{true≢false, or_left, or_right}
 
 module _ {X : Type 0} (p : X → Bool) where
   -- a part is passed by no more than the whole
@@ -42,3 +42,27 @@ module _ {X : Type 0} (p : X → Bool) where
       at : list_any p (filter q xs) ≡ list_any (λ x. q x && p x) xs → (b : Bool) → list_any p (cond b (x ∷ filter q xs) (filter q xs)) ≡ ((b && p x) || list_any (λ x. q x && p x) xs)
       at rest true = ap (λ b. p x || b) rest
       at rest false = rest
+
+  -- another in the place of one: it passes where that one does
+  pub any_set : (xs : List X) (i : ℕ) (x d : X) → i < length xs → (p (get_or xs i d) ≡ true → p x ≡ true) → list_any p (set xs i x) ≡ (p x || list_any p xs)
+  any_set [] i x d short passes = absurd (omega arith)
+  any_set (y ∷ xs) zero x d short passes = at (p x) (p y) passes
+    where
+      at : (b c : Bool) → (c ≡ true → b ≡ true) → (b || list_any p xs) ≡ (b || (c || list_any p xs))
+      at true c h = refl
+      at false true h = absurd (true≢false (sym (h refl)))
+      at false false h = refl
+  any_set (y ∷ xs) (suc i) x d short passes = ap (λ b. p y || b) (any_set xs i x d (omega arith) passes) ∙ swapped (p y) (p x)
+    where
+      swapped : (b c : Bool) → (b || (c || list_any p xs)) ≡ (c || (b || list_any p xs))
+      swapped true true = refl
+      swapped true false = refl
+      swapped false c = refl
+
+-- items that are alike in what is read of them are so with one in the place of another
+pub reads_set : {X Y : Type 0} (f : X → Y) (xs : List X) (i : ℕ) (x d : X) → i < length xs → f x ≡ f (get_or xs i d) → (k : ℕ) (e : X) → f (get_or (set xs i x) k e) ≡ f (get_or xs k e)
+reads_set f [] i x d short same k e = absurd (omega arith)
+reads_set f (y ∷ xs) zero x d short same zero e = same
+reads_set f (y ∷ xs) zero x d short same (suc k) e = refl
+reads_set f (y ∷ xs) (suc i) x d short same zero e = refl
+reads_set f (y ∷ xs) (suc i) x d short same (suc k) e = reads_set f xs i x d (omega arith) same k e

@@ -8,7 +8,24 @@ use arrayvec::ArrayVec;
 use sgt_model::{Key, Kind, Tid, Tids};
 
 /// The transactions other than t with one of these accesses that conflicts with this one. They rise.
+///
+/// Most accesses have no rival, and the list is begun at the first one.
 pub fn rivals_among(accesses: &[Access], t: Tid, key: Key, kind: Kind) -> Tids
+    requires few { AtMost 32 (is_listed accesses.now) }
+    ensures exact { (u : ℕ) → Member u result
+        ↔ ((u ≢ t) × (lists_conflicting accesses.now u key kind ≡ true)) }
+    ensures rising { Rising result }
+{
+    for access in accesses {
+        if access.is_rival_of(t, key, kind) {
+            return list_rivals(accesses, t, key, kind);
+        }
+    }
+    Tids::new()
+}
+
+// The same, where there may be some.
+fn list_rivals(accesses: &[Access], t: Tid, key: Key, kind: Kind) -> Tids
     requires few { AtMost 32 (is_listed accesses.now) }
     ensures exact { (u : ℕ) → Member u result
         ↔ ((u ≢ t) × (lists_conflicting accesses.now u key kind ≡ true)) }

@@ -1,7 +1,15 @@
+ghost use Rattle.std.specs.Prelude.{◌≡◌, ◌<◌, ◌≤◌, true, false, List, [], ◌∷◌, ◌++◌, length, slice_set};
+ghost use Rattle.std.specs.List.{AllWithin};
+ghost use Rattle.std.specs.Vec.{vec_len, vec_capacity};
+ghost use Rattle.sgt_model.specs.declared.kind.Kind.TheVariants.{Look, Store};
+ghost use Rattle.sgt_model.specs.Databases.{key_lt};
+ghost use Rattle.sgt_model.specs.AccessList.{ListedAccess};
+ghost use Rattle.sgt_access.specs.ByKey.{StandsFor};
+
 use crate::access::Access;
 use crate::accesses::Accesses;
 use crate::conflicts::rivals_among;
-use crate::places::{count_before, count_through};
+use crate::places::{count_along, count_before, count_through};
 use crate::whole_list::WholeList;
 use sgt_model::{Key, Kind, NoMemory, Tid, Tids};
 use std::alloc::Global;
@@ -44,7 +52,7 @@ impl PerKey {
     {
         let accesses = self.by_key.as_slice();
         let from = &accesses[count_before(accesses, key)..];
-        &from[..count_through(from, key)]
+        &from[..count_along(from, key)]
     }
 }
 
@@ -70,9 +78,7 @@ impl Accesses for PerKey {
     fn note(&mut self, t: Tid, key: Key, kind: Kind) {
         let access = Access { by: t, key, kind };
         let place = count_through(self.by_key.as_slice(), key);
-        if self.by_key.insert(place, access).is_err() {
-            unreachable!();
-        }
+        add(&mut self.by_key, place, access);
         self.whole.note(access);
     }
 
@@ -83,5 +89,35 @@ impl Accesses for PerKey {
     fn forget(&mut self, t: Tid) {
         self.by_key.retain(|access| access.by != t);
         self.whole.forget(t);
+    }
+}
+
+// Adds an access behind those of its key and of keys before it. Where the last of these is of its transaction and its key,
+// a look adds nothing, and a store takes that one's place.
+fn add(accesses: &mut Vec<Access>, place: usize, access: Access)
+    requires room { vec_len accesses.old < vec_capacity accesses.old }
+    requires within { place ≤ length accesses.old.items }
+    requires through { AllWithin (λ a. key_lt access.key a.key ≡ false) accesses.old.items 0 place }
+    requires after { AllWithin (λ a. key_lt access.key a.key ≡ true) accesses.old.items place (length accesses.old.items) }
+    ensures { (list : List ListedAccess) → StandsFor list accesses.old.items
+        → StandsFor (list ++ access ∷ []) accesses.new.items }
+{
+    if 0 < place && accesses[place - 1].is_beside(&access) {
+        raise(accesses, place - 1, access);
+        return;
+    }
+    if accesses.insert(place, access).is_err() {
+        unreachable!();
+    }
+}
+
+// Puts a store in the place of an access of its transaction and its key. A look adds nothing to that.
+fn raise(accesses: &mut Vec<Access>, place: usize, access: Access)
+    requires { place < length accesses.old.items }
+    ensures look { access.kind ≡ Look → accesses.new.items ≡ accesses.old.items }
+    ensures store { access.kind ≡ Store → accesses.new.items ≡ slice_set accesses.old.items place access }
+{
+    if access.kind == Kind::Store {
+        accesses[place] = access;
     }
 }

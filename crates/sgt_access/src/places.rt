@@ -26,3 +26,20 @@ pub fn count_through(accesses: &[Access], key: Key) -> usize
 {
     accesses.partition_point(|access| access.key <= key)
 }
+
+/// The same as `count_through`, for accesses that begin at this key: it looks at those of the key alone.
+pub fn count_along(accesses: &[Access], key: Key) -> usize
+    requires { IsByKey accesses.now }
+    ensures within { result ≤ length accesses.now }
+    ensures through { AllWithin (λ a. key_lt key a.key ≡ false) accesses.now 0 result }
+    ensures after { AllWithin (λ a. key_lt key a.key ≡ true) accesses.now result (length accesses.now) }
+{
+    let mut count = 0;
+    for access in accesses {
+        if key < access.key {
+            return count;
+        }
+        count += 1;
+    }
+    count
+}

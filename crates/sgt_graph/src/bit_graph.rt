@@ -55,24 +55,26 @@ impl Graph for BitGraph {
     }
 
     fn test(&self, t: Tid, preds: &Tids) -> Verdict {
-        let Some(place) = place_of(self.taken, &self.tids, t) else {
-            unreachable!();
-        };
+        let taken = self.taken;
         // Most accesses have no rival.
         if preds.is_empty() {
             return Verdict::Accepted;
         }
-        self.verdict(place, places_of(self.taken, &self.tids, preds))
+        let Some(place) = place_of(taken, &self.tids, t) else {
+            unreachable!();
+        };
+        self.verdict(place, places_of(taken, &self.tids, preds))
     }
 
     fn insert(&mut self, t: Tid, preds: &Tids) -> Verdict {
-        let Some(place) = place_of(self.taken, &self.tids, t) else {
-            unreachable!();
-        };
+        let taken = self.taken;
         if preds.is_empty() {
             return Verdict::Accepted;
         }
-        let from = places_of(self.taken, &self.tids, preds);
+        let Some(place) = place_of(taken, &self.tids, t) else {
+            unreachable!();
+        };
+        let from = places_of(taken, &self.tids, preds);
         let verdict = self.verdict(place, from);
         if let Verdict::Accepted = verdict {
             self.add_pairs(from, place);
