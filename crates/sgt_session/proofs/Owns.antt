@@ -1,5 +1,7 @@
 -- How many transactions a session has to hold for live.
-use Rattle.std.proofs.Common.{◌≡◌, ℕ, ◌+◌, ◌<◌, ◌≤◌, Bool, true, false, cond, List, [], ◌∷◌, ◌++◌, length, Option, Some, None, refl, sym, arith}
+use Rattle.std.proofs.Common.{◌≡◌, ℕ, ◌+◌, ◌<◌, ◌≤◌, Bool, true, false, cond, List, [], ◌∷◌, ◌++◌, length, slice_index_or, ◌-◌, Option, Some, None, refl, sym, arith}
+use Rattle.std.proofs.lemmas.Grind.{common_steps}
+use Rattle.std.proofs.Math.Seq.{get_or-append_seam}
 use Rattle.std.proofs.lemmas.List.{length-append}
 use Rattle.sgt_model.specs.declared.event.Event.{Event}
 use Rattle.sgt_model.specs.declared.event.Event.TheVariants.{Start, Step, Commit, Quit}
@@ -59,3 +61,7 @@ fits own own' e r len len' count capacity capacity' same told room longer counte
     let is : length (open_by own' r.event r.reply) ≡ length (open_by own e r.reply) = rw (same, told) refl in
     let h = room r.reply in
     omega (arith, h, is, longer, counted, kept)
+
+-- the last one of a list
+pub newest : (old new : List Receipt) (r x : Receipt) → x ≡ slice_index_or new (length new - 1) x → new ≡ old ++ r ∷ [] → x ≡ r
+newest old new r x at longer = grind (arith, common_steps, get_or-append_seam old r [] x, length-append old (r ∷ []))

@@ -1,6 +1,8 @@
-ghost use Rattle.std.specs.Prelude.{◌≡◌};
+ghost use Rattle.std.specs.Prelude.{◌≡◌, ◌+◌, ◌<◌, List, [], ◌∷◌, ◌++◌, length, reverse, vec_len, vec_capacity};
+ghost use Rattle.sgt_model.specs.declared.entry.Entry.{Entry as E};
+ghost use Rattle.sgt_session.specs.Receipts.{receipt_of};
 
-use sgt_model::{Event, Reply};
+use sgt_model::{Entry, Event, Reply};
 
 /// What a session was told of one call: the entry of the history that the call is, and its place there, counted from 0.
 #[derive(Debug, Drop, PartialEq, Eq)]
@@ -21,4 +23,22 @@ impl Receipt {
             reply: self.reply.copied(),
         }
     }
+}
+
+/// Files the receipt of a history's newest entry, in the room that there is.
+pub(crate) fn file_newest(receipts: &mut Vec<Receipt>, history: &[Entry])
+    requires room { vec_len receipts.old < vec_capacity receipts.old }
+    requires some { 0 < length history.now }
+    ensures filed { (e : E) (past : List E) → reverse history.now ≡ e ∷ past
+        → receipts.new.items ≡ receipts.old.items ++ receipt_of (length past) e ∷ [] }
+    ensures count { vec_len receipts.new ≡ vec_len receipts.old + 1 }
+    ensures capacity { vec_capacity receipts.new ≡ vec_capacity receipts.old }
+{
+    let place = history.len() - 1;
+    let entry = &history[place];
+    receipts.push_reserved(Receipt {
+        number: place as u64,
+        event: entry.event.copied(),
+        reply: entry.reply.copied(),
+    });
 }

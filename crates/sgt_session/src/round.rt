@@ -1,13 +1,14 @@
-ghost use Rattle.std.specs.Prelude.{◌≡◌, ◌+◌, ◌<◌, ◌≤◌, ℕ, true, [], ◌∷◌, ◌++◌, length, vec_len, vec_capacity, IfOk, OnOk, OnErr, reverse};
+ghost use Rattle.std.specs.Prelude.{◌≡◌, ◌+◌, ◌<◌, ◌≤◌, ℕ, true, [], ◌∷◌, ◌++◌, length, vec_len, vec_capacity, OnOk, OnErr, reverse};
 ghost use Rattle.std.specs.List.{sum_by};
 ghost use Rattle.std.specs.Result.{IsOk};
 ghost use Rattle.sgt_model.specs.declared.event.Event.TheVariants.{Quit};
 ghost use Rattle.sgt_model.specs.Fates.{live};
 ghost use Rattle.sgt_model.specs.Legality.{Legal, LegalReply};
 ghost use Rattle.sgt_engine.specs.EngineView.{setting_of, with_entry};
+ghost use Rattle.sgt_session.specs.declared.receipt.Receipt.{Receipt as Told};
 
 use crate::named::Named;
-use crate::receipt::Receipt;
+use crate::receipt::{Receipt, file_newest};
 use crate::session::{Session, lend};
 use sgt_access::Accesses;
 use sgt_engine::Engine;
@@ -57,14 +58,13 @@ impl<N: Named, R: Records, A: Accesses, G: Graph> Round<N, R, A, G> {
         event: Event,
         mine: &mut Share<N>,
         receipts: &mut Vec<Receipt>,
-    ) -> Result<Receipt, NoMemory>
+    ) -> Result<(), NoMemory>
         requires part { 0 < mine.old.parts }
         requires room { vec_len receipts.old < vec_capacity receipts.old }
-        ensures event { IfOk result (λ r. r.event ≡ event) }
-        ensures number { IfOk result (λ r. r.number ≡ length self.old.past) }
-        ensures adds { IfOk result (λ r. self.new ≡ with_entry r.event r.reply self.old) }
-        ensures reply { IfOk result (λ r. LegalReply (setting_of self.old) self.old.past r.event r.reply) }
-        ensures filed { IfOk result (λ r. receipts.new.items ≡ receipts.old.items ++ r ∷ []) }
+        ensures filed { OnOk result ((r : Told) × (r.event ≡ event) × (r.number ≡ length self.old.past)
+            × (self.new ≡ with_entry r.event r.reply self.old)
+            × LegalReply (setting_of self.old) self.old.past r.event r.reply
+            × (receipts.new.items ≡ receipts.old.items ++ r ∷ [])) }
         ensures counted { OnOk result ((mine.new.amount ≡ mine.old.amount + 1)
             × (vec_len receipts.new ≡ vec_len receipts.old + 1)) }
         ensures parts { mine.new.parts ≡ mine.old.parts }
@@ -72,17 +72,10 @@ impl<N: Named, R: Records, A: Accesses, G: Graph> Round<N, R, A, G> {
         ensures refused { OnErr result ((self.new ≡ self.old) × (mine.new ≡ mine.old) × (receipts.new ≡ receipts.old)) }
         ensures quits { (t : ℕ) → event ≡ Quit t → live self.old.past t ≡ true → IsOk result }
     {
-        let Round { engine, calls } = self;
-        let number = engine.history().len() as u64;
-        let reply = engine.apply(event.copied())?;
-        calls.add(mine, 1);
-        let receipt = Receipt {
-            number,
-            event,
-            reply,
-        };
-        receipts.push_reserved(receipt.copied());
-        Ok(receipt)
+        self.engine.apply(event)?;
+        self.calls.add(mine, 1);
+        file_newest(receipts, self.engine.history());
+        Ok(())
     }
 
     /// The history, oldest entry first.

@@ -1,4 +1,4 @@
-ghost use Rattle.std.specs.Prelude.{◌≡◌, ◌+◌, ◌≤◌, List, [], ◌∷◌, ◌++◌, All, length, vec_len, vec_capacity, IfOk, MatchResult};
+ghost use Rattle.std.specs.Prelude.{◌≡◌, ◌+◌, ◌<◌, ◌≤◌, List, [], ◌∷◌, ◌++◌, All, length, vec_len, vec_capacity, IfOk, MatchResult};
 ghost use Rattle.std.specs.List.{sum_by};
 ghost use Rattle.sgt_model.specs.declared.event.Event.TheVariants.{Commit};
 ghost use Rattle.sgt_session.specs.declared.receipt.Receipt.{Receipt};
@@ -65,6 +65,14 @@ impl<N: Named> Session<N> {
         self.receipts.as_slice()
     }
 
+    /// The receipt of the last call.
+    pub fn last(&self) -> &Receipt
+        requires { 0 < length self.now }
+        ensures { (rs : List Receipt) (r : Receipt) → self.now ≡ rs ++ r ∷ [] → result.now ≡ r }
+    {
+        &self.receipts[self.receipts.len() - 1]
+    }
+
     /// One event of the engine, under one hold of the lock. Its receipt is filed in that hold, and handed out. A reply that
     /// ends a live transaction wakes the commits that wait.
     ///
@@ -80,14 +88,22 @@ impl<N: Named> Session<N> {
         ensures event { IfOk result (λ r. r.event ≡ event) }
         ensures receipts { MatchResult result (λ r. self.new ≡ self.old ++ r ∷ []) (λ _. self.new ≡ self.old) }
     {
-        make_room(&mut self.receipts, &mut self.own, &event)?;
-        let receipt = shared
-            .round
-            .lock(rt)
-            .apply(event, &mut self.share, &mut self.receipts)?;
-        note(&mut self.own, &receipt);
-        shared.waiters.wake_after(&receipt.reply);
-        Ok(receipt)
+        self.make(rt, shared, event)?;
+        Ok(self.last().copied())
+    }
+
+    /// As `call`, where the receipt is only filed: `last` lends it.
+    pub fn make<R: Records, A: Accesses, G: Graph, W: Wait>(
+        &mut self,
+        rt: &W,
+        shared: &Shared<N, R, A, G>,
+        event: Event,
+    ) -> Result<(), NoMemory>
+        ensures { MatchResult result
+            (λ _. (r : Receipt) × (r.event ≡ event) × (self.new ≡ self.old ++ r ∷ []))
+            (λ _. self.new ≡ self.old) }
+    {
+        self.make_one(rt, shared, event, false)
     }
 
     /// Commits, and waits where another transaction has to end first: it makes the event anew after each wake, until the reply
@@ -106,37 +122,55 @@ impl<N: Named> Session<N> {
             (λ r. (self.new ≡ (self.old ++ waits) ++ r ∷ []) × (r.event ≡ Commit t) × (IsWait r.reply → ⊥))
             (λ _. self.new ≡ self.old ++ waits) }
     {
+        self.make_commit(rt, shared, t)?;
+        Ok(self.last().copied())
+    }
+
+    /// As `commit`, where the last receipt is only filed: `last` lends it.
+    pub fn make_commit<R: Records, A: Accesses, G: Graph, W: Wait>(
+        &mut self,
+        rt: &W,
+        shared: &Shared<N, R, A, G>,
+        t: Tid,
+    ) -> Result<(), NoMemory>
+        ensures { (waits : List Receipt) × All (IsWaitOf t) waits × MatchResult result
+            (λ _. (r : Receipt) × (self.new ≡ (self.old ++ waits) ++ r ∷ []) × (r.event ≡ Commit t) × (IsWait r.reply → ⊥))
+            (λ _. self.new ≡ self.old ++ waits) }
+    {
         for _ in rt.forever() {
-            let receipt = self.try_commit(rt, shared, t)?;
-            if !is_wait(&receipt.reply) {
-                return Ok(receipt);
+            self.make_one(rt, shared, Event::Commit(t), true)?;
+            if !is_wait(&self.last().reply) {
+                return Ok(());
             }
         }
         unreachable!()
     }
 
-    /// One commit. Where it has to wait for another transaction, it begins to wait in the same hold, and returns after a wake.
-    fn try_commit<R: Records, A: Accesses, G: Graph, W: Wait>(
+    /// One event, with its receipt filed. Where the reply tells to wait, and it `may_wait`, it begins to do so in the same hold
+    /// of the lock, and returns after a wake.
+    fn make_one<R: Records, A: Accesses, G: Graph, W: Wait>(
         &mut self,
         rt: &W,
         shared: &Shared<N, R, A, G>,
-        t: Tid,
-    ) -> Result<Receipt, NoMemory>
-        ensures event { IfOk result (λ r. r.event ≡ Commit t) }
-        ensures receipts { MatchResult result (λ r. self.new ≡ self.old ++ r ∷ []) (λ _. self.new ≡ self.old) }
+        event: Event,
+        may_wait: bool,
+    ) -> Result<(), NoMemory>
+        ensures { MatchResult result
+            (λ _. (r : Receipt) × (r.event ≡ event) × (self.new ≡ self.old ++ r ∷ []))
+            (λ _. self.new ≡ self.old) }
     {
-        let event = Event::Commit(t);
         make_room(&mut self.receipts, &mut self.own, &event)?;
         let mut round = shared.round.lock(rt);
-        let receipt = round.apply(event, &mut self.share, &mut self.receipts)?;
-        if is_wait(&receipt.reply) {
+        round.apply(event, &mut self.share, &mut self.receipts)?;
+        let receipt = &self.receipts[self.receipts.len() - 1];
+        if may_wait && is_wait(&receipt.reply) {
             drop(shared.waiters.wait(rt, round));
         } else {
             drop(round);
         }
-        note(&mut self.own, &receipt);
+        note(&mut self.own, receipt);
         shared.waiters.wake_after(&receipt.reply);
-        Ok(receipt)
+        Ok(())
     }
 
     /// A share with no part, of this session's ledger.

@@ -20,14 +20,6 @@ use Rattle.sgt_workers.specs.Places.{starts_as, started_at, ended_at}
 use Rattle.sgt_workers.specs.Outcomes.{has_failed}
 use Rattle.sgt_workers.specs.Lives.{IsLife, AreLives, life_after, with_started}
 
--- no rows of no entries
-pub no_lives : AreLives [] []
-no_lives = record {
-  counted = refl;
-  each = λ t life at. absurd (none-some life at);
-  none = λ t at. record { started = refl; ended = refl };
-}
-
 starts_not : (r : Reply) (t : ℕ) → is_start r ≡ false → starts_as r t ≡ false
 starts_not (reply.Started u) t e = absurd (true≢false e)
 starts_not _ t e = refl

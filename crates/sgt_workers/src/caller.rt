@@ -112,21 +112,22 @@ impl<'a, N: Named, R: Records, A: Accesses, G: Graph, T: Gate, W: Wait> Caller<
     fn run_transaction(&mut self, t: Tid) -> Result<Attempt<T::Note>, Halt<T::Note>> {
         for _ in self.rt.forever() {
             let receipt = self.call(Event::Step(t))?;
-            match receipt.reply {
+            match &receipt.reply {
                 Reply::Looked { .. } | Reply::Wrote { .. } => (),
                 Reply::Ended => break,
-                _ => return attempt_of(t, &receipt),
+                _ => return attempt_of(t, receipt),
             }
         }
         self.pass()?;
-        let receipt = self.session.commit(self.rt, self.shared, t)?;
-        attempt_of(t, &receipt)
+        self.session.make_commit(self.rt, self.shared, t)?;
+        attempt_of(t, self.session.last())
     }
 
     /// One call, where the gate lets it go.
-    fn call(&mut self, event: Event) -> Result<Receipt, Halt<T::Note>> {
+    fn call(&mut self, event: Event) -> Result<&Receipt, Halt<T::Note>> {
         self.pass()?;
-        Ok(self.session.call(self.rt, self.shared, event)?)
+        self.session.make(self.rt, self.shared, event)?;
+        Ok(self.session.last())
     }
 
     /// Asks the gate. It is told how many calls the session has made: as many as it has receipts.
@@ -143,7 +144,7 @@ impl<'a, N: Named, R: Records, A: Accesses, G: Graph, T: Gate, W: Wait> Caller<
     /// Quits a transaction, so that nobody waits for it. Where it is live this takes no memory and succeeds; where it is not,
     /// it does nothing.
     fn quit(&mut self, t: Tid) {
-        let _ = self.session.call(self.rt, self.shared, Event::Quit(t));
+        let _ = self.session.make(self.rt, self.shared, Event::Quit(t));
     }
 }
 

@@ -78,35 +78,6 @@ pub fn run<R: Records, A: Accesses, G: Graph, T: Gate + Sync, W: Threads + Wait 
     if let Err(fault) = check(&bank.limits, jobs, workers, tries) {
         return Err(fault);
     }
-    run_checked::<R, A, G, T, W>(rt, alloc, bank, jobs, workers, tries, gate)
-}
-
-/// The same, of what a run can be made of.
-fn run_checked<R: Records, A: Accesses, G: Graph, T: Gate + Sync, W: Threads + Wait + Sync>(
-    rt: &W,
-    alloc: Global,
-    bank: Bank,
-    jobs: &[Job],
-    workers: u32,
-    tries: u32,
-    gate: &T,
-) -> Result<Report<T::Note>, PoolError>
-    requires { AreWorkers workers }
-    ensures opening { IfOk result (λ r. (k : K) → contents_of r.opening k ≡ contents_of bank.opening k) }
-    ensures legal { IfOk result (λ r. Legal (setting_of bank) (reverse r.history.items)) }
-    ensures values { IfOk result (λ r. (k : K) →
-        contents_of r.database k ≡ settled (contents_of bank.opening) (reverse r.history.items) k) }
-    ensures replayed { IfOk result (λ r. (k : K) →
-        contents_of r.database k ≡ (folded (setting_of bank) (reverse r.history.items)).last k) }
-    ensures by_key { IfOk result (λ r. IsByKey r.database) }
-    ensures outcomes { IfOk result (λ r. OutcomesStand r.history.items jobs.now r.outcomes.items workers tries) }
-    ensures memory { IfOk result (λ r. count_by is_no_memory r.outcomes.items ≡ 0) }
-    ensures replay { IfOk result (λ r. IsSerializable (setting_of bank) (reverse r.history.items)) }
-    ensures no_cycle { IfOk result (λ r. Acyclic (Pair (reverse r.history.items))) }
-    ensures causes { IfOk result (λ r. AbortsHaveCause (setting_of bank) (reverse r.history.items)) }
-    ensures order { IfOk result (λ r. CommitsInOrder (reverse r.history.items)) }
-    ensures error { IfErr result IsRunError }
-{
     let ran = run_bank::<R, A, G, T, W>(rt, alloc, bank, jobs, workers, tries, gate)?;
     let (engine, outcomes) = ran;
     report_of(alloc, engine, outcomes, jobs, workers, tries)

@@ -1,7 +1,7 @@
 use Rattle.std.proofs.Common.{◌≡◌, ◌++◌, List, All}
 use Rattle.sgt_session.specs.declared.receipt.Receipt.{Receipt}
 use Rattle.sgt_session.specs.Receipts.{IsWaitOf}
-use Rattle.sgt_session.proofs.session.Session.commit.Given as goal
+use Rattle.sgt_session.proofs.session.Session.make_commit.Given as goal
 
 abbrev pub invariant-loop : goal.invariant-loop
 invariant-loop g l =

@@ -1,0 +1,20 @@
+use Rattle.std.proofs.Common.{rules, ◌≡◌, ◌∙◌, ◌++◌, [], ◌∷◌, ap, append_assoc}
+use Rattle.std.proofs.lemmas.List.Elements.{All-append}
+use Rattle.sgt_session.specs.Receipts.{IsWait, IsWaitOf}
+use Rattle.sgt_session.proofs.session.Session.make_commit.Goals as goal
+
+pub loop-preserved : goal.loop-preserved
+loop-preserved g c =
+    let waits = c.loop.invariant.2 in
+    let filed = c.in_ok-make_one.ensures in
+    let same : c.last.result.now ≡ filed.0 = c.last.ensures _ _ filed.2 in
+    let waited : IsWait c.last.result.now.reply = search rules in
+    let wait : IsWait filed.0.reply = rw same at waited in (
+      search rules,
+      search rules,
+      (
+        waits.0 ++ filed.0 ∷ [],
+        All-append (IsWaitOf c.args.t) waits.0 (filed.0 ∷ []) waits.1 (search (rules, wait, filed.1)),
+        filed.2 ∙ ap (λ l. l ++ filed.0 ∷ []) waits.2 ∙ append_assoc _ waits.0 _,
+      ),
+    )
