@@ -72,7 +72,7 @@ impl<N: Named, R: Records, A: Accesses, G: Graph> Round<N, R, A, G> {
         ensures refused { OnErr result ((self.new ≡ self.old) × (mine.new ≡ mine.old) × (receipts.new ≡ receipts.old)) }
         ensures quits { (t : ℕ) → event ≡ Quit t → live self.old.past t ≡ true → IsOk result }
     {
-        self.engine.apply(event)?;
+        self.engine.answer(event)?;
         self.calls.add(mine, 1);
         file_newest(receipts, self.engine.history());
         Ok(())
