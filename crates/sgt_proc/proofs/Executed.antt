@@ -16,7 +16,7 @@ use Rattle.sgt_model.specs.Traces as trace
 use Rattle.sgt_model.specs.Traces.{next_at}
 use Rattle.sgt_proc.specs.declared.interpreter.Interpreter.{Interpreter}
 use Rattle.sgt_proc.specs.declared.next.Next.{Next}
-use Rattle.sgt_proc.specs.Nexts.{seen, or_next}
+use Rattle.sgt_proc.specs.Nexts.{or_next}
 use Rattle.sgt_model.specs.Executions.{provided, stuck, key_of}
 use Rattle.sgt_model.specs.Left.{number_or_code, choice_or_code}
 use Rattle.sgt_proc.specs.Execution.{next_past, next_executing, Executed}

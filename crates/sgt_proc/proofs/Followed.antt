@@ -1,11 +1,10 @@
 -- Statements that others follow.
-use Rattle.std.proofs.Common.{◌≡◌, refl, sym, ap, ◌∙◌, ℕ, ◌+◌, ℤ, Bool, true, false, cond, List, [], ◌∷◌, ◌++◌, length, nat_lt, slice_set, Option, Some, Ok, Err, arith}
-use Rattle.sgt_model.specs.Contents.{Key}
+use Rattle.std.proofs.Common.{◌≡◌, refl, sym, ap, ◌+◌, ℤ, Bool, true, false, cond, List, [], ◌∷◌, ◌++◌, length, nat_lt, slice_set, Some, Ok, Err, arith}
 use Rattle.sgt_model.specs.Numbers.{is_value}
 use Rattle.sgt_model.specs.Syntax.{Block, empty, look, put, save, ask, choose, answer}
-use Rattle.sgt_model.specs.Meaning.{Got, is, over, missing, Holds, holds, too_far, unknown, Registers, value_of, result_of}
+use Rattle.sgt_model.specs.Meaning.{Registers, value_of, result_of}
 use Rattle.sgt_model.specs.Executions.{OrCode, and_then, provided, key_of, stuck}
-use Rattle.sgt_model.specs.Left.{Rest, Reached, AtLook, AtStore, AtEnd, followed_by, with_more, then_behind, number_or_code, choice_or_code, reach}
+use Rattle.sgt_model.specs.Left.{Rest, Reached, AtLook, AtStore, AtEnd, followed_by, then_behind, number_or_code, choice_or_code, reach}
 use Rattle.sgt_proc.specs.Flaws.{size}
 
 pub followed_empty : (b : Block) → followed_by b empty ≡ b

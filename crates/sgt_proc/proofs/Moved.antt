@@ -1,5 +1,5 @@
 -- What is left once a cursor has moved on.
-use Rattle.std.proofs.Common.{◌≡◌, refl, sym, ap, ◌∙◌, ℕ, ◌+◌, ℤ, List, [], Some}
+use Rattle.std.proofs.Common.{◌≡◌, refl, ap, ◌∙◌, ℕ, ◌+◌, ℤ, List, [], Some}
 use Rattle.sgt_model.specs.Contents.{Key}
 use Rattle.sgt_model.specs.Syntax.{Block, Program}
 use Rattle.sgt_model.specs.Meaning.{fresh}

@@ -1,5 +1,5 @@
 -- Paths and the text that they lead through.
-use Rattle.std.proofs.Common.{◌≡◌, refl, sym, ap, ◌∙◌, subst, ℕ, zero, suc, ◌+◌, ◌<◌, ◌≤◌, max, Bool, true, false, cond, List, [], ◌∷◌, ◌++◌, length, get_or, drop, arith}
+use Rattle.std.proofs.Common.{◌≡◌, refl, sym, ap, ◌∙◌, ℕ, zero, suc, ◌+◌, ◌<◌, ◌≤◌, Bool, true, false, cond, List, [], ◌∷◌, ◌++◌, length, get_or, drop, arith}
 use Rattle.std.proofs.lemmas.List.{drop_all}
 use Rattle.sgt_model.specs.declared.procedure.Statement.{Statement}
 use Rattle.sgt_model.specs.declared.procedure.Statement.TheVariants.{Look, Put, Let, Ask, If', Answer}
@@ -8,7 +8,7 @@ use Rattle.sgt_model.specs.Programs.{before, block_of}
 use Rattle.sgt_model.specs.Left.{followed_by}
 use Rattle.sgt_proc.specs.declared.place.Turn.{Turn}
 use Rattle.sgt_proc.specs.Flaws.{size, depth}
-use Rattle.sgt_proc.specs.Paths.{behind, IsIf, branch, IsPath, inner, outer, to_come}
+use Rattle.sgt_proc.specs.Paths.{behind, IsIf, branch, IsPath, inner, outer}
 use Rattle.sgt_proc.proofs.StatementTexts.{block_drop}
 use Rattle.sgt_proc.proofs.Followed.{followed_empty, followed_twice}
 

@@ -1,5 +1,5 @@
 -- Steps from place to place.
-use Rattle.std.proofs.Common.{◌≡◌, refl, sym, ap, ◌∙◌, subst, ℕ, ◌+◌, ◌*◌, ◌<◌, ◌≤◌, ℤ, Bool, true, false, cond, List, [], ◌∷◌, ◌++◌, length, length-append, get_or, Ok, Err, arith}
+use Rattle.std.proofs.Common.{◌≡◌, refl, sym, ap, ◌∙◌, subst, ◌+◌, ◌<◌, ◌≤◌, ℤ, Bool, true, false, cond, List, [], ◌∷◌, ◌++◌, length, length-append, get_or, arith}
 use Rattle.std.specs.declared.vec.Vec.{Vec}
 use Rattle.std.specs.declared.alloc.Global.{Global}
 use Rattle.sgt_model.specs.declared.procedure.Statement.{Statement}
@@ -7,16 +7,15 @@ use Rattle.sgt_model.specs.declared.procedure.Statement.TheVariants.{If}
 use Rattle.sgt_model.specs.declared.procedure.Cond.{Cond}
 use Rattle.sgt_model.specs.Syntax.{Test, Block, empty, choose}
 use Rattle.sgt_model.specs.Programs.{test_of, before, block_of}
-use Rattle.sgt_model.specs.Meaning.{Holds, holds, Registers, result_of}
-use Rattle.sgt_model.specs.Executions.{and_then}
-use Rattle.sgt_model.specs.Left.{AtEnd, followed_by, choice_or_code, then_behind, reach}
+use Rattle.sgt_model.specs.Meaning.{holds, Registers, result_of}
+use Rattle.sgt_model.specs.Left.{followed_by, reach}
 use Rattle.sgt_model.proofs.Texts.{before_if}
 use Rattle.sgt_proc.specs.declared.place.Turn.{Turn}
 use Rattle.sgt_proc.specs.declared.place.Place.{Place}
 use Rattle.sgt_proc.specs.declared.place.Stop.TheVariants as stop
 use Rattle.sgt_proc.specs.Flaws.{size, depth}
 use Rattle.sgt_proc.specs.Paths.{behind, IsIf, branch, IsPath, inner, outer, to_come}
-use Rattle.sgt_proc.specs.Places.{IsIn, reach_from, reached_at, distance, Passes}
+use Rattle.sgt_proc.specs.Places.{IsIn, reach_from, reached_at, Passes}
 use Rattle.sgt_proc.proofs.Followed.{followed_size, reach_followed}
 use Rattle.sgt_proc.proofs.PathTexts.{before_depth, behind_depth, inner_depth, inner_size, list_size, inner_last, outer_last, path_more, path_less, behind_at, behind_end}
 

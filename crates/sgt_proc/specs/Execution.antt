@@ -1,12 +1,12 @@
 -- What an interpreter comes to as it executes statements.
-use Rattle.std.specs.Prelude.{◌≡◌, ℕ, zero, suc, ℤ, Bool, cond, List, [], ◌∷◌, ◌++◌, drop, slice_set, Option, Some, Result, Ok, Err}
+use Rattle.std.specs.Prelude.{◌≡◌, ℕ, zero, suc, ℤ, List, [], ◌∷◌, ◌++◌, drop, slice_set, Option, Some, Result}
 use Rattle.sgt_model.specs.Contents.{Key}
 use Rattle.sgt_model.specs.Syntax.{Block, empty}
 use Rattle.sgt_model.specs.declared.procedure.Statement.{Statement}
 use Rattle.sgt_model.specs.Programs.{before, block_of}
 use Rattle.sgt_model.specs.Ways.{Way, onto}
 use Rattle.sgt_model.specs.Runs.{Run, looks, puts, ends, asks}
-use Rattle.sgt_model.specs.Meaning.{Got, is, over, missing, Holds, holds, too_far, unknown, is_key, with_stored, with_room, run}
+use Rattle.sgt_model.specs.Meaning.{with_stored, with_room, run}
 use Rattle.sgt_model.specs.Traces.{Looks, Puts, Ends}
 use Rattle.sgt_model.specs.Traces as trace
 use Rattle.sgt_proc.specs.declared.interpreter.Interpreter.{Interpreter}

@@ -1,6 +1,6 @@
-ghost use Rattle.std.specs.Prelude.{◌≡◌, ◌+ℤ◌, ◌-ℤ◌};
+ghost use Rattle.std.specs.Prelude.{◌≡◌, ◌+ℤ◌, ◌-ℤ◌, None, slice_get, slice_index_or};
 ghost use Rattle.sgt_model.specs.Programs.{term_of, test_of};
-ghost use Rattle.sgt_model.specs.Meaning.{bounded, value_of, result_of};
+ghost use Rattle.sgt_model.specs.Meaning.{got, bounded, value_of, result_of};
 ghost use Rattle.sgt_model.specs.Executions.{key_of};
 ghost use Rattle.sgt_model.specs.Left.{number_or_code, choice_or_code};
 
@@ -12,30 +12,54 @@ const OVER: u16 = 1000;
 /// The code that stands for what no checked procedure does.
 pub const WRONG: u16 = 0;
 
-/// What an expression gives, or the code that is asked in its place.
+/// What an expression gives, or the code that is asked in its place. Most are of one part, which is found with no call.
 pub fn value(expr: &Expr, args: &[i64], registers: &[Option<i64>; 16]) -> Result<i64, u16>
     ensures { result ≡ number_or_code (value_of (term_of expr.now) args.now registers.now) }
 {
     match expr {
         Expr::Num(number) => Ok(*number),
-        Expr::Arg(n) => match args.get(usize::from(*n)) {
-            Some(number) => Ok(*number),
-            None => Err(WRONG),
-        },
-        Expr::Reg(n) => match registers.get(usize::from(*n)) {
-            Some(Some(number)) => Ok(*number),
-            _ => Err(WRONG),
-        },
+        Expr::Arg(n) => argument(args, *n),
+        Expr::Reg(n) => register(registers, *n),
+        Expr::Sum(..) | Expr::Diff(..) => value_by_parts(expr, args, registers),
+    }
+}
+
+// The same, by recursion through the parts of a sum or difference.
+fn value_by_parts(expr: &Expr, args: &[i64], registers: &[Option<i64>; 16]) -> Result<i64, u16>
+    ensures { result ≡ number_or_code (value_of (term_of expr.now) args.now registers.now) }
+{
+    match expr {
+        Expr::Num(number) => Ok(*number),
+        Expr::Arg(n) => argument(args, *n),
+        Expr::Reg(n) => register(registers, *n),
         Expr::Sum(left, right) => sum(
-            value(left, args, registers)?,
-            value(right, args, registers)?,
+            value_by_parts(left, args, registers)?,
+            value_by_parts(right, args, registers)?,
         ),
         Expr::Diff(left, right) => {
             difference(
-                value(left, args, registers)?,
-                value(right, args, registers)?,
+                value_by_parts(left, args, registers)?,
+                value_by_parts(right, args, registers)?,
             )
         }
+    }
+}
+
+fn argument(args: &[i64], n: u8) -> Result<i64, u16>
+    ensures { result ≡ number_or_code (got (slice_get args.now n)) }
+{
+    match args.get(usize::from(n)) {
+        Some(number) => Ok(*number),
+        None => Err(WRONG),
+    }
+}
+
+fn register(registers: &[Option<i64>; 16], n: u8) -> Result<i64, u16>
+    ensures { result ≡ number_or_code (got (slice_index_or registers.now n None)) }
+{
+    match registers.get(usize::from(n)) {
+        Some(Some(number)) => Ok(*number),
+        _ => Err(WRONG),
     }
 }
 
@@ -43,17 +67,19 @@ pub fn value(expr: &Expr, args: &[i64], registers: &[Option<i64>; 16]) -> Result
 pub fn test(cond: &Cond, args: &[i64], registers: &[Option<i64>; 16]) -> Result<bool, u16>
     ensures { result ≡ choice_or_code (result_of (test_of cond.now) args.now registers.now) }
 {
-    match cond {
-        Cond::Less(left, right) => {
-            Ok(value(left, args, registers)? < value(right, args, registers)?)
+    let (left, right) = match cond {
+        Cond::Less(left, right) | Cond::AtMost(left, right) | Cond::Equal(left, right) => {
+            (
+                value(left, args, registers)?,
+                value(right, args, registers)?,
+            )
         }
-        Cond::AtMost(left, right) => {
-            Ok(value(left, args, registers)? <= value(right, args, registers)?)
-        }
-        Cond::Equal(left, right) => {
-            Ok(value(left, args, registers)? == value(right, args, registers)?)
-        }
-    }
+    };
+    Ok(match cond {
+        Cond::Less(..) => left < right,
+        Cond::AtMost(..) => left <= right,
+        Cond::Equal(..) => left == right,
+    })
 }
 
 /// The key, or the code that is asked where it is none.

@@ -1,4 +1,4 @@
-use Rattle.std.proofs.Common.{◌≡◌, refl, ap, ◌∙◌}
+use Rattle.std.proofs.Common.{refl, ap}
 use Rattle.sgt_proc.proofs.Moved.{begun}
 use Rattle.sgt_proc.proofs.checked.Checked.begin.Goals as goal
 

@@ -1,4 +1,4 @@
-use Rattle.std.proofs.Common.{rules, ◌≡◌, ◌<◌, ◌+◌, refl, sym, ap, ◌∙◌, subst, ◌≤◌, length, get_or, arith}
+use Rattle.std.proofs.Common.{rules, ◌<◌, ◌+◌, refl, sym, ap, ◌∙◌, subst, ◌≤◌, length, get_or, arith}
 use Rattle.std.proofs.lemmas.Bool.{true≢false}
 use Rattle.arrayvec.specs.ArrayVec.{ArrayVec}
 use Rattle.sgt_model.specs.Programs.{block_of}
