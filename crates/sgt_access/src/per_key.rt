@@ -18,8 +18,10 @@ use std::marker::Model;
 /// The accesses in the order of their keys, those of one key side by side and oldest first.
 ///
 /// `rivals` searches for the key and looks at its accesses alone. `note` searches for the place behind them and moves the
-/// accesses of later keys up by one. `forget` goes once through the accesses of those who are live. Nothing is kept of a key
-/// without accesses. The order in which accesses of different keys were noted is there for proofs alone.
+/// accesses of later keys up by one; but where the last of the key's accesses is of the same transaction, the two are kept as
+/// one, a store if either is: it conflicts with whatever one of them does. `forget` goes once through the accesses of those
+/// who are live. Nothing is kept of a key without accesses. The order in which accesses of different keys were noted is there
+/// for proofs alone.
 #[derive(Drop)]
 pub struct PerKey {
     by_key: Vec<Access>,
