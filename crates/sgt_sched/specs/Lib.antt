@@ -4,3 +4,4 @@ pub mod SchedulerView
 pub mod Admission
 pub mod Steps
 pub mod Endings
+pub mod FateList

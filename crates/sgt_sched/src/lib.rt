@@ -16,6 +16,7 @@
 #![tactic(auto)]
 
 mod arguments;
+mod fates;
 mod laws;
 mod leave;
 mod live;
