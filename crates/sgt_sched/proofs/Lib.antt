@@ -9,3 +9,4 @@ pub mod Looks
 pub mod Reserved
 pub mod Stepped
 pub mod Endings
+pub mod FateLists

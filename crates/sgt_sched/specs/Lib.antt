@@ -5,3 +5,4 @@ pub mod Briefs
 pub mod Admission
 pub mod Steps
 pub mod Endings
+pub mod FateList

@@ -17,6 +17,7 @@
 
 mod arguments;
 mod brief;
+mod fates;
 mod laws;
 mod leave;
 mod live;

@@ -23,6 +23,7 @@ ghost use Rattle.sgt_sched.specs.Steps.{IsClosed, IsUnended};
 
 use crate::arguments::args_fit;
 use crate::brief::Brief;
+use crate::fates::Fates;
 use crate::leave::leave;
 use crate::live::Live;
 use crate::reads::note_read;
@@ -63,7 +64,7 @@ pub struct Sched<R: Records, A: Accesses, G: Graph> {
     graph: G,
     live: Live,
     read_from: Vec<(Tid, Tid)>,
-    fates: Vec<Option<Fate>>,
+    fates: Fates,
 }
 
 impl<R: Records, A: Accesses, G: Graph> Model for Sched<R, A, G> {
@@ -84,7 +85,7 @@ impl<R: Records, A: Accesses, G: Graph> Model for Sched<R, A, G> {
       graph = s.graph;
       live = s.live;
       read_from = s.read_from.items;
-      fates = s.fates.items;
+      fates = s.fates.fates;
     } };
 
     ghost invariant = { λ s. IsKept R.chain R.settled A.list G.nodes G.pairs (record {
@@ -95,7 +96,7 @@ impl<R: Records, A: Accesses, G: Graph> Model for Sched<R, A, G> {
       graph = s.graph;
       live = s.live;
       read_from = s.read_from.items;
-      fates = s.fates.items;
+      fates = s.fates.fates;
     }) };
 }
 
@@ -132,7 +133,7 @@ impl<R: Records, A: Accesses, G: Graph> Sched<R, A, G> {
             graph: G::empty(),
             live: Live::new(alloc),
             read_from: Vec::new(alloc),
-            fates: Vec::new(alloc),
+            fates: Fates::new(alloc),
         })
     }
 
@@ -196,11 +197,11 @@ impl<R: Records, A: Accesses, G: Graph> Sched<R, A, G> {
             Ok(t) => t,
             Err(brief) => return Ok(brief),
         };
-        self.fates.reserve(1)?;
+        self.fates.reserve()?;
         let cursor = self.procedures[usize::from(procedure)].begin(args);
         self.live.start(t, procedure, cursor)?;
         self.graph.add(t);
-        self.fates.push_reserved(None);
+        self.fates.start();
         Ok(Brief::Started(t))
     }
 
@@ -332,12 +333,11 @@ impl<R: Records, A: Accesses, G: Graph> Sched<R, A, G> {
         requires not_live { IsUnended (⟦<Self as Scheduler>⟧.state self.now) t → ⊥ }
         ensures { IsClosed (⟦<Self as Scheduler>⟧.state self.now) t (told result place.new) }
     {
-        match self.fates.get(t.0 as usize) {
-            Some(Some(fate)) => {
-                *place = Reply::Over(fate.copied());
+        match self.fates.get(t) {
+            Some(fate) => {
+                *place = Reply::Over(fate);
                 Brief::Placed
             }
-            Some(None) => unreachable!(),
             None => Brief::Unknown,
         }
     }
@@ -389,7 +389,7 @@ impl<R: Records, A: Accesses, G: Graph> Sched<R, A, G> {
     {
         unwind(&mut self.records, &mut self.accesses, &mut self.graph, t);
         leave(&mut self.live, &mut self.read_from, t);
-        self.fates[t.0 as usize] = Some(fate);
+        self.fates.end(t, &fate);
     }
 
     // Makes a look of a live transaction, or aborts it where the look would close a cycle.
@@ -455,7 +455,7 @@ impl<R: Records, A: Accesses, G: Graph> Sched<R, A, G> {
     {
         finish(&mut self.records, &mut self.accesses, &mut self.graph, t);
         leave(&mut self.live, &mut self.read_from, t);
-        self.fates[t.0 as usize] = Some(Fate::Committed);
+        self.fates.end(t, &Fate::Committed);
         *place = Reply::Committed(answers);
         Brief::Placed
     }

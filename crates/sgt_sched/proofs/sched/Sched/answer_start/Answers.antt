@@ -27,11 +27,11 @@ pub invariant_of-self-2 : goal.invariant_of-self-2
 invariant_of-self-2 g c =
     let admitted = subst (λ (p : SchedulerView _ _ _). HasRoom p.limits (state_of g.R.Records.chain g.R.Records.settled g.A.Accesses.list g.G.Graph.nodes g.G.Graph.pairs p) c.in-Ok.t) (sym c.self.view_is) c.in-Ok.ensures.1 in
     let named : slice_get c.self.inside.procedures.items c.args.procedure ≡ Some c.index.result.now = slice_get_read c.self.inside.procedures.items _ c.args.procedure c.index.result.now refl (named_seen (state_of g.R.Records.chain g.R.Records.settled g.A.Accesses.list g.G.Graph.nodes g.G.Graph.pairs) _ c.args.self.now c.self.view_is c.args.procedure c.in-Ok.t c.args.args.now c.in-Ok.ensures.0) (c.index.ensures ∙ ap (λ n. get_or c.self.inside.procedures.items n c.index.result.now) c.from.ensures) in
-    (start_done c.self.invariant c.args.procedure c.index.result.now c.args.args.now c.in-Ok.t admitted.next c.add.new.self c.start.new.self c.push_reserved.new.self.items c.add.ensures.nodes c.add.ensures.pairs (c.in_ok-start.ensures.ok ∙ ap (λ l. c.self.inside.live ++ (c.in-Ok.t, record { procedure = c.args.procedure; cursor = l }) ∷ []) c.begin-cursor.ensures) (c.push_reserved.ensures.items ∙ ap (λ l. l ++ None ∷ []) c.reserve.ensures.items) named admitted.live admitted.begins).0
+    (start_done c.self.invariant c.args.procedure c.index.result.now c.args.args.now c.in-Ok.t admitted.next c.add.new.self c.start.new.self c.start-2.new.self.fates c.add.ensures.nodes c.add.ensures.pairs (c.in_ok-start.ensures.ok ∙ ap (λ l. c.self.inside.live ++ (c.in-Ok.t, record { procedure = c.args.procedure; cursor = l }) ∷ []) c.begin-cursor.ensures) (c.start-2.ensures ∙ ap (λ l. l ++ None ∷ []) c.reserve.ensures.same) named admitted.live admitted.begins).0
 
 pub returns-clause-done : goal.returns-clause-done
 returns-clause-done g c = λ _.
     let admitted = subst (λ (p : SchedulerView _ _ _). HasRoom p.limits (state_of g.R.Records.chain g.R.Records.settled g.A.Accesses.list g.G.Graph.nodes g.G.Graph.pairs p) c.in-Ok.t) (sym c.self.view_is) c.in-Ok.ensures.1 in
     let named : slice_get c.self.inside.procedures.items c.args.procedure ≡ Some c.index.result.now = slice_get_read c.self.inside.procedures.items _ c.args.procedure c.index.result.now refl (named_seen (state_of g.R.Records.chain g.R.Records.settled g.A.Accesses.list g.G.Graph.nodes g.G.Graph.pairs) _ c.args.self.now c.self.view_is c.args.procedure c.in-Ok.t c.args.args.now c.in-Ok.ensures.0) (c.index.ensures ∙ ap (λ n. get_or c.self.inside.procedures.items n c.index.result.now) c.from.ensures) in
-    let done = start_done c.self.invariant c.args.procedure c.index.result.now c.args.args.now c.in-Ok.t admitted.next c.add.new.self c.start.new.self c.push_reserved.new.self.items c.add.ensures.nodes c.add.ensures.pairs (c.in_ok-start.ensures.ok ∙ ap (λ l. c.self.inside.live ++ (c.in-Ok.t, record { procedure = c.args.procedure; cursor = l }) ∷ []) c.begin-cursor.ensures) (c.push_reserved.ensures.items ∙ ap (λ l. l ++ None ∷ []) c.reserve.ensures.items) named admitted.live admitted.begins in
-    start_effect (state_of g.R.Records.chain g.R.Records.settled g.A.Accesses.list g.G.Graph.nodes g.G.Graph.pairs) rules_of c.args.procedure c.args.args.now _ _ (record { procedures = c.self.inside.procedures.items; limits = c.self.inside.limits; records = c.self.inside.records; accesses = c.self.inside.accesses; graph = c.add.new.self; live = c.start.new.self; read_from = c.self.inside.read_from.items; fates = c.push_reserved.new.self.items }) _ c.self.view_is c.in-Ok.ensures.0 done.1
+    let done = start_done c.self.invariant c.args.procedure c.index.result.now c.args.args.now c.in-Ok.t admitted.next c.add.new.self c.start.new.self c.start-2.new.self.fates c.add.ensures.nodes c.add.ensures.pairs (c.in_ok-start.ensures.ok ∙ ap (λ l. c.self.inside.live ++ (c.in-Ok.t, record { procedure = c.args.procedure; cursor = l }) ∷ []) c.begin-cursor.ensures) (c.start-2.ensures ∙ ap (λ l. l ++ None ∷ []) c.reserve.ensures.same) named admitted.live admitted.begins in
+    start_effect (state_of g.R.Records.chain g.R.Records.settled g.A.Accesses.list g.G.Graph.nodes g.G.Graph.pairs) rules_of c.args.procedure c.args.args.now _ _ (record { procedures = c.self.inside.procedures.items; limits = c.self.inside.limits; records = c.self.inside.records; accesses = c.self.inside.accesses; graph = c.add.new.self; live = c.start.new.self; read_from = c.self.inside.read_from.items; fates = c.start-2.new.self.fates }) _ c.self.view_is c.in-Ok.ensures.0 done.1

@@ -13,12 +13,12 @@ finish-requires g c = (c.type_bounds.send-R, (c.type_bounds.send-A, (c.type_boun
 pub invariant_of-self : goal.invariant_of-self
 invariant_of-self g c =
     kept_after c.self.invariant c.args.t (ap (λ p. g.G.Graph.nodes p.graph c.args.t) c.self.view_is ∙ c.requires.live) fate.Committed c.finish.new.records c.finish.new.accesses c.finish.new.graph c.finish.ensures.chain c.finish.ensures.accesses c.finish.ensures.nodes c.finish.ensures.pairs
-    c.args.self.now c.self.view_is c.leave.new.live c.leave.new.read_from.items _ c.leave.ensures.live c.leave.ensures.read_from (ap (λ t. slice_set c.self.inside.fates.items t (Some fate.Committed)) c.t.view_is)
+    c.args.self.now c.self.view_is c.leave.new.live c.leave.new.read_from.items _ c.leave.ensures.live c.leave.ensures.read_from c.end.ensures
 
 pub returns-clause-commits : goal.returns-clause-commits
 returns-clause-commits g c =
     let node = ap (λ p. g.G.Graph.nodes p.graph c.args.t) c.self.view_is ∙ c.requires.live in
-    let fates_are = ap (λ t. slice_set c.self.inside.fates.items t (Some fate.Committed)) c.t.view_is in
+    let fates_are = c.end.ensures in
     record {
       first = λ u h. true≢false (sym h ∙ c.requires.first u);
       reply = refl;

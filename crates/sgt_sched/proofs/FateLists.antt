@@ -1,0 +1,113 @@
+-- The list of ends: what a start and an end do to it.
+use Rattle.std.proofs.Common.{◌≡◌, ℕ, zero, suc, ◌+◌, ◌<◌, ◌≤◌, arith, List, [], ◌∷◌, ◌++◌, length, map, Option, Some, None, refl, sym, ap, ◌∙◌, slice_set}
+use Rattle.std.specs.Prelude.{slice_get, slice_index_or}
+use Rattle.sgt_model.specs.declared.reply.Cause.TheVariants as cause
+use Rattle.sgt_model.specs.declared.reply.Fate.{Fate}
+use Rattle.sgt_model.specs.declared.reply.Fate.TheVariants as fate
+use Rattle.sgt_sched.specs.declared.fates.End.{End}
+use Rattle.sgt_sched.specs.declared.fates.End.TheVariants as end
+use Rattle.sgt_sched.specs.FateList.{AreKept, HasWalk, HaveWalks, fate_of, fates_of, live_in, live_among}
+use Rattle.sgt_sched.specs.SchedulerView.{fate_at}
+
+has-more : (m n : ℕ) → m ≤ n → (e : End) → HasWalk m e → HasWalk n e
+has-more m n le end.Live h = tt
+has-more m n le end.Committed h = tt
+has-more m n le end.Quit h = tt
+has-more m n le (end.Asked code) h = tt
+has-more m n le (end.Fell first) h = tt
+has-more m n le (end.Cycle place) h = omega (arith, le, h)
+
+-- more walks keep the places
+pub have-more : (m n : ℕ) → m ≤ n → (ends : List End) → HaveWalks m ends → HaveWalks n ends
+have-more m n le [] h = tt
+have-more m n le (e ∷ ends) h = (has-more m n le e h.0, have-more m n le ends h.1)
+
+-- a start has no walk
+pub have-added : (n : ℕ) (ends : List End) → HaveWalks n ends → HaveWalks n (ends ++ end.Live ∷ [])
+have-added n [] h = (tt, tt)
+have-added n (e ∷ ends) h = (h.0, have-added n ends h.1)
+
+-- an end with its place
+pub have-set : (n : ℕ) (ends : List End) (t : ℕ) (e : End) → HaveWalks n ends → HasWalk n e → HaveWalks n (slice_set ends t e)
+have-set n [] t e h own = tt
+have-set n (x ∷ ends) zero e h own = (own, h.1)
+have-set n (x ∷ ends) (suc t) e h own = (h.0, have-set n ends t e h.1 own)
+
+-- the place of a cycle's end
+pub place_within : (n : ℕ) (ends : List End) (t place : ℕ) → HaveWalks n ends → slice_get ends t ≡ Some (end.Cycle place) → place < n
+place_within n [] t place h is = absurd (cc)
+place_within n (end.Live ∷ ends) zero place h is = absurd (cc)
+place_within n (end.Committed ∷ ends) zero place h is = absurd (cc)
+place_within n (end.Quit ∷ ends) zero place h is = absurd (cc)
+place_within n (end.Asked code ∷ ends) zero place h is = absurd (cc)
+place_within n (end.Fell first ∷ ends) zero place h is = absurd (cc)
+place_within n (end.Cycle p ∷ ends) zero place h is = let same : p ≡ place = cc in omega (arith, h.0, same)
+place_within n (e ∷ ends) (suc t) place h is = place_within n ends t place h.1 is
+
+-- a start is one more that is live
+pub live-added : (ends : List End) → live_among (ends ++ end.Live ∷ []) ≡ live_among ends + 1
+live-added [] = refl
+live-added (e ∷ ends) = omega (arith, live-added ends)
+
+-- and an end one less
+pub live-set : (walks : List (List ℕ)) (ends : List End) (t : ℕ) (e : End) → slice_get (fates_of walks ends) t ≡ Some None → live_in e ≡ 0 → live_among (slice_set ends t e) + 1 ≡ live_among ends
+live-set walks [] t e h z = absurd (cc)
+live-set walks (end.Live ∷ ends) zero e h z = omega (arith, z)
+live-set walks (end.Committed ∷ ends) zero e h z = absurd (cc)
+live-set walks (end.Quit ∷ ends) zero e h z = absurd (cc)
+live-set walks (end.Asked code ∷ ends) zero e h z = absurd (cc)
+live-set walks (end.Fell first ∷ ends) zero e h z = absurd (cc)
+live-set walks (end.Cycle place ∷ ends) zero e h z = absurd (cc)
+live-set walks (x ∷ ends) (suc t) e h z = let rest = live-set walks ends t e h z in omega (arith, rest)
+
+-- who has or had no fate was started
+pub started : (walks : List (List ℕ)) (ends : List End) (t : ℕ) → slice_get (fates_of walks ends) t ≡ Some None → t < length ends
+started walks [] t h = absurd (cc)
+started walks (e ∷ ends) zero h = omega arith
+started walks (e ∷ ends) (suc t) h = let rest = started walks ends t h in omega (arith, rest)
+
+fate-kept : (before after : List (List ℕ)) → AreKept before after → (e : End) → HasWalk (length before) e → fate_of after e ≡ fate_of before e
+fate-kept before after k end.Live h = refl
+fate-kept before after k end.Committed h = refl
+fate-kept before after k end.Quit h = refl
+fate-kept before after k (end.Asked code) h = refl
+fate-kept before after k (end.Fell first) h = refl
+fate-kept before after k (end.Cycle place) h = ap (λ w. Some (fate.Aborted (cause.Cycle w))) (k.same place h)
+
+-- an end sets the fate of one, and keeps those of the others
+pub fates-set : (before after : List (List ℕ)) (ends : List End) (t : ℕ) (e : End) → AreKept before after → HaveWalks (length before) ends → fates_of after (slice_set ends t e) ≡ slice_set (fates_of before ends) t (fate_of after e)
+fates-set before after [] t e k h = refl
+fates-set before after (x ∷ ends) zero e k h = ap (λ l. fate_of after e ∷ l) (kept ends h.1) where
+  kept : (ends : List End) → HaveWalks (length before) ends → fates_of after ends ≡ fates_of before ends
+  kept [] h = refl
+  kept (x ∷ ends) h = ap (λ f. f ∷ fates_of after ends) (fate-kept before after k x h.0) ∙ ap (λ l. fate_of before x ∷ l) (kept ends h.1)
+fates-set before after (x ∷ ends) (suc t) e k h = ap (λ f. f ∷ fates_of after (slice_set ends t e)) (fate-kept before after k x h.0) ∙ ap (λ l. fate_of before x ∷ l) (fates-set before after ends t e k h.1)
+
+-- the fate of one that an end was found of
+pub fate_at-found : (walks : List (List ℕ)) (ends : List End) (t : ℕ) (e : End) → slice_get ends t ≡ Some e → fate_at (fates_of walks ends) t ≡ fate_of walks e
+fate_at-found walks [] t e is = absurd (cc)
+fate_at-found walks (x ∷ ends) zero e is = let same : x ≡ e = cc in ap (fate_of walks) same
+fate_at-found walks (x ∷ ends) (suc t) e is = fate_at-found walks ends t e is
+
+-- one more walk keeps the others
+pub kept-added : (walks : List (List ℕ)) (walk : List ℕ) → AreKept walks (walks ++ walk ∷ [])
+kept-added walks walk = record { count = more walks; same = stays walks } where
+  more : (l : List (List ℕ)) → length l ≤ length (l ++ walk ∷ [])
+  more [] = omega arith
+  more (w ∷ l) = let rest = more l in omega (arith, rest)
+
+  stays : (l : List (List ℕ)) (place : ℕ) → place < length l → slice_index_or (l ++ walk ∷ []) place [] ≡ slice_index_or l place []
+  stays [] place h = absurd (omega (arith, h))
+  stays (w ∷ l) zero h = refl
+  stays (w ∷ l) (suc place) h = stays l place (omega (arith, h))
+
+-- and stands behind them
+pub last-added : (walks : List (List ℕ)) (walk : List ℕ) → slice_index_or (walks ++ walk ∷ []) (length walks) [] ≡ walk
+last-added [] walk = refl
+last-added (w ∷ walks) walk = last-added walks walk
+
+-- what stands at a place, whatever were read past the end
+pub read-any : (walks : List (List ℕ)) (place : ℕ) (d e : List ℕ) → place < length walks → slice_index_or walks place d ≡ slice_index_or walks place e
+read-any [] place d e h = absurd (omega (arith, h))
+read-any (w ∷ walks) zero d e h = refl
+read-any (w ∷ walks) (suc place) d e h = read-any walks place d e (omega (arith, h))

@@ -1,0 +1,140 @@
+ghost use Rattle.std.specs.Prelude.{◌≡◌, ◌+◌, ◌<◌, ◌≤◌, ◌^◌, [], ◌∷◌, ◌++◌, length, Some, None, OnOk, slice_get, slice_set, vec_len, vec_capacity};
+ghost use Rattle.sgt_sched.specs.FateList.{AreKept, HasWalk, IsReady, fate_of, live_in};
+ghost use Rattle.sgt_sched.specs.SchedulerView.{fate_at};
+
+use sgt_model::{Cause, Fate, NoMemory, Tid, Tids};
+use std::alloc::Global;
+use std::marker::Model;
+
+/// How a transaction ended, in few bytes, as there is one for each that was started.
+#[derive(Clone, Copy)]
+pub enum End {
+    /// It is live.
+    Live,
+    /// By its commit.
+    Committed,
+    /// By an abort: its caller quit it.
+    Quit,
+    /// By an abort: its procedure asked this code.
+    Asked(u16),
+    /// By a cascading abort, which started with this transaction.
+    Fell(Tid),
+    /// By an abort: its step would have closed a cycle. The walk has this place in the list of walks.
+    Cycle(u32),
+}
+
+/// How the transactions ended, in the order of their starts. Walks are long and rare, so they are kept in a list of their own,
+/// which has room for one of each live transaction: an end takes no memory.
+#[derive(Drop)]
+pub struct Fates {
+    ends: Vec<End>,
+    walks: Vec<Tids>,
+    live: usize,
+}
+
+impl Model for Fates {
+    ghost use Rattle.std.specs.Prelude.{◌-◌, ◌+◌};
+    ghost use Rattle.std.specs.Vec.{vec_len, vec_capacity};
+    ghost use Rattle.sgt_sched.specs.FateList.{FateList, IsFateList, fates_of};
+
+    ghost Value = { FateList };
+
+    ghost view = { λ f. record {
+      fates = fates_of f.walks.items f.ends.items;
+      end_room = vec_capacity f.ends - vec_len f.ends;
+      walk_room = vec_capacity f.walks - (vec_len f.walks + f.live);
+    } };
+
+    ghost invariant = { λ f. IsFateList f.ends.items f.walks.items f.live (vec_capacity f.walks) };
+}
+
+impl Fates {
+    /// None. This takes no memory.
+    pub fn new(alloc: Global) -> Self
+        ensures { result.fates ≡ [] }
+    {
+        Fates {
+            ends: Vec::new(alloc),
+            walks: Vec::new(alloc),
+            live: 0,
+        }
+    }
+
+    /// How many were started.
+    pub fn len(&self) -> usize
+        ensures { result ≡ length self.now.fates }
+    {
+        self.ends.len()
+    }
+
+    /// Makes room for one more start, and for its end. `NoMemory` where a growth was refused. The fates stay.
+    pub fn reserve(&mut self) -> Result<(), NoMemory>
+        ensures same { self.new.fates ≡ self.old.fates }
+        ensures ready { OnOk result (IsReady self.new) }
+    {
+        self.ends.reserve(1)?;
+        self.walks.reserve(self.live + 1)?;
+        Ok(())
+    }
+
+    /// Adds a transaction that was just started, as the last. This takes no memory.
+    pub fn start(&mut self)
+        requires ready { IsReady self.old }
+        requires few { length self.old.fates < 2 ^ 32 }
+        ensures { self.new.fates ≡ self.old.fates ++ None ∷ [] }
+    {
+        self.ends.push_reserved(End::Live);
+        self.live += 1;
+    }
+
+    /// Ends t, which is live. This takes no memory.
+    pub fn end(&mut self, t: Tid, fate: &Fate)
+        requires live { slice_get self.old.fates t ≡ Some None }
+        ensures { self.new.fates ≡ slice_set self.old.fates t (Some fate.now) }
+    {
+        let end = end_of(&mut self.walks, fate);
+        self.live -= 1;
+        self.ends[t.0 as usize] = end;
+    }
+
+    /// How t ended, if it did.
+    pub fn get(&self, t: Tid) -> Option<Fate>
+        ensures { result ≡ fate_at self.now.fates t }
+    {
+        match self.ends.get(t.0 as usize) {
+            None | Some(End::Live) => None,
+            Some(End::Committed) => Some(Fate::Committed),
+            Some(End::Quit) => Some(Fate::Aborted(Cause::Quit)),
+            Some(End::Asked(code)) => Some(Fate::Aborted(Cause::Asked(*code))),
+            Some(End::Fell(first)) => Some(Fate::Fell(*first)),
+            Some(End::Cycle(place)) => {
+                let walk = &self.walks[*place as usize];
+                Some(Fate::Aborted(Cause::Cycle(walk.copied())))
+            }
+        }
+    }
+}
+
+// The end that a fate is. Its walk, if it has one, goes to the others, for which there is room.
+fn end_of(walks: &mut Vec<Tids>, fate: &Fate) -> End
+    requires room { vec_len walks.old < vec_capacity walks.old }
+    requires few { length walks.old.items < 2 ^ 32 }
+    ensures fate { fate_of walks.new.items result ≡ Some fate.now }
+    ensures ended { live_in result ≡ 0 }
+    ensures placed { HasWalk (length walks.new.items) result }
+    ensures stay { AreKept walks.old.items walks.new.items }
+    ensures one { length walks.new.items ≤ length walks.old.items + 1 }
+    ensures capacity { vec_capacity walks.new ≡ vec_capacity walks.old }
+{
+    match fate {
+        Fate::Committed => End::Committed,
+        Fate::Fell(first) => End::Fell(*first),
+        Fate::Aborted(Cause::Quit) => End::Quit,
+        Fate::Aborted(Cause::Asked(code)) => End::Asked(*code),
+        Fate::Aborted(Cause::Cycle(walk)) => {
+            let place = walks.len() as u32;
+            walks.push_reserved(walk.copied());
+            End::Cycle(place)
+        }
+    }
+}
