@@ -5,6 +5,7 @@ use denote.Param.Send.{IsSend, IsSync, sendable}
 use Rattle.std.proofs.Crossing.{crosses}
 use Rattle.sgt_model.proofs.procedure.Expr.TheLaws.TheKnot as expr
 use Rattle.sgt_model.proofs.procedure.Statement.TheLaws.TheKnot as statement
+use Rattle.sgt_sched.specs.contracts.fates.Fates as Fates
 use Rattle.sgt_sched.specs.contracts.live.Live as Live
 use Rattle.sgt_sched.specs.contracts.sched.Sched as Sched
 use Rattle.sgt_engine.specs.contracts.engine.Engine as Engine
@@ -16,25 +17,25 @@ use Rattle.sgt_graph.specs.declared.graph.Graph as graph
 use Rattle.sgt_session.specs.declared.named.Named as named
 use Rattle.std.specs.declared.sync.ledger.Ledger as ledger
 use Rattle.sgt_model.proofs.entry.Entry.TheSendSync as entry
+use Rattle.sgt_model.proofs.reply.Reply.TheSendSync as reply
 use Rattle.std.proofs.sync.ledger.Book.TheSendSync as book
-use Rattle.sgt_model.specs.contracts.reply.Fate as Fate
 use Rattle.sgt_model.specs.contracts.database.Database as Database
 
 live_send : IsSend (Live.the_field).row
 live_send = search (sendable, crosses, expr.crosses, statement.crosses) depth 40
 
-fate_send : IsSend (Fate.the_field).row
-fate_send = search (sendable, crosses) depth 40
+fates_send : IsSend (Fates.the_field).row
+fates_send = search (sendable, crosses) depth 40
 
 database_send : IsSend (Database.the_field).row
 database_send = search (sendable, crosses) depth 40
 
 module _ (R A G : RattleType) (r : records.Ghosts R.Denot) (a : accesses.Ghosts A.Denot) (g : graph.Ghosts G.Denot) where
   sched_send : IsSend R → IsSend A → IsSend G → IsSend (Sched.the_field R A G r a g).row
-  sched_send sr sa sg = search (sendable, crosses, expr.crosses, statement.crosses, live_send, fate_send) depth 40
+  sched_send sr sa sg = search (sendable, crosses, expr.crosses, statement.crosses, live_send, fates_send) depth 40
 
   engine_send : IsSend R → IsSend A → IsSend G → IsSend (Engine.the_field R A G r a g).row
-  engine_send sr sa sg = let s = sched_send sr sa sg in search (sendable, crosses, entry.the_field_send, database_send) depth 40
+  engine_send sr sa sg = let s = sched_send sr sa sg in search (sendable, crosses, entry.the_field_send, reply.the_field_send, database_send) depth 40
 
   module _ (N : RattleType) (n : named.Ghosts N.Denot) (l : ledger.Ghosts N.Denot) where
     round_send : IsSend N → IsSend R → IsSend A → IsSend G → IsSend (Round.the_field N R A G n l r a g).row
