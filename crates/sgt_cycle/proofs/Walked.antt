@@ -5,7 +5,7 @@ use Rattle.std.proofs.lemmas.Bool.{eq-eqb, or_left, or_right}
 use Rattle.sgt_model.specs.Walks.{PathOf, last_of, Member, AtMost, Distinct}
 use Rattle.sgt_model.proofs.Paths.{Within, path-append, last_of-append}
 use Rattle.sgt_cycle.specs.Links.{is_link, occurs}
-use Rattle.sgt_cycle.specs.Walk.{Holds, IsWalk, Follows}
+use Rattle.sgt_cycle.specs.Walk.{Holds, Follows}
 use Rattle.sgt_cycle.specs.Search.{LeadsBack}
 use Rattle.sgt_cycle.proofs.Members.{at_member, any_default, member_push, distinct_apart, distinct_push, distinct_fits}
 use Rattle.sgt_cycle.proofs.Links.{link_ends}

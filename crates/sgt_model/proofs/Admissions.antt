@@ -10,7 +10,7 @@ use Rattle.sgt_model.specs.declared.reply.Reply.{Reply}
 use Rattle.sgt_model.specs.declared.entry.Entry.{Entry}
 use Rattle.sgt_model.specs.Numbers.{IsValue, is_value}
 use Rattle.sgt_model.specs.Fates.{is_start, starts, subject}
-use Rattle.sgt_model.specs.Settings.{Setting, takes}
+use Rattle.sgt_model.specs.Settings.{Setting}
 use Rattle.sgt_model.specs.Progress.{Call, call_at, call_in, call_of}
 use Rattle.sgt_model.specs.Legality.{Legal}
 use Rattle.sgt_model.specs.Replay.{committed_call_in, committed_calls}

@@ -2,14 +2,13 @@
 use Rattle.std.proofs.Common.{◌≡◌, ◌≢◌, ℕ, suc, ◌<◌, ◌≤◌, ℤ, true, false, List, [], ◌∷◌, nat_eq, refl, sym, ap, inl, inr, ◌∙◌, arith}
 use Rattle.std.specs.Prelude.{length}
 use Rattle.std.proofs.lemmas.Bool.{or_cases, eqb-true, eq-eqb, both_ways, or_left, or_right}
-use Rattle.sgt_model.specs.declared.kind.Kind.{Kind}
 use Rattle.sgt_model.specs.declared.kind.Kind.TheVariants.{Store}
 use Rattle.sgt_model.specs.Contents.{Key}
 use Rattle.sgt_model.specs.Walks.{Member}
 use Rattle.sgt_model.specs.Chains.{writes_in}
 use Rattle.sgt_model.specs.ChainOrder.{EachAfter, InOrder, IsFirstIn, IsLastIn}
 use Rattle.sgt_model.specs.State.{State, PairIn}
-use Rattle.sgt_model.specs.Blocks.{Blocks, IsRival}
+use Rattle.sgt_model.specs.Blocks.{Blocks}
 use Rattle.sgt_model.specs.Soundness.{Sound}
 use Rattle.sgt_model.proofs.ChainOrder.{is_first, is_last}
 

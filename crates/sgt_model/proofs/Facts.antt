@@ -16,7 +16,6 @@ use Rattle.sgt_model.specs.Walks.{Member}
 use Rattle.sgt_model.specs.Accesses.{Access, access_in, access_of}
 use Rattle.sgt_model.specs.Fates.{is_start, starts, ending_in, fate_of, is_commit, is_abort, aborted, committed, live}
 use Rattle.sgt_model.specs.Values.{visible}
-use Rattle.sgt_model.specs.Falls.{Falls}
 use Rattle.sgt_model.specs.Pairs.{one_stores, conflicts, has_conflicting, FollowsIn, Precedes}
 use Rattle.sgt_model.specs.Closes.{Closes}
 use Rattle.sgt_model.specs.Settings.{Setting}

@@ -1,18 +1,10 @@
 -- The state of a new scheduler is the state after the empty history, and it is sound.
-use Rattle.std.proofs.Common.{◌≡◌, ℕ, ◌≤◌, true, false, ◌&&◌, [], sym, ap, subst, ◌∙◌, arith}
-use Rattle.std.specs.Prelude.{length}
+use Rattle.std.proofs.Common.{◌≡◌, ℕ, true, false, ◌&&◌, [], sym, ap, subst, ◌∙◌, arith}
 use Rattle.std.proofs.lemmas.Bool.{both_ways, le-ltb}
-use Rattle.sgt_model.specs.declared.kind.Kind.{Kind}
-use Rattle.sgt_model.specs.Contents.{Key, Contents}
-use Rattle.sgt_model.specs.Walks.{Member}
 use Rattle.sgt_model.specs.Fates.{live}
 use Rattle.sgt_model.specs.Settings.{Setting}
-use Rattle.sgt_model.specs.AccessList.{lists_conflicting}
-use Rattle.sgt_model.specs.Chains.{writes_in}
-use Rattle.sgt_model.specs.ChainOrder.{InOrder}
-use Rattle.sgt_model.specs.State.{Has, State, PairIn}
+use Rattle.sgt_model.specs.State.{Has, State}
 use Rattle.sgt_model.specs.StateAfter.{IsStateAfter}
-use Rattle.sgt_model.specs.Soundness.{Sound}
 use Rattle.sgt_model.specs.NewState.{IsNew}
 
 pub state_new : (s : Setting) (c : State) → IsNew s.opening c → IsStateAfter s [] c

@@ -1,5 +1,5 @@
 -- Of two committed writers of a key the one whose last store of it came first committed first.
-use Rattle.std.proofs.Common.{◌≡◌, ◌≢◌, ℕ, ◌<◌, true, ◌⊎◌, List, [], ◌∷◌, length, Option, Some, None, nat_eq, refl, sym, ap, subst, inl, inr, ◌∙◌, arith}
+use Rattle.std.proofs.Common.{◌≡◌, ℕ, ◌<◌, true, ◌⊎◌, List, [], ◌∷◌, length, Option, Some, None, nat_eq, refl, sym, ap, subst, inl, inr, ◌∙◌, arith}
 use Rattle.std.proofs.lemmas.Bool.{or_left, or_right, eqb-true}
 use Rattle.std.specs.Option.{option_map}
 use Rattle.sgt_model.specs.declared.entry.Entry.{Entry}
@@ -7,15 +7,13 @@ use Rattle.sgt_model.specs.declared.kind.Kind.TheVariants.{Look}
 use Rattle.sgt_model.specs.Contents.{Key}
 use Rattle.sgt_model.specs.Accesses.{Access, access_of}
 use Rattle.sgt_model.specs.Fates.{committed}
-use Rattle.sgt_model.specs.Values.{newest_store}
-use Rattle.sgt_model.specs.ReadFrom.{IsBy}
 use Rattle.sgt_model.specs.Pairs.{conflicts, has_conflicting, Precedes}
 use Rattle.sgt_model.specs.Settings.{Setting}
 use Rattle.sgt_model.specs.Legality.{Legal}
 use Rattle.sgt_model.specs.CommitOrder.{CommitsBefore, last_store}
 use Rattle.sgt_model.proofs.Facts.{some_is, option_or-cases, committed-stands}
 use Rattle.sgt_model.proofs.PairOrder.{pair_commits_before}
-use Rattle.sgt_model.proofs.Stores.{Stored, stores-some, stored-conflicts, newest-by, store_follows, newest-precedes}
+use Rattle.sgt_model.proofs.Stores.{Stored, stores-some, stored-conflicts, store_follows}
 
 map_some : (o : Option Access) (n p : ℕ) → option_map (λ (a : Access). n) o ≡ Some p → (a : Access) × (o ≡ Some a) × (n ≡ p)
 map_some None n p e = absurd (cc)

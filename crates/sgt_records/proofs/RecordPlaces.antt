@@ -14,7 +14,7 @@ use Rattle.sgt_model.specs.StoredValues.{HoldValues}
 use Rattle.sgt_model.proofs.Stores.{key_eq-true, key_eq-refl}
 use Rattle.sgt_records.specs.declared.chain.Chain.{Chain}
 use Rattle.sgt_records.specs.declared.record.Record.{Record}
-use Rattle.sgt_records.specs.Places.{writes_of, chain_at, IsHeld, Moves, place_of, key_chain, committed_of, is_kept, IsIndex}
+use Rattle.sgt_records.specs.Places.{writes_of, chain_at, IsHeld, Moves, place_of, key_chain, committed_of, IsIndex}
 use Rattle.sgt_records.specs.Validity.{IsChain}
 use Rattle.sgt_records.proofs.SettledValues.{same_key}
 use Rattle.sgt_records.proofs.ChainsKept.{chain_empty}

@@ -1,8 +1,8 @@
-use Rattle.std.proofs.Common.{◌≡◌, ◌+◌, arith, length, Some, None, refl, ap, ◌∙◌, slice_set}
+use Rattle.std.proofs.Common.{◌≡◌, arith, Some, None, refl, ap, ◌∙◌, slice_set}
 use Rattle.std.specs.Prelude.{slice_get}
-use Rattle.std.proofs.lemmas.List.{length-set, length-map}
+use Rattle.std.proofs.lemmas.List.{length-set}
 use Rattle.sgt_sched.specs.declared.fates.End.TheVariants as end
-use Rattle.sgt_sched.specs.FateList.{fates_of, live_among}
+use Rattle.sgt_sched.specs.FateList.{fates_of}
 use Rattle.sgt_sched.proofs.FateLists.{fates-set, have-more, have-set, live-set, started}
 use Rattle.sgt_sched.proofs.fates.Fates.end.Goals as goal
 

@@ -1,7 +1,7 @@
-use Rattle.std.proofs.Common.{◌≡◌, ◌+◌, arith, length, [], ◌∷◌, ◌++◌, ap, sym, subst, ◌∙◌}
+use Rattle.std.proofs.Common.{arith, length, [], ◌∷◌, ap}
 use Rattle.std.proofs.lemmas.List.{length-append, length-map}
 use Rattle.sgt_sched.specs.declared.fates.End.TheVariants as end
-use Rattle.sgt_sched.specs.FateList.{IsFateList, fate_of}
+use Rattle.sgt_sched.specs.FateList.{fate_of}
 use Rattle.sgt_sched.proofs.FateLists.{have-added, live-added}
 use Rattle.sgt_sched.proofs.fates.Fates.start.Goals as goal
 

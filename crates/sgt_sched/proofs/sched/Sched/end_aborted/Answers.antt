@@ -1,4 +1,4 @@
-use Rattle.std.proofs.Common.{Some, ap, ◌∙◌, slice_set}
+use Rattle.std.proofs.Common.{ap, ◌∙◌}
 use Rattle.sgt_sched.proofs.Ended.{kept_after, removes_seen, fates_seen}
 use Rattle.sgt_sched.proofs.sched.Sched.end_aborted.Goals as goal
 

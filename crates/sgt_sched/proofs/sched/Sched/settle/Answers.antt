@@ -1,4 +1,4 @@
-use Rattle.std.proofs.Common.{refl, Some, ap, ◌∙◌, sym, slice_set}
+use Rattle.std.proofs.Common.{refl, ap, ◌∙◌, sym}
 use Rattle.std.proofs.lemmas.Bool.{true≢false}
 use Rattle.std.specs.Option.{option_or}
 use Rattle.sgt_model.specs.Chains.{value_in}
