@@ -18,7 +18,7 @@ ghost use Rattle.sgt_sched.specs.Endings.{is_ending};
 ghost use Rattle.sgt_engine.specs.EngineView.{setting_of, made_of, with_entry};
 
 use crate::past::Past;
-use crate::room::make_room;
+use crate::room::{file, make_room};
 use sgt_access::Accesses;
 use sgt_graph::Graph;
 use sgt_model::{
@@ -163,10 +163,7 @@ impl<R: Records, A: Accesses, G: Graph> Engine<R, A, G> {
 
         make_room(&mut self.history, &self.sched, &event)?;
         let brief = self.sched.answer(&event, &mut self.place)?;
-        self.history.push_reserved(Entry {
-            event,
-            reply: brief.reply(&self.place),
-        });
+        file(&mut self.history, event, &brief, &self.place);
         Ok(())
     }
 

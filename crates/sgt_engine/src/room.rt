@@ -1,14 +1,15 @@
-ghost use Rattle.std.specs.Prelude.{◌≡◌, ◌+◌, ◌≤◌, length, OnOk};
+ghost use Rattle.std.specs.Prelude.{◌≡◌, ◌+◌, ◌<◌, ◌≤◌, [], ◌∷◌, ◌++◌, length, OnOk};
 ghost use Rattle.std.specs.Result.{IsOk};
 ghost use Rattle.std.specs.Vec.{vec_len, vec_capacity};
+ghost use Rattle.sgt_sched.specs.Briefs.{told};
 ghost use Rattle.sgt_sched.specs.Endings.{EndsOne};
 ghost use Rattle.sgt_sched.specs.SchedulerView.{rules_of};
 
 use sgt_access::Accesses;
 use sgt_graph::Graph;
-use sgt_model::{Entry, Event, NoMemory};
+use sgt_model::{Entry, Event, NoMemory, Reply};
 use sgt_records::Records;
-use sgt_sched::{Sched, Scheduler};
+use sgt_sched::{Brief, Sched, Scheduler};
 
 /// Takes the room in the history that an event needs. An event that ends a live transaction has it: the history keeps room for
 /// one end of each. Any other needs room for itself, for those ends, and for the end of one that it may start.
@@ -31,4 +32,17 @@ pub fn make_room<R: Records, A: Accesses, G: Graph>(
         return Ok(());
     }
     Err(NoMemory)
+}
+
+/// Adds an entry, with the reply in full. There is room for it.
+pub fn file(history: &mut Vec<Entry>, event: Event, brief: &Brief, place: &Reply)
+    requires { vec_len history.old < vec_capacity history.old }
+    ensures items { history.new.items ≡ history.old.items ++ record { event = event; reply = told brief.now place.now } ∷ [] }
+    ensures len { vec_len history.new ≡ vec_len history.old + 1 }
+    ensures capacity { vec_capacity history.new ≡ vec_capacity history.old }
+{
+    history.push_reserved(Entry {
+        event,
+        reply: brief.reply(place),
+    });
 }

@@ -1,4 +1,4 @@
-use Rattle.std.proofs.Common.{sym, ap, ◌∙◌, arith, reverse}
+use Rattle.std.proofs.Common.{refl, sym, ap, ◌∙◌, arith, reverse}
 use Rattle.std.proofs.lemmas.Bool.{true≢false}
 use Rattle.std.specs.Result.{is_ok}
 use Rattle.std.specs.Vec.{vec_len, vec_capacity}
@@ -15,11 +15,11 @@ pub invariant_of-self-2 : goal.invariant_of-self-2
 invariant_of-self-2 g c =
     let s = setting (contents_of c.self.inside.opening) c.self.inside.sched.procedures c.self.inside.sched.limits in
     let state = state_of g.R.Records.chain g.R.Records.settled g.A.Accesses.list g.G.Graph.nodes g.G.Graph.pairs in
-    let kept = kept_entry c.calls_simulate.ensures s _ c.self.inside.history.items c.push_reserved.new.self.items (state c.self.inside.sched) (state c.answer.new.self) c.args.event (told c.in_ok-brief.brief c.answer.new.place) (same_setting _ _ _ _ _ c.answer.ensures.procedures c.answer.ensures.limits)
-    (added _ _ _ _ _ _ c.push_reserved.ensures.items c.make_room.ensures.items c.reply.ensures)
+    let kept = kept_entry c.calls_simulate.ensures s _ c.self.inside.history.items c.file.new.history.items (state c.self.inside.sched) (state c.answer.new.self) c.args.event (told c.in_ok-brief.brief c.answer.new.place) (same_setting _ _ _ _ _ c.answer.ensures.procedures c.answer.ensures.limits)
+    (added _ _ _ _ _ _ c.file.ensures.items c.make_room.ensures.items refl)
     (c.self.invariant.0, c.self.invariant.1) c.in_ok-brief.ensures.done in
     let left = room_left (record { sound = c.states_are_sound.ensures; verdicts = c.verdicts_agree.ensures; nexts = c.nexts_agree.ensures; replies = c.endings_agree.ensures.replies; counts = c.endings_agree.ensures.counts }) (setting (contents_of c.self.inside.opening) c.self.inside.sched.procedures c.self.inside.sched.limits) (reverse c.self.inside.history.items) c.self.invariant.0 (state_of g.R.Records.chain g.R.Records.settled g.A.Accesses.list g.G.Graph.nodes g.G.Graph.pairs c.self.inside.sched) c.self.invariant.1 c.args.event (state_of g.R.Records.chain g.R.Records.settled g.A.Accesses.list g.G.Graph.nodes g.G.Graph.pairs c.answer.new.self) (told c.in_ok-brief.brief c.answer.new.place) (vec_len c.make_room.new.history) (vec_capacity c.make_room.new.history) c.in_ok-brief.ensures.done c.make_room.ensures.ends c.in_ok-make_room.ensures.room in
-    (kept.0, kept.1, omega (arith, left, c.push_reserved.ensures.len, c.push_reserved.ensures.capacity))
+    (kept.0, kept.1, omega (arith, left, c.file.ensures.len, c.file.ensures.capacity))
 
 pub returns-clause-legal : goal.returns-clause-legal
 returns-clause-legal g c = (invariant_of-self-2 g c).0
@@ -33,10 +33,12 @@ returns-clause-order g c = (c.headline_holds.ensures _ _ (invariant_of-self-2 g 
 pub returns-clause-adds : goal.returns-clause-adds
 returns-clause-adds g c =
     let s = setting (contents_of c.self.inside.opening) c.self.inside.sched.procedures c.self.inside.sched.limits in
-    let state = state_of g.R.Records.chain g.R.Records.settled g.A.Accesses.list g.G.Graph.nodes g.G.Graph.pairs in
-    (told c.in_ok-brief.brief c.answer.new.place, entry_added c.self.inside.opening _ _ _ _ c.self.inside.history.items c.push_reserved.new.self.items c.args.event (told c.in_ok-brief.brief c.answer.new.place) c.args.self.now c.answer.ensures.procedures c.answer.ensures.limits
-    (added _ _ _ _ _ _ c.push_reserved.ensures.items c.make_room.ensures.items c.reply.ensures) c.self.view_is,
-    legal_reply c.calls_simulate.ensures s _ (reverse c.self.inside.history.items) _ (state c.self.inside.sched) (state c.answer.new.self) c.args.event (told c.in_ok-brief.brief c.answer.new.place) (ap setting_of c.self.view_is) (ap (λ e. e.past) c.self.view_is) (c.self.invariant.0, c.self.invariant.1) c.in_ok-brief.ensures.done)
+    let state = state_of g.R.Records.chain g.R.Records.settled g.A.Accesses.list g.G.Graph.nodes g.G.Graph.pairs in (
+      told c.in_ok-brief.brief c.answer.new.place,
+      entry_added c.self.inside.opening _ _ _ _ c.self.inside.history.items c.file.new.history.items c.args.event (told c.in_ok-brief.brief c.answer.new.place) c.args.self.now c.answer.ensures.procedures c.answer.ensures.limits
+          (added _ _ _ _ _ _ c.file.ensures.items c.make_room.ensures.items refl) c.self.view_is,
+      legal_reply c.calls_simulate.ensures s _ (reverse c.self.inside.history.items) _ (state c.self.inside.sched) (state c.answer.new.self) c.args.event (told c.in_ok-brief.brief c.answer.new.place) (ap setting_of c.self.view_is) (ap (λ e. e.past) c.self.view_is) (c.self.invariant.0, c.self.invariant.1) c.in_ok-brief.ensures.done,
+    )
 
 pub returns-in_err-make_room-clause-no_memory : goal.returns-in_err-make_room-clause-no_memory
 returns-in_err-make_room-clause-no_memory g c = λ r legal e.
@@ -48,7 +50,7 @@ returns-in_err-brief-clause-no_memory g c = λ r legal e.
     let ends = ends_seen (record { sound = c.states_are_sound.ensures; verdicts = c.verdicts_agree.ensures; nexts = c.nexts_agree.ensures; replies = c.endings_agree.ensures.replies; counts = c.endings_agree.ensures.counts }) _ c.args.self.now c.self.view_is (state_of g.R.Records.chain g.R.Records.settled g.A.Accesses.list g.G.Graph.nodes g.G.Graph.pairs c.self.inside.sched) c.self.invariant.0 c.self.invariant.1 c.args.event r legal e in
     absurd (true≢false (sym (c.answer.ensures.no_memory ends) ∙ ap is_ok c.in_err-brief.was))
 
-pub push_reserved-requires : goal.push_reserved-requires
-push_reserved-requires g c =
+pub file-requires : goal.file-requires
+file-requires g c =
     let left = room_left (record { sound = c.states_are_sound.ensures; verdicts = c.verdicts_agree.ensures; nexts = c.nexts_agree.ensures; replies = c.endings_agree.ensures.replies; counts = c.endings_agree.ensures.counts }) (setting (contents_of c.self.inside.opening) c.self.inside.sched.procedures c.self.inside.sched.limits) (reverse c.self.inside.history.items) c.self.invariant.0 (state_of g.R.Records.chain g.R.Records.settled g.A.Accesses.list g.G.Graph.nodes g.G.Graph.pairs c.self.inside.sched) c.self.invariant.1 c.args.event (state_of g.R.Records.chain g.R.Records.settled g.A.Accesses.list g.G.Graph.nodes g.G.Graph.pairs c.answer.new.self) (told c.in_ok-brief.brief c.answer.new.place) (vec_len c.make_room.new.history) (vec_capacity c.make_room.new.history) c.in_ok-brief.ensures.done c.make_room.ensures.ends c.in_ok-make_room.ensures.room in
     omega (arith, left)
