@@ -4,9 +4,9 @@ ghost use Rattle.sgt_graph.specs.BitGraphs.{is_placed, is_pair, IsPlaceVerdict, 
 
 use crate::graph::Graph;
 use crate::rows::{Rows, add, closure, meeting, take_out};
-use crate::tids::{free_place, least_at, place_of, places_of, tids_at};
+use crate::tids::{least_at, place_of, places_of, tids_at};
 use crate::verdict::Verdict;
-use sgt_cycle::places::{joined, least, meets, minus, only};
+use sgt_cycle::places::{complement, joined, least, meets, minus, only};
 use sgt_cycle::walk_rows;
 use sgt_model::{Tid, Tids};
 use std::marker::Model;
@@ -47,7 +47,7 @@ impl Graph for BitGraph {
     }
 
     fn add(&mut self, t: Tid) {
-        let Some(place) = free_place(self.taken, t) else {
+        let Some(place) = least(complement(self.taken)) else {
             unreachable!();
         };
         self.tids[usize::from(place)] = t;

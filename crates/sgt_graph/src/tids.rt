@@ -5,37 +5,14 @@ ghost use Rattle.sgt_cycle.specs.Places.{is_set};
 ghost use Rattle.sgt_graph.specs.BitGraphs.{is_at, IsLeastAt};
 
 use crate::pair_graph::smaller;
-use sgt_cycle::places::{complement, has, joined, least, only};
+use sgt_cycle::places::{has, joined, only};
 use sgt_model::{Tid, Tids};
 
-/// Where a transaction is to be looked for first.
-fn first_place(t: Tid) -> u8
-    ensures { result < 32 }
-{
-    (t.0 % 32) as u8
-}
-
-/// A place for a transaction: its first one, or any that is not taken.
-pub fn free_place(taken: u32, t: Tid) -> Option<u8>
-    ensures some { IfSome result (λ i. (i < 32) × (is_set taken i ≡ false)) }
-    ensures none { IsNone result → (i : ℕ) → i < 32 → is_set taken i ≡ true }
-{
-    let first = first_place(t);
-    if !has(taken, first) {
-        return Some(first);
-    }
-    least(complement(taken))
-}
-
-/// Where a transaction is. It is mostly at its first place.
+/// Where a transaction is.
 pub fn place_of(taken: u32, tids: &[Tid; 32], t: Tid) -> Option<u8>
     ensures some { IfSome result (λ i. (i < 32) × (is_at taken tids.now t i ≡ true)) }
     ensures none { IsNone result → (i : ℕ) → is_at taken tids.now t i ≡ false }
 {
-    let first = first_place(t);
-    if tids[usize::from(first)] == t && has(taken, first) {
-        return Some(first);
-    }
     for place in 0..32u8 {
         if tids[usize::from(place)] == t && has(taken, place) {
             return Some(place);
