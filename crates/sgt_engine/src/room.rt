@@ -41,8 +41,14 @@ pub fn file(history: &mut Vec<Entry>, event: Event, brief: &Brief, place: &Reply
     ensures len { vec_len history.new ≡ vec_len history.old + 1 }
     ensures capacity { vec_capacity history.new ≡ vec_capacity history.old }
 {
-    history.push_reserved(Entry {
-        event,
-        reply: brief.reply(place),
-    });
+    match brief {
+        Brief::Placed => history.push_reserved(Entry {
+            event,
+            reply: place.copied(),
+        }),
+        _ => history.push_reserved(Entry {
+            event,
+            reply: brief.small(),
+        }),
+    }
 }

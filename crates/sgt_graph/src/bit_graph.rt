@@ -84,6 +84,10 @@ impl Graph for BitGraph {
 
     fn least_pred(&self, t: Tid) -> Option<Tid> {
         let place = place_of(self.taken, &self.tids, t)?;
+        // Alone it has no predecessor.
+        if self.taken == only(place) {
+            return None;
+        }
         least_at(&self.tids, meeting(&self.pairs, only(place)))
     }
 
@@ -139,6 +143,11 @@ impl BitGraph {
         ensures graph { IsBitGraph self.new.0 self.new.1 self.new.2 self.new.3 }
     {
         let alone = only(place);
+        // Alone it has no pairs.
+        if self.taken == alone {
+            self.taken = 0;
+            return;
+        }
         let is_first = least(meeting(&self.pairs, alone)).is_none();
         self.taken = minus(self.taken, alone);
         take_out(&mut self.pairs, place);

@@ -60,6 +60,9 @@ pub fn least_at(tids: &[Tid; 32], set: u32) -> Option<Tid>
     ensures some { IfSome result (IsLeastAt tids.now set) }
     ensures none { IsNone result → (i : ℕ) → is_set set i ≡ false }
 {
+    if set == 0 {
+        return None;
+    }
     let mut least: Option<Tid> = None;
     for place in 0..32u8 {
         if has(set, place) {

@@ -24,6 +24,32 @@ pub enum Brief {
 
 impl Brief {
     /// The reply in full, where what is placed stands in this place. This takes no memory.
+    pub fn small(&self) -> Reply
+        ensures { result ≡ told self.now place.now }
+    {
+        match self {
+            Brief::Started(t) => Reply::Started(*t),
+            Brief::NoProcedure => Reply::NoProcedure,
+            Brief::BadArgs => Reply::BadArgs,
+            Brief::Spent => Reply::Spent,
+            Brief::Full => Reply::Full,
+            Brief::Unknown => Reply::Unknown,
+            Brief::Looked { key, value } => Reply::Looked {
+                key: *key,
+                value: *value,
+            },
+            Brief::Wrote { key, value } => Reply::Wrote {
+                key: *key,
+                value: *value,
+            },
+            Brief::Ended => Reply::Ended,
+            Brief::NotEnded => Reply::NotEnded,
+            Brief::Waits(first) => Reply::Waits(*first),
+            Brief::Placed => Reply::Ended,
+        }
+    }
+
+    /// The reply in full, where what is placed stands in this place. This takes no memory.
     pub fn reply(&self, place: &Reply) -> Reply
         ensures { result ≡ told self.now place.now }
     {

@@ -34,7 +34,7 @@ use std::sync::{Mutex, Wait};
 use std::thread::Threads;
 
 /// How many items the workers' feed holds.
-const ROOM: usize = 8;
+const ROOM: usize = 1024;
 
 /// Runs the jobs as transactions of a new engine, each worker in a thread of its own, and reports what became of them.
 ///
