@@ -42,13 +42,24 @@ pub fn file(history: &mut Vec<Entry>, event: Event, brief: &Brief, place: &Reply
     ensures capacity { vec_capacity history.new ≡ vec_capacity history.old }
 {
     match brief {
-        Brief::Placed => history.push_reserved(Entry {
-            event,
-            reply: place.copied(),
-        }),
+        Brief::Placed => file_placed(history, event, place),
         _ => history.push_reserved(Entry {
             event,
-            reply: brief.small(),
+            reply: brief.short(),
         }),
     }
+}
+
+// Adds an entry with the reply that stands in the place.
+#[inline(never)]
+fn file_placed(history: &mut Vec<Entry>, event: Event, place: &Reply)
+    requires { vec_len history.old < vec_capacity history.old }
+    ensures items { history.new.items ≡ history.old.items ++ record { event = event; reply = place.now } ∷ [] }
+    ensures len { vec_len history.new ≡ vec_len history.old + 1 }
+    ensures capacity { vec_capacity history.new ≡ vec_capacity history.old }
+{
+    history.push_reserved(Entry {
+        event,
+        reply: place.copied(),
+    });
 }

@@ -1,4 +1,6 @@
-ghost use Rattle.std.specs.Prelude.{◌≡◌};
+ghost use Rattle.std.specs.Prelude.{◌≡◌, ◌≢◌};
+ghost use Rattle.sgt_model.specs.declared.reply.Reply.{Reply as Answer};
+ghost use Rattle.sgt_sched.specs.declared.brief.Brief.TheVariants.{Placed};
 ghost use Rattle.sgt_sched.specs.Briefs.{told};
 
 use sgt_model::{Key, Reply, Tid};
@@ -23,29 +25,30 @@ pub enum Brief {
 }
 
 impl Brief {
-    /// The reply in full, where what is placed stands in this place. This takes no memory.
-    pub fn small(&self) -> Reply
-        ensures { result ≡ told self.now place.now }
+    /// A reply in short, where what is placed stands in the reply itself.
+    #[inline(always)]
+    pub fn of(reply: &Reply) -> Brief
+        ensures { told result reply.now ≡ reply.now }
     {
-        match self {
-            Brief::Started(t) => Reply::Started(*t),
-            Brief::NoProcedure => Reply::NoProcedure,
-            Brief::BadArgs => Reply::BadArgs,
-            Brief::Spent => Reply::Spent,
-            Brief::Full => Reply::Full,
-            Brief::Unknown => Reply::Unknown,
-            Brief::Looked { key, value } => Reply::Looked {
+        match reply {
+            Reply::Started(t) => Brief::Started(*t),
+            Reply::NoProcedure => Brief::NoProcedure,
+            Reply::BadArgs => Brief::BadArgs,
+            Reply::Spent => Brief::Spent,
+            Reply::Full => Brief::Full,
+            Reply::Unknown => Brief::Unknown,
+            Reply::Looked { key, value } => Brief::Looked {
                 key: *key,
                 value: *value,
             },
-            Brief::Wrote { key, value } => Reply::Wrote {
+            Reply::Wrote { key, value } => Brief::Wrote {
                 key: *key,
                 value: *value,
             },
-            Brief::Ended => Reply::Ended,
-            Brief::NotEnded => Reply::NotEnded,
-            Brief::Waits(first) => Reply::Waits(*first),
-            Brief::Placed => Reply::Ended,
+            Reply::Ended => Brief::Ended,
+            Reply::NotEnded => Brief::NotEnded,
+            Reply::Waits(first) => Brief::Waits(*first),
+            Reply::Over(_) | Reply::Committed(_) | Reply::Aborted { .. } => Brief::Placed,
         }
     }
 
@@ -54,6 +57,18 @@ impl Brief {
         ensures { result ≡ told self.now place.now }
     {
         match self {
+            Brief::Placed => place.copied(),
+            _ => self.short(),
+        }
+    }
+
+    /// The reply in full, of one that is not placed.
+    #[inline(always)]
+    pub fn short(&self) -> Reply
+        requires { self.now ≢ Placed }
+        ensures { (place : Answer) → result ≡ told self.now place }
+    {
+        match self {
             Brief::Started(t) => Reply::Started(*t),
             Brief::NoProcedure => Reply::NoProcedure,
             Brief::BadArgs => Reply::BadArgs,
@@ -71,7 +86,7 @@ impl Brief {
             Brief::Ended => Reply::Ended,
             Brief::NotEnded => Reply::NotEnded,
             Brief::Waits(first) => Reply::Waits(*first),
-            Brief::Placed => place.copied(),
+            Brief::Placed => unreachable!(),
         }
     }
 }

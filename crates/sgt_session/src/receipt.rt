@@ -3,6 +3,7 @@ ghost use Rattle.sgt_model.specs.declared.entry.Entry.{Entry as E};
 ghost use Rattle.sgt_session.specs.Receipts.{receipt_of};
 
 use sgt_model::{Entry, Event, Reply};
+use sgt_sched::Brief;
 
 /// What a session was told of one call: the entry of the history that the call is, and its place there, counted from 0.
 #[derive(Debug, Drop, PartialEq, Eq)]
@@ -35,9 +36,36 @@ pub(crate) fn file_newest(receipts: &mut Vec<Receipt>, history: &[Entry])
     ensures capacity { vec_capacity receipts.new ≡ vec_capacity receipts.old }
 {
     let place = history.len() - 1;
-    let entry = &history[place];
+    file(receipts, place as u64, &history[place]);
+}
+
+// Files the receipt of an entry.
+fn file(receipts: &mut Vec<Receipt>, number: u64, entry: &Entry)
+    requires { vec_len receipts.old < vec_capacity receipts.old }
+    ensures items { receipts.new.items ≡ receipts.old.items ++ receipt_of number entry.now ∷ [] }
+    ensures count { vec_len receipts.new ≡ vec_len receipts.old + 1 }
+    ensures capacity { vec_capacity receipts.new ≡ vec_capacity receipts.old }
+{
+    match Brief::of(&entry.reply) {
+        Brief::Placed => file_placed(receipts, number, entry),
+        brief => receipts.push_reserved(Receipt {
+            number,
+            event: entry.event.copied(),
+            reply: brief.short(),
+        }),
+    }
+}
+
+// Files the receipt of an entry whose reply is large.
+#[inline(never)]
+fn file_placed(receipts: &mut Vec<Receipt>, number: u64, entry: &Entry)
+    requires { vec_len receipts.old < vec_capacity receipts.old }
+    ensures items { receipts.new.items ≡ receipts.old.items ++ receipt_of number entry.now ∷ [] }
+    ensures count { vec_len receipts.new ≡ vec_len receipts.old + 1 }
+    ensures capacity { vec_capacity receipts.new ≡ vec_capacity receipts.old }
+{
     receipts.push_reserved(Receipt {
-        number: place as u64,
+        number,
         event: entry.event.copied(),
         reply: entry.reply.copied(),
     });
