@@ -54,6 +54,34 @@ empty_graph tids rows size none = record {
   acyclic = λ i. none i i;
 }
 
+-- a place that alone is taken is taken no more
+pub alone_left : (taken p : ℕ) → ((i : ℕ) → is_set taken i ≡ nat_eq i p) → (i : ℕ) → is_set 0 i ≡ (is_set taken i && not (nat_eq i p))
+alone_left taken p alone i = none_in i ∙ sym (ap (λ x. x && not (nat_eq i p)) (alone i) ∙ nothing (nat_eq i p))
+  where
+    nothing : (b : Bool) → (b && not b) ≡ false
+    nothing true = refl
+    nothing false = refl
+
+-- where one place alone is taken there is no pair
+module _ (taken : ℕ) (tids pairs reached : List ℕ) (g : IsBitGraph taken tids pairs reached) (p : ℕ) (alone : (i : ℕ) → is_set taken i ≡ nat_eq i p) where
+  pub alone_none : (i j : ℕ) → is_bit pairs i j ≡ false
+  alone_none i j = false_from_ne_true (is_bit pairs i j) (λ h.
+    let (a, b) = g.of_taken i j h in
+    let i_is : i ≡ p = eqb-true i p (sym (alone i) ∙ a) in
+    let j_is : j ≡ p = eqb-true j p (sym (alone j) ∙ b) in
+    both_ways _ (g.acyclic i) (subst (λ x. is_bit reached i x ≡ true) (j_is ∙ sym i_is) (g.closure.each i j h)))
+
+  pub alone_freed : IsBitGraph 0 tids pairs reached
+  alone_freed = record {
+    size = g.size;
+    apart = λ i j t a b. absurd (both_ways _ (none_in i) (and_parts (is_set 0 i) _ a).0);
+    low = λ i h. absurd (both_ways _ (none_in i) h);
+    of_taken = λ i j h. absurd (both_ways _ (alone_none i j) h);
+    closure = g.closure;
+    acyclic = g.acyclic;
+  }
+
+
 -- a transaction more, at a free place
 module _ (taken : ℕ) (tids pairs reached : List ℕ) (g : IsBitGraph taken tids pairs reached) (t p taken' : ℕ) (low : p < 32)
     (is_free : is_set taken p ≡ false) (new : is_placed taken tids t ≡ false) (more : (i : ℕ) → is_set taken' i ≡ (is_set taken i || nat_eq i p)) where

@@ -1,4 +1,4 @@
-ghost use Rattle.std.specs.Prelude.{◌≡◌, ℕ, ◌<◌, true, false, not, ◌||◌, ◌&&◌, nat_eq, slice_index};
+ghost use Rattle.std.specs.Prelude.{◌≡◌, ℕ, ◌<◌, true, false, not, ◌||◌, ◌&&◌, nat_eq, slice_index, IsTrue};
 ghost use Rattle.sgt_cycle.specs.Places.{is_set, is_bit};
 ghost use Rattle.sgt_graph.specs.BitGraphs.{is_placed, is_pair, IsPlaceVerdict, IsBitGraph};
 
@@ -84,8 +84,7 @@ impl Graph for BitGraph {
 
     fn least_pred(&self, t: Tid) -> Option<Tid> {
         let place = place_of(self.taken, &self.tids, t)?;
-        // Alone it has no predecessor.
-        if self.taken == only(place) {
+        if self.is_alone(place) {
             return None;
         }
         least_at(&self.tids, meeting(&self.pairs, only(place)))
@@ -112,6 +111,14 @@ impl BitGraph {
             Some(walk) => Verdict::Closes(tids_at(&self.tids, walk.as_slice())),
             None => unreachable!(),
         }
+    }
+
+    /// Whether no other place is taken. Then there is no pair.
+    fn is_alone(&self, place: u8) -> bool
+        requires low { place < 32 }
+        ensures { IsTrue result → (i : ℕ) → is_set self.now.0 i ≡ nat_eq i place }
+    {
+        self.taken == only(place)
     }
 
     /// Adds pairs from the places of the set to this one, and what is reached by them.
@@ -142,12 +149,11 @@ impl BitGraph {
             ≡ (is_bit self.old.2 i j && (not (nat_eq i place) && not (nat_eq j place))) }
         ensures graph { IsBitGraph self.new.0 self.new.1 self.new.2 self.new.3 }
     {
-        let alone = only(place);
-        // Alone it has no pairs.
-        if self.taken == alone {
+        if self.is_alone(place) {
             self.taken = 0;
             return;
         }
+        let alone = only(place);
         let is_first = least(meeting(&self.pairs, alone)).is_none();
         self.taken = minus(self.taken, alone);
         take_out(&mut self.pairs, place);

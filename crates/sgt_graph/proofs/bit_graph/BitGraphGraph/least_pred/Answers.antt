@@ -1,8 +1,9 @@
-use Rattle.std.proofs.Common.{◌≡◌, ℕ, List, false, subst, refl, IfSome}
-use Rattle.sgt_graph.specs.BitGraphs.{is_placed, is_pair}
+use Rattle.std.proofs.Common.{◌≡◌, ◌∙◌, ℕ, List, false, ap, subst, refl, IfSome}
+use Rattle.sgt_cycle.specs.Places.{is_set}
+use Rattle.sgt_graph.specs.BitGraphs.{place_of, is_placed, is_pair}
 use Rattle.sgt_graph.specs.Graphs.{OfNodes, NoCycle, IsLeastPred}
 use Rattle.sgt_graph.proofs.Placed.{bit_of_nodes, bit_acyclic}
-use Rattle.sgt_graph.proofs.BitSteps.{none_in_place, least_pred_of, no_pred_of}
+use Rattle.sgt_graph.proofs.BitSteps.{none_in_place, alone_none, least_pred_of, no_pred_of}
 use Rattle.sgt_graph.proofs.bit_graph.BitGraphGraph.least_pred.Goals as goal
 
 pub returns-in_err-place-clause-none : goal.returns-in_err-place-clause-none
@@ -14,6 +15,18 @@ returns-in_err-place-clause-of_nodes c = subst (λ (v : ℕ × List ℕ × List 
 
 pub returns-in_err-place-clause-acyclic : goal.returns-in_err-place-clause-acyclic
 returns-in_err-place-clause-acyclic c = subst (λ (v : ℕ × List ℕ × List ℕ × List ℕ). NoCycle (is_pair v.0 v.1 v.2)) c.self.view_is (bit_acyclic c.self.inside.taken c.self.inside.tids c.self.inside.pairs c.self.inside.reached c.self.invariant)
+
+pub returns-then-is_alone-clause-none : goal.returns-then-is_alone-clause-none
+returns-then-is_alone-clause-none c none u = subst (λ (v : ℕ × List ℕ × List ℕ × List ℕ). is_pair v.0 v.1 v.2 u c.args.t ≡ false) c.self.view_is
+    (alone_none c.self.inside.taken c.self.inside.tids c.self.inside.pairs c.self.inside.reached c.self.invariant c.in_ok-place.place
+    (λ i. ap (λ (v : ℕ × List ℕ × List ℕ × List ℕ). is_set v.0 i) c.self.view_is ∙ c.if-is_alone.ensures refl i)
+    (place_of c.self.inside.taken c.self.inside.tids u) (place_of c.self.inside.taken c.self.inside.tids c.args.t))
+
+pub returns-then-is_alone-clause-of_nodes : goal.returns-then-is_alone-clause-of_nodes
+returns-then-is_alone-clause-of_nodes c = subst (λ (v : ℕ × List ℕ × List ℕ × List ℕ). OfNodes (is_placed v.0 v.1) (is_pair v.0 v.1 v.2)) c.self.view_is (bit_of_nodes c.self.inside.taken c.self.inside.tids c.self.inside.pairs c.self.inside.reached c.self.invariant)
+
+pub returns-then-is_alone-clause-acyclic : goal.returns-then-is_alone-clause-acyclic
+returns-then-is_alone-clause-acyclic c = subst (λ (v : ℕ × List ℕ × List ℕ × List ℕ). NoCycle (is_pair v.0 v.1 v.2)) c.self.view_is (bit_acyclic c.self.inside.taken c.self.inside.tids c.self.inside.pairs c.self.inside.reached c.self.invariant)
 
 pub returns-clause-some : goal.returns-clause-some
 returns-clause-some c = subst (λ (v : ℕ × List ℕ × List ℕ × List ℕ). IfSome c.least_at.result (IsLeastPred (is_pair v.0 v.1 v.2) c.args.t)) c.self.view_is
