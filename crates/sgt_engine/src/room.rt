@@ -50,7 +50,7 @@ pub fn file(history: &mut Vec<Entry>, event: Event, brief: &Brief, place: &Reply
     }
 }
 
-// Adds an entry with the reply that stands in the place.
+// Adds an entry with the reply that stands in the place. Most of these are commits.
 #[inline(never)]
 fn file_placed(history: &mut Vec<Entry>, event: Event, place: &Reply)
     requires { vec_len history.old < vec_capacity history.old }
@@ -58,8 +58,28 @@ fn file_placed(history: &mut Vec<Entry>, event: Event, place: &Reply)
     ensures len { vec_len history.new ≡ vec_len history.old + 1 }
     ensures capacity { vec_capacity history.new ≡ vec_capacity history.old }
 {
+    match place {
+        Reply::Committed(answers) => {
+            let answers = answers.copied();
+            history.push_reserved(Entry {
+                event,
+                reply: Reply::Committed(answers),
+            });
+        }
+        _ => file_copy(history, event, place),
+    }
+}
+
+// Adds an entry with a copy of the reply.
+#[inline(never)]
+fn file_copy(history: &mut Vec<Entry>, event: Event, reply: &Reply)
+    requires { vec_len history.old < vec_capacity history.old }
+    ensures items { history.new.items ≡ history.old.items ++ record { event = event; reply = reply.now } ∷ [] }
+    ensures len { vec_len history.new ≡ vec_len history.old + 1 }
+    ensures capacity { vec_capacity history.new ≡ vec_capacity history.old }
+{
     history.push_reserved(Entry {
         event,
-        reply: place.copied(),
+        reply: reply.copied(),
     });
 }

@@ -47,7 +47,7 @@ fn file(receipts: &mut Vec<Receipt>, number: u64, entry: &Entry)
     ensures capacity { vec_capacity receipts.new ≡ vec_capacity receipts.old }
 {
     match Brief::of(&entry.reply) {
-        Brief::Placed => file_placed(receipts, number, entry),
+        Brief::Placed => file_large(receipts, number, entry),
         brief => receipts.push_reserved(Receipt {
             number,
             event: entry.event.copied(),
@@ -56,9 +56,30 @@ fn file(receipts: &mut Vec<Receipt>, number: u64, entry: &Entry)
     }
 }
 
-// Files the receipt of an entry whose reply is large.
+// Files the receipt of an entry whose reply is large. Most of these are commits.
 #[inline(never)]
-fn file_placed(receipts: &mut Vec<Receipt>, number: u64, entry: &Entry)
+fn file_large(receipts: &mut Vec<Receipt>, number: u64, entry: &Entry)
+    requires { vec_len receipts.old < vec_capacity receipts.old }
+    ensures items { receipts.new.items ≡ receipts.old.items ++ receipt_of number entry.now ∷ [] }
+    ensures count { vec_len receipts.new ≡ vec_len receipts.old + 1 }
+    ensures capacity { vec_capacity receipts.new ≡ vec_capacity receipts.old }
+{
+    match &entry.reply {
+        Reply::Committed(answers) => {
+            let answers = answers.copied();
+            receipts.push_reserved(Receipt {
+                number,
+                event: entry.event.copied(),
+                reply: Reply::Committed(answers),
+            });
+        }
+        _ => file_copy(receipts, number, entry),
+    }
+}
+
+// Files the receipt of an entry with a copy of its reply.
+#[inline(never)]
+fn file_copy(receipts: &mut Vec<Receipt>, number: u64, entry: &Entry)
     requires { vec_len receipts.old < vec_capacity receipts.old }
     ensures items { receipts.new.items ≡ receipts.old.items ++ receipt_of number entry.now ∷ [] }
     ensures count { vec_len receipts.new ≡ vec_len receipts.old + 1 }
