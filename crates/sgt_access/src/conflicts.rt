@@ -10,6 +10,7 @@ use sgt_model::{Key, Kind, Tid, Tids};
 /// The transactions other than t with one of these accesses that conflicts with this one. They rise.
 ///
 /// Most accesses have no rival, and the list is begun at the first one.
+#[inline(always)]
 pub fn rivals_among(accesses: &[Access], t: Tid, key: Key, kind: Kind) -> Tids
     requires few { AtMost 32 (is_listed accesses.now) }
     ensures exact { (u : ℕ) → Member u result
@@ -25,6 +26,7 @@ pub fn rivals_among(accesses: &[Access], t: Tid, key: Key, kind: Kind) -> Tids
 }
 
 // The same, where there may be some.
+#[inline(never)]
 fn list_rivals(accesses: &[Access], t: Tid, key: Key, kind: Kind) -> Tids
     requires few { AtMost 32 (is_listed accesses.now) }
     ensures exact { (u : ℕ) → Member u result

@@ -84,6 +84,7 @@ impl Accesses for PerKey {
         self.whole.note(access);
     }
 
+    #[inline(always)]
     fn rivals(&self, t: Tid, key: Key, kind: Kind) -> Tids {
         rivals_among(self.of_key(key), t, key, kind)
     }

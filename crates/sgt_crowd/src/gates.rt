@@ -47,6 +47,7 @@ pub struct SecondFirst {
 }
 
 impl SecondFirst {
+    /// No call made, no job finished.
     pub fn new() -> Self {
         SecondFirst {
             calls_of_first: AtomicU64::new(0),
@@ -84,6 +85,7 @@ pub struct BothRead {
 }
 
 impl BothRead {
+    /// No call made.
     pub fn new() -> Self {
         BothRead {
             calls_of_first: AtomicU64::new(0),
@@ -120,6 +122,7 @@ pub struct LeavesAt {
 }
 
 impl LeavesAt {
+    /// For a worker that leaves behind so many calls; no job finished.
     pub fn new(calls: u64) -> Self {
         LeavesAt {
             calls,
