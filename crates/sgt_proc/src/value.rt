@@ -13,6 +13,8 @@ const OVER: u16 = 1000;
 pub const WRONG: u16 = 0;
 
 /// What an expression gives, or the code that is asked in its place. Most are of one part, which is found with no call.
+#[cycle(value)]
+#[inline(always)]
 pub fn value(expr: &Expr, args: &[i64], registers: &[Option<i64>; 16]) -> Result<i64, u16>
     ensures { result ≡ number_or_code (value_of (term_of expr.now) args.now registers.now) }
 {
@@ -25,6 +27,7 @@ pub fn value(expr: &Expr, args: &[i64], registers: &[Option<i64>; 16]) -> Result
 }
 
 // The same, by recursion through the parts of a sum or difference.
+#[cycle(value)]
 fn value_by_parts(expr: &Expr, args: &[i64], registers: &[Option<i64>; 16]) -> Result<i64, u16>
     ensures { result ≡ number_or_code (value_of (term_of expr.now) args.now registers.now) }
 {
@@ -33,13 +36,13 @@ fn value_by_parts(expr: &Expr, args: &[i64], registers: &[Option<i64>; 16]) -> R
         Expr::Arg(n) => argument(args, *n),
         Expr::Reg(n) => register(registers, *n),
         Expr::Sum(left, right) => sum(
-            value_by_parts(left, args, registers)?,
-            value_by_parts(right, args, registers)?,
+            value(left, args, registers)?,
+            value(right, args, registers)?,
         ),
         Expr::Diff(left, right) => {
             difference(
-                value_by_parts(left, args, registers)?,
-                value_by_parts(right, args, registers)?,
+                value(left, args, registers)?,
+                value(right, args, registers)?,
             )
         }
     }

@@ -62,6 +62,20 @@ value_of-from None None = refl
 value_of-from None (Some v) = refl
 value_of-from (Some w) s = refl
 
+-- of the same parts that are seen as others the rivals are the same
+pub rivals_seen : {R A G : Type 0} (list : A → List ListedAccess) (before now : SchedulerView R A G) → before ≡ now → (t : ℕ) (k : Key) (kind : Kind) (rivals : List ℕ) → ((u : ℕ) → Member u rivals ↔ ((u ≢ t) × (lists_conflicting (list before.accesses) u k kind ≡ true))) → (u : ℕ) → Member u rivals ↔ ((u ≢ t) × (lists_conflicting (list now.accesses) u k kind ≡ true))
+rivals_seen list before now seen t k kind rivals exact = subst (λ p. (u : ℕ) → Member u rivals ↔ ((u ≢ t) × (lists_conflicting (list p.accesses) u k kind ≡ true))) seen exact
+
+pub others_seen : {R A G : Type 0} (nodes : G → ℕ → Bool) (before now : SchedulerView R A G) → before ≡ now → (t : ℕ) (rivals : List ℕ) → ((u : ℕ) → Member u rivals → (nodes before.graph u ≡ true) × (u ≢ t)) → (u : ℕ) → Member u rivals → (nodes now.graph u ≡ true) × (u ≢ t)
+others_seen nodes before now seen t rivals others = subst (λ p. (u : ℕ) → Member u rivals → (nodes p.graph u ≡ true) × (u ≢ t)) seen others
+
+-- and so are the walks to them
+pub walk_seen : {R A G : Type 0} (pairs : G → ℕ → ℕ → Bool) (before now : SchedulerView R A G) → before ≡ now → (t : ℕ) (rivals rest : List ℕ) → Walk (pairs now.graph) t rivals rest → Walk (pairs before.graph) t rivals rest
+walk_seen pairs before now seen t rivals rest walk = subst (λ p. Walk (pairs p.graph) t rivals rest) (sym seen) walk
+
+pub free_walk_seen : {R A G : Type 0} (pairs : G → ℕ → ℕ → Bool) (before now : SchedulerView R A G) → before ≡ now → (t : ℕ) (rivals : List ℕ) → NoWalk (pairs now.graph) t rivals → NoWalk (pairs before.graph) t rivals
+free_walk_seen pairs before now seen t rivals free = subst (λ p. NoWalk (pairs p.graph) t rivals) (sym seen) free
+
 module _ {R A G : Type 0} {chain : R → Key → List (ℕ × ℤ)} {settled : R → Key → Option ℤ} {list : A → List ListedAccess} {nodes : G → ℕ → Bool} {pairs : G → ℕ → ℕ → Bool} {before : SchedulerView R A G} (kept : IsKept chain settled list nodes pairs before) where
   -- few have accesses
   pub rivals_few : AtMost 32 (is_listed (list before.accesses))

@@ -17,19 +17,11 @@ use Rattle.sgt_model.specs.CallEffects.{MakesLook, MakesStore}
 use Rattle.sgt_model.proofs.Conditions.{may_write, chain_room}
 use Rattle.sgt_model.proofs.SoundCalls.{sound_look, sound_store}
 use Rattle.sgt_cycle.specs.Walk.{NoWalk}
-use Rattle.sgt_graph.specs.declared.verdict.Verdict.{Verdict}
-use Rattle.sgt_graph.specs.declared.verdict.Verdict.TheVariants.{Accepted, Closes}
-use Rattle.sgt_graph.specs.Verdicts.{IsVerdict, Inserts}
 use Rattle.sgt_records.specs.Tops.{top_from, value_of}
 use Rattle.sgt_sched.specs.LiveList.{progress_at, changed, looked, stored}
 use Rattle.sgt_sched.specs.SchedulerView.{SchedulerView, state_of, IsKept}
 use Rattle.sgt_sched.specs.Steps.{with_source}
 use Rattle.sgt_sched.proofs.Accessed.{not_blocked, notes, own_progress_is, kept_access, read_added, value_of-from}
-
--- what a test allowed is inserted
-pub inserted : (old new : ℕ → ℕ → Bool) (t : ℕ) (preds : List ℕ) (v : Verdict) → IsVerdict old t preds v → NoWalk old t preds → Inserts old new t preds v → Inserts old new t preds Accepted
-inserted old new t preds Accepted told free pairs = pairs
-inserted old new t preds (Closes walk) told free pairs = absurd (free told.0 told.2)
 
 module _ {R A G : Type 0} {chain : R → Key → List (ℕ × ℤ)} {settled : R → Key → Option ℤ} {list : A → List ListedAccess} {nodes : G → ℕ → Bool} {pairs : G → ℕ → ℕ → Bool} {before now : SchedulerView R A G} (seen : before ≡ now) (kept : IsKept chain settled list nodes pairs before) (t : ℕ) (live_t : nodes before.graph t ≡ true) (k : Key) (rivals : List ℕ) (free : NoWalk (pairs before.graph) t rivals) where
   module _ (exact : (u : ℕ) → Member u rivals ↔ ((u ≢ t) × (lists_conflicting (list before.accesses) u k Look ≡ true))) (accesses : A) (graph : G) (live : List (ℕ × Progress)) (read_from : List (ℕ × ℕ)) (value : Option ℤ) (list_is : list accesses ≡ list before.accesses ++ record { by = t; key = k; kind = Look } ∷ []) (nodes_are : (u : ℕ) → nodes graph u ≡ nodes before.graph u) (pairs_are : (u v : ℕ) → (pairs graph u v ≡ true) ↔ ((pairs before.graph u v ≡ true) ⊎ ((v ≡ t) × Member u rivals))) (value_is : value ≡ value_of (top_from (last_or None (chain before.records k)) (settled before.records k))) (live_is : live ≡ changed t (looked value) before.live) (reads_are : read_from ≡ with_source (top_from (last_or None (chain before.records k)) (settled before.records k)) t before.read_from) where

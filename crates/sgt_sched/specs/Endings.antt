@@ -4,6 +4,7 @@ use Rattle.sgt_model.specs.declared.event.Event.{Event}
 use Rattle.sgt_model.specs.declared.event.Event.TheVariants.{Start, Step, Commit, Quit}
 use Rattle.sgt_model.specs.declared.kind.Kind.{Kind}
 use Rattle.sgt_model.specs.declared.kind.Kind.TheVariants.{Look, Store}
+use Rattle.sgt_model.specs.declared.reply.Cause.TheVariants as cause
 use Rattle.sgt_model.specs.declared.reply.Fate.{Fate}
 use Rattle.sgt_model.specs.declared.reply.Reply.{Reply}
 use Rattle.sgt_model.specs.declared.reply.Reply.TheVariants as reply
@@ -13,9 +14,10 @@ use Rattle.sgt_model.specs.Left.{next_left}
 use Rattle.sgt_model.specs.State.{State}
 use Rattle.sgt_model.specs.Blocks.{Blocks}
 use Rattle.sgt_model.specs.Changes.{Removes}
-use Rattle.sgt_model.specs.CallEffects.{CallEffect}
+use Rattle.sgt_model.specs.CallEffects.{AbortsIn, CallEffect}
 use Rattle.sgt_model.specs.Settings.{Rules}
 use Rattle.sgt_model.specs.Walks.{Member}
+use Rattle.sgt_cycle.specs.Walk.{IsWalk}
 use Rattle.sgt_sched.specs.Steps.{IsUnended}
 
 -- t alone is taken out of the state, with this fate; its values are dropped
@@ -23,6 +25,10 @@ pub record EndsAborted (t : ℕ) (fate : Fate) (before after : State) : Type 0 w
   pub removes : Removes (λ u. nat_eq t u) before after
   pub settled : (k : Key) → after.settled k ≡ before.settled k
   pub fates : (u : ℕ) → after.fates u ≡ cond (nat_eq t u) (Some fate) (before.fates u)
+
+-- t is aborted, as a walk leads from it to one of these
+abbrev pub AbortsByWalk : ℕ → List ℕ → State → Reply → State → Type 0
+AbortsByWalk t targets before r after = (walk : List ℕ) × IsWalk before.pairs t targets walk × AbortsIn t (cause.Cycle walk) before r after
 
 -- the reply ends a live transaction
 abbrev pub is_ending : Reply → Bool

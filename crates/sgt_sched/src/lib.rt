@@ -18,6 +18,7 @@
 mod arguments;
 mod brief;
 mod fates;
+mod follow;
 mod laws;
 mod leave;
 mod live;

@@ -1,5 +1,6 @@
-ghost use Rattle.std.specs.Prelude.{◌≡◌, ◌≤◌, ◌<◌, ℕ, true, false, [], length, nat_lt, Result, Ok, Err, IfOk, OnErr, IfSome, IsSome, IsTrue, ◌⊎◌, ◌↔◌};
+ghost use Rattle.std.specs.Prelude.{◌≡◌, ◌≢◌, ◌≤◌, ◌<◌, ℕ, true, false, [], length, nat_lt, Result, Ok, Err, IfOk, OnErr, IfSome, IsSome, IsTrue, ◌⊎◌, ◌↔◌};
 ghost use Rattle.std.specs.Result.{IfErr, IsOk};
+ghost use Rattle.sgt_model.specs.declared.reply.Cause.TheVariants.{Asked};
 ghost use Rattle.sgt_model.specs.declared.event.Event.TheVariants.{Step, Commit};
 ghost use Rattle.sgt_model.specs.declared.reply.Reply.{Reply as Answer};
 ghost use Rattle.sgt_model.specs.declared.kind.Kind.TheVariants.{Look, Store};
@@ -13,17 +14,19 @@ ghost use Rattle.sgt_model.specs.NewState.{IsNew};
 ghost use Rattle.sgt_model.specs.Numbers.{IsValue};
 ghost use Rattle.sgt_model.specs.Sameness.{Same};
 ghost use Rattle.sgt_model.specs.State.{State};
-ghost use Rattle.sgt_model.specs.Walks.{Rising};
+ghost use Rattle.sgt_cycle.specs.Walk.{NoWalk};
+ghost use Rattle.sgt_model.specs.Walks.{Member, Rising};
 ghost use Rattle.sgt_proc.specs.Nexts.{seen, StoresValue};
 ghost use Rattle.sgt_sched.specs.Admission.{Admits};
 ghost use Rattle.sgt_sched.specs.Briefs.{told};
-ghost use Rattle.sgt_sched.specs.Endings.{EndsAborted, EndsOne, IsBlocked, is_ending};
+ghost use Rattle.sgt_sched.specs.Endings.{AbortsByWalk, EndsAborted, EndsOne, IsBlocked, is_ending};
 ghost use Rattle.sgt_sched.specs.SchedulerView.{rules_of};
 ghost use Rattle.sgt_sched.specs.Steps.{IsClosed, IsUnended};
 
 use crate::arguments::args_fit;
 use crate::brief::Brief;
 use crate::fates::Fates;
+use crate::follow::follow;
 use crate::leave::leave;
 use crate::live::Live;
 use crate::reads::note_read;
@@ -258,7 +261,7 @@ impl<R: Records, A: Accesses, G: Graph> Sched<R, A, G> {
             Next::Look(key) => self.look(t, key, place),
             Next::Put(key, value) => self.store(t, key, value, place),
             Next::Ends(_) => Ok(Brief::Ended),
-            Next::Asks(code) => Ok(self.abort(t, Cause::Asked(code), place)),
+            Next::Asks(code) => Ok(self.abort_asked(t, code, place)),
         }
     }
 
@@ -392,6 +395,49 @@ impl<R: Records, A: Accesses, G: Graph> Sched<R, A, G> {
         self.fates.end(t, &fate);
     }
 
+    // Aborts a live transaction whose procedure asks this code.
+    #[inline(never)]
+    fn abort_asked(&mut self, t: Tid, code: u16, place: &mut Reply) -> Brief
+        requires live { (⟦<Self as Scheduler>⟧.state self.old).nodes t ≡ true }
+        ensures aborts { AbortsIn t (Asked code) (⟦<Self as Scheduler>⟧.state self.old) (told result place.new) (⟦<Self as Scheduler>⟧.state self.new) }
+        ensures procedures { self.new.procedures ≡ self.old.procedures }
+        ensures limits { self.new.limits ≡ self.old.limits }
+    {
+        self.abort(t, Cause::Asked(code), place)
+    }
+
+    // Aborts a live transaction where pairs from these rivals to it would close a cycle, and tells whether it did. Most accesses
+    // have no rival.
+    fn abort_in_cycle(&mut self, t: Tid, rivals: &Tids, place: &mut Reply) -> bool
+        requires live { (⟦<Self as Scheduler>⟧.state self.old).nodes t ≡ true }
+        requires others { (u : ℕ) → Member u rivals.now → ((⟦<Self as Scheduler>⟧.state self.old).nodes u ≡ true) × (u ≢ t) }
+        ensures closes { IsTrue result → AbortsByWalk t rivals.now (⟦<Self as Scheduler>⟧.state self.old) place.new (⟦<Self as Scheduler>⟧.state self.new) }
+        ensures free { result ≡ false → (self.new ≡ self.old) × NoWalk (⟦<Self as Scheduler>⟧.state self.old).pairs t rivals.now }
+        ensures procedures { self.new.procedures ≡ self.old.procedures }
+        ensures limits { self.new.limits ≡ self.old.limits }
+    {
+        !rivals.is_empty() && self.abort_if_closing(t, rivals, place)
+    }
+
+    // The same, where there are rivals.
+    #[inline(never)]
+    fn abort_if_closing(&mut self, t: Tid, rivals: &Tids, place: &mut Reply) -> bool
+        requires live { (⟦<Self as Scheduler>⟧.state self.old).nodes t ≡ true }
+        requires others { (u : ℕ) → Member u rivals.now → ((⟦<Self as Scheduler>⟧.state self.old).nodes u ≡ true) × (u ≢ t) }
+        ensures closes { IsTrue result → AbortsByWalk t rivals.now (⟦<Self as Scheduler>⟧.state self.old) place.new (⟦<Self as Scheduler>⟧.state self.new) }
+        ensures free { result ≡ false → (self.new ≡ self.old) × NoWalk (⟦<Self as Scheduler>⟧.state self.old).pairs t rivals.now }
+        ensures procedures { self.new.procedures ≡ self.old.procedures }
+        ensures limits { self.new.limits ≡ self.old.limits }
+    {
+        match self.graph.test(t, rivals) {
+            Verdict::Accepted => false,
+            Verdict::Closes(walk) => {
+                self.abort(t, Cause::Cycle(walk), place);
+                true
+            }
+        }
+    }
+
     // Makes a look of a live transaction, or aborts it where the look would close a cycle.
     fn look(&mut self, t: Tid, key: Key, place: &mut Reply) -> Result<Brief, NoMemory>
         requires live { (⟦<Self as Scheduler>⟧.state self.old).nodes t ≡ true }
@@ -402,21 +448,18 @@ impl<R: Records, A: Accesses, G: Graph> Sched<R, A, G> {
         ensures no_memory { IsBlocked (⟦<Self as Scheduler>⟧.state self.old) t key Look → IsOk result }
     {
         let rivals = self.accesses.rivals(t, key, Kind::Look);
-        match self.graph.test(t, &rivals) {
-            Verdict::Closes(walk) => Ok(self.abort(t, Cause::Cycle(walk), place)),
-            Verdict::Accepted => {
-                let top = self.records.top(key);
-                let value = top.value();
-                self.accesses.reserve(key)?;
-                self.read_from.reserve(1)?;
-                // Its verdict is that of the test: nothing has changed in the graph since.
-                self.graph.insert(t, &rivals);
-                self.accesses.note(t, key, Kind::Look);
-                note_read(&mut self.read_from, &top, t);
-                self.live.look(t, self.procedures.as_slice(), value);
-                Ok(Brief::Looked { key, value })
-            }
+        if self.abort_in_cycle(t, &rivals, place) {
+            return Ok(Brief::Placed);
         }
+        let top = self.records.top(key);
+        let value = top.value();
+        self.accesses.reserve(key)?;
+        self.read_from.reserve(1)?;
+        follow(&mut self.graph, t, &rivals);
+        self.accesses.note(t, key, Kind::Look);
+        note_read(&mut self.read_from, &top, t);
+        self.live.look(t, self.procedures.as_slice(), value);
+        Ok(Brief::Looked { key, value })
     }
 
     // Makes a store of a live transaction, or aborts it where the store would close a cycle.
@@ -430,19 +473,16 @@ impl<R: Records, A: Accesses, G: Graph> Sched<R, A, G> {
         ensures no_memory { IsBlocked (⟦<Self as Scheduler>⟧.state self.old) t key Store → IsOk result }
     {
         let rivals = self.accesses.rivals(t, key, Kind::Store);
-        match self.graph.test(t, &rivals) {
-            Verdict::Closes(walk) => Ok(self.abort(t, Cause::Cycle(walk), place)),
-            Verdict::Accepted => {
-                self.records.reserve(key)?;
-                self.accesses.reserve(key)?;
-                // Its verdict is that of the test: nothing has changed in the graph since.
-                self.graph.insert(t, &rivals);
-                self.records.write(t, key, value);
-                self.accesses.note(t, key, Kind::Store);
-                self.live.store(t, self.procedures.as_slice());
-                Ok(Brief::Wrote { key, value })
-            }
+        if self.abort_in_cycle(t, &rivals, place) {
+            return Ok(Brief::Placed);
         }
+        self.records.reserve(key)?;
+        self.accesses.reserve(key)?;
+        follow(&mut self.graph, t, &rivals);
+        self.records.write(t, key, value);
+        self.accesses.note(t, key, Kind::Store);
+        self.live.store(t, self.procedures.as_slice());
+        Ok(Brief::Wrote { key, value })
     }
 
     // Commits a live transaction that has no predecessor.

@@ -22,4 +22,4 @@ pub returns-in-Ends-clause-done : goal.returns-in-Ends-clause-done
 returns-in-Ends-clause-done g c = steps_on c.args.t (state_of g.R.Records.chain g.R.Records.settled g.A.Accesses.list g.G.Graph.nodes g.G.Graph.pairs c.args.self.now) reply.Ended (state_of g.R.Records.chain g.R.Records.settled g.A.Accesses.list g.G.Graph.nodes g.G.Graph.pairs c.args.self.now) (Ends c.in-Ends.field-0) (c.in-Some.ensures.unended.0 refl).begun (c.in-Some.ensures.unended.0 refl).unended (ap seen (sym c.in-Ends.is) ∙ c.in-Some.ensures.next) (record { reply = refl; same = refl })
 
 pub returns-in-Asks-clause-done : goal.returns-in-Asks-clause-done
-returns-in-Asks-clause-done g c = steps_on c.args.t (state_of g.R.Records.chain g.R.Records.settled g.A.Accesses.list g.G.Graph.nodes g.G.Graph.pairs c.args.self.now) (told c.abort.result c.abort.new.place) _ (Asks c.in-Asks.code) (c.in-Some.ensures.unended.0 refl).begun (c.in-Some.ensures.unended.0 refl).unended (ap seen (sym c.in-Asks.is) ∙ c.in-Some.ensures.next) c.abort.ensures.aborts
+returns-in-Asks-clause-done g c = steps_on c.args.t (state_of g.R.Records.chain g.R.Records.settled g.A.Accesses.list g.G.Graph.nodes g.G.Graph.pairs c.args.self.now) (told c.abort_asked.result c.abort_asked.new.place) _ (Asks c.in-Asks.code) (c.in-Some.ensures.unended.0 refl).begun (c.in-Some.ensures.unended.0 refl).unended (ap seen (sym c.in-Asks.is) ∙ c.in-Some.ensures.next) c.abort_asked.ensures.aborts
