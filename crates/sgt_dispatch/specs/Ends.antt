@@ -61,9 +61,13 @@ new_putter feed takers = record { feed = feed; put = []; joined = []; unjoined =
 abbrev pub new_taker : FeedId → TakerState
 new_taker feed = record { feed = feed; taken = [] }
 
--- how many items a feed may hold
+-- with how much room a feed may be made
 abbrev pub IsRoom : ℕ → Type 0
 IsRoom room = (1 ≤ room) × (room ≤ 1024)
+
+-- how many jobs a feed may be made for
+abbrev pub AreJobs : ℕ → Type 0
+AreJobs jobs = jobs ≤ 1000000
 
 -- how many takers it may have
 abbrev pub IsCrew : ℕ → Type 0

@@ -1,8 +1,8 @@
-ghost use Rattle.std.specs.Prelude.{◌≡◌, ◌-◌, ◌<◌, ◌≤◌, ◌↔◌, [], Err, IfOk, OnOk, All, vec_len, vec_capacity};
+ghost use Rattle.std.specs.Prelude.{◌≡◌, ◌-◌, ◌<◌, ◌≤◌, ◌↔◌, [], Err, IfOk, IfErr, OnOk, All, vec_len, vec_capacity};
 ghost use Rattle.crossbeam_channel.specs.Claims.{view, IsSeatAt};
 ghost use Rattle.crossbeam_channel.specs.Ends.{sends_on, receives_on};
 ghost use Rattle.sgt_dispatch.specs.declared.errors.FeedError.TheVariants as FeedError;
-ghost use Rattle.sgt_dispatch.specs.Ends.{feed_of, new_putter, new_taker, IsRoom, IsCrew};
+ghost use Rattle.sgt_dispatch.specs.Ends.{feed_of, new_putter, new_taker, IsRoom, AreJobs, IsCrew};
 ghost use Rattle.sgt_dispatch.specs.Logs.{first_log};
 
 use crate::errors::FeedError;
@@ -14,8 +14,11 @@ use crate::taker::Taker;
 use crossbeam_channel::{Pass, RuledReceiver, RuledSender, bounded_with};
 use std::alloc::{AllocError, Global};
 
-/// The most items that a feed may hold.
+/// The most room that a feed may be made with.
 pub const MOST_ROOM: usize = 1024;
+
+/// The most jobs that a feed may be made for.
+pub const MOST_JOBS: usize = 1_000_000;
 
 /// The most takers that a feed may have.
 pub const MOST_TAKERS: usize = 16;
@@ -45,11 +48,49 @@ impl Feed {
         if takers < 1 || takers > MOST_TAKERS {
             return Err(FeedError::BadTakers);
         }
-        let list = Vec::with_capacity(alloc, takers)?;
-        let (sender, receiver, mut pass) = bounded_with::<Item, Log, Fifo, Global>(alloc, room)?;
-        let list = takers_of(&sender, &receiver, &mut pass, list, takers)?;
-        Ok((Putter::new(sender, pass, takers), list))
+        ends_of(alloc, room, takers)
     }
+
+    /// As `make`, with room for so many jobs and a stop for each taker: none of these puts waits.
+    ///
+    /// `BadRoom` where the jobs are over `MOST_JOBS`; then `BadTakers` and `NoMemory`, as in `make`.
+    pub fn make_for(
+        alloc: Global,
+        jobs: usize,
+        takers: usize,
+    ) -> Result<(Putter, Vec<Taker>), FeedError>
+        ensures bad_room { (result ≡ Err FeedError.BadRoom) ↔ (¬ AreJobs jobs) }
+        ensures bad_takers { (result ≡ Err FeedError.BadTakers) ↔ (AreJobs jobs × (¬ IsCrew takers)) }
+        ensures putter { IfOk result (λ ends. ends.0 ≡ new_putter ends.0.feed takers) }
+        ensures count { IfOk result (λ ends. vec_len ends.1 ≡ takers) }
+        ensures takers { IfOk result (λ ends. All (λ taker. taker ≡ new_taker ends.0.feed) ends.1.items) }
+    {
+        if jobs > MOST_JOBS {
+            return Err(FeedError::BadRoom);
+        }
+        if takers < 1 || takers > MOST_TAKERS {
+            return Err(FeedError::BadTakers);
+        }
+        ends_of(alloc, jobs + takers, takers)
+    }
+}
+
+/// The ends of a new feed.
+fn ends_of(
+    alloc: Global,
+    room: usize,
+    takers: usize,
+) -> Result<(Putter, Vec<Taker>), FeedError>
+    requires { (1 ≤ room) × IsCrew takers }
+    ensures putter { IfOk result (λ ends. ends.0 ≡ new_putter ends.0.feed takers) }
+    ensures count { IfOk result (λ ends. vec_len ends.1 ≡ takers) }
+    ensures takers { IfOk result (λ ends. All (λ taker. taker ≡ new_taker ends.0.feed) ends.1.items) }
+    ensures error { IfErr result (λ e. e ≡ FeedError.NoMemory) }
+{
+    let list = Vec::with_capacity(alloc, takers)?;
+    let (sender, receiver, mut pass) = bounded_with::<Item, Log, Fifo, Global>(alloc, room)?;
+    let list = takers_of(&sender, &receiver, &mut pass, list, takers)?;
+    Ok((Putter::new(sender, pass, takers), list))
 }
 
 /// So many takers, each with a pass that is cut off the putter's.

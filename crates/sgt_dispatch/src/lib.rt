@@ -29,7 +29,7 @@ mod putter;
 mod taker;
 
 pub use errors::FeedError;
-pub use feed::{Feed, MOST_ROOM, MOST_TAKERS};
+pub use feed::{Feed, MOST_JOBS, MOST_ROOM, MOST_TAKERS};
 pub use item::Item;
 pub use job::Job;
 pub use putter::Putter;

@@ -222,6 +222,21 @@ fn refused_makes(rt: HostRuntime) {
     assert!(rt; made(alloc, 1024, 16) == Ok(16));
 }
 
+/// How many takers a feed for so many jobs is made with.
+fn made_for(alloc: Global, jobs: usize, takers: usize) -> Result<usize, FeedError> {
+    let (_, takers) = Feed::make_for(alloc, jobs, takers)?;
+    Ok(takers.len())
+}
+
+#[test]
+fn makes_for_jobs(rt: HostRuntime) {
+    let alloc = rt.alloc();
+    assert!(rt; made_for(alloc, 1_000_001, 17) == Err(FeedError::BadRoom));
+    assert!(rt; made_for(alloc, 1_000_000, 0) == Err(FeedError::BadTakers));
+    assert!(rt; made_for(alloc, 0, 1) == Ok(1));
+    assert!(rt; made_for(alloc, 2000, 16) == Ok(16));
+}
+
 /// Whether none of the jobs was handed back, and so many stops were put.
 fn goes_well<R: Threads + Wait + Sync>(rt: &R, alloc: Global, plan: Plan, stops: usize) -> bool {
     let fed = Fed {

@@ -33,9 +33,6 @@ use std::sync::ledger::Blank;
 use std::sync::{Mutex, Wait};
 use std::thread::Threads;
 
-/// How many items the workers' feed holds.
-const ROOM: usize = 1024;
-
 /// Runs the jobs as transactions of a new engine, each worker in a thread of its own, and reports what became of them.
 ///
 /// A worker takes a job, starts a transaction for it, steps until its procedure is at its end, and commits. An attempt that was
@@ -137,7 +134,8 @@ fn run_named<
     let Ok((shared, sessions)) = Shared::<N, R, A, G>::new(alloc, engine, blank, workers) else {
         return Err(PoolError::NoMemory);
     };
-    let Ok((putter, takers)) = Feed::make(alloc, ROOM, usize::from(workers)) else {
+    // It holds all jobs at once, so that nobody waits for room in it.
+    let Ok((putter, takers)) = Feed::make_for(alloc, jobs.len(), usize::from(workers)) else {
         return Err(PoolError::NoMemory);
     };
     let team = team_of(alloc, tries, &putter, sessions, takers)?;
