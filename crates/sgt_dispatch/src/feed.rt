@@ -76,11 +76,7 @@ impl Feed {
 }
 
 /// The ends of a new feed.
-fn ends_of(
-    alloc: Global,
-    room: usize,
-    takers: usize,
-) -> Result<(Putter, Vec<Taker>), FeedError>
+fn ends_of(alloc: Global, room: usize, takers: usize) -> Result<(Putter, Vec<Taker>), FeedError>
     requires { (1 ≤ room) × IsCrew takers }
     ensures putter { IfOk result (λ ends. ends.0 ≡ new_putter ends.0.feed takers) }
     ensures count { IfOk result (λ ends. vec_len ends.1 ≡ takers) }

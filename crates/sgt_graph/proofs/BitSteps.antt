@@ -66,10 +66,10 @@ alone_left taken p alone i = none_in i ∙ sym (ap (λ x. x && not (nat_eq i p))
 module _ (taken : ℕ) (tids pairs reached : List ℕ) (g : IsBitGraph taken tids pairs reached) (p : ℕ) (alone : (i : ℕ) → is_set taken i ≡ nat_eq i p) where
   pub alone_none : (i j : ℕ) → is_bit pairs i j ≡ false
   alone_none i j = false_from_ne_true (is_bit pairs i j) (λ h.
-    let (a, b) = g.of_taken i j h in
-    let i_is : i ≡ p = eqb-true i p (sym (alone i) ∙ a) in
-    let j_is : j ≡ p = eqb-true j p (sym (alone j) ∙ b) in
-    both_ways _ (g.acyclic i) (subst (λ x. is_bit reached i x ≡ true) (j_is ∙ sym i_is) (g.closure.each i j h)))
+      let (a, b) = g.of_taken i j h in
+      let i_is : i ≡ p = eqb-true i p (sym (alone i) ∙ a) in
+      let j_is : j ≡ p = eqb-true j p (sym (alone j) ∙ b) in
+      both_ways _ (g.acyclic i) (subst (λ x. is_bit reached i x ≡ true) (j_is ∙ sym i_is) (g.closure.each i j h)))
 
   pub alone_freed : IsBitGraph 0 tids pairs reached
   alone_freed = record {
@@ -80,7 +80,6 @@ module _ (taken : ℕ) (tids pairs reached : List ℕ) (g : IsBitGraph taken tid
     closure = g.closure;
     acyclic = g.acyclic;
   }
-
 
 -- a transaction more, at a free place
 module _ (taken : ℕ) (tids pairs reached : List ℕ) (g : IsBitGraph taken tids pairs reached) (t p taken' : ℕ) (low : p < 32)
