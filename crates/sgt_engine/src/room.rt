@@ -3,7 +3,6 @@ ghost use Rattle.std.specs.Result.{IsOk};
 ghost use Rattle.std.specs.Vec.{vec_len, vec_capacity};
 ghost use Rattle.sgt_sched.specs.Briefs.{told};
 ghost use Rattle.sgt_sched.specs.Endings.{EndsOne};
-ghost use Rattle.sgt_sched.specs.SchedulerView.{rules_of};
 
 use sgt_access::Accesses;
 use sgt_graph::Graph;

@@ -1,4 +1,4 @@
-ghost use Rattle.std.specs.Prelude.{◌≡◌, ℕ, ◌<◌, true, false, not, ◌||◌, ◌&&◌, nat_eq, slice_index, IsTrue};
+ghost use Rattle.std.specs.Prelude.{◌≡◌, ℕ, ◌<◌, true, false, not, ◌||◌, ◌&&◌, nat_eq, IsTrue};
 ghost use Rattle.sgt_cycle.specs.Places.{is_set, is_bit};
 ghost use Rattle.sgt_graph.specs.BitGraphs.{is_placed, is_pair, IsPlaceVerdict, IsBitGraph};
 

@@ -1,5 +1,5 @@
-ghost use Rattle.std.specs.Prelude.{◌≡◌, ◌≢◌, ◌≤◌, ◌<◌, ℕ, true, false, [], length, nat_lt, Result, Ok, Err, IfOk, OnErr, IfSome, IsSome, IsTrue, ◌⊎◌, ◌↔◌};
-ghost use Rattle.std.specs.Result.{IfErr, IsOk};
+ghost use Rattle.std.specs.Prelude.{◌≡◌, ◌≢◌, ◌<◌, ℕ, true, false, length, Result, Ok, Err, IfOk, OnErr, IfSome, IsSome, IsTrue, ◌⊎◌, ◌↔◌};
+ghost use Rattle.std.specs.Result.{IsOk};
 ghost use Rattle.sgt_model.specs.declared.reply.Cause.TheVariants.{Asked};
 ghost use Rattle.sgt_model.specs.declared.event.Event.TheVariants.{Step, Commit};
 ghost use Rattle.sgt_model.specs.declared.reply.Reply.{Reply as Answer};
@@ -9,7 +9,6 @@ ghost use Rattle.sgt_model.specs.CallEffects.{AbortsIn, CallEffect, CommitEffect
 ghost use Rattle.sgt_model.specs.Databases.{contents_of};
 ghost use Rattle.sgt_model.specs.FallsIn.{FallsIn};
 ghost use Rattle.sgt_model.specs.Left.{next_left};
-ghost use Rattle.sgt_sched.specs.LiveList.{progress_at};
 ghost use Rattle.sgt_model.specs.NewState.{IsNew};
 ghost use Rattle.sgt_model.specs.Numbers.{IsValue};
 ghost use Rattle.sgt_model.specs.Sameness.{Same};
@@ -30,7 +29,6 @@ use crate::follow::follow;
 use crate::leave::leave;
 use crate::live::Live;
 use crate::reads::note_read;
-use crate::running::Running;
 use crate::scheduler::Scheduler;
 use sgt_access::Accesses;
 use sgt_cascade::fallers;

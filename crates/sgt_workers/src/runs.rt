@@ -1,4 +1,4 @@
-ghost use Rattle.std.specs.Prelude.{◌≡◌, ◌↔◌, ◌≤◌, ◌<◌, [], Result, Ok, Err, IfOk, IfErr, All, reverse, vec_len};
+ghost use Rattle.std.specs.Prelude.{◌≡◌, ◌↔◌, ◌<◌, [], Result, Ok, Err, IfOk, IfErr, reverse};
 ghost use Rattle.std.specs.List.{count_by};
 ghost use Rattle.sgt_model.specs.Aborts.{AbortsHaveCause};
 ghost use Rattle.sgt_model.specs.CommitOrder.{CommitsInOrder};
