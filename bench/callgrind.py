@@ -1,4 +1,4 @@
-"""Counts the instructions of `sgt script` on a script, by valgrind's callgrind, and tells the JSON reader's clearing apart.
+"""Counts the instructions of `sgt` on an input, by valgrind's callgrind, and tells the JSON reader's clearing apart.
 
 The JSON reader clears a window of 16 KB for each text that it reads. That is the library's own and the same for each line, so
 what the program itself costs is read off without it.
@@ -44,17 +44,22 @@ def counted(profile):
     return total, clearing
 
 
-def instructions(program, path):
-    """The instructions of one run of the script, and those in which the JSON reader clears."""
-    with tempfile.TemporaryDirectory() as folder, open(path) as script, open(os.devnull, "w") as nothing:
+def instructions(words, path):
+    """The instructions of one run over an input, and those in which the JSON reader clears."""
+    with tempfile.TemporaryDirectory() as folder, open(path) as lines, open(os.devnull, "w") as nothing:
         profile = os.path.join(folder, "profile")
-        words = ["valgrind", "--tool=callgrind", f"--callgrind-out-file={profile}", program, "script"]
-        subprocess.run(words, stdin=script, stdout=nothing, stderr=nothing, check=True)
+        valgrind = ["valgrind", "--tool=callgrind", f"--callgrind-out-file={profile}"]
+        subprocess.run(valgrind + words, stdin=lines, stdout=nothing, stderr=nothing, check=True)
         return counted(profile)
 
 
+def each(words, opening, whole, count):
+    """The instructions for each of so many lines, without the opening's and without the JSON reader's clearing; and that clearing."""
+    opened, opened_clearing = instructions(words, opening)
+    total, clearing = instructions(words, whole)
+    return (total - clearing - opened + opened_clearing) / count, (clearing - opened_clearing) / count
+
+
 def each_event(program, opening, script, events):
-    """The instructions for each event, without the opening's and without the JSON reader's clearing; and that clearing."""
-    opened, opened_clearing = instructions(program, opening)
-    total, clearing = instructions(program, script)
-    return (total - clearing - opened + opened_clearing) / events, (clearing - opened_clearing) / events
+    """The same, for each event of a script."""
+    return each([program, "script"], opening, script, events)
