@@ -61,6 +61,7 @@ mod close;
 mod named;
 mod new;
 mod own;
+mod patience;
 mod receipt;
 mod round;
 mod same;

@@ -6,6 +6,7 @@ ghost use Rattle.sgt_session.specs.Receipts.{IsWait, IsWaitOf};
 
 use crate::named::Named;
 use crate::own::{make_room, note};
+use crate::patience::lock_patiently;
 use crate::receipt::Receipt;
 use crate::shared::Shared;
 use crate::waiters::is_wait;
@@ -160,7 +161,7 @@ impl<N: Named> Session<N> {
             (λ _. self.new ≡ self.old) }
     {
         make_room(&mut self.receipts, &mut self.own, &event)?;
-        let mut round = shared.round.lock(rt);
+        let mut round = lock_patiently(rt, &shared.round);
         round.apply(event, &mut self.share, &mut self.receipts)?;
         let receipt = &self.receipts[self.receipts.len() - 1];
         if may_wait && is_wait(&receipt.reply) {
