@@ -11,10 +11,8 @@ ghost use Rattle.sgt_bank.specs.Taking.{Asks, EndsWith};
 use sgt_dispatch::Job;
 use sgt_format::{JobCall, read_job};
 use sgt_stream::{Fault, Lines, Source, line_fault};
+use sgt_workers::MOST_JOBS;
 use std::alloc::Global;
-
-/// The most jobs that an input may have.
-const MOST_JOBS: usize = 1_000_000;
 
 /// The call that the line given last asks for.
 fn call_of(alloc: Global, lines: &Lines) -> Result<JobCall, Fault>

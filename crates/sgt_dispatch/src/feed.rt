@@ -51,7 +51,8 @@ impl Feed {
         ends_of(alloc, room, takers)
     }
 
-    /// As `make`, with room for so many jobs and a stop for each taker: none of these puts waits.
+    /// As `make`, with room for so many jobs and a stop for each taker, so that nobody waits for room with as many. That is tested;
+    /// no clause speaks of who waits.
     ///
     /// `BadRoom` where the jobs are over `MOST_JOBS`; then `BadTakers` and `NoMemory`, as in `make`.
     pub fn make_for(

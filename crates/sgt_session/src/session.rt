@@ -161,7 +161,7 @@ impl<N: Named> Session<N> {
             (λ _. self.new ≡ self.old) }
     {
         make_room(&mut self.receipts, &mut self.own, &event)?;
-        let mut round = lock_patiently(rt, &shared.round);
+        let mut round = lock_patiently(rt, &shared.round, &event);
         round.apply(event, &mut self.share, &mut self.receipts)?;
         let receipt = &self.receipts[self.receipts.len() - 1];
         if may_wait && is_wait(&receipt.reply) {

@@ -237,6 +237,27 @@ fn makes_for_jobs(rt: HostRuntime) {
     assert!(rt; made_for(alloc, 2000, 16) == Ok(16));
 }
 
+/// Puts so many jobs, and a stop for each taker, into a feed that was made for them, before anything is taken. It answers the
+/// number of the job that was handed back, if one was, and how many stops were put.
+fn put_before_takes<R: Wait>(
+    rt: &R,
+    alloc: Global,
+    jobs: u32,
+    takers: usize,
+) -> Result<(Option<u32>, usize), FeedError> {
+    let (mut putter, takers) = Feed::make_for(alloc, jobs as usize, takers)?;
+    let back = put_jobs(rt, &mut putter, jobs);
+    let stops = put_stops(rt, &mut putter, takers.len());
+    Ok((back, stops))
+}
+
+/// Were there too little room, this test would not end.
+#[test]
+fn no_put_waits_for_room(rt: HostRuntime) {
+    assert!(rt; put_before_takes(&rt, rt.alloc(), 0, 1) == Ok((None, 1)));
+    assert!(rt; put_before_takes(&rt, rt.alloc(), 2000, 16) == Ok((None, 16)));
+}
+
 /// Whether none of the jobs was handed back, and so many stops were put.
 fn goes_well<R: Threads + Wait + Sync>(rt: &R, alloc: Global, plan: Plan, stops: usize) -> bool {
     let fed = Fed {

@@ -3,7 +3,7 @@ ghost use Rattle.sgt_workers.specs.declared.errors.PoolError.TheVariants as Pool
 ghost use Rattle.sgt_workers.specs.Banks.{AreWorkers, AreTries, AreLimitsFor, AreNumbered, AreJobs};
 
 use crate::errors::PoolError;
-use sgt_dispatch::Job;
+use sgt_dispatch::{Job, MOST_JOBS};
 use sgt_model::{Database, Limits};
 use sgt_proc::Checked;
 
@@ -12,9 +12,6 @@ pub const MOST_WORKERS: u32 = 16;
 
 /// The most tries that a job may have.
 pub const MOST_TRIES: u32 = 1000;
-
-/// The most jobs that a run may have.
-pub const MOST_JOBS: usize = 1_000_000;
 
 /// What jobs are run on. The procedures are numbered from 0 in their order.
 #[derive(Drop)]

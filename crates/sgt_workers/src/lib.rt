@@ -38,10 +38,11 @@ mod runs;
 mod stands;
 mod worker;
 
-pub use bank::{Bank, MOST_JOBS, MOST_TRIES, MOST_WORKERS};
+pub use bank::{Bank, MOST_TRIES, MOST_WORKERS};
 pub use errors::PoolError;
 pub use gate::{Gate, Pass};
 pub use outcome::Outcome;
 pub use report::Report;
 pub use reports::audit;
 pub use runs::run;
+pub use sgt_dispatch::MOST_JOBS;
