@@ -106,6 +106,17 @@ impl<R: Records, A: Accesses, G: Graph> Engine<R, A, G> {
         })
     }
 
+    /// Takes room for so many more entries, so that the history has no need to grow until then: a growth may move all of it.
+    /// Nothing else changes.
+    ///
+    /// `NoMemory` where the growth was refused.
+    pub fn reserve(&mut self, entries: usize) -> Result<(), NoMemory>
+        ensures { self.new ≡ self.old }
+    {
+        self.history.reserve(entries)?;
+        Ok(())
+    }
+
     /// Takes an event, answers it, and adds both to the history as one entry. A transaction is named by the number that its
     /// start was answered; any event may come at any time. What each event does is said at [`Event`], and the answers at
     /// [`Reply`].

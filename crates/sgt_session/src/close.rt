@@ -56,6 +56,7 @@ impl<N: Named, R: Records, A: Accesses, G: Graph> Shared<N, R, A, G> {
         }
         let Shared {
             round,
+            starters,
             waiters,
             sessions: count,
         } = self;
@@ -64,6 +65,7 @@ impl<N: Named, R: Records, A: Accesses, G: Graph> Shared<N, R, A, G> {
         if !accounts(round.history(), sessions.as_slice()) {
             let shared = Shared {
                 round: Mutex::new(round),
+                starters,
                 waiters,
                 sessions: count,
             };

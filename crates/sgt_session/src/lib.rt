@@ -61,12 +61,12 @@ mod close;
 mod named;
 mod new;
 mod own;
-mod patience;
 mod receipt;
 mod round;
 mod same;
 mod session;
 mod shared;
+mod starters;
 mod waiters;
 
 pub use close::{CloseError, Closed};

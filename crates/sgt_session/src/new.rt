@@ -5,6 +5,7 @@ use crate::named::Named;
 use crate::round::Round;
 use crate::session::Session;
 use crate::shared::Shared;
+use crate::starters::Starters;
 use crate::waiters::Waiters;
 use sgt_access::Accesses;
 use sgt_engine::Engine;
@@ -49,6 +50,7 @@ impl<N: Named, R: Records, A: Accesses, G: Graph> Shared<N, R, A, G> {
         Ok((
             Shared {
                 round,
+                starters: Starters::new(),
                 waiters: Waiters::new(),
                 sessions,
             },

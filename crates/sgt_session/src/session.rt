@@ -6,7 +6,6 @@ ghost use Rattle.sgt_session.specs.Receipts.{IsWait, IsWaitOf};
 
 use crate::named::Named;
 use crate::own::{make_room, note};
-use crate::patience::lock_patiently;
 use crate::receipt::Receipt;
 use crate::shared::Shared;
 use crate::waiters::is_wait;
@@ -57,6 +56,16 @@ impl<N: Named> Session<N> {
             receipts: Vec::new(alloc),
             own: Vec::new(alloc),
         }
+    }
+
+    /// Takes room for the receipts of so many more calls, so that their list has no need to grow until then. Nothing else changes.
+    ///
+    /// `NoMemory` where the growth was refused.
+    pub fn reserve(&mut self, calls: usize) -> Result<(), NoMemory>
+        ensures { self.new ≡ self.old }
+    {
+        self.receipts.reserve(calls)?;
+        Ok(())
     }
 
     /// The receipts, in the order of the calls.
@@ -161,7 +170,7 @@ impl<N: Named> Session<N> {
             (λ _. self.new ≡ self.old) }
     {
         make_room(&mut self.receipts, &mut self.own, &event)?;
-        let mut round = lock_patiently(rt, &shared.round, &event);
+        let mut round = shared.starters.lock(rt, &shared.round, &event);
         round.apply(event, &mut self.share, &mut self.receipts)?;
         let receipt = &self.receipts[self.receipts.len() - 1];
         if may_wait && is_wait(&receipt.reply) {

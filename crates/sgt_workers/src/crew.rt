@@ -17,10 +17,11 @@ use std::sync::{Mutex, Wait};
 use std::thread;
 use std::thread::{PromisedHandle, Scope, Threads};
 
-/// A worker for each session and taker.
+/// A worker for each session and taker, which takes room for so many calls.
 pub fn team_of<N: Named>(
     alloc: Global,
     tries: u32,
+    calls: usize,
     putter: &Putter,
     sessions: Vec<Session<N>>,
     takers: Vec<Taker>,
@@ -44,6 +45,7 @@ pub fn team_of<N: Named>(
         team.push_reserved(Worker {
             number,
             tries,
+            calls,
             alloc,
             session,
             taker,

@@ -33,6 +33,9 @@ use std::sync::ledger::Blank;
 use std::sync::{Mutex, Wait};
 use std::thread::Threads;
 
+/// For how many calls of each job room is taken ahead: about as many as a job of SmallBank makes.
+const CALLS_OF_A_JOB: usize = 8;
+
 /// Runs the jobs as transactions of a new engine, each worker in a thread of its own, and reports what became of them.
 ///
 /// A worker takes a job, starts a transaction for it, steps until its procedure is at its end, and commits. An attempt that was
@@ -131,6 +134,11 @@ fn run_named<
     ensures error { IfErr result IsRunError }
 {
     let outcomes = Mutex::new(all_untaken::<T::Note>(alloc, jobs.len())?);
+    // With room ahead no list is moved while several threads run, which each of their processors would be stopped for. Where it
+    // is refused the lists grow as they need.
+    let calls = jobs.len().saturating_mul(CALLS_OF_A_JOB);
+    let mut engine = engine;
+    let _ = engine.reserve(calls);
     let Ok((shared, sessions)) = Shared::<N, R, A, G>::new(alloc, engine, blank, workers) else {
         return Err(PoolError::NoMemory);
     };
@@ -138,7 +146,14 @@ fn run_named<
     let Ok((putter, takers)) = Feed::make_for(alloc, jobs.len(), usize::from(workers)) else {
         return Err(PoolError::NoMemory);
     };
-    let team = team_of(alloc, tries, &putter, sessions, takers)?;
+    let team = team_of(
+        alloc,
+        tries,
+        calls / usize::from(workers),
+        &putter,
+        sessions,
+        takers,
+    )?;
     let (putter, ended) = run_crew(rt, alloc, &shared, gate, &outcomes, jobs, putter, team)?;
     let sessions = settle(alloc, putter, ended)?;
     let Ok(

@@ -20,6 +20,8 @@ pub struct Worker<N: Named> {
     pub number: u8,
     /// How many attempts at a job it makes at most.
     pub tries: u32,
+    /// For how many calls it takes room ahead, where it gets it.
+    pub calls: usize,
     /// Where it keeps the attempts at a job.
     pub alloc: Global,
     pub session: Session<N>,
@@ -55,10 +57,12 @@ pub fn work<N: Named, R: Records, A: Accesses, G: Graph, T: Gate, W: Wait>(
     let Worker {
         number,
         tries,
+        calls,
         alloc,
-        session,
+        mut session,
         mut taker,
     } = worker;
+    let _ = session.reserve(calls);
     let mut caller = Caller {
         rt,
         shared,
