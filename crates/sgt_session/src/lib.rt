@@ -67,6 +67,7 @@ mod same;
 mod session;
 mod shared;
 mod starters;
+mod touch;
 mod waiters;
 
 pub use close::{CloseError, Closed};

@@ -8,6 +8,7 @@ use crate::named::Named;
 use crate::own::{make_room, note};
 use crate::receipt::Receipt;
 use crate::shared::Shared;
+use crate::touch::touch_next;
 use crate::waiters::is_wait;
 use sgt_access::Accesses;
 use sgt_graph::Graph;
@@ -27,6 +28,8 @@ pub struct Session<N: Named> {
     share: Share<N>,
     receipts: Vec<Receipt>,
     own: Vec<Tid>,
+    /// The place up to which the receipts' room was touched.
+    touched: usize,
 }
 
 impl<N: Named> Model for Session<N> {
@@ -55,6 +58,7 @@ impl<N: Named> Session<N> {
             share,
             receipts: Vec::new(alloc),
             own: Vec::new(alloc),
+            touched: 0,
         }
     }
 
@@ -113,6 +117,10 @@ impl<N: Named> Session<N> {
             (λ _. (r : Receipt) × (r.event ≡ event) × (self.new ≡ self.old ++ r ∷ []))
             (λ _. self.new ≡ self.old) }
     {
+        // A start has time, and a session that is alone keeps nobody waiting.
+        if shared.sessions > 1 && matches!(event, Event::Start { .. }) {
+            self.touch_room();
+        }
         self.make_one(rt, shared, event, false)
     }
 
@@ -154,6 +162,13 @@ impl<N: Named> Session<N> {
             }
         }
         unreachable!()
+    }
+
+    /// Touches the room of the next receipts, where they have come to the end of what was touched.
+    fn touch_room(&mut self)
+        ensures { self.new ≡ self.old }
+    {
+        touch_next(&mut self.receipts, &mut self.touched);
     }
 
     /// One event, with its receipt filed. Where the reply tells to wait, and it `may_wait`, it begins to do so in the same hold
@@ -207,6 +222,7 @@ pub(crate) fn lend<N: Named>(sessions: &mut [Session<N>], calls: &mut Book<N>, s
             share,
             receipts,
             own: _,
+            touched: _,
         } = first;
         let count = receipts.len() as u64;
         share.give(seen, 1, count);
