@@ -8,7 +8,7 @@ use crate::named::Named;
 use crate::own::{make_room, note};
 use crate::receipt::Receipt;
 use crate::shared::Shared;
-use crate::touch::touch_next;
+use crate::touch::touch;
 use crate::waiters::is_wait;
 use sgt_access::Accesses;
 use sgt_graph::Graph;
@@ -168,7 +168,9 @@ impl<N: Named> Session<N> {
     fn touch_room(&mut self)
         ensures { self.new ≡ self.old }
     {
-        touch_next(&mut self.receipts, &mut self.touched);
+        if self.receipts.len() >= self.touched {
+            self.touched = touch(&mut self.receipts);
+        }
     }
 
     /// One event, with its receipt filed. Where the reply tells to wait, and it `may_wait`, it begins to do so in the same hold

@@ -2,16 +2,17 @@ use sgt_model::Event;
 use std::sync::{Mutex, MutexGuard, Wait};
 use std::thread;
 
-/// How often a thread looks whether the lock is free before it sleeps.
+/// How often a thread that found the lock taken looks again before it sleeps.
 const LOOKS: u32 = 12;
 
-/// How often it lets others run before its first look, where its call starts a transaction.
+/// How often it lets others run before it looks again, where its call starts a transaction. Before each further look it is
+/// twice as often.
 const START_PAUSE: u32 = 1_024;
 
-/// How often where it does not.
+/// The same, where its call starts none.
 const PAUSE: u32 = 8;
 
-/// How often before any look.
+/// The most often that it lets others run before a look.
 const LONGEST_PAUSE: u32 = 8_192;
 
 /// Where threads wait whose call starts a transaction and that found the engine's lock taken. One of them looks for it, and the

@@ -37,25 +37,21 @@ transactions_of history outcome.Untaken = []
 transactions_of history outcome.NoMemory = []
 
 -- whether a job was committed
-
 abbrev pub is_done : {N : Type 0} → Outcome N → Bool
 is_done (outcome.Done n) = true
 is_done _ = false
 
 -- whether its worker left in its midst
-
 abbrev pub is_left : {N : Type 0} → Outcome N → Bool
 is_left (outcome.Left note) = true
 is_left _ = false
 
 -- whether nobody took it
-
 abbrev pub is_untaken : {N : Type 0} → Outcome N → Bool
 is_untaken outcome.Untaken = true
 is_untaken _ = false
 
 -- whether it ended for want of memory
-
 abbrev pub is_no_memory : {N : Type 0} → Outcome N → Bool
 is_no_memory outcome.NoMemory = true
 is_no_memory _ = false

@@ -33,7 +33,7 @@ use std::sync::ledger::Blank;
 use std::sync::{Mutex, Wait};
 use std::thread::Threads;
 
-/// For how many calls of each job room is taken ahead: about as many as a job of SmallBank makes.
+/// For how many calls of each job room is taken ahead: a start, six steps, a commit.
 const CALLS_OF_A_JOB: usize = 8;
 
 /// Runs the jobs as transactions of a new engine, each worker in a thread of its own, and reports what became of them.
