@@ -6,6 +6,7 @@ use Rattle.sgt_model.specs.declared.entry.Entry.{Entry}
 use Rattle.sgt_model.specs.declared.event.Event.{Event}
 use Rattle.sgt_model.specs.declared.event.Event.TheVariants.{Start, Step, Commit, Quit}
 use Rattle.sgt_model.specs.declared.kind.Kind.TheVariants.{Look, Store}
+use Rattle.sgt_model.specs.declared.limits.Limits.{Limits}
 use Rattle.sgt_model.specs.declared.reply.Fate.{Fate}
 use Rattle.sgt_model.specs.declared.reply.Reply.{Reply}
 use Rattle.sgt_model.specs.declared.reply.Reply.TheVariants as reply
@@ -14,7 +15,8 @@ use Rattle.sgt_model.specs.Fates.{starts, fate_of, live, live_ones}
 use Rattle.sgt_model.specs.Settings.{Setting, takes}
 use Rattle.sgt_model.specs.Progress.{next_of}
 use Rattle.sgt_model.specs.Left.{next_left}
-use Rattle.sgt_model.specs.Legality.{Legal, LegalReply, StepReply, CommitReply, OfStarted, args_fit, started_reply, called_reply}
+use Rattle.sgt_model.specs.Legality.{Legal, LegalReply, StepReply, CommitReply, OfStarted}
+use Rattle.sgt_model.specs.StartReply.{args_fit, room_reply, taken_reply}
 use Rattle.sgt_model.specs.State.{State}
 use Rattle.sgt_model.specs.StateAfter.{IsStateAfter}
 use Rattle.sgt_model.specs.CallEffects.{CallEffect}
@@ -47,19 +49,19 @@ live-no_fate : (past : List Entry) (t : ℕ) → live past t ≡ true → fate_o
 live-no_fate past t alive = no_fate (fate_of past t) (and_parts (nat_lt t (starts past)) (is_none (fate_of past t)) alive).1
 
 -- a start ends nothing
-start_quiet : (s : Setting) (past : List Entry) (taken : Option ℕ) (args : List ℤ) → is_ending (called_reply s past taken args) ≡ false
-start_quiet s past None args = refl
-start_quiet s past (Some count) args = fits (args_fit count args) where
-  full : (b : Bool) → is_ending (cond b reply.Full (reply.Started (starts past))) ≡ false
+start_quiet : (limits : Limits) (begun living : ℕ) (taken : Option ℕ) (args : List ℤ) → is_ending (taken_reply limits begun living taken args) ≡ false
+start_quiet limits begun living None args = refl
+start_quiet limits begun living (Some count) args = fits (args_fit count args) where
+  full : (b : Bool) → is_ending (cond b reply.Full (reply.Started begun)) ≡ false
   full true = refl
   full false = refl
 
-  spent : (b : Bool) → is_ending (cond b reply.Spent (cond (nat_eq (length (live_ones past)) s.rules.limits.live) reply.Full (reply.Started (starts past)))) ≡ false
+  spent : (b : Bool) → is_ending (cond b reply.Spent (cond (nat_eq living limits.live) reply.Full (reply.Started begun))) ≡ false
   spent true = refl
-  spent false = full (nat_eq (length (live_ones past)) s.rules.limits.live)
+  spent false = full (nat_eq living limits.live)
 
-  fits : (b : Bool) → is_ending (cond b (started_reply s past) reply.BadArgs) ≡ false
-  fits true = spent (nat_eq (starts past) s.rules.limits.begins)
+  fits : (b : Bool) → is_ending (cond b (room_reply limits begun living) reply.BadArgs) ≡ false
+  fits true = spent (nat_eq begun limits.begins)
   fits false = refl
 
 module _ (laws : StateLaws) (s : Setting) (past : List Entry) (legal : Legal s past) (c : State) (i : IsStateAfter s past c) where
@@ -97,7 +99,7 @@ module _ (laws : StateLaws) (s : Setting) (past : List Entry) (legal : Legal s p
 
   commit_ends : (t : ℕ) (n : Next) (r : Reply) → CommitReply past t n r → is_ending r ≡ true → CommitEnds t n c
   commit_ends t (Ends answers) r (inl x) e = absurd (quiet r _ x.is refl e)
-  commit_ends t (Ends answers) r (inr x) e = λ u p. let pair = (i.pairs u t).0 p in x.none_live u pair.first_live pair.pair
+  commit_ends t (Ends answers) r (inr x) e = λ u p. let pair = (i.pairs u t).0 p in x.none_live u (record { is_live = pair.first_live; pair = pair.pair })
   commit_ends t (Looks k) r x e = absurd (quiet r _ x refl e)
   commit_ends t (Puts k v) r x e = absurd (quiet r _ x refl e)
   commit_ends t (Asks code) r x e = absurd (quiet r _ x refl e)
@@ -106,7 +108,7 @@ module _ (laws : StateLaws) (s : Setting) (past : List Entry) (legal : Legal s p
   next_same t l = sym (laws.nexts s past legal c i t l)
 
   pub legal_ends : (event : Event) (r : Reply) → LegalReply s past event r → is_ending r ≡ true → EndsOne event c
-  legal_ends (Start p args) r x e = absurd (quiet r _ x (start_quiet s past (takes s.rules p) args) e)
+  legal_ends (Start p args) r x e = absurd (quiet r _ x (start_quiet s.rules.limits (starts past) (length (live_ones past)) (takes s.rules p) args) e)
   legal_ends (Step t) r x e =
       let o = opened r _ (nat_lt t (starts past)) (fate_of past t) x e in
       let l = live_from past t o.0 o.1 in

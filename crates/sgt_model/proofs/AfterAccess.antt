@@ -13,7 +13,7 @@ use Rattle.sgt_model.specs.Contents.{Key, key_eq}
 use Rattle.sgt_model.specs.Traces.{Looks, Puts}
 use Rattle.sgt_model.specs.Left as left
 use Rattle.sgt_model.specs.Accesses.{Access, access_of, act_in, acts}
-use Rattle.sgt_model.specs.Fates.{aborted, committed, is_commit, live}
+use Rattle.sgt_model.specs.Fates.{aborted, committed, has_committed, live}
 use Rattle.sgt_model.specs.Values.{newest_store, value_or}
 use Rattle.sgt_model.specs.Pairs.{FollowsIn, Precedes, has_conflicting}
 use Rattle.sgt_model.specs.Settings.{Setting}
@@ -70,7 +70,7 @@ module _ (s : Setting) (past : List Entry) (h : Legal s past) (before after : St
   accesses_after kind value n = n.accesses ∙ ap₂ (λ l b. l ++ cond b (record { by = t; key = k; kind = kind } ∷ []) []) i.accesses (sym alive)
 
   not_committed : committed past t ≡ false
-  not_committed = ap is_commit (live-no_fate past t alive)
+  not_committed = ap has_committed (live-no_fate past t alive)
 
   pub after_look : next_of s past t ≡ Looks k → LooksAt t k before after → IsStateAfter s (look_entry t k (found before k) ∷ past) after
   after_look next l = record {

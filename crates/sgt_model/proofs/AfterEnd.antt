@@ -14,7 +14,7 @@ use Rattle.sgt_model.specs.declared.reply.Fate.TheVariants as fate
 use Rattle.sgt_model.specs.declared.entry.Entry.{Entry}
 use Rattle.sgt_model.specs.Contents.{Key}
 use Rattle.sgt_model.specs.Accesses.{Access, access_of, acts}
-use Rattle.sgt_model.specs.Fates.{aborted, begun, committed, concerns, ending_in, fate_of, is_abort, is_commit, is_start, live, live_ones, starts, subject}
+use Rattle.sgt_model.specs.Fates.{aborted, begun, committed, concerns, ending_in, fate_of, has_aborted, has_committed, is_start, live, live_ones, starts, subject}
 use Rattle.sgt_model.specs.Values.{newest_store, settled, stores, value_or}
 use Rattle.sgt_model.specs.ReadFrom.{ReadFrom}
 use Rattle.sgt_model.specs.Pairs.{Precedes}
@@ -73,7 +73,7 @@ module _ (s : Setting) (past : List Entry) (gone : ℕ → Bool) (e : Entry) (x 
   live_stays u l g = live_after u ∙ and_from (live past u) (not (gone u)) l (ap not g)
 
   aborted_stays : (u : ℕ) → gone u ≡ false → aborted (e ∷ past) u ≡ aborted past u
-  aborted_stays u g = ap is_abort (fate_stays u g)
+  aborted_stays u g = ap has_aborted (fate_stays u g)
 
   precedes_was : (u v : ℕ) → Precedes (e ∷ past) u v → Precedes past u v
   precedes_was u v (inl now) = absurd (let f = follows-access past (access_of e) u v now in no_some f.access (sym x.no_access ∙ f.is))
@@ -167,7 +167,7 @@ removes_none c = record {
 }
 
 pub after_nothing : (s : Setting) (past : List Entry) (e : Entry) (c : State) → EndsAll no_one e past → IsStateAfter s past c → IsStateAfter s (e ∷ past) c
-after_nothing s past e c x i = after_end s past no_one e x c c i (removes_none c) (λ k. i.settled k ∙ sym (ap₂ (λ o q. value_or (option_or o (newest_store q k past)) (s.opening k)) (ap (stores (committed (e ∷ past)) k) x.no_access) (fun_ext (λ u. ap is_commit (same u))))) (λ u. i.fates u ∙ sym (same u))
+after_nothing s past e c x i = after_end s past no_one e x c c i (removes_none c) (λ k. i.settled k ∙ sym (ap₂ (λ o q. value_or (option_or o (newest_store q k past)) (s.opening k)) (ap (stores (committed (e ∷ past)) k) x.no_access) (fun_ext (λ u. ap has_committed (same u))))) (λ u. i.fates u ∙ sym (same u))
   where
     same : (u : ℕ) → fate_of (e ∷ past) u ≡ fate_of past u
     same u = ap (λ o. option_or o (fate_of past u)) (x.stays u refl)
@@ -189,7 +189,7 @@ fate_now : (b : Bool) (x : Fate) (o : Option Fate) → cond b (Some x) o ≡ opt
 fate_now true x o = refl
 fate_now false x o = refl
 
-committed_now : (b : Bool) (o : Option Fate) → is_commit (option_or (cond b (Some fate.Committed) None) o) ≡ (b || is_commit o)
+committed_now : (b : Bool) (o : Option Fate) → has_committed (option_or (cond b (Some fate.Committed) None) o) ≡ (b || has_committed o)
 committed_now true o = refl
 committed_now false o = refl
 
@@ -258,13 +258,13 @@ after_abort s past event t why fell before after o lived i x = after_end s past 
     twice false true f = refl
     twice false false f = refl
 
-    commits : (b d : Bool) (f : Option Fate) → ((b || d) ≡ true → is_commit f ≡ false) → is_commit f ≡ is_commit (option_or (cond b (Some (fate.Aborted why)) (cond d (Some (fate.Fell t)) None)) f)
+    commits : (b d : Bool) (f : Option Fate) → ((b || d) ≡ true → has_committed f ≡ false) → has_committed f ≡ has_committed (option_or (cond b (Some (fate.Aborted why)) (cond d (Some (fate.Fell t)) None)) f)
     commits true d f h = h refl
     commits false true f h = h refl
     commits false false f h = refl
 
     same_commits : (u : ℕ) → committed past u ≡ committed (abort_entry event why fell ∷ past) u
-    same_commits u = commits (nat_eq t u) (list_any (λ v. nat_eq v u) fell) (fate_of past u) (λ g. ap is_commit (live-no_fate past u (lived u g))) ∙ ap (λ z. is_commit (option_or z (fate_of past u))) (sym (ending event t why fell o u))
+    same_commits u = commits (nat_eq t u) (list_any (λ v. nat_eq v u) fell) (fate_of past u) (λ g. ap has_committed (live-no_fate past u (lived u g))) ∙ ap (λ z. has_committed (option_or z (fate_of past u))) (sym (ending event t why fell o u))
 
     settles : (k : Key) → after.settled k ≡ settled s.opening (abort_entry event why fell ∷ past) k
     settles k = x.settled k ∙ (i.settled k ∙ ap (λ q. value_or (newest_store q k past) (s.opening k)) (fun_ext same_commits))

@@ -68,7 +68,7 @@ module _ (s : Setting) (newer older : List Entry) (e : Entry) (a : Access) (lega
       let follows : FollowsIn older (Some a) b.by a.by = (refl, f.access_list a.kind) in
       let pair : Pair (newer ++ e ∷ older) b.by a.by = record { apart = n; first_stands = source_stands; second_stands = stands; precedes = precedes_append newer (e ∷ older) b.by a.by (inl (subst (λ x. FollowsIn older x b.by a.by) (sym is) follows)) } in
       let was_started = has_conflicting-started s (newer ++ e ∷ older) legal b.by a.key Store (lists_conflicting_append newer (e ∷ older) b.by a.key Store (lists_conflicting_append (e ∷ []) older b.by a.key Store (f.access_list Store))) in
-      committed_else (newer ++ e ∷ older) b.by was_started (λ l. none_live b.by l pair) source_stands
+      committed_else (newer ++ e ∷ older) b.by was_started (λ l. none_live b.by (record { is_live = l; pair = pair })) source_stands
 
   -- where the look found another's store, the transaction has none of its own
   first : (b : Access) → newest_store (λ u. not (aborted older u)) a.key older ≡ Some b → b.by ≢ a.by → Precedes older a.by b.by → ⊥

@@ -3,7 +3,7 @@ use Rattle.std.proofs.Common.{◌≡◌, ◌≢◌, ℕ, true, ◌⊎◌, List, 
 use Rattle.std.specs.Option.{option_or}
 use Rattle.sgt_model.specs.declared.reply.Fate.TheVariants as fate
 use Rattle.sgt_model.specs.declared.entry.Entry.{Entry}
-use Rattle.sgt_model.specs.Fates.{ending_in, fate_of, is_commit, committed}
+use Rattle.sgt_model.specs.Fates.{ending_in, fate_of, has_committed, committed}
 use Rattle.sgt_model.specs.Settings.{Setting}
 use Rattle.sgt_model.specs.Legality.{Legal}
 use Rattle.sgt_model.specs.CommitOrder.{CommitsBefore, CommitsInLine}
@@ -15,7 +15,7 @@ commit_once s e past h t now c = live-not_committed past t (end-live s past e.ev
 
 before-committed : (s : Setting) (past : List Entry) → Legal s past → (t u : ℕ) → CommitsBefore past t u → (committed past t ≡ true) × (committed past u ≡ true)
 before-committed s [] h t u b = absurd b
-before-committed s (e ∷ past) h t u (inl b) = (committed-stays s e past h t b.1, ap (λ o. is_commit (option_or o (fate_of past u))) b.0)
+before-committed s (e ∷ past) h t u (inl b) = (committed-stays s e past h t b.1, ap (λ o. has_committed (option_or o (fate_of past u))) b.0)
 before-committed s (e ∷ past) h t u (inr b) = let c = before-committed s past h.0 t u b in (committed-stays s e past h t c.0, committed-stays s e past h u c.1)
 
 before-irrefl : (s : Setting) (past : List Entry) → Legal s past → (t : ℕ) → CommitsBefore past t t → ⊥

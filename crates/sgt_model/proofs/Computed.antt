@@ -293,13 +293,13 @@ abbrev pub none_live_test : List Entry → ℕ → Bool
 none_live_test past t = list_all (λ v. not (live past v && pair past v t)) (actors past)
 
 pub none_live-so : (past : List Entry) (t : ℕ) → none_live_test past t ≡ true → NoneLive past t
-none_live-so past t h v alive p = both_ways _ (not-true _ (all-at _ (actors past) v h (precedes-actors past v t p.precedes).0)) (and_from _ _ alive (so-pair past v t p))
+none_live-so past t h v p = both_ways _ (not-true _ (all-at _ (actors past) v h (precedes-actors past v t p.pair.precedes).0)) (and_from _ _ p.is_live (so-pair past v t p.pair))
 
 -- t commits
 pub commits_by : {past : List Entry} {t : ℕ} {answers : List ℤ} → none_live_test past t ≡ true → MayCommit past t answers (reply.Committed answers)
 commits_by {past} {t} {answers} h = record { none_live = none_live-so past t h; is = refl }
 
--- IsLeastLive
+-- IsLeastBefore
 abbrev pub least_test : List Entry → ℕ → ℕ → Bool
 least_test past t u = (live past u && pair past u t) && list_all (λ v. implies (live past v && pair past v t) (not (nat_lt v u))) (actors past)
 
@@ -314,9 +314,8 @@ waits_by {past} {t} {u} h =
     record {
       before = u;
       least = record {
-        is_live = q.0;
-        pair = pair-so past u t q.1;
-        least = λ v alive x. not_below u v (implies-at _ _ (all-at _ (actors past) v p.1 (precedes-actors past v t x.precedes).0) (and_from _ _ alive (so-pair past v t x)));
+        pair = record { is_live = q.0; pair = pair-so past u t q.1 };
+        least = λ v x. not_below u v (implies-at _ _ (all-at _ (actors past) v p.1 (precedes-actors past v t x.pair.precedes).0) (and_from _ _ x.is_live (so-pair past v t x.pair)));
       };
       is = refl;
     }

@@ -23,7 +23,8 @@ use Rattle.sgt_model.specs.Falls.{Falls}
 use Rattle.sgt_model.specs.Closes.{Closes}
 use Rattle.sgt_model.specs.Settings.{Setting, takes}
 use Rattle.sgt_model.specs.Progress.{call_in, next_of}
-use Rattle.sgt_model.specs.Legality.{args_fit, called_reply, Aborts, Refuses, StepReply, NoneLive, CommitReply, OfStarted, OfLive, LegalReply}
+use Rattle.sgt_model.specs.StartReply.{args_fit, taken_reply}
+use Rattle.sgt_model.specs.Legality.{Aborts, Refuses, StepReply, NoneLive, CommitReply, OfStarted, OfLive, LegalReply}
 use Rattle.sgt_model.specs.Replay.{committed_call_in, told_in}
 use Rattle.sgt_model.specs.Aborts.{Wants, HasCause, AbortHasCause}
 use Rattle.sgt_model.specs.Laws.{CommitAgrees}
@@ -141,7 +142,7 @@ begin_at s past p args count known true true full f n l = idle (record { no_star
 begin_at s past p args count known true false true f n l = idle (record { no_start = refl; no_access = refl; ends_none = tt })
 begin_at s past p args count known true false false f n l = begins (record { procedure = p; args = args; count = count; event_is = refl; reply_is = refl; known = known; fit = f; not_spent = n; not_full = l })
 
-start_at : (s : Setting) (past : List Entry) (p : ℕ) (args : List ℤ) (o : Option ℕ) → takes s.rules p ≡ o → Effect s past (Start p args) (called_reply s past o args)
+start_at : (s : Setting) (past : List Entry) (p : ℕ) (args : List ℤ) (o : Option ℕ) → takes s.rules p ≡ o → Effect s past (Start p args) (taken_reply s.rules.limits (starts past) (length (live_ones past)) o args)
 start_at s past p args None known = idle (record { no_start = refl; no_access = refl; ends_none = tt })
 start_at s past p args (Some count) known = begin_at s past p args count known (args_fit count args) (nat_eq (starts past) s.rules.limits.begins) (nat_eq (length (live_ones past)) s.rules.limits.live) refl refl refl
 

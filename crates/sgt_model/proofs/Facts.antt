@@ -14,7 +14,7 @@ use Rattle.sgt_model.specs.declared.kind.Kind.TheVariants.{Look}
 use Rattle.sgt_model.specs.Contents.{Key, key_eq}
 use Rattle.sgt_model.specs.Walks.{Member}
 use Rattle.sgt_model.specs.Accesses.{Access, access_in, access_of}
-use Rattle.sgt_model.specs.Fates.{is_start, starts, ending_in, fate_of, is_commit, is_abort, aborted, committed, live}
+use Rattle.sgt_model.specs.Fates.{is_start, starts, ending_in, fate_of, has_committed, has_aborted, aborted, committed, live}
 use Rattle.sgt_model.specs.Values.{visible}
 use Rattle.sgt_model.specs.Pairs.{one_stores, conflicts, has_conflicting, FollowsIn, Precedes}
 use Rattle.sgt_model.specs.Closes.{Closes}
@@ -114,9 +114,9 @@ ends_at a t x f e = go (nat_eq a t) refl e
     go true h e = (eqb-true a t h, some_is x f e)
     go false h e = absurd (cc)
 
-undone_at : (b c : Bool) (x y f : Fate) → is_abort (Some x) ≡ true → is_abort (Some y) ≡ true → cond b (Some x) (cond c (Some y) None) ≡ Some f → ((b ≡ true) ⊎ (c ≡ true)) × (is_abort (Some f) ≡ true)
-undone_at true c x y f hx hy e = (inl refl, ap is_abort (sym e) ∙ hx)
-undone_at false true x y f hx hy e = (inr refl, ap is_abort (sym e) ∙ hy)
+undone_at : (b c : Bool) (x y f : Fate) → has_aborted (Some x) ≡ true → has_aborted (Some y) ≡ true → cond b (Some x) (cond c (Some y) None) ≡ Some f → ((b ≡ true) ⊎ (c ≡ true)) × (has_aborted (Some f) ≡ true)
+undone_at true c x y f hx hy e = (inl refl, ap has_aborted (sym e) ∙ hx)
+undone_at false true x y f hx hy e = (inr refl, ap has_aborted (sym e) ∙ hy)
 undone_at false false x y f hx hy e = absurd (cc)
 
 pub record Ended (s : Setting) (past : List Entry) (event : Event) (r : Reply) (t : ℕ) (f : Fate) : Type 0 where
@@ -127,7 +127,7 @@ pub record Ended (s : Setting) (past : List Entry) (event : Event) (r : Reply) (
 pub record Undone (past : List Entry) (event : Event) (r : Reply) (t : ℕ) (f : Fate) : Type 0 where
   pub undo : Undoing past event r
   pub is : (undo.t ≡ t) ⊎ Member t undo.fell
-  pub is_abort : is_abort (Some f) ≡ true
+  pub is_abort : has_aborted (Some f) ≡ true
 
 undone_case : {past : List Entry} {event : Event} {r : Reply} (x : Undoing past event r) (t : ℕ) (f : Fate) → ending_in event r t ≡ Some f → Undone past event r t f
 undone_case x t f e =
@@ -192,24 +192,24 @@ live-before e past t alive started = live_from past t started (option_or-none _ 
 pub committed-fate : (past : List Entry) (t : ℕ) → committed past t ≡ true → fate_of past t ≡ Some fate.Committed
 committed-fate past t h = go (fate_of past t) h
   where
-    go : (o : Option Fate) → is_commit o ≡ true → o ≡ Some fate.Committed
+    go : (o : Option Fate) → has_committed o ≡ true → o ≡ Some fate.Committed
     go None h = absurd (cc)
     go (Some fate.Committed) h = refl
     go (Some (fate.Aborted why)) h = absurd (cc)
     go (Some (fate.Fell u)) h = absurd (cc)
 
 pub committed-stays : (s : Setting) (e : Entry) (past : List Entry) → Legal s (e ∷ past) → (t : ℕ) → committed past t ≡ true → committed (e ∷ past) t ≡ true
-committed-stays s e past h t c = ap is_commit (fate-final s e past h t fate.Committed (committed-fate past t c))
+committed-stays s e past h t c = ap has_committed (fate-final s e past h t fate.Committed (committed-fate past t c))
 
-aborted_fate : (o : Option Fate) → is_abort o ≡ true → (f : Fate) × (o ≡ Some f)
+aborted_fate : (o : Option Fate) → has_aborted o ≡ true → (f : Fate) × (o ≡ Some f)
 aborted_fate None h = absurd (cc)
 aborted_fate (Some f) h = (f, refl)
 
-pub aborted-fate : (past : List Entry) (t : ℕ) → aborted past t ≡ true → (f : Fate) × (fate_of past t ≡ Some f) × (is_abort (Some f) ≡ true)
-aborted-fate past t h = let a = aborted_fate (fate_of past t) h in (a.0, a.1, sym (ap is_abort a.1) ∙ h)
+pub aborted-fate : (past : List Entry) (t : ℕ) → aborted past t ≡ true → (f : Fate) × (fate_of past t ≡ Some f) × (has_aborted (Some f) ≡ true)
+aborted-fate past t h = let a = aborted_fate (fate_of past t) h in (a.0, a.1, sym (ap has_aborted a.1) ∙ h)
 
 pub aborted-stays : (s : Setting) (e : Entry) (past : List Entry) → Legal s (e ∷ past) → (t : ℕ) → aborted past t ≡ true → aborted (e ∷ past) t ≡ true
-aborted-stays s e past h t a = let f = aborted-fate past t a in ap is_abort (fate-final s e past h t f.0 f.1) ∙ f.2
+aborted-stays s e past h t a = let f = aborted-fate past t a in ap has_aborted (fate-final s e past h t f.0 f.1) ∙ f.2
 
 -- the other way: what is not aborted after an entry was not aborted before it
 pub stood-before : (s : Setting) (e : Entry) (past : List Entry) → Legal s (e ∷ past) → (t : ℕ) → aborted (e ∷ past) t ≡ false → aborted past t ≡ false
@@ -220,13 +220,13 @@ stood-before s e past h t stands = go (aborted past t) refl
     go true q = absurd (both_ways _ stands (aborted-stays s e past h t q))
 
 pub live-stands : (past : List Entry) (t : ℕ) → live past t ≡ true → aborted past t ≡ false
-live-stands past t h = ap is_abort (live-no_fate past t h)
+live-stands past t h = ap has_aborted (live-no_fate past t h)
 
 pub live-not_committed : (past : List Entry) (t : ℕ) → live past t ≡ true → committed past t ≡ true → ⊥
-live-not_committed past t h c = both_ways _ (ap is_commit (live-no_fate past t h)) c
+live-not_committed past t h c = both_ways _ (ap has_committed (live-no_fate past t h)) c
 
 pub committed-stands : (past : List Entry) (t : ℕ) → committed past t ≡ true → aborted past t ≡ false
-committed-stands past t h = ap is_abort (committed-fate past t h)
+committed-stands past t h = ap has_aborted (committed-fate past t h)
 
 -- a started transaction is live, committed or aborted
 pub status : (past : List Entry) (t : ℕ) → t < starts past → (live past t ≡ true) ⊎ ((committed past t ≡ true) ⊎ (aborted past t ≡ true))
@@ -234,9 +234,9 @@ status past t started = go (fate_of past t) refl
   where
     go : (o : Option Fate) → fate_of past t ≡ o → (live past t ≡ true) ⊎ ((committed past t ≡ true) ⊎ (aborted past t ≡ true))
     go None e = inl (live_from past t started e)
-    go (Some fate.Committed) e = inr (inl (ap is_commit e))
-    go (Some (fate.Aborted why)) e = inr (inr (ap is_abort e))
-    go (Some (fate.Fell u)) e = inr (inr (ap is_abort e))
+    go (Some fate.Committed) e = inr (inl (ap has_committed e))
+    go (Some (fate.Aborted why)) e = inr (inr (ap has_aborted e))
+    go (Some (fate.Fell u)) e = inr (inr (ap has_aborted e))
 
 -- a started one that is neither live nor aborted is committed
 pub committed_else : (past : List Entry) (t : ℕ) → t < starts past → (live past t ≡ true → ⊥) → aborted past t ≡ false → committed past t ≡ true
@@ -244,11 +244,11 @@ committed_else past t started not_live stands = elim (status past t started) [ i
 
 -- committed now or before
 pub commit-case : (e : Entry) (past : List Entry) (t : ℕ) → committed (e ∷ past) t ≡ true → (ending_in e.event e.reply t ≡ Some fate.Committed) ⊎ ((ending_in e.event e.reply t ≡ None) × (committed past t ≡ true))
-commit-case e past t h = elim (option_or-cases _ _ _ (committed-fate (e ∷ past) t h)) [ inl now ↦ inl now | inr before ↦ inr (before.0, ap is_commit before.1) ]
+commit-case e past t h = elim (option_or-cases _ _ _ (committed-fate (e ∷ past) t h)) [ inl now ↦ inl now | inr before ↦ inr (before.0, ap has_committed before.1) ]
 
 -- aborted now or before
-pub abort-case : (e : Entry) (past : List Entry) (t : ℕ) → aborted (e ∷ past) t ≡ true → ((f : Fate) × (ending_in e.event e.reply t ≡ Some f) × (is_abort (Some f) ≡ true)) ⊎ (aborted past t ≡ true)
-abort-case e past t h = let a = aborted-fate (e ∷ past) t h in elim (option_or-cases _ _ _ a.1) [ inl now ↦ inl (a.0, now, a.2) | inr before ↦ inr (ap is_abort before.1 ∙ a.2) ]
+pub abort-case : (e : Entry) (past : List Entry) (t : ℕ) → aborted (e ∷ past) t ≡ true → ((f : Fate) × (ending_in e.event e.reply t ≡ Some f) × (has_aborted (Some f) ≡ true)) ⊎ (aborted past t ≡ true)
+abort-case e past t h = let a = aborted-fate (e ∷ past) t h in elim (option_or-cases _ _ _ a.1) [ inl now ↦ inl (a.0, now, a.2) | inr before ↦ inr (ap has_aborted before.1 ∙ a.2) ]
 
 -- at an access no fate changes
 pub access-same_fate : (s : Setting) (e : Entry) (past : List Entry) → Legal s (e ∷ past) → (a : Access) → access_of e ≡ Some a → (t : ℕ) → fate_of (e ∷ past) t ≡ fate_of past t

@@ -12,7 +12,7 @@ use Rattle.sgt_model.specs.declared.kind.Kind.{Kind}
 use Rattle.sgt_model.specs.Contents.{Key}
 use Rattle.sgt_model.specs.Walks.{PathOf, last_of, Member, Distinct, StandsBefore, Orders}
 use Rattle.sgt_model.specs.Accesses.{Access, access_in, access_of}
-use Rattle.sgt_model.specs.Fates.{ending_in, fate_of, is_abort, aborted}
+use Rattle.sgt_model.specs.Fates.{ending_in, fate_of, has_aborted, aborted}
 use Rattle.sgt_model.specs.Pairs.{has_conflicting, FollowsIn, Pair}
 use Rattle.sgt_model.specs.Closes.{Closes}
 use Rattle.sgt_model.specs.Aborts.{IsAccessBy}
@@ -24,7 +24,7 @@ access_ends event (reply.Aborted why fell) t k kind is u = absurd is
 access_ends event _ t k kind is u = refl
 
 access_aborts : (e : Entry) (past : List Entry) (t : ℕ) (k : Key) (kind : Kind) → IsAccessBy (access_of e) t k kind → (u : ℕ) → aborted (e ∷ past) u ≡ aborted past u
-access_aborts e past t k kind is u = ap (λ ending. is_abort (option_or ending (fate_of past u))) (access_ends e.event e.reply t k kind is u)
+access_aborts e past t k kind is u = ap (λ ending. has_aborted (option_or ending (fate_of past u))) (access_ends e.event e.reply t k kind is u)
 
 -- what stood, stands after an access
 pub pair_stays : (e : Entry) (past : List Entry) (t : ℕ) (k : Key) (kind : Kind) → IsAccessBy (access_of e) t k kind

@@ -12,12 +12,12 @@ use Rattle.sgt_model.specs.declared.kind.Kind.{Kind}
 use Rattle.sgt_model.specs.declared.kind.Kind.TheVariants.{Look, Store}
 use Rattle.sgt_model.specs.Contents.{Key}
 use Rattle.sgt_model.specs.Traces.{Next, Looks, Puts, Ends, Asks}
-use Rattle.sgt_model.specs.Walks.{Member, Rising}
+use Rattle.sgt_model.specs.Walks.{Member, Rising, IsLeastBefore}
 use Rattle.sgt_model.specs.Fates.{starts, fate_of}
 use Rattle.sgt_model.specs.Falls.{Falls}
 use Rattle.sgt_model.specs.Settings.{Setting}
 use Rattle.sgt_model.specs.Progress.{next_of}
-use Rattle.sgt_model.specs.Legality.{Aborts, Refuses, Makes, StepReply, IsLeastLive, MustWait, MayCommit, CommitReply, OfStarted}
+use Rattle.sgt_model.specs.Legality.{Aborts, Refuses, Makes, StepReply, LivePredecessor, MustWait, MayCommit, CommitReply, OfStarted}
 use Rattle.sgt_model.specs.OneReply.{SameButWalk, RepliesAreUnique}
 use Rattle.sgt_model.proofs.Paths.{Within}
 
@@ -89,13 +89,13 @@ one_step s past t (Asks code) r q a b = inl (one_abort past t (cause.Asked code)
 
 -- commits
 
-one_least : (past : List Entry) (t u v : ℕ) → IsLeastLive past t u → IsLeastLive past t v → u ≡ v
-one_least past t u v a b = let below = a.least v b.is_live b.pair in let above = b.least u a.is_live a.pair in omega arith
+one_least : (past : List Entry) (t u v : ℕ) → IsLeastBefore (LivePredecessor past) t u → IsLeastBefore (LivePredecessor past) t v → u ≡ v
+one_least past t u v a b = let below = a.least v b.pair in let above = b.least u a.pair in omega arith
 
 one_end : (past : List Entry) (t : ℕ) (answers : List ℤ) (r q : Reply) → MustWait past t r ⊎ MayCommit past t answers r → MustWait past t q ⊎ MayCommit past t answers q → r ≡ q
 one_end past t answers r q (inl a) (inl b) = a.is ∙ (ap (λ u. reply.Waits u) (one_least past t a.before b.before a.least b.least) ∙ sym b.is)
-one_end past t answers r q (inl a) (inr b) = absurd (b.none_live a.before a.least.is_live a.least.pair)
-one_end past t answers r q (inr a) (inl b) = absurd (a.none_live b.before b.least.is_live b.least.pair)
+one_end past t answers r q (inl a) (inr b) = absurd (b.none_live a.before a.least.pair)
+one_end past t answers r q (inr a) (inl b) = absurd (a.none_live b.before b.least.pair)
 one_end past t answers r q (inr a) (inr b) = a.is ∙ sym b.is
 
 one_commit : (past : List Entry) (t : ℕ) (next : Next) (r q : Reply) → CommitReply past t next r → CommitReply past t next q → r ≡ q

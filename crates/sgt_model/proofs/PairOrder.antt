@@ -21,7 +21,7 @@ follows-not_committed s e past h t u now c =
 at_commit : (s : Setting) (e : Entry) (past : List Entry) → Legal s (e ∷ past) → (t u : ℕ) → t ≢ u → live past t ≡ true → Precedes past t u → ending_in e.event e.reply u ≡ Some fate.Committed → ⊥
 at_commit s e past h t u apart alive p now =
     let u_alive = end-live s past e.event e.reply h.1 u fate.Committed now in
-    commit-none_live s past e.event e.reply h.1 u now t alive (record { apart = apart; first_stands = live-stands past t alive; second_stands = live-stands past u u_alive; precedes = p })
+    commit-none_live s past e.event e.reply h.1 u now t (record { is_live = alive; pair = record { apart = apart; first_stands = live-stands past t alive; second_stands = live-stands past u u_alive; precedes = p } })
 
 live_precedes : (s : Setting) (past : List Entry) → Legal s past → (t u : ℕ) → t ≢ u → live past t ≡ true → committed past u ≡ true → Precedes past t u → ⊥
 live_precedes s [] h t u apart alive c p = p

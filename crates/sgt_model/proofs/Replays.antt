@@ -12,7 +12,7 @@ use Rattle.sgt_model.specs.declared.entry.Entry.{Entry}
 use Rattle.sgt_model.specs.Contents.{Key}
 use Rattle.sgt_model.specs.Runs.{Run, serial, contents_after}
 use Rattle.sgt_model.specs.Accesses.{Access, access_of, acts}
-use Rattle.sgt_model.specs.Fates.{ending_in, fate_of, is_commit, committed, live}
+use Rattle.sgt_model.specs.Fates.{ending_in, fate_of, has_committed, committed, live}
 use Rattle.sgt_model.specs.Values.{stores, newest_store, value_or, settled}
 use Rattle.sgt_model.specs.Pairs.{Precedes}
 use Rattle.sgt_model.specs.Settings.{Setting}
@@ -34,10 +34,10 @@ abbrev pub commit_entry : ℕ → List ℤ → Entry
 commit_entry t answers = record { event = Commit t; reply = reply.Committed answers }
 
 committed_own : (past : List Entry) (t : ℕ) (answers : List ℤ) → committed (commit_entry t answers ∷ past) t ≡ true
-committed_own past t answers = ap (λ b. is_commit (option_or (cond b (Some fate.Committed) None) (fate_of past t))) (eq-eqb t t refl)
+committed_own past t answers = ap (λ b. has_committed (option_or (cond b (Some fate.Committed) None) (fate_of past t))) (eq-eqb t t refl)
 
 committed_other : (past : List Entry) (t : ℕ) (answers : List ℤ) (u : ℕ) → u ≢ t → committed (commit_entry t answers ∷ past) u ≡ committed past u
-committed_other past t answers u n = ap (λ b. is_commit (option_or (cond b (Some fate.Committed) None) (fate_of past u))) (ne_eqb t u (λ z. n (sym z)))
+committed_other past t answers u n = ap (λ b. has_committed (option_or (cond b (Some fate.Committed) None) (fate_of past u))) (ne_eqb t u (λ z. n (sym z)))
 
 -- after t's commit the committed value is t's own last one, or else what it was
 pub settled_commit : (s : Setting) (past : List Entry) (t : ℕ) (answers : List ℤ) (k : Key) → Legal s past → live past t ≡ true → settled s.opening (commit_entry t answers ∷ past) k ≡ value_or (newest_store (λ u. nat_eq u t) k past) (settled s.opening past k)

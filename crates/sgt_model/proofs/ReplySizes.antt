@@ -20,9 +20,10 @@ use Rattle.sgt_model.specs.Traces.{Next, Looks, Puts, Ends, Asks}
 use Rattle.sgt_model.specs.Walks.{PathOf, Member, Distinct, Rising}
 use Rattle.sgt_model.specs.Fates.{concerns, subject, ending_in, starts, fate_of, begun, live, live_ones}
 use Rattle.sgt_model.specs.Pairs.{Pair}
-use Rattle.sgt_model.specs.Settings.{Setting, takes}
+use Rattle.sgt_model.specs.Settings.{Rules, Setting, takes}
 use Rattle.sgt_model.specs.Progress.{next_of}
-use Rattle.sgt_model.specs.Legality.{args_fit, started_reply, called_reply, start_reply, Aborts, Refuses, Makes, StepReply, CommitReply, OfStarted, LegalReply, Legal}
+use Rattle.sgt_model.specs.StartReply.{args_fit, room_reply, taken_reply, start_reply}
+use Rattle.sgt_model.specs.Legality.{Aborts, Refuses, Makes, StepReply, CommitReply, OfStarted, LegalReply, Legal}
 use Rattle.sgt_model.specs.ReplySizes.{CauseNamesAtMost, FateNamesAtMost, ReplyNamesAtMost, RepliesNameFew}
 use Rattle.sgt_model.proofs.Paths.{Within}
 use Rattle.sgt_model.proofs.Facts.{some_is, option_or-cases}
@@ -64,19 +65,19 @@ ending_names most event (reply.Committed answers) t f few e = go (concerns event
     go false e = absurd (cc)
 ending_names most event _ t f few e = absurd (cc)
 
-start_names : (most : ℕ) (s : Setting) (past : List Entry) (p : ℕ) (args : List ℤ) → ReplyNamesAtMost most (start_reply s past p args)
-start_names most s past p args = called (takes s.rules p)
+start_names : (most : ℕ) (rules : Rules) (begun living p : ℕ) (args : List ℤ) → ReplyNamesAtMost most (start_reply rules begun living p args)
+start_names most rules begun living p args = called (takes rules p)
   where
-    one_of : (b c : Bool) → ReplyNamesAtMost most (cond b reply.Spent (cond c reply.Full (reply.Started (starts past))))
+    one_of : (b c : Bool) → ReplyNamesAtMost most (cond b reply.Spent (cond c reply.Full (reply.Started begun)))
     one_of true c = tt
     one_of false true = tt
     one_of false false = tt
 
-    fits : (b : Bool) → ReplyNamesAtMost most (cond b (started_reply s past) reply.BadArgs)
+    fits : (b : Bool) → ReplyNamesAtMost most (cond b (room_reply rules.limits begun living) reply.BadArgs)
     fits true = one_of _ _
     fits false = tt
 
-    called : (o : Option ℕ) → ReplyNamesAtMost most (called_reply s past o args)
+    called : (o : Option ℕ) → ReplyNamesAtMost most (taken_reply rules.limits begun living o args)
     called None = tt
     called (Some count) = fits (args_fit count args)
 
@@ -122,7 +123,7 @@ module _ (s : Setting) (past : List Entry) (h : Legal s past) where
     of_started t r P if_live false o started ended x = subst (λ y. ReplyNamesAtMost s.rules.limits.live y) (sym x) tt
 
     reply_names : (event : Event) (r : Reply) → LegalReply s past event r → ReplyNamesAtMost s.rules.limits.live r
-    reply_names (Start p args) r x = subst (λ y. ReplyNamesAtMost s.rules.limits.live y) (sym x) (start_names s.rules.limits.live s past p args)
+    reply_names (Start p args) r x = subst (λ y. ReplyNamesAtMost s.rules.limits.live y) (sym x) (start_names s.rules.limits.live s.rules (starts past) (length (live_ones past)) p args)
     reply_names (Step t) r x = of_started t r (StepReply s past t (next_of s past t) r) (λ alive. step_names t alive (next_of s past t) r) (nat_lt t (starts past)) (fate_of past t) refl refl x
     reply_names (Commit t) r x = of_started t r (CommitReply past t (next_of s past t) r) (λ alive. commit_names t (next_of s past t) r) (nat_lt t (starts past)) (fate_of past t) refl refl x
     reply_names (Quit t) r x = of_started t r (Aborts past t cause.Quit r) (λ alive. abort_names t alive cause.Quit tt r) (nat_lt t (starts past)) (fate_of past t) refl refl x

@@ -19,12 +19,13 @@ use Rattle.sgt_model.specs.Fates.{fate_of, live, live_ones, starts}
 use Rattle.sgt_model.specs.Closes.{Closes}
 use Rattle.sgt_model.specs.Settings.{Setting, takes}
 use Rattle.sgt_model.specs.Progress.{next_of}
-use Rattle.sgt_model.specs.Legality.{args_fit, called_reply, Aborts, CommitReply, Legal, LegalReply, OfStarted, Refuses, StepReply}
+use Rattle.sgt_model.specs.Legality.{Aborts, CommitReply, Legal, LegalReply, OfStarted, Refuses, StepReply}
 use Rattle.sgt_model.specs.Left.{next_left}
 use Rattle.sgt_model.specs.State.{State}
 use Rattle.sgt_model.specs.StateAfter.{IsStateAfter}
 use Rattle.sgt_model.specs.Blocks.{Blocks}
-use Rattle.sgt_model.specs.CallEffects.{AbortsIn, CommitEffect, CommitOn, IfOpen, QuitEffect, RefusesIn, StartEffect, StartOn, Stays, StepEffect, StepOn, taken_reply}
+use Rattle.sgt_model.specs.StartReply.{args_fit, taken_reply}
+use Rattle.sgt_model.specs.CallEffects.{AbortsIn, CommitEffect, CommitOn, IfOpen, QuitEffect, RefusesIn, StartEffect, StartOn, Stays, StepEffect, StepOn}
 use Rattle.sgt_model.proofs.Effects.{Idle, ends_none-no_end, no_start-no_call}
 use Rattle.sgt_model.proofs.Facts.{live_from, member_from}
 use Rattle.sgt_model.proofs.Verdict.{blocks_from_closes, closes_from_blocks, falls_from, found-visible, least_from, none_from}
@@ -127,12 +128,8 @@ module _ (s : Setting) (past : List Entry) (h : Legal s past) (before after : St
       tests true false true = inr refl
       tests true false false = inl refl
 
-  called : (o : Option ℕ) → taken_reply s.rules.limits (starts past) (length (live_ones past)) o args ≡ called_reply s past o args
-  called None = refl
-  called (Some count) = refl
-
   pub start_simulates : (r : Reply) → StartEffect s.rules p args before r after → LegalReply s past (Start p args) r × IsStateAfter s (entry (Start p args) r ∷ past) after
-  start_simulates r x = (answer ∙ called (takes s.rules p), elim (start_cases (starts past) (length (live_ones past)) (takes s.rules p)) [ inl e ↦ begins (answer ∙ e) | inr q ↦ idle r (ap quiet answer ∙ q) x.does ])
+  start_simulates r x = (answer, elim (start_cases (starts past) (length (live_ones past)) (takes s.rules p)) [ inl e ↦ begins (answer ∙ e) | inr q ↦ idle r (ap quiet answer ∙ q) x.does ])
     where
       answer : r ≡ taken_reply s.rules.limits (starts past) (length (live_ones past)) (takes s.rules p) args
       answer = x.reply ∙ ap₂ (λ n l. taken_reply s.rules.limits n (length l) (takes s.rules p) args) i.starts i.lives

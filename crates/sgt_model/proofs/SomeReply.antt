@@ -1,6 +1,6 @@
 -- Some reply to each event is legal: whether an access closes a walk, who falls and who has to be waited for are found
 -- among the finitely many transactions of the entries.
-use Rattle.std.specs.Prelude.{◌≡◌, ◌≢◌, ℕ, ℤ, ◌<◌, ◌≤◌, ◌+◌, Bool, true, false, cond, not, ◌&&◌, ◌⊎◌, nat_eq, nat_lt, List, [], ◌∷◌, ◌++◌, Option, Some, None}
+use Rattle.std.specs.Prelude.{◌≡◌, ◌≢◌, ℕ, ℤ, ◌<◌, ◌≤◌, ◌+◌, Bool, true, false, cond, not, ◌&&◌, ◌⊎◌, nat_eq, nat_lt, List, [], ◌∷◌, ◌++◌, length, Option, Some, None}
 use Rattle.std.specs.List.{filter}
 use Rattle.std.proofs.Common.{refl, sym, ◌∙◌, subst, inl, inr, arith}
 use Rattle.std.proofs.lemmas.Bool.{and_parts, and_from, cases_Bool, cases_lt, both_ways, eq-eqb, ltb-true, ne_eqb, not-true, not_from_false}
@@ -16,14 +16,15 @@ use Rattle.sgt_model.specs.declared.kind.Kind.TheVariants.{Look, Store}
 use Rattle.sgt_model.specs.Contents.{Key}
 use Rattle.sgt_model.specs.Walks.{last_of, Member, Reaches}
 use Rattle.sgt_model.specs.Traces.{Next, Looks, Puts, Ends, Asks}
-use Rattle.sgt_model.specs.Fates.{is_start, starts, fate_of, begun, live}
+use Rattle.sgt_model.specs.Fates.{is_start, starts, fate_of, begun, live, live_ones}
 use Rattle.sgt_model.specs.Values.{visible}
 use Rattle.sgt_model.specs.Falls.{Feeds, Falls}
 use Rattle.sgt_model.specs.Pairs.{has_conflicting, Pair}
 use Rattle.sgt_model.specs.Closes.{Closes}
 use Rattle.sgt_model.specs.Settings.{Setting}
 use Rattle.sgt_model.specs.Progress.{next_of}
-use Rattle.sgt_model.specs.Legality.{start_reply, Aborts, Refuses, Makes, StepReply, MustWait, MayCommit, CommitReply, OfStarted}
+use Rattle.sgt_model.specs.StartReply.{start_reply}
+use Rattle.sgt_model.specs.Legality.{Aborts, Refuses, Makes, StepReply, MustWait, MayCommit, CommitReply, OfStarted}
 use Rattle.sgt_model.specs.OneReply.{SomeReplyIsLegal}
 use Rattle.sgt_model.proofs.Paths.{last_is_member, Simple, simple, simple_some}
 use Rattle.sgt_model.proofs.Listed.{member_added, kept_member, member_kept}
@@ -152,11 +153,14 @@ module _ (past : List Entry) (t : ℕ) where
       reply.Waits w.at,
       inl (record {
         before = w.at;
-        least = record { is_live = p.0; pair = pair-so past w.at t p.1; least = λ u alive q. w.least u (before-actor u q) (and_from _ _ alive (so-pair past u t q)) };
+        least = record {
+          pair = record { is_live = p.0; pair = pair-so past w.at t p.1 };
+          least = λ u q. w.least u (before-actor u q.pair) (and_from _ _ q.is_live (so-pair past u t q.pair));
+        };
         is = refl;
       }),
     )
-    | inr none ↦ (reply.Committed answers, inr (record { none_live = λ u alive q. none u (before-actor u q) (and_from _ _ alive (so-pair past u t q)); is = refl }))
+    | inr none ↦ (reply.Committed answers, inr (record { none_live = λ u q. none u (before-actor u q.pair) (and_from _ _ q.is_live (so-pair past u t q.pair)); is = refl }))
   ]
 
   -- to each kind of event
@@ -179,7 +183,7 @@ some_of_started P if_live true (Some fate) = (reply.Over fate, refl)
 some_of_started P if_live false ended = (reply.Unknown, refl)
 
 pub some_reply_is_legal : SomeReplyIsLegal
-some_reply_is_legal s past (Start p args) = (start_reply s past p args, refl)
+some_reply_is_legal s past (Start p args) = (start_reply s.rules (starts past) (length (live_ones past)) p args, refl)
 some_reply_is_legal s past (Step t) = some_of_started (λ r. StepReply s past t (next_of s past t) r) (some_step past t s (next_of s past t)) (nat_lt t (starts past)) (fate_of past t)
 some_reply_is_legal s past (Commit t) = some_of_started (λ r. CommitReply past t (next_of s past t) r) (some_commit past t (next_of s past t)) (nat_lt t (starts past)) (fate_of past t)
 some_reply_is_legal s past (Quit t) = some_of_started (λ r. Aborts past t cause.Quit r) (some_abort past t cause.Quit) (nat_lt t (starts past)) (fate_of past t)

@@ -12,7 +12,7 @@ use Rattle.sgt_model.specs.declared.kind.Kind.TheVariants.{Look}
 use Rattle.sgt_model.specs.Contents.{Key}
 use Rattle.sgt_model.specs.Walks.{Member, Reaches}
 use Rattle.sgt_model.specs.Accesses.{Access}
-use Rattle.sgt_model.specs.Fates.{ending_in, is_abort, aborted, committed, live}
+use Rattle.sgt_model.specs.Fates.{ending_in, has_aborted, aborted, committed, live}
 use Rattle.sgt_model.specs.Values.{newest_store}
 use Rattle.sgt_model.specs.ReadFrom.{IsBy, LooksFrom, ReadFrom}
 use Rattle.sgt_model.specs.Falls.{Feeds}
@@ -65,25 +65,25 @@ undoes_more {past} x t u alive h hit = go (cases_eq t x.t) hit
     go (inr ne) (inl e) = inr (x.falls.all t alive ne (t ∷ [], (subst (λ w. ReadFrom past t w) (sym e) h, tt), refl))
     go (inr ne) (inr m) = inr (x.falls.all t alive ne (reaches-step (Feeds past) x.t u t (x.falls.each u m).2 h))
 
-undoes_aborts : {past : List Entry} {event : Event} {r : Reply} (x : Undoing past event r) (t : ℕ) → (x.t ≡ t) ⊎ Member t x.fell → is_abort (ending_in event r t) ≡ true
-undoes_aborts {past} {event} {r} x t hit = ap is_abort (x.ends t) ∙ go (nat_eq x.t t) (list_any (λ v. nat_eq v t) x.fell) (both hit)
+undoes_aborts : {past : List Entry} {event : Event} {r : Reply} (x : Undoing past event r) (t : ℕ) → (x.t ≡ t) ⊎ Member t x.fell → has_aborted (ending_in event r t) ≡ true
+undoes_aborts {past} {event} {r} x t hit = ap has_aborted (x.ends t) ∙ go (nat_eq x.t t) (list_any (λ v. nat_eq v t) x.fell) (both hit)
   where
     both : (x.t ≡ t) ⊎ Member t x.fell → (nat_eq x.t t ≡ true) ⊎ (list_any (λ v. nat_eq v t) x.fell ≡ true)
     both (inl e) = inl (eq-eqb _ _ e)
     both (inr m) = inr (member_to t x.fell m)
 
-    go : (b c : Bool) → (b ≡ true) ⊎ (c ≡ true) → is_abort (cond b (Some (fate.Aborted x.why)) (cond c (Some (fate.Fell x.t)) None)) ≡ true
+    go : (b c : Bool) → (b ≡ true) ⊎ (c ≡ true) → has_aborted (cond b (Some (fate.Aborted x.why)) (cond c (Some (fate.Fell x.t)) None)) ≡ true
     go true c h = refl
     go false true h = refl
     go false false h = elim h [ inl e ↦ e | inr e ↦ e ]
 
-abort_wins : (o p : Option Fate) → is_abort o ≡ true → is_abort (option_or o p) ≡ true
+abort_wins : (o p : Option Fate) → has_aborted o ≡ true → has_aborted (option_or o p) ≡ true
 abort_wins None p h = absurd (cc)
 abort_wins (Some f) p h = h
 
 -- a live transaction falls with what it has read from
-pub falls_with : (s : Setting) (e : Entry) (past : List Entry) → Legal s (e ∷ past) → (t u : ℕ) → live past t ≡ true → ReadFrom past t u → (f : Fate) → ending_in e.event e.reply u ≡ Some f → is_abort (Some f) ≡ true → aborted (e ∷ past) t ≡ true
-falls_with s e past h t u alive reads f now is = elim (end_case (effect s past e.event e.reply h.1) u f now) [ inl c ↦ absurd (cc (sym is ∙ ap (λ g. is_abort (Some g)) c.fate_is)) | inr x ↦ abort_wins _ _ (undoes_aborts x.undo t (undoes_more x.undo t u alive reads x.is)) ]
+pub falls_with : (s : Setting) (e : Entry) (past : List Entry) → Legal s (e ∷ past) → (t u : ℕ) → live past t ≡ true → ReadFrom past t u → (f : Fate) → ending_in e.event e.reply u ≡ Some f → has_aborted (Some f) ≡ true → aborted (e ∷ past) t ≡ true
+falls_with s e past h t u alive reads f now is = elim (end_case (effect s past e.event e.reply h.1) u f now) [ inl c ↦ absurd (cc (sym is ∙ ap (λ g. has_aborted (Some g)) c.fate_is)) | inr x ↦ abort_wins _ _ (undoes_aborts x.undo t (undoes_more x.undo t u alive reads x.is)) ]
 
 -- the two laws of a history, which one induction proves together
 record Sound (past : List Entry) : Type 0 where
@@ -94,7 +94,7 @@ source_stands : (past : List Entry) (u : ℕ) (k : Key) → IsBy (newest_store (
 source_stands past u k h = not-true _ (newest-by (λ v. not (aborted past v)) k past u h).0
 
 -- a source of one that stands after an entry did not fall at it
-no_fall : (s : Setting) (e : Entry) (past : List Entry) → Legal s (e ∷ past) → Sound past → (t u : ℕ) → aborted (e ∷ past) t ≡ false → ReadFrom past t u → (f : Fate) → ending_in e.event e.reply u ≡ Some f → is_abort (Some f) ≡ true → ⊥
+no_fall : (s : Setting) (e : Entry) (past : List Entry) → Legal s (e ∷ past) → Sound past → (t u : ℕ) → aborted (e ∷ past) t ≡ false → ReadFrom past t u → (f : Fate) → ending_in e.event e.reply u ≡ Some f → has_aborted (Some f) ≡ true → ⊥
 no_fall s e past h sound t u stands reads f now is = go (status past t (precedes-started s past h.0 u t (read-precedes past t u reads)).1)
   where
     go : (live past t ≡ true) ⊎ ((committed past t ≡ true) ⊎ (aborted past t ≡ true)) → ⊥
@@ -105,7 +105,7 @@ no_fall s e past h sound t u stands reads f now is = go (status past t (precedes
 stands_after : (s : Setting) (e : Entry) (past : List Entry) → Legal s (e ∷ past) → Sound past → (t u : ℕ) → aborted (e ∷ past) t ≡ false → ReadFrom (e ∷ past) t u → aborted (e ∷ past) u ≡ false
 stands_after s e past h sound t u stands (inl now) =
     let l = looks-access past _ t u now.1 in
-    ap is_abort (access-same_fate s e past h l.access l.is u) ∙ source_stands past u l.access.key l.source
+    ap has_aborted (access-same_fate s e past h l.access l.is u) ∙ source_stands past u l.access.key l.source
 stands_after s e past h sound t u stands (inr reads) = go (aborted (e ∷ past) u) refl
   where
     go : (b : Bool) → aborted (e ∷ past) u ≡ b → b ≡ false
@@ -126,7 +126,7 @@ source_committed s e past h sound t u now reads = go (status past u (precedes-st
     u_stands = sound.stands t u t_stands reads
 
     go : (live past u ≡ true) ⊎ ((committed past u ≡ true) ⊎ (aborted past u ≡ true)) → committed past u ≡ true
-    go (inl alive) = absurd (commit-none_live s past e.event e.reply h.1 t now u alive (record { apart = λ q. read-apart past t u reads (sym q); first_stands = u_stands; second_stands = t_stands; precedes = precedes }))
+    go (inl alive) = absurd (commit-none_live s past e.event e.reply h.1 t now u (record { is_live = alive; pair = record { apart = λ q. read-apart past t u reads (sym q); first_stands = u_stands; second_stands = t_stands; precedes = precedes } }))
     go (inr (inl c)) = c
     go (inr (inr a)) = absurd (both_ways _ u_stands a)
 

@@ -8,7 +8,7 @@ use Rattle.sgt_model.specs.declared.entry.Entry.{Entry}
 use Rattle.sgt_model.specs.declared.kind.Kind.{Kind}
 use Rattle.sgt_model.specs.declared.kind.Kind.TheVariants.{Look}
 use Rattle.sgt_model.specs.Contents.{Key}
-use Rattle.sgt_model.specs.Walks.{Member, PathOf, last_of}
+use Rattle.sgt_model.specs.Walks.{Member, PathOf, last_of, IsLeastBefore, NoneBefore}
 use Rattle.sgt_model.specs.Accesses.{Access}
 use Rattle.sgt_model.specs.Fates.{aborted, committed, live}
 use Rattle.sgt_model.specs.Values.{newest_store, settled, value_or, visible}
@@ -17,14 +17,13 @@ use Rattle.sgt_model.specs.Falls.{Feeds, Falls}
 use Rattle.sgt_model.specs.Pairs.{Pair, Precedes, has_conflicting}
 use Rattle.sgt_model.specs.Closes.{Closes}
 use Rattle.sgt_model.specs.Settings.{Setting}
-use Rattle.sgt_model.specs.Legality.{IsLeastLive, Legal, NoneLive}
+use Rattle.sgt_model.specs.Legality.{Legal, LivePredecessor, NoneLive}
 use Rattle.sgt_model.specs.AccessList.{lists_conflicting}
 use Rattle.sgt_model.specs.State.{Has, State, PairIn}
 use Rattle.sgt_model.specs.StateAfter.{IsStateAfter}
 use Rattle.sgt_model.specs.Blocks.{Blocks}
 use Rattle.sgt_model.specs.Found.{SourceIs, found, top, top_value}
 use Rattle.sgt_model.specs.FallsIn.{FallsIn}
-use Rattle.sgt_model.specs.CallEffects.{IsLeastIn}
 use Rattle.sgt_model.proofs.Paths.{last_is_member, path_map}
 use Rattle.sgt_model.proofs.Facts.{live-stands, live-not_committed, committed-stands, status, has_conflicting-started, precedes-started}
 use Rattle.sgt_model.proofs.PairOrder.{no_pair_from_live}
@@ -124,11 +123,16 @@ module _ (s : Setting) (past : List Entry) (h : Legal s past) where
 
     -- the least predecessor
 
-    pub least_from : (t u : ℕ) → IsLeastIn c t u → IsLeastLive past t u
-    least_from t u l = record { is_live = ((i.pairs u t).0 l.pair).first_live; pair = ((i.pairs u t).0 l.pair).pair; least = λ v alive p. l.least v ((i.pairs v t).1 (record { first_live = alive; second_live = ((i.pairs u t).0 l.pair).second_live; pair = p })) }
+    pub least_from : (t u : ℕ) → IsLeastBefore (PairIn c) t u → IsLeastBefore (LivePredecessor past) t u
+    least_from t u l =
+        let p = (i.pairs u t).0 l.pair in
+        record {
+          pair = record { is_live = p.first_live; pair = p.pair };
+          least = λ v q. l.least v ((i.pairs v t).1 (record { first_live = q.is_live; second_live = p.second_live; pair = q.pair }));
+        }
 
-    pub none_from : (t : ℕ) → live past t ≡ true → ((u : ℕ) → c.pairs u t ≡ true → ⊥) → NoneLive past t
-    none_from t t_alive none v alive p = none v ((i.pairs v t).1 (record { first_live = alive; second_live = t_alive; pair = p }))
+    pub none_from : (t : ℕ) → live past t ≡ true → NoneBefore (PairIn c) t → NoneLive past t
+    none_from t t_alive none v p = none v ((i.pairs v t).1 (record { first_live = p.is_live; second_live = t_alive; pair = p.pair }))
 
     -- who falls
 

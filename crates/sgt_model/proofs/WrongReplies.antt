@@ -28,7 +28,7 @@ not_refused {past} {t} {k} {kind} given set free apart (inr h) = apart (sym h.is
 -- where a live transaction has a pair into it, a transaction does not commit
 not_committed : {past : List Entry} {t : ℕ} {answers committed_runs : List ℤ} (u : ℕ) → (live past u && pair past u t) ≡ true → MustWait past t (reply.Committed committed_runs) ⊎ MayCommit past t answers (reply.Committed committed_runs) → ⊥
 not_committed u h (inl w) = cc w.is
-not_committed {past} {t} u h (inr c) = let p = and_parts _ _ h in c.none_live u p.0 (pair-so past u t p.1)
+not_committed {past} {t} u h (inr c) = let p = and_parts _ _ h in c.none_live u (record { is_live = p.0; pair = pair-so past u t p.1 })
 
 -- `aborts-on-conflict`: the look at what is not committed closes no walk
 abbrev dirty_reader : List Entry
@@ -88,7 +88,7 @@ last_writer_only h = not_committed 0 refl h
 
 -- and it is the first that has to be waited for
 waits_for_another : LegalReply small_bank_put three_writers (Commit 2) (reply.Waits 1) → ⊥
-waits_for_another (inl h) = let b : h.before ≡ 1 = cc h.is in cc (subst (λ u. live three_writers u ≡ true) b h.least.is_live)
+waits_for_another (inl h) = let b : h.before ≡ 1 = cc h.is in cc (subst (λ u. live three_writers u ≡ true) b h.least.pair.is_live)
 waits_for_another (inr h) = cc h.is
 
 -- `before-image`: after the first of two writers quits, a look finds what the second stored
@@ -223,7 +223,7 @@ two_live_writers =
 waits_for_the_greater : LegalReply small_bank_put two_live_writers (Commit 2) (reply.Waits 1) → ⊥
 waits_for_the_greater (inl h) =
     let named : h.before ≡ 1 = cc h.is in
-    let least : h.before ≤ 0 = h.least.least 0 refl (pair-so two_live_writers 0 2 refl) in
+    let least : h.before ≤ 0 = h.least.least 0 (record { is_live = refl; pair = pair-so two_live_writers 0 2 refl }) in
     omega arith
 waits_for_the_greater (inr h) = cc h.is
 

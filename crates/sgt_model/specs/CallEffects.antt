@@ -1,5 +1,5 @@
 -- What a call answers and does, as a relation of the states before and after.
-use Rattle.std.specs.Prelude.{◌≡◌, ℕ, ◌≤◌, ℤ, Bool, true, false, cond, ◌⊎◌, nat_eq, nat_lt, List, ◌∷◌, length, Option, Some, None}
+use Rattle.std.specs.Prelude.{◌≡◌, ℕ, ℤ, Bool, true, false, ◌⊎◌, nat_lt, List, ◌∷◌, length, Option, Some, None}
 use Rattle.sgt_model.specs.declared.event.Event.{Event}
 use Rattle.sgt_model.specs.declared.event.Event.TheVariants.{Start, Step, Commit, Quit}
 use Rattle.sgt_model.specs.declared.reply.Reply.{Reply}
@@ -7,17 +7,17 @@ use Rattle.sgt_model.specs.declared.reply.Reply.TheVariants as reply
 use Rattle.sgt_model.specs.declared.reply.Cause.{Cause}
 use Rattle.sgt_model.specs.declared.reply.Cause.TheVariants as cause
 use Rattle.sgt_model.specs.declared.reply.Fate.{Fate}
-use Rattle.sgt_model.specs.declared.limits.Limits.{Limits}
 use Rattle.sgt_model.specs.declared.kind.Kind.{Kind}
 use Rattle.sgt_model.specs.declared.kind.Kind.TheVariants.{Look, Store}
 use Rattle.sgt_model.specs.Contents.{Key}
 use Rattle.sgt_model.specs.Syntax.{Program}
 use Rattle.sgt_model.specs.Traces.{Next, Looks, Puts, Ends, Asks}
-use Rattle.sgt_model.specs.Settings.{Rules, takes}
-use Rattle.sgt_model.specs.Legality.{args_fit}
+use Rattle.sgt_model.specs.Walks.{IsLeastBefore, NoneBefore}
+use Rattle.sgt_model.specs.Settings.{Rules}
+use Rattle.sgt_model.specs.StartReply.{start_reply}
 use Rattle.sgt_model.specs.Left.{next_left}
 use Rattle.sgt_model.specs.LiveLeft.{left_if}
-use Rattle.sgt_model.specs.State.{State}
+use Rattle.sgt_model.specs.State.{State, PairIn}
 use Rattle.sgt_model.specs.Blocks.{Blocks}
 use Rattle.sgt_model.specs.Found.{found}
 use Rattle.sgt_model.specs.FallsIn.{FallsIn}
@@ -74,20 +74,15 @@ StepEffect t before r after = IfOpen (nat_lt t before.starts) (before.fates t) b
 
 -- a commit
 
--- u is the least with a pair into t
-pub record IsLeastIn (c : State) (t u : ℕ) : Type 0 where
-  pub pair : c.pairs u t ≡ true
-  pub least : (v : ℕ) → c.pairs v t ≡ true → u ≤ v
-
--- t has to wait for a predecessor
+-- t has to wait for its least predecessor
 pub record WaitsOn (t : ℕ) (before : State) (r : Reply) (after : State) : Type 0 where
   pub on : ℕ
-  pub least : IsLeastIn before t on
+  pub least : IsLeastBefore (PairIn before) t on
   pub stays : Stays (reply.Waits on) before r after
 
 -- t has no predecessor, and commits with its answers
 pub record CommitsIn (t : ℕ) (answers : List ℤ) (before : State) (r : Reply) (after : State) : Type 0 where
-  pub first : (u : ℕ) → before.pairs u t ≡ true → ⊥
+  pub first : NoneBefore (PairIn before) t
   pub reply : r ≡ reply.Committed answers
   pub settles : Settles t before after
 
@@ -110,18 +105,9 @@ QuitEffect t before r after = IfOpen (nat_lt t before.starts) (before.fates t) b
 
 -- a start
 
--- by numbers alone, where the limits allow one more: how many were started, and how many are live
-abbrev pub room_reply : Limits → ℕ → ℕ → Reply
-room_reply limits begun living = cond (nat_eq begun limits.begins) reply.Spent (cond (nat_eq living limits.live) reply.Full (reply.Started begun))
-
--- where the procedure takes so many arguments
-abbrev pub taken_reply : Limits → ℕ → ℕ → Option ℕ → List ℤ → Reply
-taken_reply limits begun living None args = reply.NoProcedure
-taken_reply limits begun living (Some count) args = cond (args_fit count args) (room_reply limits begun living) reply.BadArgs
-
--- the one reply to a start, from the state: the tests of `start_reply`, in the same order
+-- the one reply to a start, from the state
 abbrev pub start_answer : Rules → State → ℕ → List ℤ → Reply
-start_answer rules c p args = taken_reply rules.limits c.starts (length c.live) (takes rules p) args
+start_answer rules c p args = start_reply rules c.starts (length c.live) p args
 
 -- what a start with this reply does
 abbrev pub StartOn : Option Program → List ℤ → State → Reply → State → Type 0

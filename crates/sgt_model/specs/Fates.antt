@@ -47,26 +47,26 @@ fate_of [] t = None
 fate_of (e ∷ past) t = option_or (ending_in e.event e.reply t) (fate_of past t)
 
 -- it ended by its commit
-abbrev pub is_commit : Option Fate → Bool
-is_commit None = false
-is_commit (Some fate.Committed) = true
-is_commit (Some (fate.Aborted cause)) = false
-is_commit (Some (fate.Fell u)) = false
+abbrev pub has_committed : Option Fate → Bool
+has_committed None = false
+has_committed (Some fate.Committed) = true
+has_committed (Some (fate.Aborted cause)) = false
+has_committed (Some (fate.Fell u)) = false
 
 -- it ended by an abort, its own or another's
-abbrev pub is_abort : Option Fate → Bool
-is_abort None = false
-is_abort (Some fate.Committed) = false
-is_abort (Some (fate.Aborted cause)) = true
-is_abort (Some (fate.Fell u)) = true
+abbrev pub has_aborted : Option Fate → Bool
+has_aborted None = false
+has_aborted (Some fate.Committed) = false
+has_aborted (Some (fate.Aborted cause)) = true
+has_aborted (Some (fate.Fell u)) = true
 
 -- it had an Aborted reply, or stands among those that fell with one
 abbrev pub aborted : List Entry → ℕ → Bool
-aborted past t = is_abort (fate_of past t)
+aborted past t = has_aborted (fate_of past t)
 
 -- it had a Committed reply
 abbrev pub committed : List Entry → ℕ → Bool
-committed past t = is_commit (fate_of past t)
+committed past t = has_committed (fate_of past t)
 
 -- it was started, and is neither committed nor aborted
 abbrev pub live : List Entry → ℕ → Bool

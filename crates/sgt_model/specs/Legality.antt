@@ -1,8 +1,7 @@
 -- Which reply an event may get after a history, and which histories are legal. A step is served by basic serialization
 -- graph testing (Bernstein, Hadzilacos and Goodman (1987), chapter 4); a commit waits for live predecessors (Durner and
 -- Neumann, ICDE 2019).
-use Rattle.std.specs.Prelude.{◌≡◌, ℕ, ◌≤◌, ℤ, Bool, true, false, ◌&&◌, cond, ◌⊎◌, nat_eq, nat_lt, List, [], ◌∷◌, length, Option, Some, None}
-use Rattle.std.specs.List.{list_all}
+use Rattle.std.specs.Prelude.{◌≡◌, ℕ, ℤ, Bool, true, false, ◌⊎◌, nat_lt, List, [], ◌∷◌, length, Option, Some, None}
 use Rattle.sgt_model.specs.declared.event.Event.{Event}
 use Rattle.sgt_model.specs.declared.event.Event.TheVariants.{Start, Step, Commit, Quit}
 use Rattle.sgt_model.specs.declared.reply.Reply.{Reply}
@@ -13,7 +12,6 @@ use Rattle.sgt_model.specs.declared.reply.Fate.{Fate}
 use Rattle.sgt_model.specs.declared.entry.Entry.{Entry}
 use Rattle.sgt_model.specs.declared.kind.Kind.{Kind}
 use Rattle.sgt_model.specs.declared.kind.Kind.TheVariants.{Look, Store}
-use Rattle.sgt_model.specs.Numbers.{is_value}
 use Rattle.sgt_model.specs.Contents.{Key}
 use Rattle.sgt_model.specs.Traces.{Next, Looks, Puts, Ends, Asks}
 use Rattle.sgt_model.specs.Fates.{starts, fate_of, live, live_ones}
@@ -21,27 +19,10 @@ use Rattle.sgt_model.specs.Values.{visible}
 use Rattle.sgt_model.specs.Falls.{Falls}
 use Rattle.sgt_model.specs.Pairs.{Pair}
 use Rattle.sgt_model.specs.Closes.{Closes}
-use Rattle.sgt_model.specs.Settings.{Setting, takes}
+use Rattle.sgt_model.specs.Walks.{IsLeastBefore, NoneBefore}
+use Rattle.sgt_model.specs.Settings.{Setting}
 use Rattle.sgt_model.specs.Progress.{next_of}
-
--- a start
-
--- as many arguments as the procedure takes, each a value
-abbrev pub args_fit : ℕ → List ℤ → Bool
-args_fit count args = nat_eq (length args) count && list_all is_value args
-
--- where the limits allow one more
-abbrev pub started_reply : Setting → List Entry → Reply
-started_reply s past = cond (nat_eq (starts past) s.rules.limits.begins) reply.Spent (cond (nat_eq (length (live_ones past)) s.rules.limits.live) reply.Full (reply.Started (starts past)))
-
--- where the procedure takes so many arguments
-abbrev pub called_reply : Setting → List Entry → Option ℕ → List ℤ → Reply
-called_reply s past None args = reply.NoProcedure
-called_reply s past (Some count) args = cond (args_fit count args) (started_reply s past) reply.BadArgs
-
--- the one reply to a start: no such procedure, bad arguments, all numbers spent, full, or started with the next number
-abbrev pub start_reply : Setting → List Entry → ℕ → List ℤ → Reply
-start_reply s past p args = called_reply s past (takes s.rules p) args
+use Rattle.sgt_model.specs.StartReply.{start_reply}
 
 -- a step
 
@@ -71,20 +52,19 @@ StepReply s past t (Asks code) r = Aborts past t (cause.Asked code) r
 
 -- a commit
 
--- u is the least live transaction with a pair into t
-pub record IsLeastLive (past : List Entry) (t u : ℕ) : Type 0 where
-  pub is_live : live past u ≡ true
-  pub pair : Pair past u t
-  pub least : (v : ℕ) → live past v ≡ true → Pair past v t → u ≤ v
+-- t is a live predecessor of u: it is live, and has a pair into u
+pub record LivePredecessor (past : List Entry) (t u : ℕ) : Type 0 where
+  pub is_live : live past t ≡ true
+  pub pair : Pair past t u
 
 -- no live transaction has a pair into t
 abbrev pub NoneLive : List Entry → ℕ → Type 0
-NoneLive past t = (v : ℕ) → live past v ≡ true → Pair past v t → ⊥
+NoneLive past t = NoneBefore (LivePredecessor past) t
 
--- t has to wait for a live predecessor
+-- t has to wait for its least live predecessor
 pub record MustWait (past : List Entry) (t : ℕ) (r : Reply) : Type 0 where
   pub before : ℕ
-  pub least : IsLeastLive past t before
+  pub least : IsLeastBefore (LivePredecessor past) t before
   pub is : r ≡ reply.Waits before
 
 -- t has no live predecessor, and commits with its answers
@@ -118,7 +98,7 @@ OfLive past t r if_live = OfStarted (nat_lt t (starts past)) (fate_of past t) r 
 
 -- the event may get this reply after the history
 abbrev pub LegalReply : Setting → List Entry → Event → Reply → Type 0
-LegalReply s past (Start p args) r = r ≡ start_reply s past p args
+LegalReply s past (Start p args) r = r ≡ start_reply s.rules (starts past) (length (live_ones past)) p args
 LegalReply s past (Step t) r = OfLive past t r (StepReply s past t (next_of s past t) r)
 LegalReply s past (Commit t) r = OfLive past t r (CommitReply past t (next_of s past t) r)
 LegalReply s past (Quit t) r = OfLive past t r (Aborts past t cause.Quit r)

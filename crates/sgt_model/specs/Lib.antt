@@ -1,20 +1,17 @@
--- numbers, keys and databases
+-- ---- Part 1, what a reader has to trust: the definitions that `Legal` and `Headline` rest on, and no others. Who has read
+-- these 23 files knows what is promised.
+
+-- numbers and keys
 pub mod Numbers
 pub mod Contents
-pub mod Databases
--- procedures: what a run does, what the text says and what it means, and what is left to do
+-- procedures: what a run does, what the text says and what it means
 pub mod Runs
 pub mod Traces
 pub mod Syntax
-pub mod Programs
 pub mod Ways
 pub mod Meaning
-pub mod Executions
-pub mod Left
-pub mod Codes
 -- histories: accesses, fates, values, who read from whom, conflicts
 pub mod Walks
-pub mod Histories
 pub mod Accesses
 pub mod Fates
 pub mod Values
@@ -23,22 +20,38 @@ pub mod Falls
 pub mod Pairs
 pub mod Closes
 -- which replies are legal
-pub mod Bounds
 pub mod Settings
 pub mod Progress
+pub mod StartReply
 pub mod Legality
-pub mod OneReply
--- what is true of legal histories
-pub mod Admissions
+-- the headline
 pub mod Replay
-pub mod ExecutedReplay
-pub mod CommitOrder
 pub mod Aborts
+pub mod CommitOrder
 pub mod Headline
-pub mod StoredValues
+-- ---- Part 2, words of single contracts: what types and functions say of themselves beside these.
+
+pub mod Bounds
+pub mod Databases
+pub mod Programs
+pub mod Codes
+pub mod Histories
+pub mod Questions
+-- ---- Part 3, laws: what is proved of the definitions of part 1. None has to be trusted. The plain meaning of the language
+-- (`Executions`) stands here, as a law joins it to runs.
+
+pub mod Admissions
 pub mod Laws
+pub mod OneReply
 pub mod ReplySizes
--- the state of a scheduler, and the one that belongs to a history
+pub mod StoredValues
+pub mod Executions
+pub mod ExecutedReplay
+-- ---- Part 4, the scheduler's room: the state that a scheduler keeps in place of the history, what its calls do to it, and
+-- why that is legal. It is proved of the definitions of part 1, so none of it has to be trusted.
+
+-- the state, and the one that belongs to a history
+pub mod Left
 pub mod AccessList
 pub mod Chains
 pub mod ChainOrder

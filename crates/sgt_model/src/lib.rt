@@ -12,11 +12,19 @@
 //! compares and copies plain values. The functions of `laws`, `left` and `refinement` do nothing at all: each
 //! is a law, which its contract says and any caller may use.
 //!
-//! The definitions that contracts cite stand in `specs/`, to be read in the order of `specs/Lib.antt`. A history is read
-//! there with its newest entry first. They follow Bernstein, Hadzilacos and Goodman, *Concurrency Control and Recovery in
-//! Database Systems* (1987), chapters 1, 2 and 4, and for the order of commits Durner and Neumann, *No False Negatives:
-//! Accepting All Useful Schedules in a Fast Serializable Many-Core System* (ICDE 2019). Worked histories, proved legal,
-//! and wrong replies, proved not legal, stand in `proofs/` under `Examples..` and `WrongReplies`.
+//! The definitions that contracts cite stand in `specs/`, in four parts, to be read in the order of `specs/Lib.antt`:
+//!
+//! 1. What a reader has to trust: the 23 files that `Legal` and `Headline` rest on, from `Numbers` to `Headline`.
+//! 2. Words of single contracts: `Bounds`, `Databases`, `Programs`, `Codes`, `Histories`, `Questions`.
+//! 3. Laws, which are proved of the definitions of part 1: from `Admissions` to `ExecutedReplay`.
+//! 4. The scheduler's room: the state that a scheduler keeps in place of the history, what its calls do to it, and why that
+//!    is legal, which is proved of part 1 too: from `Left` to `Refinement`.
+//!
+//! A history is read there with its newest entry first. The definitions follow Bernstein, Hadzilacos and Goodman,
+//! *Concurrency Control and Recovery in Database Systems* (1987), chapters 1, 2 and 4, and for the order of commits Durner
+//! and Neumann, *No False Negatives: Accepting All Useful Schedules in a Fast Serializable Many-Core System* (ICDE 2019).
+//! Worked histories, proved legal, and wrong replies, proved not legal, stand in `proofs/` under `Examples..` and
+//! `WrongReplies`.
 //!
 //! ```
 //! // Record 101 of table 2 holds 1,000.

@@ -9,7 +9,7 @@ use Rattle.sgt_model.specs.declared.limits.Limits.{Limits}
 use Rattle.sgt_model.specs.declared.reply.Fate.{Fate}
 use Rattle.sgt_model.specs.declared.reply.Reply.{Reply}
 use Rattle.sgt_model.specs.declared.reply.Reply.TheVariants as reply
-use Rattle.sgt_model.specs.Legality.{args_fit}
+use Rattle.sgt_model.specs.StartReply.{args_fit, room_reply, taken_reply}
 use Rattle.sgt_model.specs.Traces.{Next, Looks, Puts, Ends, Asks}
 use Rattle.sgt_model.specs.Settings.{Rules, takes}
 use Rattle.sgt_model.specs.Syntax.{Program}
@@ -17,7 +17,7 @@ use Rattle.sgt_model.specs.Left.{next_left}
 use Rattle.sgt_model.specs.State.{State}
 use Rattle.sgt_model.specs.Walks.{Member}
 use Rattle.sgt_model.specs.Changes.{Removes}
-use Rattle.sgt_model.specs.CallEffects.{Stays, IfOpen, AbortsIn, StepOn, CommitOn, CallEffect, StartOn, room_reply, taken_reply}
+use Rattle.sgt_model.specs.CallEffects.{Stays, IfOpen, AbortsIn, StepOn, CommitOn, CallEffect, StartOn}
 use Rattle.sgt_sched.specs.Steps.{IsUnended}
 use Rattle.sgt_sched.specs.Endings.{is_ending, StepEnds, CommitEnds, EndsOne, EndsWhere, Counts}
 

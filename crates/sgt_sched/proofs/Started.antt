@@ -14,7 +14,8 @@ use Rattle.sgt_model.specs.Settings.{Rules, rules_from, takes}
 use Rattle.sgt_model.specs.LiveLeft.{left_if}
 use Rattle.sgt_model.specs.declared.reply.Reply.{Reply}
 use Rattle.sgt_model.specs.declared.reply.Reply.TheVariants as reply
-use Rattle.sgt_model.specs.CallEffects.{start_answer, taken_reply, StartOn, StartEffect}
+use Rattle.sgt_model.specs.StartReply.{taken_reply}
+use Rattle.sgt_model.specs.CallEffects.{start_answer, StartOn, StartEffect}
 use Rattle.sgt_model.specs.State.{State}
 use Rattle.sgt_model.specs.Changes.{Starts}
 use Rattle.sgt_model.proofs.Conditions.{next_no_node}

@@ -1,5 +1,5 @@
 ghost use Rattle.std.specs.Prelude.{◌≡◌};
-ghost use Rattle.sgt_model.specs.Legality.{args_fit};
+ghost use Rattle.sgt_model.specs.StartReply.{args_fit};
 
 use sgt_model::{Args, is_value};
 

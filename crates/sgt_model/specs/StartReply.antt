@@ -1,0 +1,25 @@
+-- What a start is answered, by the rules, how many transactions were started and how many are live.
+use Rattle.std.specs.Prelude.{ℕ, ℤ, Bool, ◌&&◌, cond, nat_eq, List, length, Option, Some, None}
+use Rattle.std.specs.List.{list_all}
+use Rattle.sgt_model.specs.declared.reply.Reply.{Reply}
+use Rattle.sgt_model.specs.declared.reply.Reply.TheVariants as reply
+use Rattle.sgt_model.specs.declared.limits.Limits.{Limits}
+use Rattle.sgt_model.specs.Numbers.{is_value}
+use Rattle.sgt_model.specs.Settings.{Rules, takes}
+
+-- as many arguments as the procedure takes, each a value
+abbrev pub args_fit : ℕ → List ℤ → Bool
+args_fit count args = nat_eq (length args) count && list_all is_value args
+
+-- where the limits allow one more
+abbrev pub room_reply : Limits → ℕ → ℕ → Reply
+room_reply limits begun living = cond (nat_eq begun limits.begins) reply.Spent (cond (nat_eq living limits.live) reply.Full (reply.Started begun))
+
+-- where the procedure takes so many arguments
+abbrev pub taken_reply : Limits → ℕ → ℕ → Option ℕ → List ℤ → Reply
+taken_reply limits begun living None args = reply.NoProcedure
+taken_reply limits begun living (Some count) args = cond (args_fit count args) (room_reply limits begun living) reply.BadArgs
+
+-- the one reply to a start: no such procedure, bad arguments, all numbers spent, full, or started with the next number
+abbrev pub start_reply : Rules → ℕ → ℕ → ℕ → List ℤ → Reply
+start_reply rules begun living p args = taken_reply rules.limits begun living (takes rules p) args
