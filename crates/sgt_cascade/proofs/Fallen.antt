@@ -29,7 +29,8 @@ stands_without t u (x ∷ l) = go (nat_eq t x) (nat_eq x u) refl refl (stands_wi
     and_true : (b : Bool) → b ≡ true → (true && b) ≡ true
     and_true b e = e
 
-    go : (a b : Bool) → nat_eq t x ≡ a → nat_eq x u ≡ b → stands rest u ≡ (stands l u && not (nat_eq t u)) → stands (cond (not a) (x ∷ rest) rest) u ≡ ((b || stands l u) && not (nat_eq t u))
+    go : (a b : Bool) → nat_eq t x ≡ a → nat_eq x u ≡ b → stands rest u ≡ (stands l u && not (nat_eq t u))
+        → stands (cond (not a) (x ∷ rest) rest) u ≡ ((b || stands l u) && not (nat_eq t u))
     go true true e f h = h ∙ gone (stands l u) (eq-eqb t u (eqb-true t x e ∙ eqb-true x u f))
       where
         gone : (s : Bool) → nat_eq t u ≡ true → (s && not (nat_eq t u)) ≡ not (nat_eq t u)
@@ -55,11 +56,14 @@ fewer_stand t (x ∷ l) h = go (nat_eq t x) refl (no_more l) (fewer_stand t l) h
     no_more [] = omega arith
     no_more (y ∷ l) = two (nat_eq t y) (no_more l)
       where
-        two : (b : Bool) → length (filter (λ y. not (nat_eq t y)) l) ≤ length l → length (cond (not b) (y ∷ filter (λ y. not (nat_eq t y)) l) (filter (λ y. not (nat_eq t y)) l)) ≤ suc (length l)
+        two : (b : Bool) → length (filter (λ y. not (nat_eq t y)) l) ≤ length l
+            → length (cond (not b) (y ∷ filter (λ y. not (nat_eq t y)) l) (filter (λ y. not (nat_eq t y)) l)) ≤ suc (length l)
         two true h = omega (arith, h)
         two false h = omega (arith, h)
 
-    go : (b : Bool) → nat_eq t x ≡ b → length (filter (λ y. not (nat_eq t y)) l) ≤ length l → (stands l t ≡ true → length (filter (λ y. not (nat_eq t y)) l) < length l) → (nat_eq x t || stands l t) ≡ true → length (cond (not b) (x ∷ filter (λ y. not (nat_eq t y)) l) (filter (λ y. not (nat_eq t y)) l)) < suc (length l)
+    go : (b : Bool) → nat_eq t x ≡ b → length (filter (λ y. not (nat_eq t y)) l) ≤ length l
+        → (stands l t ≡ true → length (filter (λ y. not (nat_eq t y)) l) < length l) → (nat_eq x t || stands l t) ≡ true
+        → length (cond (not b) (x ∷ filter (λ y. not (nat_eq t y)) l) (filter (λ y. not (nat_eq t y)) l)) < suc (length l)
     go true e few less h = omega (arith, few)
     go false e few less h = other (nat_eq x t) refl h
       where
@@ -121,12 +125,15 @@ standing_first read_from live t = record {
     away false e = refl
 
 -- one that has read from another that fell leaves them
-pub standing_next : (read_from : List (ℕ × ℕ)) (live : List ℕ) (t : ℕ) (standing : List ℕ) → ((u v : ℕ) → Has read_from u v → Member u live × Member v live) → IsStanding read_from live t standing → (u v : ℕ) → has_read read_from u v ≡ true → stands standing u ≡ false → IsStanding read_from live t (filter (λ x. not (nat_eq v x)) standing)
+pub standing_next : (read_from : List (ℕ × ℕ)) (live : List ℕ) (t : ℕ) (standing : List ℕ)
+    → ((u v : ℕ) → Has read_from u v → Member u live × Member v live) → IsStanding read_from live t standing → (u v : ℕ)
+    → has_read read_from u v ≡ true → stands standing u ≡ false → IsStanding read_from live t (filter (λ x. not (nat_eq v x)) standing)
 standing_next read_from live t standing pairs is u v read out_u = record {
   gone = stands_without v t standing ∙ ap (λ b. b && not (nat_eq v t)) is.gone;
   reached = λ w m h. elim (and_false (stands standing w) (not (nat_eq v w)) (sym (stands_without v w standing) ∙ h)) [
     | inl out ↦ is.reached w m out
-    | inr same ↦ subst (λ x. Reaches (Has read_from) t x) (eqb-true v w (not_false (nat_eq v w) same)) (reaches_more (Has read_from) t u v (is.reached u (pairs u v there).0 out_u) there)
+    | inr same ↦ subst (λ x. Reaches (Has read_from) t x) (eqb-true v w (not_false (nat_eq v w) same))
+        (reaches_more (Has read_from) t u v (is.reached u (pairs u v there).0 out_u) there)
   ];
 }
   where
@@ -134,7 +141,9 @@ standing_next read_from live t standing pairs is u v read out_u = record {
     there = read_has read_from u v read
 
 -- where no reader of one that fell stands, none that is reached does
-none_stands : (read_from : List (ℕ × ℕ)) (standing : List ℕ) → ((u v : ℕ) → has_read read_from u v ≡ true → stands standing v ≡ true → stands standing u ≡ true) → (a : ℕ) (path : List ℕ) → stands standing a ≡ false → PathOf (Has read_from) a path → stands standing (last_of a path) ≡ false
+none_stands : (read_from : List (ℕ × ℕ)) (standing : List ℕ)
+    → ((u v : ℕ) → has_read read_from u v ≡ true → stands standing v ≡ true → stands standing u ≡ true) → (a : ℕ) (path : List ℕ)
+    → stands standing a ≡ false → PathOf (Has read_from) a path → stands standing (last_of a path) ≡ false
 none_stands read_from standing closed a [] out p = out
 none_stands read_from standing closed a (b ∷ path) out p = none_stands read_from standing closed b path (go (stands standing b) refl) p.1
   where
@@ -143,7 +152,8 @@ none_stands read_from standing closed a (b ∷ path) out p = none_stands read_fr
     go false e = refl
 
 -- the others that do not stand are those that fall
-pub fallen_exact : (read_from : List (ℕ × ℕ)) (live : List ℕ) (t : ℕ) (standing fell : List ℕ) → IsStanding read_from live t standing → ((u v : ℕ) → has_read read_from u v ≡ true → stands standing v ≡ true → stands standing u ≡ true)
+pub fallen_exact : (read_from : List (ℕ × ℕ)) (live : List ℕ) (t : ℕ) (standing fell : List ℕ) → IsStanding read_from live t standing
+    → ((u v : ℕ) → has_read read_from u v ≡ true → stands standing v ≡ true → stands standing u ≡ true)
     → ((u : ℕ) → Member u fell ↔ (Member u (filter (λ x. not (nat_eq t x)) live) × (stands standing u ≡ false))) → (u : ℕ)
     → Member u fell ↔ (Member u live × (u ≢ t) × Reaches (Has read_from) t u)
 fallen_exact read_from live t standing fell is closed members u = (
@@ -152,7 +162,8 @@ fallen_exact read_from live t standing fell is closed members u = (
       let other = member_kept (λ x. not (nat_eq t x)) u live out.0 in
       (other.1, (λ e. true≢false (sym other.0 ∙ ap not (eq-eqb t u (sym e)))), is.reached u other.1 out.1)),
   λ h.
-      let out : stands standing u ≡ false = subst (λ x. stands standing x ≡ false) h.2.2 (none_stands read_from standing closed t h.2.0 is.gone h.2.1) in
+      let out : stands standing u ≡ false =
+      subst (λ x. stands standing x ≡ false) h.2.2 (none_stands read_from standing closed t h.2.0 is.gone h.2.1) in
       (members u).1 (kept_member (λ x. not (nat_eq t x)) u live (apart h.1) h.0, out),
 )
   where

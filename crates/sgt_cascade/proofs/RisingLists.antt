@@ -15,7 +15,8 @@ with_members t [] u (inl e) = inr e
 with_members t [] u (inr m) = absurd m
 with_members t (x ∷ l) u m = go (nat_lt x t) (nat_eq x t) (with_members t l u) m
   where
-    go : (a b : Bool) → (Member u (with_member t l) → Member u l ⊎ (u ≡ t)) → Member u (cond a (x ∷ with_member t l) (cond b (x ∷ l) (t ∷ x ∷ l))) → Member u (x ∷ l) ⊎ (u ≡ t)
+    go : (a b : Bool) → (Member u (with_member t l) → Member u l ⊎ (u ≡ t))
+        → Member u (cond a (x ∷ with_member t l) (cond b (x ∷ l) (t ∷ x ∷ l))) → Member u (x ∷ l) ⊎ (u ≡ t)
     go true b rest (inl e) = inl (inl e)
     go true b rest (inr m) = elim (rest m) [ inl n ↦ inl (inr n) | inr e ↦ inr e ]
     go false true rest m = inl m
@@ -27,7 +28,8 @@ members_with t [] u (inl m) = absurd m
 members_with t [] u (inr e) = inl e
 members_with t (x ∷ l) u m = go (nat_lt x t) (nat_eq x t) refl (members_with t l u) m
   where
-    go : (a b : Bool) → nat_eq x t ≡ b → (Member u l ⊎ (u ≡ t) → Member u (with_member t l)) → Member u (x ∷ l) ⊎ (u ≡ t) → Member u (cond a (x ∷ with_member t l) (cond b (x ∷ l) (t ∷ x ∷ l)))
+    go : (a b : Bool) → nat_eq x t ≡ b → (Member u l ⊎ (u ≡ t) → Member u (with_member t l)) → Member u (x ∷ l) ⊎ (u ≡ t)
+        → Member u (cond a (x ∷ with_member t l) (cond b (x ∷ l) (t ∷ x ∷ l)))
     go true b q rest (inl (inl e)) = inl e
     go true b q rest (inl (inr n)) = inr (rest (inl n))
     go true b q rest (inr e) = inr (rest (inr e))
@@ -55,7 +57,8 @@ pub with_rising : (t : ℕ) (l : List ℕ) → Rising l → Rising (with_member 
 with_rising t [] rising = tt
 with_rising t (x ∷ l) rising = go (nat_lt x t) (nat_eq x t) refl refl (with_rising t l (rising_rest x l rising))
   where
-    go : (a b : Bool) → nat_lt x t ≡ a → nat_eq x t ≡ b → Rising (with_member t l) → Rising (cond a (x ∷ with_member t l) (cond b (x ∷ l) (t ∷ x ∷ l)))
+    go : (a b : Bool) → nat_lt x t ≡ a → nat_eq x t ≡ b → Rising (with_member t l)
+        → Rising (cond a (x ∷ with_member t l) (cond b (x ∷ l) (t ∷ x ∷ l)))
     go true b p q rest = rising_cons x (with_member t l) (λ u m. elim (with_members t l u m) [
       | inl n ↦ after_first x l rising u n
       | inr e ↦ subst (λ v. x < v) (sym e) (grind (arith, nat_tests, p))
@@ -68,12 +71,14 @@ pub with_few : (t : ℕ) (l : List ℕ) → length (with_member t l) ≤ length 
 with_few t [] = omega arith
 with_few t (x ∷ l) = go (nat_lt x t) (nat_eq x t) (with_few t l)
   where
-    go : (a b : Bool) → length (with_member t l) ≤ length l + 1 → length (cond a (x ∷ with_member t l) (cond b (x ∷ l) (t ∷ x ∷ l))) ≤ length (x ∷ l) + 1
+    go : (a b : Bool) → length (with_member t l) ≤ length l + 1
+        → length (cond a (x ∷ with_member t l) (cond b (x ∷ l) (t ∷ x ∷ l))) ≤ length (x ∷ l) + 1
     go true b rest = omega (arith, rest)
     go false true rest = omega arith
     go false false rest = omega arith
 
-module _ (standing others fell : List ℕ) (i x : ℕ) (short : i < length others) (is : x ≡ get_or others i x) (so_far : (u : ℕ) → Member u fell ↔ (Member u (take i others) × (stands standing u ≡ false))) where
+module _ (standing others fell : List ℕ) (i x : ℕ) (short : i < length others) (is : x ≡ get_or others i x)
+    (so_far : (u : ℕ) → Member u fell ↔ (Member u (take i others) × (stands standing u ≡ false))) where
   more : take (i + 1) others ≡ take i others ++ x ∷ []
   more = subst (λ y. take (i + 1) others ≡ take i others ++ y ∷ []) (sym is) (take_more others i x short)
 
@@ -84,7 +89,8 @@ module _ (standing others fell : List ℕ) (i x : ℕ) (short : i < length other
   among u m = member_append u (take i others) x (subst (λ l. Member u l) more m)
 
   -- one that does not stand is added
-  pub adds : stands standing x ≡ false → (u : ℕ) → Member u (with_member x fell) ↔ (Member u (take (i + 1) others) × (stands standing u ≡ false))
+  pub adds : stands standing x ≡ false → (u : ℕ) → Member u (with_member x fell)
+      ↔ (Member u (take (i + 1) others) × (stands standing u ≡ false))
   adds out u = (
     (λ m. elim (with_members x fell u m) [
       | inl n ↦ let both = (so_far u).0 n in (there u (inl both.0), both.1)

@@ -4,21 +4,27 @@ use Rattle.sgt_cascade.proofs.Fallen.{IsStanding, standing_first, standing_next,
 use Rattle.sgt_cascade.proofs.cascade.fallers.Goals as goal
 
 pub loop-pair-init : goal.loop-pair-init
-loop-pair-init c = subst (λ l. IsStanding c.args.read_from.now c.args.live.now c.args.t l) (sym (c.copied-standing.ensures ∙ c.without-others.ensures)) (standing_first c.args.read_from.now c.args.live.now c.args.t)
+loop-pair-init c = subst (λ l. IsStanding c.args.read_from.now c.args.live.now c.args.t l)
+    (sym (c.copied-standing.ensures ∙ c.without-others.ensures)) (standing_first c.args.read_from.now c.args.live.now c.args.t)
 
 pub loop-pair-smaller : goal.loop-pair-smaller
 loop-pair-smaller c =
-    let there : stands c.loop-pair.standing c.in-Some.pair.1 ≡ true = subst (λ l. stands l c.in-Some.pair.1 ≡ true) c.as_slice.ensures c.in-Some.ensures.reader in
+    let there : stands c.loop-pair.standing c.in-Some.pair.1 ≡ true =
+    subst (λ l. stands l c.in-Some.pair.1 ≡ true) c.as_slice.ensures c.in-Some.ensures.reader in
     rw c.without-standing.ensures (fewer_stand c.in-Some.pair.1 c.loop-pair.standing there)
 
 pub loop-pair-preserved : goal.loop-pair-preserved
 loop-pair-preserved c =
-    let out : stands c.loop-pair.standing c.in-Some.pair.0 ≡ false = subst (λ l. stands l c.in-Some.pair.0 ≡ false) c.as_slice.ensures c.in-Some.ensures.source in
-    subst (λ l. IsStanding c.args.read_from.now c.args.live.now c.args.t l) (sym c.without-standing.ensures) (standing_next c.args.read_from.now c.args.live.now c.args.t c.loop-pair.standing c.requires.live_pairs c.loop-pair.invariant c.in-Some.pair.0 c.in-Some.pair.1 c.in-Some.ensures.pair out)
+    let out : stands c.loop-pair.standing c.in-Some.pair.0 ≡ false =
+    subst (λ l. stands l c.in-Some.pair.0 ≡ false) c.as_slice.ensures c.in-Some.ensures.source in
+    subst (λ l. IsStanding c.args.read_from.now c.args.live.now c.args.t l) (sym c.without-standing.ensures)
+    (standing_next c.args.read_from.now c.args.live.now c.args.t c.loop-pair.standing c.requires.live_pairs c.loop-pair.invariant
+    c.in-Some.pair.0 c.in-Some.pair.1 c.in-Some.ensures.pair out)
 
 pub returns-clause-exact : goal.returns-clause-exact
 returns-clause-exact c =
     let standing : List ℕ = c.loop-pair.standing in
-    let closed : (a b : ℕ) → has_read c.args.read_from.now a b ≡ true → stands standing b ≡ true → stands standing a ≡ true = search rules in
+    let closed : (a b : ℕ) → has_read c.args.read_from.now a b ≡ true → stands standing b ≡ true → stands standing a ≡ true =
+    search rules in
     fallen_exact c.args.read_from.now c.args.live.now c.args.t standing c.fallen.result c.loop-pair.invariant closed
     (rw (c.as_slice-2.ensures, c.without-others.ensures) at c.fallen.ensures.members)

@@ -29,5 +29,6 @@ loop-i-preserved c =
 
 pub returns-clause-members : goal.returns-clause-members
 returns-clause-members c =
-    let whole : take c.loop-i.i c.args.others.now ≡ c.args.others.now = take_all c.loop-i.i c.args.others.now (omega (arith, c.loop-i-test.false, c.len-i-end.ensures.count)) in
+    let whole : take c.loop-i.i c.args.others.now ≡ c.args.others.now =
+    take_all c.loop-i.i c.args.others.now (omega (arith, c.loop-i-test.false, c.len-i-end.ensures.count)) in
     rw whole at c.loop-i.invariant.members
