@@ -1,11 +1,9 @@
 -- Those that stand, those that do not, and paths of reads among them.
-use Rattle.std.proofs.Common.{◌≡◌, ◌≢◌, ℕ, suc, ◌+◌, ◌<◌, ◌≤◌, Bool, true, false, cond, not, ◌||◌, ◌&&◌, nat_eq, ◌⊎◌, ◌↔◌, List, [], ◌∷◌, ◌++◌, length, take, get_or, refl, sym, ap, ◌∙◌, subst, inl, inr, arith}
+use Rattle.std.proofs.Common.{◌≡◌, ◌≢◌, ℕ, suc, ◌<◌, ◌≤◌, Bool, true, false, cond, not, ◌||◌, ◌&&◌, nat_eq, ◌⊎◌, ◌↔◌, List, [], ◌∷◌, ◌++◌, length, refl, sym, ap, ◌∙◌, subst, inl, inr, arith}
 use Rattle.std.proofs.lemmas.Bool.{true≢false, eq-eqb, eqb-true, and_parts, or_cases}
-use Rattle.std.proofs.lemmas.List.{append-nil}
-use Rattle.std.proofs.lemmas.List.Elements.{filter_more}
 use Rattle.std.specs.List.{filter}
 use Rattle.sgt_model.specs.State.{Has}
-use Rattle.sgt_model.specs.Walks.{Member, PathOf, last_of, Reaches, Rising}
+use Rattle.sgt_model.specs.Walks.{Member, PathOf, last_of, Reaches}
 use Rattle.sgt_model.proofs.Listed.{kept_member, member_kept}
 use Rattle.sgt_model.proofs.Paths.{last_of-append}
 use Rattle.sgt_cascade.specs.Standing.{stands, has_read}
@@ -31,7 +29,8 @@ stands_without t u (x ∷ l) = go (nat_eq t x) (nat_eq x u) refl refl (stands_wi
     and_true : (b : Bool) → b ≡ true → (true && b) ≡ true
     and_true b e = e
 
-    go : (a b : Bool) → nat_eq t x ≡ a → nat_eq x u ≡ b → stands rest u ≡ (stands l u && not (nat_eq t u)) → stands (cond (not a) (x ∷ rest) rest) u ≡ ((b || stands l u) && not (nat_eq t u))
+    go : (a b : Bool) → nat_eq t x ≡ a → nat_eq x u ≡ b → stands rest u ≡ (stands l u && not (nat_eq t u))
+        → stands (cond (not a) (x ∷ rest) rest) u ≡ ((b || stands l u) && not (nat_eq t u))
     go true true e f h = h ∙ gone (stands l u) (eq-eqb t u (eqb-true t x e ∙ eqb-true x u f))
       where
         gone : (s : Bool) → nat_eq t u ≡ true → (s && not (nat_eq t u)) ≡ not (nat_eq t u)
@@ -57,11 +56,14 @@ fewer_stand t (x ∷ l) h = go (nat_eq t x) refl (no_more l) (fewer_stand t l) h
     no_more [] = omega arith
     no_more (y ∷ l) = two (nat_eq t y) (no_more l)
       where
-        two : (b : Bool) → length (filter (λ y. not (nat_eq t y)) l) ≤ length l → length (cond (not b) (y ∷ filter (λ y. not (nat_eq t y)) l) (filter (λ y. not (nat_eq t y)) l)) ≤ suc (length l)
+        two : (b : Bool) → length (filter (λ y. not (nat_eq t y)) l) ≤ length l
+            → length (cond (not b) (y ∷ filter (λ y. not (nat_eq t y)) l) (filter (λ y. not (nat_eq t y)) l)) ≤ suc (length l)
         two true h = omega (arith, h)
         two false h = omega (arith, h)
 
-    go : (b : Bool) → nat_eq t x ≡ b → length (filter (λ y. not (nat_eq t y)) l) ≤ length l → (stands l t ≡ true → length (filter (λ y. not (nat_eq t y)) l) < length l) → (nat_eq x t || stands l t) ≡ true → length (cond (not b) (x ∷ filter (λ y. not (nat_eq t y)) l) (filter (λ y. not (nat_eq t y)) l)) < suc (length l)
+    go : (b : Bool) → nat_eq t x ≡ b → length (filter (λ y. not (nat_eq t y)) l) ≤ length l
+        → (stands l t ≡ true → length (filter (λ y. not (nat_eq t y)) l) < length l) → (nat_eq x t || stands l t) ≡ true
+        → length (cond (not b) (x ∷ filter (λ y. not (nat_eq t y)) l) (filter (λ y. not (nat_eq t y)) l)) < suc (length l)
     go true e few less h = omega (arith, few)
     go false e few less h = other (nat_eq x t) refl h
       where
@@ -123,12 +125,15 @@ standing_first read_from live t = record {
     away false e = refl
 
 -- one that has read from another that fell leaves them
-pub standing_next : (read_from : List (ℕ × ℕ)) (live : List ℕ) (t : ℕ) (standing : List ℕ) → ((u v : ℕ) → Has read_from u v → Member u live × Member v live) → IsStanding read_from live t standing → (u v : ℕ) → has_read read_from u v ≡ true → stands standing u ≡ false → IsStanding read_from live t (filter (λ x. not (nat_eq v x)) standing)
+pub standing_next : (read_from : List (ℕ × ℕ)) (live : List ℕ) (t : ℕ) (standing : List ℕ)
+    → ((u v : ℕ) → Has read_from u v → Member u live × Member v live) → IsStanding read_from live t standing → (u v : ℕ)
+    → has_read read_from u v ≡ true → stands standing u ≡ false → IsStanding read_from live t (filter (λ x. not (nat_eq v x)) standing)
 standing_next read_from live t standing pairs is u v read out_u = record {
   gone = stands_without v t standing ∙ ap (λ b. b && not (nat_eq v t)) is.gone;
   reached = λ w m h. elim (and_false (stands standing w) (not (nat_eq v w)) (sym (stands_without v w standing) ∙ h)) [
     | inl out ↦ is.reached w m out
-    | inr same ↦ subst (λ x. Reaches (Has read_from) t x) (eqb-true v w (not_false (nat_eq v w) same)) (reaches_more (Has read_from) t u v (is.reached u (pairs u v there).0 out_u) there)
+    | inr same ↦ subst (λ x. Reaches (Has read_from) t x) (eqb-true v w (not_false (nat_eq v w) same))
+        (reaches_more (Has read_from) t u v (is.reached u (pairs u v there).0 out_u) there)
   ];
 }
   where
@@ -136,7 +141,9 @@ standing_next read_from live t standing pairs is u v read out_u = record {
     there = read_has read_from u v read
 
 -- where no reader of one that fell stands, none that is reached does
-none_stands : (read_from : List (ℕ × ℕ)) (standing : List ℕ) → ((u v : ℕ) → has_read read_from u v ≡ true → stands standing v ≡ true → stands standing u ≡ true) → (a : ℕ) (path : List ℕ) → stands standing a ≡ false → PathOf (Has read_from) a path → stands standing (last_of a path) ≡ false
+none_stands : (read_from : List (ℕ × ℕ)) (standing : List ℕ)
+    → ((u v : ℕ) → has_read read_from u v ≡ true → stands standing v ≡ true → stands standing u ≡ true) → (a : ℕ) (path : List ℕ)
+    → stands standing a ≡ false → PathOf (Has read_from) a path → stands standing (last_of a path) ≡ false
 none_stands read_from standing closed a [] out p = out
 none_stands read_from standing closed a (b ∷ path) out p = none_stands read_from standing closed b path (go (stands standing b) refl) p.1
   where
@@ -144,68 +151,25 @@ none_stands read_from standing closed a (b ∷ path) out p = none_stands read_fr
     go true e = absurd (true≢false (sym (closed a b (has_found read_from a b p.0) e) ∙ out))
     go false e = refl
 
--- the others that do not stand
-abbrev pub lost : List ℕ → ℕ → List ℕ → List ℕ
-lost standing t live = filter (λ x. not (stands standing x)) (filter (λ x. not (nat_eq t x)) live)
-
--- are those that fall
-pub lost_exact : (read_from : List (ℕ × ℕ)) (live : List ℕ) (t : ℕ) (standing : List ℕ) → IsStanding read_from live t standing → ((u v : ℕ) → has_read read_from u v ≡ true → stands standing v ≡ true → stands standing u ≡ true) → (u : ℕ)
-    → Member u (lost standing t live) ↔ (Member u live × (u ≢ t) × Reaches (Has read_from) t u)
-lost_exact read_from live t standing is closed u = (
+-- the others that do not stand are those that fall
+pub fallen_exact : (read_from : List (ℕ × ℕ)) (live : List ℕ) (t : ℕ) (standing fell : List ℕ) → IsStanding read_from live t standing
+    → ((u v : ℕ) → has_read read_from u v ≡ true → stands standing v ≡ true → stands standing u ≡ true)
+    → ((u : ℕ) → Member u fell ↔ (Member u (filter (λ x. not (nat_eq t x)) live) × (stands standing u ≡ false))) → (u : ℕ)
+    → Member u fell ↔ (Member u live × (u ≢ t) × Reaches (Has read_from) t u)
+fallen_exact read_from live t standing fell is closed members u = (
   (λ m.
-      let out = member_kept (λ x. not (stands standing x)) u (filter (λ x. not (nat_eq t x)) live) m in
-      let other = member_kept (λ x. not (nat_eq t x)) u live out.1 in
-      (other.1, (λ e. true≢false (sym other.0 ∙ ap not (eq-eqb t u (sym e)))), is.reached u other.1 (not_true (stands standing u) out.0))),
+      let out = (members u).0 m in
+      let other = member_kept (λ x. not (nat_eq t x)) u live out.0 in
+      (other.1, (λ e. true≢false (sym other.0 ∙ ap not (eq-eqb t u (sym e)))), is.reached u other.1 out.1)),
   λ h.
-      let out : stands standing u ≡ false = subst (λ x. stands standing x ≡ false) h.2.2 (none_stands read_from standing closed t h.2.0 is.gone h.2.1) in
-      kept_member (λ x. not (stands standing x)) u (filter (λ x. not (nat_eq t x)) live) (ap not out) (kept_member (λ x. not (nat_eq t x)) u live (apart h.1) h.0),
+      let out : stands standing u ≡ false =
+      subst (λ x. stands standing x ≡ false) h.2.2 (none_stands read_from standing closed t h.2.0 is.gone h.2.1) in
+      (members u).1 (kept_member (λ x. not (nat_eq t x)) u live (apart h.1) h.0, out),
 )
   where
-    not_true : (b : Bool) → not b ≡ true → b ≡ false
-    not_true true h = absurd (true≢false (sym h))
-    not_true false h = refl
-
     apart : u ≢ t → not (nat_eq t u) ≡ true
     apart other = go (nat_eq t u) refl
       where
         go : (b : Bool) → nat_eq t u ≡ b → not b ≡ true
         go true e = absurd (other (sym (eqb-true t u e)))
         go false e = refl
-
--- what is left of a list that rises rises
-
-after_first : (x : ℕ) (l : List ℕ) → Rising (x ∷ l) → (u : ℕ) → Member u l → x < u
-after_first x [] rising u m = absurd m
-after_first x (y ∷ l) rising u (inl e) = subst (λ v. x < v) (sym e) rising.0
-after_first x (y ∷ l) rising u (inr m) = let far = after_first y l rising.1 u m in let near = rising.0 in omega arith
-
-rising_rest : (x : ℕ) (l : List ℕ) → Rising (x ∷ l) → Rising l
-rising_rest x [] rising = tt
-rising_rest x (y ∷ l) rising = rising.1
-
-rising_cons : (x : ℕ) (l : List ℕ) → ((u : ℕ) → Member u l → x < u) → Rising l → Rising (x ∷ l)
-rising_cons x [] below rising = tt
-rising_cons x (y ∷ l) below rising = (below y (inl refl), rising)
-
-pub rising_filter : (f : ℕ → Bool) (l : List ℕ) → Rising l → Rising (filter f l)
-rising_filter f [] rising = tt
-rising_filter f (x ∷ l) rising = go (f x) (rising_filter f l (rising_rest x l rising))
-  where
-    go : (b : Bool) → Rising (filter f l) → Rising (cond b (x ∷ filter f l) (filter f l))
-    go true rest = rising_cons x (filter f l) (λ u m. after_first x l rising u (member_kept f u l m).1) rest
-    go false rest = rest
-
-pub lost_rising : (standing : List ℕ) (t : ℕ) (live : List ℕ) → Rising live → Rising (lost standing t live)
-lost_rising standing t live rising = rising_filter (λ x. not (stands standing x)) (filter (λ x. not (nat_eq t x)) live) (rising_filter (λ x. not (nat_eq t x)) live rising)
-
--- what a test keeps, one by one
-
-module _ (f : ℕ → Bool) (l : List ℕ) (i x : ℕ) (kept : List ℕ) (short : i < length l) (is : x ≡ get_or l i x) (so_far : kept ≡ filter f (take i l)) where
-  more : filter f (take (i + 1) l) ≡ filter f (take i l) ++ cond (f x) (x ∷ []) []
-  more = subst (λ y. filter f (take (i + 1) l) ≡ filter f (take i l) ++ cond (f y) (y ∷ []) []) (sym is) (filter_more f l i x short)
-
-  pub keeps : f x ≡ true → kept ++ x ∷ [] ≡ filter f (take (i + 1) l)
-  keeps passes = sym (more ∙ (ap (λ b. filter f (take i l) ++ cond b (x ∷ []) []) passes ∙ ap (λ k. k ++ x ∷ []) (sym so_far)))
-
-  pub skips : f x ≡ false → kept ≡ filter f (take (i + 1) l)
-  skips fails = sym (more ∙ (ap (λ b. filter f (take i l) ++ cond b (x ∷ []) []) fails ∙ (append-nil (filter f (take i l)) ∙ sym so_far)))

@@ -1,1 +1,2 @@
 pub mod Fallen
+pub mod RisingLists

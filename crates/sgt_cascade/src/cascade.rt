@@ -6,14 +6,13 @@ use crate::standing::{fallen, next_fall, without};
 use sgt_model::{Tid, Tids};
 
 /// Those that fall with t when it aborts: the live ones other than t that have read from it, directly or through others.
-/// They rise, as the live ones do.
+/// They rise, in whatever order the live ones come.
 ///
 /// Each pair is of two live ones: the source, and the reader that has read from it. This takes no memory. It goes through the
 /// pairs once more than transactions fall, and for each pair through the live ones.
 ///
 /// Bernstein, Hadzilacos and Goodman (1987), chapter 2: cascading abort.
 pub fn fallers(read_from: &[(Tid, Tid)], live: &Tids, t: Tid) -> Tids
-    requires rising { Rising live.now }
     requires live { Member t live.now }
     requires live_pairs { (u v : ℕ) → Has read_from.now u v
         → Member u live.now × Member v live.now }

@@ -1,7 +1,8 @@
 //! The live transactions that still stand: those of which nothing says yet that they fall.
-ghost use Rattle.std.specs.Prelude.{◌≡◌, ℕ, true, false, not, nat_eq, IfSome, IsNone};
+ghost use Rattle.std.specs.Prelude.{◌≡◌, ◌↔◌, ◌<◌, ◌≤◌, ℕ, true, false, not, nat_eq, IfSome, IsNone, ◌∷◌, ◌++◌, length, take, drop};
 ghost use Rattle.std.specs.List.{filter};
-ghost use Rattle.sgt_cascade.specs.Standing.{stands, has_read};
+ghost use Rattle.sgt_model.specs.Walks.{Member, Rising};
+ghost use Rattle.sgt_cascade.specs.Standing.{stands, has_read, with_member};
 
 use sgt_model::{Tid, Tids};
 
@@ -35,16 +36,51 @@ pub fn next_fall(read_from: &[(Tid, Tid)], standing: &[Tid]) -> Option<(Tid, Tid
     None
 }
 
-/// The others that do not stand.
+/// The others that do not stand, rising.
 pub fn fallen(others: &Tids, standing: &[Tid]) -> Tids
-    ensures { result ≡ filter (λ u. not (stands standing.now u)) others.now }
+    ensures members { (u : ℕ) → Member u result
+        ↔ (Member u others.now × (stands standing.now u ≡ false)) }
+    ensures rising { Rising result }
 {
     let mut fell = Tids::new();
     for i in 0..others.len() {
         let other = others.as_slice()[i];
         if !standing.contains(&other) {
-            fell.push(other);
+            add(&mut fell, other);
         }
     }
     fell
+}
+
+/// Adds a transaction to a list that rises, where it belongs, unless it is there.
+fn add(list: &mut Tids, t: Tid)
+    requires { length list.old < 32 }
+    ensures { list.new ≡ with_member t list.old }
+{
+    let mut at = 0;
+    while at < list.len() && list.as_slice()[at] < t {
+        at += 1;
+    }
+    if at == list.len() {
+        list.push(t);
+    } else if list.as_slice()[at] != t {
+        *list = inserted(list, at, t);
+    }
+}
+
+/// The list with the transaction behind its first ones, as many as are told.
+fn inserted(list: &Tids, at: usize, t: Tid) -> Tids
+    requires room { length list.now < 32 }
+    requires within { at ≤ length list.now }
+    ensures { result ≡ take at list.now ++ t ∷ drop at list.now }
+{
+    let mut more = match Tids::from_slice(&list.as_slice()[..at]) {
+        Some(before) => before,
+        None => unreachable!(),
+    };
+    more.push(t);
+    for i in at..list.len() {
+        more.push(list.as_slice()[i]);
+    }
+    more
 }

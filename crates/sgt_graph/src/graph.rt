@@ -27,17 +27,13 @@ pub trait Graph: Drop + Send {
         requires new { nodes self.old t ≡ false }
         requires room { AtMost 31 (nodes self.old) }
         ensures nodes { (u : ℕ) → nodes self.new u ≡ (nodes self.old u || nat_eq u t) }
-        ensures pairs { (u v : ℕ) → pairs self.new u v ≡ pairs self.old u v }
-        ensures of_nodes { OfNodes (nodes self.new) (pairs self.new) }
-        ensures acyclic { NoCycle (pairs self.new) };
+        ensures pairs { (u v : ℕ) → pairs self.new u v ≡ pairs self.old u v };
 
     /// Whether pairs from all the preds to t would leave the graph without a cycle.
     fn test(&self, t: Tid, preds: &Tids) -> Verdict
         requires node { nodes self.now t ≡ true }
         requires preds { (u : ℕ) → Member u preds.now → (nodes self.now u ≡ true) × (u ≢ t) }
-        ensures verdict { IsVerdict (pairs self.now) t preds.now result }
-        ensures of_nodes { OfNodes (nodes self.now) (pairs self.now) }
-        ensures acyclic { NoCycle (pairs self.now) };
+        ensures verdict { IsVerdict (pairs self.now) t preds.now result };
 
     /// Adds pairs from all the preds to t, unless a cycle would come: then nothing changes.
     fn insert(&mut self, t: Tid, preds: &Tids) -> Verdict
@@ -45,22 +41,21 @@ pub trait Graph: Drop + Send {
         requires preds { (u : ℕ) → Member u preds.now → (nodes self.old u ≡ true) × (u ≢ t) }
         ensures nodes { (u : ℕ) → nodes self.new u ≡ nodes self.old u }
         ensures verdict { IsVerdict (pairs self.old) t preds.now result }
-        ensures pairs { Inserts (pairs self.old) (pairs self.new) t preds.now result }
-        ensures of_nodes { OfNodes (nodes self.new) (pairs self.new) }
-        ensures acyclic { NoCycle (pairs self.new) };
+        ensures pairs { Inserts (pairs self.old) (pairs self.new) t preds.now result };
 
     /// The least transaction with a pair to t.
     fn least_pred(&self, t: Tid) -> Option<Tid>
         ensures some { IfSome result (IsLeastPred (pairs self.now) t) }
-        ensures none { IsNone result → (u : ℕ) → pairs self.now u t ≡ false }
-        ensures of_nodes { OfNodes (nodes self.now) (pairs self.now) }
-        ensures acyclic { NoCycle (pairs self.now) };
+        ensures none { IsNone result → (u : ℕ) → pairs self.now u t ≡ false };
 
     /// Takes out a transaction, with its pairs.
     fn remove(&mut self, t: Tid)
         ensures nodes { (u : ℕ) → nodes self.new u ≡ (nodes self.old u && not (nat_eq t u)) }
         ensures pairs { (u v : ℕ) → pairs self.new u v
-            ≡ (pairs self.old u v && (not (nat_eq t u) && not (nat_eq t v))) }
-        ensures of_nodes { OfNodes (nodes self.new) (pairs self.new) }
-        ensures acyclic { NoCycle (pairs self.new) };
+            ≡ (pairs self.old u v && (not (nat_eq t u) && not (nat_eq t v))) };
+
+    /// A law of every graph: each pair is of two nodes, and the pairs have no cycle. It does nothing.
+    fn has_no_cycle(&self)
+        ensures of_nodes { OfNodes (nodes self.now) (pairs self.now) }
+        ensures acyclic { NoCycle (pairs self.now) };
 }

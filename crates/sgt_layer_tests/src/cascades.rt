@@ -2,6 +2,7 @@
 
 use crate::spelled::spelled;
 use sgt_access::OneList;
+use sgt_cascade::fallers;
 use sgt_graph::PairGraph;
 use sgt_model::{Args, Cause, Database, Event, Fate, Key, Limits, NoMemory, Reply, Tid, Tids};
 use sgt_records::{ListRecords, Records};
@@ -40,6 +41,22 @@ fn two_level_cascade(rt: HostRuntime) -> Result<(), Fail> {
         assert_eq!(rt; committed(&sched, id), wanted);
     }
     Ok(())
+}
+
+#[test]
+fn who_falls_rises_in_whatever_order_they_live(rt: HostRuntime) {
+    let read_from = [
+        (Tid(1), Tid(5)),
+        (Tid(5), Tid(3)),
+        (Tid(3), Tid(4)),
+        (Tid(2), Tid(5)),
+    ];
+    let live = Tids::from_slice(&[Tid(5), Tid(2), Tid(4), Tid(3), Tid(1)]).unwrap();
+    assert_eq!(rt;
+        fallers(&read_from, &live, Tid(1)).as_slice(),
+        [Tid(3), Tid(4), Tid(5)].as_slice()
+    );
+    assert!(rt; fallers(&read_from, &live, Tid(4)).is_empty());
 }
 
 /// A scheduler of three live ones, each of which has read from the one before it.

@@ -39,6 +39,7 @@ fn three_nodes<G: Graph>(rt: &impl Abort) {
     accept(rt, &mut graph, 3, 0, 2);
     expect_least(rt, &graph, 2, Some(Tid(0)));
     graph.remove(Tid(0));
+    graph.has_no_cycle();
     expect_least(rt, &graph, 2, Some(Tid(1)));
     expect_least(rt, &graph, 1, None);
 }

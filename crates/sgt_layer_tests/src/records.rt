@@ -13,8 +13,8 @@ fn an_undo_leaves_the_write_above(rt: HostRuntime) -> Result<(), Fail> {
     let (a, key) = (rt.alloc(), Key::new(3, 7).unwrap());
     let mut opening = Database::empty(a);
     opening.put(key, 1)?;
-    undone_beneath(&rt, ListRecords::build(a, &opening)?, key)?;
-    undone_beneath(&rt, SlabRecords::build(a, &opening)?, key)?;
+    undone_beneath(&rt, a, ListRecords::build(a, &opening)?, key)?;
+    undone_beneath(&rt, a, SlabRecords::build(a, &opening)?, key)?;
     Ok(())
 }
 
@@ -37,7 +37,12 @@ fn an_empty_record_is_none(rt: HostRuntime) -> Result<(), Fail> {
 }
 
 /// Two write over a committed 1. The first is undone, and the second settled.
-fn undone_beneath<R: Records>(rt: &impl Abort, mut records: R, key: Key) -> Result<(), NoMemory>
+fn undone_beneath<R: Records>(
+    rt: &impl Abort,
+    alloc: Global,
+    mut records: R,
+    key: Key,
+) -> Result<(), NoMemory>
     requires { (k : K) → R.chain records k ≡ [] }
 {
     records.reserve(key)?;
@@ -49,6 +54,8 @@ fn undone_beneath<R: Records>(rt: &impl Abort, mut records: R, key: Key) -> Resu
     expect(rt, &records, key, Top::Pending(Tid(1), 6), Some(1));
     records.settle(Tid(1));
     expect(rt, &records, key, Top::Settled(6), Some(6));
+    assert_eq!(rt; records.top(key).value(), Some(6));
+    assert_eq!(rt; records.all(alloc)?.rows(), [(key, 6)].as_slice());
     Ok(())
 }
 

@@ -1,3 +1,4 @@
+use crate::refusals::Refusals;
 use sgt_access::Accesses;
 use sgt_engine::Engine;
 use sgt_format::{append_database, append_reply};
@@ -27,12 +28,15 @@ impl Digests {
     pub fn of<R: Records, A: Accesses, G: Graph>(
         alloc: Global,
         engine: &Engine<R, A, G>,
+        refusals: &mut Refusals,
     ) -> Result<Self, NoMemory> {
-        let (replies, first_members) = of_replies(alloc, engine.history())?;
-        let database = match of_database(alloc, engine) {
-            Ok(database) => database,
-            Err(NoMemory) => of_database(alloc, engine)?,
-        };
+        let (replies, first_members) = of_replies(alloc, engine.history(), refusals)?;
+        let mut database = of_database(alloc, engine);
+        if refusals.note(database.is_err()) {
+            database = of_database(alloc, engine);
+            refusals.note(database.is_err());
+        }
+        let database = database?;
         Ok(Digests {
             replies,
             first_members,
@@ -42,23 +46,34 @@ impl Digests {
 }
 
 /// The digest of the replies, and the one with the first members alone.
-fn of_replies(alloc: Global, history: &[Entry]) -> Result<(u64, u64), NoMemory> {
+fn of_replies(
+    alloc: Global,
+    history: &[Entry],
+    refusals: &mut Refusals,
+) -> Result<(u64, u64), NoMemory> {
     let mut line = Vec::new(alloc);
     let mut whole = BASIS;
     let mut first = BASIS;
     for entry in history {
-        whole = with_line(whole, &mut line, &entry.reply)?;
-        first = with_line(first, &mut line, &by_first_member(&entry.reply))?;
+        whole = with_line(whole, &mut line, &entry.reply, refusals)?;
+        first = with_line(first, &mut line, &by_first_member(&entry.reply), refusals)?;
     }
     Ok((whole, first))
 }
 
 /// The hash with a reply's line behind what it was taken of. The line is a place for the text, which is made once more where
 /// it is refused memory.
-fn with_line(hash: u64, line: &mut Vec<u8>, reply: &Reply) -> Result<u64, NoMemory> {
+fn with_line(
+    hash: u64,
+    line: &mut Vec<u8>,
+    reply: &Reply,
+    refusals: &mut Refusals,
+) -> Result<u64, NoMemory> {
     line.clear();
-    if append_reply(line, reply).is_err() {
-        append_reply(line, reply)?;
+    if refusals.note(append_reply(line, reply).is_err())
+        && refusals.note(append_reply(line, reply).is_err())
+    {
+        return Err(NoMemory);
     }
     Ok(hashed(hash, line.as_slice()))
 }

@@ -1,5 +1,6 @@
 use crate::draws::Draws;
 use crate::events::event_for;
+use crate::refusals::Refusals;
 use sgt_access::Accesses;
 use sgt_engine::Engine;
 use sgt_graph::Graph;
@@ -41,11 +42,15 @@ const ACCOUNTS: [Account; 3] = [
 pub fn open<R: Records, A: Accesses, G: Graph>(
     alloc: Global,
     live: u32,
+    refusals: &mut Refusals,
 ) -> Option<Engine<R, A, G>> {
-    match open_once(alloc, live) {
-        Some(engine) => Some(engine),
-        None => open_once(alloc, live),
+    let first = open_once(alloc, live);
+    if !refusals.note(first.is_none()) {
+        return first;
     }
+    let second = open_once(alloc, live);
+    refusals.note(second.is_none());
+    second
 }
 
 fn open_once<R: Records, A: Accesses, G: Graph>(
@@ -69,9 +74,12 @@ fn open_once<R: Records, A: Accesses, G: Graph>(
 fn apply<R: Records, A: Accesses, G: Graph>(
     engine: &mut Engine<R, A, G>,
     event: Event,
+    refusals: &mut Refusals,
 ) -> Result<(), NoMemory> {
-    if engine.apply(event.copied()).is_err() {
-        engine.apply(event)?;
+    if refusals.note(engine.apply(event.copied()).is_err())
+        && refusals.note(engine.apply(event).is_err())
+    {
+        return Err(NoMemory);
     }
     Ok(())
 }
@@ -79,11 +87,12 @@ fn apply<R: Records, A: Accesses, G: Graph>(
 /// Draws the events, each for those who are live then, and applies them.
 pub fn apply_all<R: Records, A: Accesses, G: Graph>(
     engine: &mut Engine<R, A, G>,
+    refusals: &mut Refusals,
 ) -> Result<(), NoMemory> {
     let mut draws = Draws::new();
     for _ in 0..EVENTS {
         let event = event_for(draws.next(), engine.sched().live().as_slice());
-        apply(engine, event)?;
+        apply(engine, event, refusals)?;
     }
     Ok(())
 }

@@ -6,7 +6,7 @@
 //!
 //! Which event comes next is read off a number that a generator draws, and off who is live then. So the list is the same each
 //! time, and one wrong reply changes what comes after it. What is refused memory once is tried again, so that whichever one
-//! allocation is refused, the program tells the same.
+//! allocation is refused, the program tells the same but for its last line: that counts the calls that were refused memory.
 #![tactic(auto)]
 
 mod counts;
@@ -14,11 +14,13 @@ mod digest;
 mod draws;
 mod events;
 mod list;
+mod refusals;
 mod runs;
 
 use crate::counts::Counts;
 use crate::digest::Digests;
 use crate::list::{CUSTOMERS, apply_all, open};
+use crate::refusals::Refusals;
 use crate::runs::tell_runs;
 use sgt_access::PerKey;
 use sgt_engine::Engine;
@@ -32,10 +34,10 @@ use std::io::Print;
 type SgtEngine = Engine<SlabRecords, PerKey, BitGraph>;
 
 /// Quits those who are live, which takes no memory. Who falls before its turn is over then.
-fn quit_all(engine: &mut SgtEngine) {
+fn quit_all(engine: &mut SgtEngine, refusals: &mut Refusals) {
     let live = engine.sched().live();
     for t in live.as_slice() {
-        let _ = engine.apply(Event::Quit(*t));
+        refusals.note(engine.apply(Event::Quit(*t)).is_err());
     }
 }
 
@@ -69,21 +71,23 @@ fn balance(engine: &SgtEngine, table: u8, customer: i64) -> i64 {
 
 fn main(rt: HostRuntime) -> io::Result<()> {
     let alloc = rt.alloc();
-    let Some(mut engine) = open::<SlabRecords, PerKey, BitGraph>(alloc, 8) else {
+    let mut refusals = Refusals::new();
+    let Some(mut engine) = open::<SlabRecords, PerKey, BitGraph>(alloc, 8, &mut refusals) else {
         return println!(rt; "no memory");
     };
-    if apply_all(&mut engine).is_err() {
+    if apply_all(&mut engine, &mut refusals).is_err() {
         println!(rt; "no memory")?;
     }
     tell_counts(&rt, engine.history())?;
-    match Digests::of(alloc, &engine) {
+    match Digests::of(alloc, &engine, &mut refusals) {
         Ok(digests) => println!(rt; "digest {:016x}", digests.replies)?,
         Err(NoMemory) => println!(rt; "no memory")?,
     }
     println!(rt; "live at the end {}", engine.sched().live().len())?;
-    quit_all(&mut engine);
+    quit_all(&mut engine, &mut refusals);
     println!(rt; "live when all have quit {}", engine.sched().live().len())?;
     println!(rt; "committed total {}", total(&engine))?;
-    tell_runs(&rt, 8)?;
-    tell_runs(&rt, 32)
+    tell_runs(&rt, 8, &mut refusals)?;
+    tell_runs(&rt, 32, &mut refusals)?;
+    println!(rt; "refused memory {}", refusals.calls())
 }

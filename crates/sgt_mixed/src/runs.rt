@@ -1,5 +1,6 @@
 use crate::digest::Digests;
 use crate::list::{apply_all, open};
+use crate::refusals::Refusals;
 use sgt_access::{Accesses, OneList, PerKey};
 use sgt_graph::{BitGraph, Graph, PairGraph};
 use sgt_model::NoMemory;
@@ -10,28 +11,36 @@ use std::io::Print;
 
 /// Runs the list with up to so many live: over the plain bodies of the layers, with each other body in turn, and with all of
 /// these, as `sgt` has them. Tells the digests of each run.
-pub fn tell_runs<R: AllocGlobal + Print>(rt: &R, live: u32) -> io::Result<()> {
+pub fn tell_runs<R: AllocGlobal + Print>(
+    rt: &R,
+    live: u32,
+    refusals: &mut Refusals,
+) -> io::Result<()> {
     let a = rt.alloc();
     println!(rt; "up to {live} live: replies, replies by first members, database")?;
-    let plain = run::<ListRecords, OneList, PairGraph>(a, live);
+    let plain = run::<ListRecords, OneList, PairGraph>(a, live, refusals);
     tell(rt, plain, "ListRecords OneList PairGraph")?;
-    let by_key = run::<ListRecords, PerKey, PairGraph>(a, live);
+    let by_key = run::<ListRecords, PerKey, PairGraph>(a, live, refusals);
     tell(rt, by_key, "ListRecords PerKey PairGraph")?;
-    let in_slab = run::<SlabRecords, OneList, PairGraph>(a, live);
+    let in_slab = run::<SlabRecords, OneList, PairGraph>(a, live, refusals);
     tell(rt, in_slab, "SlabRecords OneList PairGraph")?;
-    let by_bits = run::<ListRecords, OneList, BitGraph>(a, live);
+    let by_bits = run::<ListRecords, OneList, BitGraph>(a, live, refusals);
     tell(rt, by_bits, "ListRecords OneList BitGraph")?;
-    let all = run::<SlabRecords, PerKey, BitGraph>(a, live);
+    let all = run::<SlabRecords, PerKey, BitGraph>(a, live, refusals);
     tell(rt, all, "SlabRecords PerKey BitGraph")
 }
 
 /// The digests of a run over these bodies.
-fn run<R: Records, A: Accesses, G: Graph>(alloc: Global, live: u32) -> Result<Digests, NoMemory> {
-    let Some(mut engine) = open::<R, A, G>(alloc, live) else {
+fn run<R: Records, A: Accesses, G: Graph>(
+    alloc: Global,
+    live: u32,
+    refusals: &mut Refusals,
+) -> Result<Digests, NoMemory> {
+    let Some(mut engine) = open::<R, A, G>(alloc, live, refusals) else {
         return Err(NoMemory);
     };
-    apply_all(&mut engine)?;
-    Digests::of(alloc, &engine)
+    apply_all(&mut engine, refusals)?;
+    Digests::of(alloc, &engine, refusals)
 }
 
 /// Tells the digests of a run over these bodies.

@@ -195,19 +195,6 @@ module _ (records : BTreeMap Key (Option ℤ)) (writes : List Write) (are : AreP
   pub pending_kept : (new : BTreeMap Key (Option ℤ)) → ((k : Key) → has_record records k ≡ true → has_record new k ≡ true) → ArePending new writes
   pending_kept new kept = record { once = are.once; few = are.few; recorded = λ i d short. kept _ (are.recorded i d short); in_range = are.in_range }
 
--- the chain of writes of values is of values
-chain_values : (writes : List Write) → All (λ (w : Write). IsValue w.value) writes → (k : Key) → All (λ (w : ℕ × ℤ). IsValue w.1) (chain_in writes k)
-chain_values [] values k = All-nil (λ (x : ℕ × ℤ). IsValue x.1)
-chain_values (w ∷ writes) values k = go (key_eq w.key k) (All-head (λ (x : Write). IsValue x.value) w writes values) (chain_values writes (All-tail (λ (x : Write). IsValue x.value) w writes values) k)
-  where
-    go : (b : Bool) → IsValue w.value → All (λ (w : ℕ × ℤ). IsValue w.1) (chain_in writes k) → All (λ (w : ℕ × ℤ). IsValue w.1) (cond b ((w.by, w.value) ∷ chain_in writes k) (chain_in writes k))
-    go true here rest = All-cons (λ (x : ℕ × ℤ). IsValue x.1) (w.by, w.value) (chain_in writes k) here rest
-    go false here rest = rest
-
--- what is pending of a key is a chain
-pub are_chains : (records : BTreeMap Key (Option ℤ)) (writes : List Write) → ArePending records writes → (k : Key) → IsChain (chain_in writes k)
-are_chains records writes are k = record { once = λ t. are.once t k; few = are.few k; values = chain_values writes are.in_range k }
-
 -- on what a commit settles
 
 -- t's value in a chain with one more at the end

@@ -1,6 +1,6 @@
 -- What a record that has changed, with its chain, changes for the keys.
-use Rattle.std.proofs.Common.{◌≡◌, ◌≢◌, ℕ, ℤ, Bool, true, false, cond, List, [], ◌⊎◌, inl, inr, Option, Some, None, Result, Ok, Err, OnOk, OnErr, IfSome, refl, sym, ap, ◌∙◌, subst}
-use Rattle.std.proofs.lemmas.Bool.{true≢false}
+use Rattle.std.proofs.Common.{◌≡◌, ◌≢◌, ℕ, ◌<◌, nat_eq, length, unwrap_or, ℤ, Bool, true, false, cond, List, [], ◌⊎◌, inl, inr, Option, Some, None, Result, Ok, Err, OnOk, OnErr, IfSome, refl, sym, ap, ◌∙◌, subst}
+use Rattle.std.proofs.lemmas.Bool.{true≢false, eq-eqb, eqb-true}
 use Rattle.std.specs.Option.{is_some, option_and_then, option_or}
 use Rattle.std.specs.Map.{lookup}
 use Rattle.std.specs.BTreeMap.{BTreeMap, get, is_at, Updates, IsUnchanged}
@@ -14,7 +14,7 @@ use Rattle.sgt_model.specs.StoredValues.{HoldValues}
 use Rattle.sgt_model.proofs.Stores.{key_eq-true, key_eq-refl}
 use Rattle.sgt_records.specs.declared.chain.Chain.{Chain}
 use Rattle.sgt_records.specs.declared.record.Record.{Record}
-use Rattle.sgt_records.specs.Places.{writes_of, chain_at, IsHeld, Moves, place_of, key_chain, committed_of, IsIndex}
+use Rattle.sgt_records.specs.Places.{writes_of, chain_at, IsHeld, IsFilled, Moves, place_of, key_chain, committed_of, IsIndex}
 use Rattle.sgt_records.specs.Validity.{IsChain}
 use Rattle.sgt_records.proofs.SettledValues.{same_key}
 use Rattle.sgt_records.proofs.ChainsKept.{chain_empty}
@@ -22,6 +22,10 @@ use Rattle.sgt_records.proofs.ChainsKept.{chain_empty}
 -- a chain where none is
 nothing_held : (b : Option Chain) → b ≡ None → is_some b ≡ true → ⊥
 nothing_held b vacant there = absurd (true≢false (sym there ∙ ap is_some vacant))
+
+-- one place
+same_place : (p q : ℕ) → Some p ≡ Some q → p ≡ q
+same_place p q e = ap (λ (o : Option ℕ). unwrap_or o p) e
 
 -- equal slabs give equal chains
 chain_alike : (a b : Slab Chain) → ((p : ℕ) → slab.get b p ≡ slab.get a p) → (o : Option ℕ) → chain_at b o ≡ chain_at a o
@@ -32,7 +36,9 @@ chain_alike a b same (Some p) = ap writes_of (same p)
 pub stays : (a b : Slab Chain) (from to : Option ℕ) → ((p : ℕ) → slab.get b p ≡ slab.get a p) → from ≡ None → to ≡ None → Moves a b from to
 stays a b from to same was is = record {
   held = λ p at. absurd (true≢false (sym (ap is_some (sym is ∙ at))));
+  filled = λ p at. absurd (true≢false (sym (ap is_some (sym is ∙ at))));
   free = λ p at. absurd (true≢false (sym (ap is_some (sym is ∙ at))));
+  given_back = λ p at _. absurd (true≢false (sym (ap is_some (sym was ∙ at))));
   others = λ p _ _. same p;
 }
 
@@ -52,6 +58,8 @@ module _ (m n : BTreeMap Key Record) (a b : Slab Chain) (records : (k : Key) →
   pub index_alike : IsIndex m a → IsIndex n b
   index_alike index = record {
     held = λ k p at. ap is_some (same p) ∙ index.held k p (sym (place_alike k) ∙ at);
+    filled = λ k p at. subst (λ l. 0 < length l) (sym (chains_alike k)) (index.filled k p (sym (place_alike k) ∙ at));
+    owned = λ p none. ap is_some (same p) ∙ index.owned p (λ k at. none k (place_alike k ∙ at));
     apart = λ j k p at at'. index.apart j k p (sym (place_alike j) ∙ at) (sym (place_alike k) ∙ at');
     are_chains = λ k. subst IsChain (sym (chains_alike k)) (index.are_chains k);
     in_range = λ k. subst (λ (o : Option ℤ). IfSome o IsValue) (sym (committed_alike k)) (index.in_range k);
@@ -62,9 +70,11 @@ module _ (m : BTreeMap Key Record) (a : Slab Chain) (none : (k : Key) → place_
   pub chains_none : (k : Key) → key_chain m a k ≡ []
   chains_none k = ap (chain_at a) (none k)
 
-  pub index_none : HoldValues (committed_of m) → ((k : Key) → IsChain []) → IsIndex m a
-  index_none values empty = record {
+  pub index_none : HoldValues (committed_of m) → ((k : Key) → IsChain []) → ((p : ℕ) → is_some (slab.get a p) ≡ false) → IsIndex m a
+  index_none values empty vacant = record {
     held = λ k p at. absurd (true≢false (sym (ap is_some (sym (none k) ∙ at))));
+    filled = λ k p at. absurd (true≢false (sym (ap is_some (sym (none k) ∙ at))));
+    owned = λ p _. vacant p;
     apart = λ j k p at at'. absurd (true≢false (sym (ap is_some (sym (none k) ∙ at'))));
     are_chains = λ k. subst IsChain (sym (chains_none k)) (empty k);
     in_range = values;
@@ -171,6 +181,8 @@ module _ (m n : BTreeMap Key Record) (key : Key) (r : Record) (told : Updates ke
     pub index_told : IsChain (chain_at b r.place) → IfSome r.committed IsValue → IsIndex n b
     index_told chain value = record {
       held = λ k p at. here k p (key_eq key k) refl (sym (place_told k) ∙ at);
+      filled = λ k p at. subst (λ l. 0 < length l) (sym (chain_told k)) (full k p (key_eq key k) (sym (place_told k) ∙ at));
+      owned = λ p none. left p none from refl;
       apart = λ j k p at at'. one j k p (key_eq key j) (key_eq key k) refl refl (sym (place_told j) ∙ at) (sym (place_told k) ∙ at');
       are_chains = λ k. subst IsChain (sym (chain_told k)) (kept k (key_eq key k));
       in_range = λ k. subst (λ (o : Option ℤ). IfSome o IsValue) (sym (committed_told k)) (valued k (key_eq key k));
@@ -179,6 +191,35 @@ module _ (m n : BTreeMap Key Record) (key : Key) (r : Record) (told : Updates ke
         here : (k : Key) (p : ℕ) (e : Bool) → key_eq key k ≡ e → cond e r.place (place_of m k) ≡ Some p → is_some (slab.get b p) ≡ true
         here k p true e at = moves.held p at
         here k p false e at = ap is_some (moves.others p (not_from k p e at) (not_to k p e at)) ∙ index.held k p at
+
+        full : (k : Key) (p : ℕ) (e : Bool) → cond e r.place (place_of m k) ≡ Some p → 0 < length (cond e (chain_at b r.place) (key_chain m a k))
+        full k p true at = moves.filled p at
+        full k p false at = index.filled k p at
+
+        -- a place that is no key's was none's before, or was given back
+        not_here : (p : ℕ) → ((k : Key) → place_of n k ≢ Some p) → r.place ≢ Some p
+        not_here p none at = none key (place_told key ∙ (ap (λ e. cond e r.place (place_of m key)) (key_eq-refl key) ∙ at))
+
+        not_before : (p : ℕ) → ((k : Key) → place_of n k ≢ Some p) → from ≢ Some p → (k : Key) → place_of m k ≢ Some p
+        not_before p none away k at = go (key_eq key k) refl
+          where
+            go : (e : Bool) → key_eq key k ≡ e → ⊥
+            go true e = away (sym was ∙ (ap (place_of m) (key_eq-true key k e) ∙ at))
+            go false e = none k (place_told k ∙ (ap (λ d. cond d r.place (place_of m k)) e ∙ at))
+
+        stayed : (p : ℕ) → ((k : Key) → place_of n k ≢ Some p) → from ≢ Some p → is_some (slab.get b p) ≡ false
+        stayed p none away = ap is_some (moves.others p away (not_here p none)) ∙ index.owned p (not_before p none away)
+
+        left : (p : ℕ) → ((k : Key) → place_of n k ≢ Some p) → (o : Option ℕ) → from ≡ o → is_some (slab.get b p) ≡ false
+        left p none None at = stayed p none (λ own. true≢false (sym (ap is_some (sym at ∙ own))))
+        left p none (Some q) at = go (nat_eq q p) refl
+          where
+            other : nat_eq q p ≡ false → from ≢ Some p
+            other e own = absurd (true≢false (sym (eq-eqb q p (same_place q p (sym at ∙ own))) ∙ e))
+
+            go : (e : Bool) → nat_eq q p ≡ e → is_some (slab.get b p) ≡ false
+            go true e = moves.given_back p (at ∙ ap (λ i. Some i) (eqb-true q p e)) (not_here p none)
+            go false e = stayed p none (other e)
 
         one : (j k : Key) (p : ℕ) (d e : Bool) → key_eq key j ≡ d → key_eq key k ≡ e → cond d r.place (place_of m j) ≡ Some p → cond e r.place (place_of m k) ≡ Some p → j ≡ k
         one j k p true true d e at at' = sym (key_eq-true key j d) ∙ key_eq-true key k e

@@ -1,5 +1,5 @@
 -- Records by key, each with the place of its chain in a slab.
-use Rattle.std.specs.Prelude.{◌≡◌, ◌≢◌, ℕ, ℤ, Bool, true, List, [], Option, Some, None, ◌⊎◌}
+use Rattle.std.specs.Prelude.{◌≡◌, ◌≢◌, ℕ, ◌<◌, ℤ, Bool, true, false, List, [], length, Option, Some, None, ◌⊎◌}
 use Rattle.std.specs.Option.{is_some, option_and_then}
 use Rattle.std.specs.BTreeMap.{BTreeMap, get}
 use Rattle.slab.specs.Slab.{Slab}
@@ -25,10 +25,17 @@ chain_at chains (Some place) = writes_of (slab.get chains place)
 abbrev pub IsHeld : Slab Chain → Option ℕ → Type 0
 IsHeld chains place = (p : ℕ) → place ≡ Some p → is_some (slab.get chains p) ≡ true
 
--- one record's chain has changed: it stands where it stood or where none stood, and the other chains are as before
+-- the chain at the place, if there is one, holds a write
+abbrev pub IsFilled : Slab Chain → Option ℕ → Type 0
+IsFilled chains place = (p : ℕ) → place ≡ Some p → 0 < length (chain_at chains place)
+
+-- one record's chain has changed: it holds a write, if it still stands, and stands where it stood or where none stood; a place
+-- that it leaves is given back, and the other chains are as before
 pub record Moves (old new : Slab Chain) (from to : Option ℕ) : Type 0 where
   pub held : IsHeld new to
+  pub filled : IsFilled new to
   pub free : (p : ℕ) → to ≡ Some p → (from ≡ Some p) ⊎ (slab.get old p ≡ None)
+  pub given_back : (p : ℕ) → from ≡ Some p → to ≢ Some p → is_some (slab.get new p) ≡ false
   pub others : (p : ℕ) → from ≢ Some p → to ≢ Some p → slab.get new p ≡ slab.get old p
 
 -- the place of a key's chain
@@ -47,9 +54,11 @@ committed_of records k = option_and_then (λ (r : Record). r.committed) (get key
 abbrev pub is_kept : BTreeMap Key Record → Key → Bool
 is_kept records k = is_some (get key_cmp records k)
 
--- each place is that of one key's chain
+-- each place is that of one key's chain, which holds a write, and no place is taken but these
 pub record IsIndex (records : BTreeMap Key Record) (chains : Slab Chain) : Type 0 where
   pub held : (k : Key) → IsHeld chains (place_of records k)
+  pub filled : (k : Key) → IsFilled chains (place_of records k)
+  pub owned : (p : ℕ) → ((k : Key) → place_of records k ≢ Some p) → is_some (slab.get chains p) ≡ false
   pub apart : (j k : Key) (p : ℕ) → place_of records j ≡ Some p → place_of records k ≡ Some p → j ≡ k
   pub are_chains : (k : Key) → IsChain (key_chain records chains k)
   pub in_range : HoldValues (committed_of records)

@@ -37,6 +37,7 @@ impl Records for ListRecords {
     ghost use Rattle.std.specs.Vec.{vec_len, vec_capacity};
     ghost use Rattle.sgt_records.specs.Pendings.{chain_in};
     ghost use Rattle.sgt_records.specs.Settleds.{settled_in, has_record};
+    ghost use Rattle.sgt_records.specs.PendingChains.{pending_chains};
 
     ghost chain = { λ r k. chain_in r.pending.items k };
 
@@ -44,6 +45,10 @@ impl Records for ListRecords {
 
     ghost is_ready = { λ r k. (has_record r.committed.records k ≡ true)
         × (vec_len r.pending < vec_capacity r.pending) };
+
+    ghost are_chains = { λ r. pending_chains r.committed.records r.pending.items r.are_pending };
+
+    ghost hold_values = { λ r. r.committed.in_range };
 
     fn build(alloc: Global, opening: &Database) -> Result<Self, NoMemory> {
         Ok(ListRecords {

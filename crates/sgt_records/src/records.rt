@@ -15,9 +15,6 @@ use sgt_model::{Database, Key, NoMemory, Tid};
 use std::alloc::Global;
 
 /// The committed values, and above them the writes of the live transactions.
-///
-/// Each call says what always holds: in a chain each writer stands once, at most 32 do, and what it wrote is a value; and the
-/// committed values are values.
 pub trait Records: Drop + Send {
     /// The values that live transactions have written at a key, each writer's last one, in the order of these writes.
     ghost chain: { Self → K → List (ℕ × ℤ) };
@@ -31,24 +28,19 @@ pub trait Records: Drop + Send {
     /// The records of a database, with no write pending. `NoMemory` where a growth was refused.
     fn build(alloc: Global, opening: &Database) -> Result<Self, NoMemory>
         ensures chain { IfOk result (λ r. (k : K) → chain r k ≡ []) }
-        ensures settled { IfOk result (λ r. (k : K) → settled r k ≡ contents_of opening.now k) }
-        ensures hold_values { IfOk result (λ r. HoldValues (settled r)) };
+        ensures settled { IfOk result (λ r. (k : K) → settled r k ≡ contents_of opening.now k) };
 
     /// What a look at the key finds: the last write that is not undone, committed or not.
     fn top(&self, key: Key) -> Top
         ensures top { result ≡ top_of (chain self.now key) (settled self.now key) }
         ensures cases { IsTop result (last_or None (chain self.now key)) (settled self.now key) }
-        ensures in_range { IfSome (value_of result) IsValue }
-        ensures are_chains { (k : K) → IsChain (chain self.now k) }
-        ensures hold_values { HoldValues (settled self.now) };
+        ensures in_range { IfSome (value_of result) IsValue };
 
     /// Takes the room that the next write of the key needs. `NoMemory` where a growth was refused.
     fn reserve(&mut self, key: Key) -> Result<(), NoMemory>
         ensures chain { (k : K) → chain self.new k ≡ chain self.old k }
         ensures settled { (k : K) → settled self.new k ≡ settled self.old k }
-        ensures ready { OnOk result (is_ready self.new key) }
-        ensures are_chains { (k : K) → IsChain (chain self.new k) }
-        ensures hold_values { HoldValues (settled self.new) };
+        ensures ready { OnOk result (is_ready self.new key) };
 
     /// Writes t's value, from `LEAST` to `MOST`, above all others of the key. It replaces t's earlier one, which nobody
     /// may have written over. This takes no memory.
@@ -60,37 +52,33 @@ pub trait Records: Drop + Send {
             → length (chain self.old key) < 32 }
         ensures chain { (k : K) → chain self.new k
             ≡ cond (key_eq key k) (write_last t value (chain self.old k)) (chain self.old k) }
-        ensures settled { (k : K) → settled self.new k ≡ settled self.old k }
-        ensures are_chains { (k : K) → IsChain (chain self.new k) }
-        ensures hold_values { HoldValues (settled self.new) };
+        ensures settled { (k : K) → settled self.new k ≡ settled self.old k };
 
     /// Makes the values of t, each the first of its chain, the committed ones. This takes no memory.
     fn settle(&mut self, t: Tid)
         requires first { (k : K) → IsFirstIn t (chain self.old k) }
         ensures chain { (k : K) → chain self.new k ≡ without t (chain self.old k) }
         ensures settled { (k : K) → settled self.new k
-            ≡ option_or (value_in t (chain self.old k)) (settled self.old k) }
-        ensures are_chains { (k : K) → IsChain (chain self.new k) }
-        ensures hold_values { HoldValues (settled self.new) };
+            ≡ option_or (value_in t (chain self.old k)) (settled self.old k) };
 
     /// Takes the values of t out of every chain. All else stays, also what was written over them. This takes no memory.
     fn undo(&mut self, t: Tid)
         ensures chain { (k : K) → chain self.new k ≡ without t (chain self.old k) }
-        ensures settled { (k : K) → settled self.new k ≡ settled self.old k }
-        ensures are_chains { (k : K) → IsChain (chain self.new k) }
-        ensures hold_values { HoldValues (settled self.new) };
+        ensures settled { (k : K) → settled self.new k ≡ settled self.old k };
 
     /// The committed value of the key, or none.
     fn committed(&self, key: Key) -> Option<i64>
         ensures value { result ≡ settled self.now key }
-        ensures in_range { IfSome result IsValue }
-        ensures are_chains { (k : K) → IsChain (chain self.now k) }
-        ensures hold_values { HoldValues (settled self.now) };
+        ensures in_range { IfSome result IsValue };
 
     /// The committed values, by key. `NoMemory` where a growth was refused.
     fn all(&self, alloc: Global) -> Result<Database, NoMemory>
         ensures values { IfOk result (λ d. (k : K) → contents_of d k ≡ settled self.now k) }
-        ensures by_key { IfOk result IsByKey }
-        ensures are_chains { (k : K) → IsChain (chain self.now k) }
-        ensures hold_values { HoldValues (settled self.now) };
+        ensures by_key { IfOk result IsByKey };
+
+    /// In a chain each writer stands once, at most 32 do, and what each wrote is a value.
+    ghost are_chains: { (r : Self) (k : K) → IsChain (chain r k) };
+
+    /// The committed values are values.
+    ghost hold_values: { (r : Self) → HoldValues (settled r) };
 }

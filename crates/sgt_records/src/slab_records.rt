@@ -38,6 +38,10 @@ impl Records for SlabRecords {
         × HasRoomFor r.index.chains 1
         × (vec_len r.live < vec_capacity r.live) };
 
+    ghost are_chains = { λ r. r.index.is_index.are_chains };
+
+    ghost hold_values = { λ r. r.index.is_index.in_range };
+
     fn build(alloc: Global, opening: &Database) -> Result<Self, NoMemory> {
         Ok(SlabRecords {
             index: Index::of(alloc, opening)?,

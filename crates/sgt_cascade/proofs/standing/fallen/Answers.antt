@@ -1,6 +1,7 @@
-use Rattle.std.proofs.Common.{◌≡◌, ◌<◌, length, length-append, [], ◌∷◌, true, false, not, slice_index_or, sym, ap, arith}
+use Rattle.std.proofs.Common.{◌≡◌, ◌<◌, length, take, true, false, slice_index_or, sym, arith}
+use Rattle.std.proofs.lemmas.List.{take_all}
 use Rattle.sgt_cascade.specs.Standing.{stands}
-use Rattle.sgt_cascade.proofs.Fallen.{keeps, skips}
+use Rattle.sgt_cascade.proofs.RisingLists.{adds, skips, with_few, with_rising}
 use Rattle.sgt_cascade.proofs.standing.fallen.Goals as goal
 use Rattle.sgt_cascade.proofs.standing.fallen.Goals.{then-not-contains, else-not-contains}
 
@@ -12,14 +13,22 @@ loop-i-preserved c =
     elim c.if-not-contains.branch [
       | then-not-contains w ↦
           let out : stands c.args.standing.now x ≡ false = sym w.if-not-contains.ensures.value in
-          rw (w.fell-is, w.push.ensures) record {
-            fell = keeps (λ u. not (stands c.args.standing.now u)) c.args.others.now c.loop-i.i x c.loop-i.fell below is c.loop-i.invariant.fell (ap not out);
-            few = omega (arith, length-append c.loop-i.fell (x ∷ []), c.loop-i.invariant.few);
+          rw (w.fell-is, w.add.ensures) record {
+            members = adds c.args.standing.now c.args.others.now c.loop-i.fell c.loop-i.i x below is c.loop-i.invariant.members out;
+            rising = with_rising x c.loop-i.fell c.loop-i.invariant.rising;
+            few = omega (arith, with_few x c.loop-i.fell, c.loop-i.invariant.few);
           }
       | else-not-contains w ↦
           let there : stands c.args.standing.now x ≡ true = sym w.if-not-contains.ensures.value in
           rw w.fell-is record {
-            fell = skips (λ u. not (stands c.args.standing.now u)) c.args.others.now c.loop-i.i x c.loop-i.fell below is c.loop-i.invariant.fell (ap not there);
+            members = skips c.args.standing.now c.args.others.now c.loop-i.fell c.loop-i.i x below is c.loop-i.invariant.members there;
+            rising = c.loop-i.invariant.rising;
             few = omega (arith, c.loop-i.invariant.few);
           }
     ]
+
+pub returns-clause-members : goal.returns-clause-members
+returns-clause-members c =
+    let whole : take c.loop-i.i c.args.others.now ≡ c.args.others.now =
+    take_all c.loop-i.i c.args.others.now (omega (arith, c.loop-i-test.false, c.len-i-end.ensures.count)) in
+    rw whole at c.loop-i.invariant.members

@@ -47,21 +47,3 @@ returns-clause-pairs c u v =
     let new : is_placed c.self.inside.taken c.self.inside.tids c.args.t ≡ false = subst (λ (v : ℕ × List ℕ × List ℕ × List ℕ). is_placed v.0 v.1 c.args.t ≡ false) (sym c.self.view_is) c.requires.new in
     let more : (i : ℕ) → is_set c.joined-self-inside.result i ≡ (is_set c.self.inside.taken i || nat_eq i p) = λ i. c.joined-self-inside.ensures i ∙ ap (λ x. is_set c.self.inside.taken i || x) (c.only.ensures i) in
     subst (λ (q : ℕ). is_pair c.joined-self-inside.result (slice_set c.self.inside.tids q c.args.t) c.self.inside.pairs u v ≡ is_pair c.args.self.now.0 c.args.self.now.1 c.args.self.now.2 u v) (sym c.from.ensures) (grown_pairs c.self.inside.taken c.self.inside.tids c.self.inside.pairs c.self.inside.reached c.self.invariant c.args.t p c.joined-self-inside.result low vacant new more u v ∙ ap (λ (w : ℕ × List ℕ × List ℕ × List ℕ). is_pair w.0 w.1 w.2 u v) c.self.view_is)
-
-pub returns-clause-of_nodes : goal.returns-clause-of_nodes
-returns-clause-of_nodes c =
-    let p : ℕ = c.in-Some.place in
-    let low : p < 32 = c.in-Some.ensures.some.0 in
-    let vacant : is_set c.self.inside.taken p ≡ false = free_there (is_set c.self.inside.taken p) (sym (c.complement.ensures p low) ∙ c.in-Some.ensures.some.1) in
-    let new : is_placed c.self.inside.taken c.self.inside.tids c.args.t ≡ false = subst (λ (v : ℕ × List ℕ × List ℕ × List ℕ). is_placed v.0 v.1 c.args.t ≡ false) (sym c.self.view_is) c.requires.new in
-    let more : (i : ℕ) → is_set c.joined-self-inside.result i ≡ (is_set c.self.inside.taken i || nat_eq i p) = λ i. c.joined-self-inside.ensures i ∙ ap (λ x. is_set c.self.inside.taken i || x) (c.only.ensures i) in
-    subst (λ (q : ℕ). OfNodes (is_placed c.joined-self-inside.result (slice_set c.self.inside.tids q c.args.t)) (is_pair c.joined-self-inside.result (slice_set c.self.inside.tids q c.args.t) c.self.inside.pairs)) (sym c.from.ensures) (bit_of_nodes c.joined-self-inside.result (slice_set c.self.inside.tids p c.args.t) c.self.inside.pairs c.self.inside.reached (grown c.self.inside.taken c.self.inside.tids c.self.inside.pairs c.self.inside.reached c.self.invariant c.args.t p c.joined-self-inside.result low vacant new more))
-
-pub returns-clause-acyclic : goal.returns-clause-acyclic
-returns-clause-acyclic c =
-    let p : ℕ = c.in-Some.place in
-    let low : p < 32 = c.in-Some.ensures.some.0 in
-    let vacant : is_set c.self.inside.taken p ≡ false = free_there (is_set c.self.inside.taken p) (sym (c.complement.ensures p low) ∙ c.in-Some.ensures.some.1) in
-    let new : is_placed c.self.inside.taken c.self.inside.tids c.args.t ≡ false = subst (λ (v : ℕ × List ℕ × List ℕ × List ℕ). is_placed v.0 v.1 c.args.t ≡ false) (sym c.self.view_is) c.requires.new in
-    let more : (i : ℕ) → is_set c.joined-self-inside.result i ≡ (is_set c.self.inside.taken i || nat_eq i p) = λ i. c.joined-self-inside.ensures i ∙ ap (λ x. is_set c.self.inside.taken i || x) (c.only.ensures i) in
-    subst (λ (q : ℕ). NoCycle (is_pair c.joined-self-inside.result (slice_set c.self.inside.tids q c.args.t) c.self.inside.pairs)) (sym c.from.ensures) (bit_acyclic c.joined-self-inside.result (slice_set c.self.inside.tids p c.args.t) c.self.inside.pairs c.self.inside.reached (grown c.self.inside.taken c.self.inside.tids c.self.inside.pairs c.self.inside.reached c.self.invariant c.args.t p c.joined-self-inside.result low vacant new more))

@@ -30,25 +30,7 @@ returns-in-Accepted-clause-pairs c =
     inserts v.0 v.1 v.2 v.3 g c.args.t c.in-Some.place c.places_of-from.result c.args.preds.now here exact (λ u m. (c.requires.preds u m).0) c.verdict-verdict.result c.in-Accepted.is
     c.add_pairs.new.self.0 c.add_pairs.new.self.1 c.add_pairs.new.self.2 c.add_pairs.new.self.3 c.add_pairs.ensures.taken c.add_pairs.ensures.tids c.add_pairs.ensures.pairs c.add_pairs.ensures.graph
 
-pub returns-in-Accepted-clause-of_nodes : goal.returns-in-Accepted-clause-of_nodes
-returns-in-Accepted-clause-of_nodes c = bit_of_nodes c.add_pairs.new.self.0 c.add_pairs.new.self.1 c.add_pairs.new.self.2 c.add_pairs.new.self.3 c.add_pairs.ensures.graph
-
-pub returns-in-Accepted-clause-acyclic : goal.returns-in-Accepted-clause-acyclic
-returns-in-Accepted-clause-acyclic c = bit_acyclic c.add_pairs.new.self.0 c.add_pairs.new.self.1 c.add_pairs.new.self.2 c.add_pairs.new.self.3 c.add_pairs.ensures.graph
-
 pub returns-in_default-verdict-clause-verdict : goal.returns-in_default-verdict-clause-verdict
 returns-in_default-verdict-clause-verdict c = subst (λ (v : ℕ × List ℕ × List ℕ × List ℕ). IsVerdict (is_pair v.0 v.1 v.2) c.args.t c.args.preds.now c.verdict-verdict.result) c.self.view_is
     (verdict_of c.self.inside.taken c.self.inside.tids c.self.inside.pairs c.self.inside.reached c.self.invariant c.args.t c.in-Some.place c.places_of-from.result c.args.preds.now c.in-Some.ensures.some.1 c.places_of-from.ensures (λ u m. (c.requires.preds u m).1) c.verdict-verdict.result
     (subst (λ (v : ℕ × List ℕ × List ℕ × List ℕ). IsPlaceVerdict v.1 v.2 v.3 c.in-Some.place c.places_of-from.result c.verdict-verdict.result) (sym c.self.view_is) c.verdict-verdict.ensures))
-
-pub returns-in_default-verdict-clause-of_nodes : goal.returns-in_default-verdict-clause-of_nodes
-returns-in_default-verdict-clause-of_nodes c = subst (λ (v : ℕ × List ℕ × List ℕ × List ℕ). OfNodes (is_placed v.0 v.1) (is_pair v.0 v.1 v.2)) c.self.view_is (bit_of_nodes c.self.inside.taken c.self.inside.tids c.self.inside.pairs c.self.inside.reached c.self.invariant)
-
-pub returns-in_default-verdict-clause-acyclic : goal.returns-in_default-verdict-clause-acyclic
-returns-in_default-verdict-clause-acyclic c = subst (λ (v : ℕ × List ℕ × List ℕ × List ℕ). NoCycle (is_pair v.0 v.1 v.2)) c.self.view_is (bit_acyclic c.self.inside.taken c.self.inside.tids c.self.inside.pairs c.self.inside.reached c.self.invariant)
-
-pub returns-then-is_empty-clause-of_nodes : goal.returns-then-is_empty-clause-of_nodes
-returns-then-is_empty-clause-of_nodes c = subst (λ (v : ℕ × List ℕ × List ℕ × List ℕ). OfNodes (is_placed v.0 v.1) (is_pair v.0 v.1 v.2)) c.self.view_is (bit_of_nodes c.self.inside.taken c.self.inside.tids c.self.inside.pairs c.self.inside.reached c.self.invariant)
-
-pub returns-then-is_empty-clause-acyclic : goal.returns-then-is_empty-clause-acyclic
-returns-then-is_empty-clause-acyclic c = subst (λ (v : ℕ × List ℕ × List ℕ × List ℕ). NoCycle (is_pair v.0 v.1 v.2)) c.self.view_is (bit_acyclic c.self.inside.taken c.self.inside.tids c.self.inside.pairs c.self.inside.reached c.self.invariant)

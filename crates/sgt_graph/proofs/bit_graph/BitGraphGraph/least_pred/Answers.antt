@@ -10,23 +10,11 @@ pub returns-in_err-place-clause-none : goal.returns-in_err-place-clause-none
 returns-in_err-place-clause-none c none u = subst (λ (v : ℕ × List ℕ × List ℕ × List ℕ). is_pair v.0 v.1 v.2 u c.args.t ≡ false) c.self.view_is
     (none_in_place c.self.inside.taken c.self.inside.tids c.self.inside.pairs c.self.inside.reached c.self.invariant c.args.t (c.in_err-place.ensures.none refl) u)
 
-pub returns-in_err-place-clause-of_nodes : goal.returns-in_err-place-clause-of_nodes
-returns-in_err-place-clause-of_nodes c = subst (λ (v : ℕ × List ℕ × List ℕ × List ℕ). OfNodes (is_placed v.0 v.1) (is_pair v.0 v.1 v.2)) c.self.view_is (bit_of_nodes c.self.inside.taken c.self.inside.tids c.self.inside.pairs c.self.inside.reached c.self.invariant)
-
-pub returns-in_err-place-clause-acyclic : goal.returns-in_err-place-clause-acyclic
-returns-in_err-place-clause-acyclic c = subst (λ (v : ℕ × List ℕ × List ℕ × List ℕ). NoCycle (is_pair v.0 v.1 v.2)) c.self.view_is (bit_acyclic c.self.inside.taken c.self.inside.tids c.self.inside.pairs c.self.inside.reached c.self.invariant)
-
 pub returns-then-is_alone-clause-none : goal.returns-then-is_alone-clause-none
 returns-then-is_alone-clause-none c none u = subst (λ (v : ℕ × List ℕ × List ℕ × List ℕ). is_pair v.0 v.1 v.2 u c.args.t ≡ false) c.self.view_is
     (alone_none c.self.inside.taken c.self.inside.tids c.self.inside.pairs c.self.inside.reached c.self.invariant c.in_ok-place.place
     (λ i. ap (λ (v : ℕ × List ℕ × List ℕ × List ℕ). is_set v.0 i) c.self.view_is ∙ c.if-is_alone.ensures refl i)
     (place_of c.self.inside.taken c.self.inside.tids u) (place_of c.self.inside.taken c.self.inside.tids c.args.t))
-
-pub returns-then-is_alone-clause-of_nodes : goal.returns-then-is_alone-clause-of_nodes
-returns-then-is_alone-clause-of_nodes c = subst (λ (v : ℕ × List ℕ × List ℕ × List ℕ). OfNodes (is_placed v.0 v.1) (is_pair v.0 v.1 v.2)) c.self.view_is (bit_of_nodes c.self.inside.taken c.self.inside.tids c.self.inside.pairs c.self.inside.reached c.self.invariant)
-
-pub returns-then-is_alone-clause-acyclic : goal.returns-then-is_alone-clause-acyclic
-returns-then-is_alone-clause-acyclic c = subst (λ (v : ℕ × List ℕ × List ℕ × List ℕ). NoCycle (is_pair v.0 v.1 v.2)) c.self.view_is (bit_acyclic c.self.inside.taken c.self.inside.tids c.self.inside.pairs c.self.inside.reached c.self.invariant)
 
 pub returns-clause-some : goal.returns-clause-some
 returns-clause-some c = subst (λ (v : ℕ × List ℕ × List ℕ × List ℕ). IfSome c.least_at.result (IsLeastPred (is_pair v.0 v.1 v.2) c.args.t)) c.self.view_is
@@ -35,9 +23,3 @@ returns-clause-some c = subst (λ (v : ℕ × List ℕ × List ℕ × List ℕ).
 pub returns-clause-none : goal.returns-clause-none
 returns-clause-none c none u = subst (λ (v : ℕ × List ℕ × List ℕ × List ℕ). is_pair v.0 v.1 v.2 u c.args.t ≡ false) c.self.view_is
     (no_pred_of c.self.inside.taken c.self.inside.tids c.self.inside.pairs c.self.inside.reached c.self.invariant c.args.t c.in_ok-place.place c.in_ok-place.ensures.some.1 c.meeting.result c.only.result c.only.ensures c.meeting.ensures (c.least_at.ensures.none none) u)
-
-pub returns-clause-of_nodes : goal.returns-clause-of_nodes
-returns-clause-of_nodes c = subst (λ (v : ℕ × List ℕ × List ℕ × List ℕ). OfNodes (is_placed v.0 v.1) (is_pair v.0 v.1 v.2)) c.self.view_is (bit_of_nodes c.self.inside.taken c.self.inside.tids c.self.inside.pairs c.self.inside.reached c.self.invariant)
-
-pub returns-clause-acyclic : goal.returns-clause-acyclic
-returns-clause-acyclic c = subst (λ (v : ℕ × List ℕ × List ℕ × List ℕ). NoCycle (is_pair v.0 v.1 v.2)) c.self.view_is (bit_acyclic c.self.inside.taken c.self.inside.tids c.self.inside.pairs c.self.inside.reached c.self.invariant)

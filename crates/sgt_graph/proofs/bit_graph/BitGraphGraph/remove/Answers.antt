@@ -22,12 +22,6 @@ returns-in-Some-clause-pairs c u w =
     let after : IsBitGraph c.free.new.self.0 v.1 c.free.new.self.2 c.free.new.self.3 = subst (λ x. IsBitGraph c.free.new.self.0 x c.free.new.self.2 c.free.new.self.3) c.free.ensures.tids c.free.ensures.graph in
     removed_pairs v.0 v.1 v.2 v.3 g c.in-Some.place c.free.new.self.0 c.free.new.self.2 c.free.ensures.taken c.free.ensures.pairs c.free.new.self.3 after c.args.t here c.free.new.self.1 c.free.ensures.tids u w
 
-pub returns-in-Some-clause-of_nodes : goal.returns-in-Some-clause-of_nodes
-returns-in-Some-clause-of_nodes c = bit_of_nodes c.free.new.self.0 c.free.new.self.1 c.free.new.self.2 c.free.new.self.3 c.free.ensures.graph
-
-pub returns-in-Some-clause-acyclic : goal.returns-in-Some-clause-acyclic
-returns-in-Some-clause-acyclic c = bit_acyclic c.free.new.self.0 c.free.new.self.1 c.free.new.self.2 c.free.new.self.3 c.free.ensures.graph
-
 pub returns-in_default-clause-nodes : goal.returns-in_default-clause-nodes
 returns-in_default-clause-nodes c u = subst (λ (v : ℕ × List ℕ × List ℕ × List ℕ). is_placed v.0 v.1 u ≡ (is_placed v.0 v.1 u && not (nat_eq c.args.t u))) c.self.view_is
     (absent_nodes c.self.inside.taken c.self.inside.tids c.self.inside.pairs c.self.inside.reached c.self.invariant c.args.t (c.in_default.ensures.none refl) u)
@@ -35,9 +29,3 @@ returns-in_default-clause-nodes c u = subst (λ (v : ℕ × List ℕ × List ℕ
 pub returns-in_default-clause-pairs : goal.returns-in_default-clause-pairs
 returns-in_default-clause-pairs c u w = subst (λ (v : ℕ × List ℕ × List ℕ × List ℕ). is_pair v.0 v.1 v.2 u w ≡ (is_pair v.0 v.1 v.2 u w && (not (nat_eq c.args.t u) && not (nat_eq c.args.t w)))) c.self.view_is
     (absent_pairs c.self.inside.taken c.self.inside.tids c.self.inside.pairs c.self.inside.reached c.self.invariant c.args.t (c.in_default.ensures.none refl) u w)
-
-pub returns-in_default-clause-of_nodes : goal.returns-in_default-clause-of_nodes
-returns-in_default-clause-of_nodes c = subst (λ (v : ℕ × List ℕ × List ℕ × List ℕ). OfNodes (is_placed v.0 v.1) (is_pair v.0 v.1 v.2)) c.self.view_is (bit_of_nodes c.self.inside.taken c.self.inside.tids c.self.inside.pairs c.self.inside.reached c.self.invariant)
-
-pub returns-in_default-clause-acyclic : goal.returns-in_default-clause-acyclic
-returns-in_default-clause-acyclic c = subst (λ (v : ℕ × List ℕ × List ℕ × List ℕ). NoCycle (is_pair v.0 v.1 v.2)) c.self.view_is (bit_acyclic c.self.inside.taken c.self.inside.tids c.self.inside.pairs c.self.inside.reached c.self.invariant)

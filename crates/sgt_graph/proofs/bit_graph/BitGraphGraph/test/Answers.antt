@@ -12,19 +12,9 @@ unreachable-requires c =
     let node : is_placed c.self.inside.taken c.self.inside.tids c.args.t ≡ true = subst (λ (v : ℕ × List ℕ × List ℕ × List ℕ). is_placed v.0 v.1 c.args.t ≡ true) (sym c.self.view_is) c.requires.node in
     both_ways _ (c.in_default.ensures.none refl _) (placed_at c.self.inside.taken c.self.inside.tids c.args.t node)
 
-pub returns-clause-verdict : goal.returns-clause-verdict
-returns-clause-verdict c = subst (λ (v : ℕ × List ℕ × List ℕ × List ℕ). IsVerdict (is_pair v.0 v.1 v.2) c.args.t c.args.preds.now c.verdict.result) c.self.view_is
-    (verdict_of c.self.inside.taken c.self.inside.tids c.self.inside.pairs c.self.inside.reached c.self.invariant c.args.t c.in-Some.place c.places_of.result c.args.preds.now c.in-Some.ensures.some.1 c.places_of.ensures (λ u m. (c.requires.preds u m).1) c.verdict.result
-    (subst (λ (v : ℕ × List ℕ × List ℕ × List ℕ). IsPlaceVerdict v.1 v.2 v.3 c.in-Some.place c.places_of.result c.verdict.result) (sym c.self.view_is) c.verdict.ensures))
-
-pub returns-clause-of_nodes : goal.returns-clause-of_nodes
-returns-clause-of_nodes c = subst (λ (v : ℕ × List ℕ × List ℕ × List ℕ). OfNodes (is_placed v.0 v.1) (is_pair v.0 v.1 v.2)) c.self.view_is (bit_of_nodes c.self.inside.taken c.self.inside.tids c.self.inside.pairs c.self.inside.reached c.self.invariant)
-
-pub returns-clause-acyclic : goal.returns-clause-acyclic
-returns-clause-acyclic c = subst (λ (v : ℕ × List ℕ × List ℕ × List ℕ). NoCycle (is_pair v.0 v.1 v.2)) c.self.view_is (bit_acyclic c.self.inside.taken c.self.inside.tids c.self.inside.pairs c.self.inside.reached c.self.invariant)
-
-pub returns-then-is_empty-clause-of_nodes : goal.returns-then-is_empty-clause-of_nodes
-returns-then-is_empty-clause-of_nodes c = subst (λ (v : ℕ × List ℕ × List ℕ × List ℕ). OfNodes (is_placed v.0 v.1) (is_pair v.0 v.1 v.2)) c.self.view_is (bit_of_nodes c.self.inside.taken c.self.inside.tids c.self.inside.pairs c.self.inside.reached c.self.invariant)
-
-pub returns-then-is_empty-clause-acyclic : goal.returns-then-is_empty-clause-acyclic
-returns-then-is_empty-clause-acyclic c = subst (λ (v : ℕ × List ℕ × List ℕ × List ℕ). NoCycle (is_pair v.0 v.1 v.2)) c.self.view_is (bit_acyclic c.self.inside.taken c.self.inside.tids c.self.inside.pairs c.self.inside.reached c.self.invariant)
+pub returns : goal.returns
+returns c = record {
+  verdict = subst (λ (v : ℕ × List ℕ × List ℕ × List ℕ). IsVerdict (is_pair v.0 v.1 v.2) c.args.t c.args.preds.now c.verdict.result) c.self.view_is
+      (verdict_of c.self.inside.taken c.self.inside.tids c.self.inside.pairs c.self.inside.reached c.self.invariant c.args.t c.in-Some.place c.places_of.result c.args.preds.now c.in-Some.ensures.some.1 c.places_of.ensures (λ u m. (c.requires.preds u m).1) c.verdict.result
+      (subst (λ (v : ℕ × List ℕ × List ℕ × List ℕ). IsPlaceVerdict v.1 v.2 v.3 c.in-Some.place c.places_of.result c.verdict.result) (sym c.self.view_is) c.verdict.ensures));
+}

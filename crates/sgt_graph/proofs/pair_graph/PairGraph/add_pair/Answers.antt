@@ -32,10 +32,3 @@ pub returns-else-not-contains-clause-pairs : goal.returns-else-not-contains-clau
 returns-else-not-contains-clause-pairs c =
     let there : is_link c.self.inside.pairs c.args.u c.args.t ≡ true = rw c.as_slice.ensures at (sym c.if-not-contains.ensures.value) in
     pair_again c.args.self.now.1 c.args.u c.args.t (subst (λ (v : List ℕ × List (ℕ × ℕ)). is_link v.1 c.args.u c.args.t ≡ true) c.self.view_is there)
-
-pub returns-then-not-contains-clause-acyclic : goal.returns-then-not-contains-clause-acyclic
-returns-then-not-contains-clause-acyclic c =
-    let new : is_link c.self.inside.pairs c.args.u c.args.t ≡ false = rw c.as_slice.ensures at (sym c.if-not-contains.ensures.value) in
-    let kept : IsPairGraph c.self.inside.nodes c.push.new.self = rw c.push.ensures
-    (with_pair c.self.inside.nodes c.self.inside.pairs c.args.self.now c.args.u c.args.t c.self.view_is c.self.invariant c.requires.from c.requires.to c.requires.free new) in
-    kept.acyclic

@@ -29,5 +29,4 @@ loop-pred-preserved c =
     record {
       nodes = c.add_pair.ensures.nodes ∙ c.loop-pred.invariant.nodes;
       pairs = adds_next c.args.self.now.1 c.loop-pred.self.1 c.add_pair.new.self.1 c.args.t c.args.preds.now c.loop-pred.pred-index c.pred-item.result below is c.loop-pred.invariant.pairs c.add_pair.ensures.pairs;
-      acyclic = c.add_pair.ensures.acyclic;
     }

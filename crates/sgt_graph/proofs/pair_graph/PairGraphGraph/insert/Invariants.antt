@@ -1,6 +1,4 @@
 use Rattle.std.proofs.Common.{◌≡◌, take}
-use Rattle.sgt_cycle.specs.Links.{is_link}
-use Rattle.sgt_graph.specs.Graphs.{NoCycle}
 use Rattle.sgt_graph.proofs.Insertion.{Adds}
 use Rattle.sgt_graph.proofs.pair_graph.PairGraphGraph.insert.Given as goal
 
@@ -8,5 +6,4 @@ abbrev pub invariant-loop-pred : goal.invariant-loop-pred
 invariant-loop-pred l = record {
   nodes : l.self.0 ≡ l.fn.self.0;
   pairs : Adds l.fn.self.1 l.self.1 l.t (take l.pred-index l.preds);
-  acyclic : NoCycle (is_link l.self.1);
 }

@@ -21,13 +21,3 @@ returns-clause-nodes c u =
 pub returns-clause-pairs : goal.returns-clause-pairs
 returns-clause-pairs c u v =
     ap (λ l. is_link l u v) (c.pairs_without-self-inside.ensures ∙ ap (filter (is_apart c.args.t)) c.as_slice-2.ensures ∙ ap (λ (w : List ℕ × List (ℕ × ℕ)). filter (is_apart c.args.t) w.1) c.self.view_is) ∙ pair_without c.args.self.now.1 c.args.t u v
-
-pub returns-clause-of_nodes : goal.returns-clause-of_nodes
-returns-clause-of_nodes c =
-    let kept : IsPairGraph c.nodes_without-self-inside.result c.pairs_without-self-inside.result = rw (c.nodes_without-self-inside.ensures, c.pairs_without-self-inside.ensures, c.as_slice.ensures, c.as_slice-2.ensures) (kept_without c.self.inside.nodes c.self.inside.pairs c.self.invariant c.args.t) in
-    kept.of_nodes
-
-pub returns-clause-acyclic : goal.returns-clause-acyclic
-returns-clause-acyclic c =
-    let kept : IsPairGraph c.nodes_without-self-inside.result c.pairs_without-self-inside.result = rw (c.nodes_without-self-inside.ensures, c.pairs_without-self-inside.ensures, c.as_slice.ensures, c.as_slice-2.ensures) (kept_without c.self.inside.nodes c.self.inside.pairs c.self.invariant c.args.t) in
-    kept.acyclic

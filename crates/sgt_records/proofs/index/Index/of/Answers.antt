@@ -33,5 +33,6 @@ invariant_of-result c =
     record {
       is_index = index_none c.loop-key.records c.new.result c.loop-key.invariant.none
           (λ k. subst (λ (o : Option ℤ). IfSome o IsValue) (ap (λ l. contents_of l k) (sym whole) ∙ sym (c.loop-key.invariant.values k)) (rows_values rows (subst HasValues c.rows-key-items.ensures.rows c.rows-key-items.ensures.values) k))
-          (λ k. chain_empty);
+          (λ k. chain_empty)
+          (λ p. rw c.new.ensures.empty refl);
     }

@@ -3,7 +3,7 @@ use Rattle.std.proofs.lemmas.Int.{to_z-of_z}
 use Rattle.std.proofs.lemmas.Fn.{filter_same}
 use Rattle.sgt_records.specs.declared.write.Write.{Write}
 use Rattle.sgt_records.specs.Pendings.{chain_in, ArePending}
-use Rattle.sgt_records.proofs.PendingWrites.{not_this, after_write, chain_written, pending_written, are_chains}
+use Rattle.sgt_records.proofs.PendingWrites.{not_this, after_write, chain_written, pending_written}
 use Rattle.sgt_records.proofs.list_records.ListRecordsRecords.write.Goals as goal
 
 pub invariant_of-self : goal.invariant_of-self
@@ -17,9 +17,3 @@ returns-clause-chain c k =
     let left = filter_same _ (not_this c.args.t c.args.key) _ (λ x b f call. search rules) _ _ c.retain.ensures.filtered in
     let after = after_write c.args.t c.args.key c.args.value c.args.self.now.pending.items _ _ _ left (to_z-of_z w64 c.args.value c.ranges.value) c.push_reserved.ensures.items in
     ap (λ l. chain_in l k) after ∙ chain_written c.args.t c.args.key c.args.value c.args.self.now.pending.items k
-
-pub returns-clause-are_chains : goal.returns-clause-are_chains
-returns-clause-are_chains c =
-    let left = filter_same _ (not_this c.args.t c.args.key) _ (λ x b f call. search rules) _ _ c.retain.ensures.filtered in
-    let after = after_write c.args.t c.args.key c.args.value c.args.self.now.pending.items _ _ _ left (to_z-of_z w64 c.args.value c.ranges.value) c.push_reserved.ensures.items in
-    are_chains c.args.self.now.committed.records _ (subst (λ (l : List Write). ArePending c.args.self.now.committed.records l) (sym after) (pending_written _ _ c.args.self.now.are_pending c.args.t c.args.key c.args.value c.requires.ready.0 c.requires.in_range c.requires.room))

@@ -1,0 +1,23 @@
+-- What is pending of each key is a chain: the proof of a law of the records.
+use Rattle.std.specs.Prelude.{ℕ, ℤ, Bool, true, false, cond, List, [], ◌∷◌, Option}
+use Rattle.std.specs.BTreeMap.{BTreeMap}
+use Rattle.std.specs.List.{All}
+use Rattle.std.proofs.lemmas.List.Elements.{All-nil, All-cons, All-head, All-tail}
+use Rattle.sgt_model.specs.Numbers.{IsValue}
+use Rattle.sgt_model.specs.Contents.{Key, key_eq}
+use Rattle.sgt_records.specs.declared.write.Write.{Write}
+use Rattle.sgt_records.specs.Pendings.{chain_in, ArePending}
+use Rattle.sgt_records.specs.Validity.{IsChain}
+
+-- the chain of writes of values is of values
+chain_values : (writes : List Write) → All (λ (w : Write). IsValue w.value) writes → (k : Key) → All (λ (w : ℕ × ℤ). IsValue w.1) (chain_in writes k)
+chain_values [] values k = All-nil (λ (x : ℕ × ℤ). IsValue x.1)
+chain_values (w ∷ writes) values k = go (key_eq w.key k) (All-head (λ (x : Write). IsValue x.value) w writes values) (chain_values writes (All-tail (λ (x : Write). IsValue x.value) w writes values) k)
+  where
+    go : (b : Bool) → IsValue w.value → All (λ (w : ℕ × ℤ). IsValue w.1) (chain_in writes k) → All (λ (w : ℕ × ℤ). IsValue w.1) (cond b ((w.by, w.value) ∷ chain_in writes k) (chain_in writes k))
+    go true here rest = All-cons (λ (x : ℕ × ℤ). IsValue x.1) (w.by, w.value) (chain_in writes k) here rest
+    go false here rest = rest
+
+-- what is pending of a key is a chain
+pub pending_chains : (records : BTreeMap Key (Option ℤ)) (writes : List Write) → ArePending records writes → (k : Key) → IsChain (chain_in writes k)
+pending_chains records writes are k = record { once = λ t. are.once t k; few = are.few k; values = chain_values writes are.in_range k }
