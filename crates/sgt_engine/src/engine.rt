@@ -15,6 +15,7 @@ ghost use Rattle.sgt_model.specs.StateAfter.{IsStateAfter};
 ghost use Rattle.sgt_model.specs.Values.{settled};
 ghost use Rattle.sgt_model.specs.Walks.{Acyclic};
 ghost use Rattle.sgt_sched.specs.Endings.{is_ending};
+ghost use Rattle.sgt_sched.specs.Scheduler.{parts, state};
 ghost use Rattle.sgt_engine.specs.EngineView.{setting_of, made_of, with_entry};
 
 use crate::past::Past;
@@ -27,7 +28,7 @@ use sgt_model::{
 };
 use sgt_proc::Checked;
 use sgt_records::Records;
-use sgt_sched::{Sched, Scheduler, endings_agree};
+use sgt_sched::{Sched, endings_agree};
 use std::alloc::Global;
 use std::marker::Model;
 
@@ -61,7 +62,7 @@ impl<R: Records, A: Accesses, G: Graph> Model for Engine<R, A, G> {
     ghost use Rattle.sgt_model.specs.Settings.{setting};
     ghost use Rattle.sgt_model.specs.StateAfter.{IsStateAfter};
     ghost use Rattle.sgt_sched.specs.LiveList.{numbers};
-    ghost use Rattle.sgt_sched.specs.SchedulerView.{state_of};
+    ghost use Rattle.sgt_sched.specs.Scheduler.{parts, state};
     ghost use Rattle.sgt_engine.specs.EngineView.{EngineView};
 
     ghost Value = { EngineView };
@@ -70,17 +71,17 @@ impl<R: Records, A: Accesses, G: Graph> Model for Engine<R, A, G> {
 
     ghost view = { λ e. record {
       opening = e.opening;
-      procedures = e.sched.procedures;
-      limits = e.sched.limits;
+      procedures = (parts e.sched).procedures;
+      limits = (parts e.sched).limits;
       past = reverse e.history.items;
     } };
 
     ghost invariant = { λ e.
-        Legal (setting (contents_of e.opening) e.sched.procedures e.sched.limits)
+        Legal (setting (contents_of e.opening) (parts e.sched).procedures (parts e.sched).limits)
         (reverse e.history.items)
-        × IsStateAfter (setting (contents_of e.opening) e.sched.procedures e.sched.limits)
+        × IsStateAfter (setting (contents_of e.opening) (parts e.sched).procedures (parts e.sched).limits)
         (reverse e.history.items)
-        (state_of R.chain R.settled A.list G.nodes G.pairs e.sched)
+        (state e.sched)
         × (vec_len e.history + length (numbers e.sched.live) ≤ vec_capacity e.history) };
 }
 
@@ -182,9 +183,9 @@ impl<R: Records, A: Accesses, G: Graph> Engine<R, A, G> {
     /// the committed values.
     pub fn sched(&self) -> &Sched<R, A, G>
         ensures state { IsStateAfter (setting_of self.now) self.now.past
-            (⟦<Sched<R, A, G> as Scheduler>⟧.state result.now) }
-        ensures procedures { result.now.procedures ≡ self.now.procedures }
-        ensures limits { result.now.limits ≡ self.now.limits }
+            (state result.now) }
+        ensures procedures { (parts result.now).procedures ≡ self.now.procedures }
+        ensures limits { (parts result.now).limits ≡ self.now.limits }
     {
         &self.sched
     }

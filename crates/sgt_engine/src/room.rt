@@ -3,15 +3,17 @@ ghost use Rattle.std.specs.Result.{IsOk};
 ghost use Rattle.std.specs.Vec.{vec_len, vec_capacity};
 ghost use Rattle.sgt_sched.specs.Briefs.{told};
 ghost use Rattle.sgt_sched.specs.Endings.{EndsOne};
+ghost use Rattle.sgt_sched.specs.Scheduler.{state};
 
 use sgt_access::Accesses;
 use sgt_graph::Graph;
 use sgt_model::{Entry, Event, NoMemory, Reply};
 use sgt_records::Records;
-use sgt_sched::{Brief, Sched, Scheduler};
+use sgt_sched::{Brief, Sched};
 
-/// Takes the room in the history that an event needs. An event that ends a live transaction has it: the history keeps room for
-/// one end of each. Any other needs room for itself, for those ends, and for the end of one that it may start.
+/// Sees to it that the history has the room that an event needs. An event that ends a live transaction has it: the history keeps
+/// room for one end of each, and does not grow. Any other needs room for itself, for those ends, and for the end of one that it
+/// may start.
 ///
 /// `NoMemory` where a growth was refused; then the room is as it was.
 pub fn make_room<R: Records, A: Accesses, G: Graph>(
@@ -19,18 +21,20 @@ pub fn make_room<R: Records, A: Accesses, G: Graph>(
     sched: &Sched<R, A, G>,
     event: &Event,
 ) -> Result<(), NoMemory>
-    requires { vec_len history.old + length (⟦<Sched<R, A, G> as Scheduler>⟧.state sched.now).live ≤ vec_capacity history.old }
+    requires { vec_len history.old + length (state sched.now).live ≤ vec_capacity history.old }
     ensures items { history.new.items ≡ history.old.items }
-    ensures ends { vec_len history.new + length (⟦<Sched<R, A, G> as Scheduler>⟧.state sched.now).live ≤ vec_capacity history.new }
-    ensures room { OnOk result ((EndsOne event.now (⟦<Sched<R, A, G> as Scheduler>⟧.state sched.now) → ⊥)
-        → vec_len history.new + (length (⟦<Sched<R, A, G> as Scheduler>⟧.state sched.now).live + 2) ≤ vec_capacity history.new) }
-    ensures no_memory { EndsOne event.now (⟦<Sched<R, A, G> as Scheduler>⟧.state sched.now) → IsOk result }
+    ensures ends { vec_len history.new + length (state sched.now).live ≤ vec_capacity history.new }
+    ensures room { OnOk result ((EndsOne event.now (state sched.now) → ⊥)
+        → vec_len history.new + (length (state sched.now).live + 2) ≤ vec_capacity history.new) }
+    ensures no_growth { EndsOne event.now (state sched.now) → vec_capacity history.new ≡ vec_capacity history.old }
+    ensures no_memory { EndsOne event.now (state sched.now) → IsOk result }
 {
-    // Whether it ends one is worked out only where the growth was refused.
-    if history.reserve(sched.live_count() + 2).is_ok() || sched.ends(event) {
-        return Ok(());
+    let needed = sched.live_count() + 2;
+    // Whether it ends one is worked out only where there is less room than others need.
+    if history.capacity() - history.len() < needed && !sched.ends(event) {
+        history.reserve(needed)?;
     }
-    Err(NoMemory)
+    Ok(())
 }
 
 /// Adds an entry, with the reply in full. There is room for it.

@@ -9,6 +9,7 @@ ghost use Rattle.sgt_model.specs.Walks.{Acyclic};
 ghost use Rattle.sgt_model.specs.Databases.{contents_of};
 ghost use Rattle.sgt_model.specs.Settings.{setting};
 ghost use Rattle.sgt_engine.specs.EngineView.{setting_of};
+ghost use Rattle.sgt_engine.specs.Stops.{StopsAtNoEnd};
 ghost use Rattle.sgt_model.specs.Histories.{events_of};
 
 use crate::engine::Engine;
@@ -42,6 +43,7 @@ pub fn run_list<R: Records, A: Accesses, G: Graph>(
         setting_of ran.engine ≡ setting (contents_of opening) procedures.items limits) }
     ensures events { IfOk result (λ ran. events_of ran.engine.past ≡ take ran.done events.now) }
     ensures done { IfOk result (λ ran. ran.done ≤ length events.now) }
+    ensures stops { IfOk result (λ ran. StopsAtNoEnd ran.engine ran.done events.now) }
     ensures legal { IfOk result (λ ran. Legal (setting_of ran.engine) ran.engine.past) }
     ensures replay { IfOk result (λ ran. IsSerializable (setting_of ran.engine) ran.engine.past) }
     ensures no_cycle { IfOk result (λ ran. Acyclic (Pair ran.engine.past)) }

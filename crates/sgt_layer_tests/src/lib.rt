@@ -15,6 +15,8 @@ mod graphs;
 #[cfg(test)]
 mod records;
 #[cfg(test)]
+mod schedulers;
+#[cfg(test)]
 mod spelled;
 #[cfg(test)]
 mod values;

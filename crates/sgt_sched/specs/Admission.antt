@@ -7,7 +7,7 @@ use Rattle.sgt_model.specs.State.{State}
 use Rattle.sgt_model.specs.Settings.{Rules}
 use Rattle.sgt_model.specs.CallEffects.{start_answer, StartOn}
 use Rattle.sgt_sched.specs.declared.brief.Brief.{Brief}
-use Rattle.sgt_sched.specs.Briefs.{told}
+use Rattle.sgt_sched.specs.Briefs.{told, IsShort}
 
 -- t is the next number, and the limits have room for it
 pub record HasRoom (limits : Limits) (c : State) (t : ℕ) : Type 0 where
@@ -18,4 +18,4 @@ pub record HasRoom (limits : Limits) (c : State) (t : ℕ) : Type 0 where
 -- with this number, for which there is room; or the start is answered so, and does nothing
 abbrev pub Admits : Rules → State → ℕ → List ℤ → Result ℕ Brief → Type 0
 Admits rules c procedure args (Ok t) = (reply.Started t ≡ start_answer rules c procedure args) × HasRoom rules.limits c t
-Admits rules c procedure args (Err b) = (place : Reply) → (told b place ≡ start_answer rules c procedure args) × StartOn (rules.procedures procedure) args c (told b place) c
+Admits rules c procedure args (Err b) = (place : Reply) → (told b place ≡ start_answer rules c procedure args) × StartOn (rules.procedures procedure) args c (told b place) c × IsShort b place

@@ -1,8 +1,10 @@
 pub mod LiveProgress
 pub mod LiveList
 pub mod SchedulerView
+pub mod KeptProp
 pub mod Briefs
 pub mod Admission
 pub mod Steps
 pub mod Endings
 pub mod FateList
+pub mod Scheduler

@@ -25,6 +25,19 @@ pub record SchedulerView (R A G : Type 0) : Type 0 where
   pub read_from : List (ℕ × ℕ)
   pub fates : List (Option Fate)
 
+-- of these parts
+abbrev pub view : {R A G : Type 0} → List Program → Limits → R → A → G → List (ℕ × Progress) → List (ℕ × ℕ) → List (Option Fate) → SchedulerView R A G
+view procedures limits records accesses graph live read_from fates = record {
+  procedures = procedures;
+  limits = limits;
+  records = records;
+  accesses = accesses;
+  graph = graph;
+  live = live;
+  read_from = read_from;
+  fates = fates;
+}
+
 -- the rules that it goes by
 abbrev pub rules_of : {R A G : Type 0} → SchedulerView R A G → Rules
 rules_of p = rules_from p.procedures p.limits

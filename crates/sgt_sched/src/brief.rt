@@ -1,7 +1,7 @@
 ghost use Rattle.std.specs.Prelude.{◌≡◌, ◌≢◌};
 ghost use Rattle.sgt_model.specs.declared.reply.Reply.{Reply as Answer};
 ghost use Rattle.sgt_sched.specs.declared.brief.Brief.TheVariants.{Placed};
-ghost use Rattle.sgt_sched.specs.Briefs.{told};
+ghost use Rattle.sgt_sched.specs.Briefs.{told, IsShort};
 
 use sgt_model::{Key, Reply, Tid};
 
@@ -28,7 +28,8 @@ impl Brief {
     /// A reply in short, where what is placed stands in the reply itself.
     #[inline(always)]
     pub fn of(reply: &Reply) -> Brief
-        ensures { told result reply.now ≡ reply.now }
+        ensures reply { told result reply.now ≡ reply.now }
+        ensures short { IsShort result reply.now }
     {
         match reply {
             Reply::Started(t) => Brief::Started(*t),

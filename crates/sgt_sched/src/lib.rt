@@ -25,9 +25,7 @@ mod live;
 mod reads;
 mod running;
 mod sched;
-mod scheduler;
 
 pub use brief::Brief;
 pub use laws::endings_agree;
 pub use sched::Sched;
-pub use scheduler::Scheduler;

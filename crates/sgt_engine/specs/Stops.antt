@@ -1,0 +1,11 @@
+-- Where a list of events stopped.
+use Rattle.std.specs.Prelude.{◌≡◌, ℕ, false, List, Some, slice_get}
+use Rattle.sgt_model.specs.declared.event.Event.{Event}
+use Rattle.sgt_model.specs.declared.reply.Reply.{Reply}
+use Rattle.sgt_model.specs.Legality.{LegalReply}
+use Rattle.sgt_sched.specs.Endings.{is_ending}
+use Rattle.sgt_engine.specs.EngineView.{EngineView, setting_of}
+
+-- behind so many of these events: the next one, if there is one, ends no live transaction
+abbrev pub StopsAtNoEnd : EngineView → ℕ → List Event → Type 0
+StopsAtNoEnd e done events = (event : Event) → slice_get events done ≡ Some event → (r : Reply) → LegalReply (setting_of e) e.past event r → is_ending r ≡ false

@@ -1,0 +1,48 @@
+-- What a scheduler holds, and what its calls do, by names that contracts can say.
+use Rattle.std.specs.Prelude.{◌≡◌, ℕ, false, IsTrue, Bool, List, Result, IfOk, OnErr}
+use Rattle.sgt_cycle.specs.Walk.{NoWalk}
+use Rattle.sgt_records.specs.declared.records.Records.{Ghosts as RecordsGhosts}
+use Rattle.sgt_access.specs.declared.accesses.Accesses.{Ghosts as AccessesGhosts}
+use Rattle.sgt_graph.specs.declared.graph.Graph.{Ghosts as GraphGhosts}
+use Rattle.sgt_model.specs.declared.errors.NoMemory.{NoMemory}
+use Rattle.sgt_model.specs.declared.reply.Reply.{Reply}
+use Rattle.sgt_model.specs.Sameness.{Same}
+use Rattle.sgt_model.specs.Settings.{Rules, rules_from}
+use Rattle.sgt_model.specs.State.{State}
+use Rattle.sgt_sched.specs.Endings.{AbortsByWalk}
+use Rattle.sgt_sched.specs.SchedulerView.{SchedulerView, state_of, view}
+use Rattle.sgt_sched.specs.declared.sched.Sched.{Sched}
+
+module _ {R A G : Type 0} {r : RecordsGhosts R} {a : AccessesGhosts A} {g : GraphGhosts G} where
+  -- its parts
+  abbrev pub parts : Sched R A G r a g → SchedulerView R A G
+  parts s = view s.procedures.items s.limits s.records s.accesses s.graph s.live s.read_from.items s.fates.fates
+
+  -- its state
+  abbrev pub state : Sched R A G r a g → State
+  state s = state_of r.chain r.settled a.list g.nodes g.pairs (parts s)
+
+  -- the rules that it goes by
+  abbrev pub rules_of : Sched R A G r a g → Rules
+  rules_of s = rules_from s.procedures.items s.limits
+
+  -- the procedures and limits are kept
+  abbrev pub Keeps : Sched R A G r a g → Sched R A G r a g → Type 0
+  Keeps old new = (new.procedures.items ≡ old.procedures.items) × (new.limits ≡ old.limits)
+
+  -- its state turns so, with this reply; nothing else changes
+  pub record Turns {X : Type 0} (effect : State → X → State → Type 0) (old : Sched R A G r a g) (x : X) (new : Sched R A G r a g) : Type 0 where
+    pub turn : effect (state old) x (state new)
+    pub kept : Keeps old new
+
+  -- the same, or it was refused memory, and nothing has changed
+  pub record Tries {X : Type 0} (effect : State → X → State → Type 0) (old : Sched R A G r a g) (result : Result X NoMemory) (new : Sched R A G r a g) : Type 0 where
+    pub done : IfOk result (λ x. effect (state old) x (state new))
+    pub refused : OnErr result (Same (state old) (state new))
+    pub kept : Keeps old new
+
+  -- t was aborted, as a walk leads from it to one of these, and the reply placed; or none does, and nothing has changed
+  pub record AbortsInCycle (t : ℕ) (rivals : List ℕ) (old : Sched R A G r a g) (place : Reply) (aborted : Bool) (placed : Reply) (new : Sched R A G r a g) : Type 0 where
+    pub closes : IsTrue aborted → AbortsByWalk t rivals (state old) placed (state new)
+    pub free : aborted ≡ false → (new ≡ old) × (placed ≡ place) × NoWalk (state old).pairs t rivals
+    pub kept : Keeps old new

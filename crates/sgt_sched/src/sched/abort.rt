@@ -1,0 +1,52 @@
+//! Aborts, which a step or a quit comes to.
+ghost use Rattle.std.specs.Prelude.{◌≡◌, true};
+ghost use Rattle.sgt_model.specs.CallEffects.{AbortsIn};
+ghost use Rattle.sgt_model.specs.FallsIn.{FallsIn};
+ghost use Rattle.sgt_sched.specs.Briefs.{InBrief};
+ghost use Rattle.sgt_sched.specs.Endings.{EndsAborted};
+ghost use Rattle.sgt_sched.specs.Scheduler.{state, Keeps, Turns};
+
+use crate::brief::Brief;
+use crate::leave::leave;
+use crate::sched::Sched;
+use sgt_access::Accesses;
+use sgt_cascade::fallers;
+use sgt_commit::unwind;
+use sgt_graph::Graph;
+use sgt_model::{Cause, Fate, Reply, Tid, Tids};
+use sgt_records::Records;
+
+impl<R: Records, A: Accesses, G: Graph> Sched<R, A, G> {
+    // Aborts a live transaction, and those that have read from it with it.
+    pub(super) fn abort(&mut self, t: Tid, cause: Cause, place: &mut Reply) -> Brief
+        requires live { (state self.old).nodes t ≡ true }
+        ensures { Turns (InBrief (AbortsIn t cause) place.new) self.old result self.new }
+    {
+        let fell = self.falling_with(t);
+        self.end_aborted(t, Fate::Aborted(cause.copied()));
+        for reader in fell.as_slice() {
+            self.end_aborted(*reader, Fate::Fell(t));
+        }
+        *place = Reply::Aborted { cause, fell };
+        Brief::Placed
+    }
+
+    // Those that fall with a live transaction, when it aborts.
+    fn falling_with(&self, t: Tid) -> Tids
+        requires live { (state self.now).nodes t ≡ true }
+        ensures { FallsIn (state self.now) t result }
+    {
+        fallers(self.read_from.as_slice(), &self.live.numbers(), t)
+    }
+
+    // Takes a live transaction that is aborted, or falls with another, out of all layers. Its readers stay.
+    fn end_aborted(&mut self, t: Tid, fate: Fate)
+        requires live { (state self.old).nodes t ≡ true }
+        ensures ends { EndsAborted t fate (state self.old) (state self.new) }
+        ensures kept { Keeps self.old self.new }
+    {
+        unwind(&mut self.records, &mut self.accesses, &mut self.graph, t);
+        leave(&mut self.live, &mut self.read_from, t);
+        self.fates.end(t, &fate);
+    }
+}

@@ -1,0 +1,68 @@
+//! Commits.
+ghost use Rattle.std.specs.Prelude.{◌≡◌, ℕ, true, false, IsTrue, ◌↔◌};
+ghost use Rattle.sgt_model.specs.declared.event.Event.TheVariants.{Commit};
+ghost use Rattle.sgt_model.specs.CallEffects.{CommitEffect, CommitsIn};
+ghost use Rattle.sgt_sched.specs.Briefs.{InBrief};
+ghost use Rattle.sgt_sched.specs.Endings.{EndsOne};
+ghost use Rattle.sgt_sched.specs.Scheduler.{state, Turns};
+
+use crate::brief::Brief;
+use crate::leave::leave;
+use crate::sched::Sched;
+use sgt_access::Accesses;
+use sgt_commit::{decide, finish};
+use sgt_graph::Graph;
+use sgt_model::{Answers, Fate, Reply, Tid};
+use sgt_proc::Next;
+use sgt_records::Records;
+
+impl<R: Records, A: Accesses, G: Graph> Sched<R, A, G> {
+    /// Commits a transaction that has no live predecessor (Durner and Neumann, ICDE 2019). This takes no memory.
+    ///
+    /// Answers: `Unknown` where it was never started; `Over` where it has ended; `NotEnded` where its procedure is not at its
+    /// end; `Waits` with the least live predecessor, where there is one; else `Committed` with the procedure's answers.
+    pub fn commit(&mut self, t: Tid) -> Reply
+        ensures { Turns (CommitEffect t) self.old result self.new }
+    {
+        let mut place = Reply::Ended;
+        let brief = self.answer_commit(t, &mut place);
+        brief.reply(&place)
+    }
+
+    // The same, in short.
+    pub(super) fn answer_commit(&mut self, t: Tid, place: &mut Reply) -> Brief
+        ensures { Turns (InBrief (CommitEffect t) place.new) self.old result self.new }
+    {
+        match self.next(t) {
+            Some(Next::Ends(answers)) => match decide(&self.graph, t) {
+                Some(first) => Brief::Waits(first),
+                None => self.settle(t, answers, place),
+            },
+            Some(_) => Brief::NotEnded,
+            None => self.closed(t, place),
+        }
+    }
+
+    // Commits a live transaction that has no predecessor.
+    fn settle(&mut self, t: Tid, answers: Answers, place: &mut Reply) -> Brief
+        requires live { (state self.old).nodes t ≡ true }
+        requires first { (u : ℕ) → (state self.old).pairs u t ≡ false }
+        ensures { Turns (InBrief (CommitsIn t answers) place.new) self.old result self.new }
+    {
+        finish(&mut self.records, &mut self.accesses, &mut self.graph, t);
+        leave(&mut self.live, &mut self.read_from, t);
+        self.fates.end(t, &Fate::Committed);
+        *place = Reply::Committed(answers);
+        Brief::Placed
+    }
+
+    // Whether the transaction can commit.
+    pub(super) fn commit_ends(&self, t: Tid) -> bool
+        ensures { IsTrue result ↔ EndsOne (Commit t) (state self.now) }
+    {
+        match self.next(t) {
+            Some(Next::Ends(_)) => decide(&self.graph, t).is_none(),
+            _ => false,
+        }
+    }
+}

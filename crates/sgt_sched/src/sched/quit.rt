@@ -1,0 +1,34 @@
+//! Quits.
+ghost use Rattle.sgt_model.specs.CallEffects.{QuitEffect};
+ghost use Rattle.sgt_sched.specs.Briefs.{InBrief};
+ghost use Rattle.sgt_sched.specs.Scheduler.{Turns};
+
+use crate::brief::Brief;
+use crate::sched::Sched;
+use sgt_access::Accesses;
+use sgt_graph::Graph;
+use sgt_model::{Cause, Reply, Tid};
+use sgt_records::Records;
+
+impl<R: Records, A: Accesses, G: Graph> Sched<R, A, G> {
+    /// Aborts a transaction, as its caller asks. This takes no memory.
+    ///
+    /// Answers: `Unknown` where it was never started; `Over` where it has ended; else `Aborted`.
+    pub fn quit(&mut self, t: Tid) -> Reply
+        ensures { Turns (QuitEffect t) self.old result self.new }
+    {
+        let mut place = Reply::Ended;
+        let brief = self.answer_quit(t, &mut place);
+        brief.reply(&place)
+    }
+
+    // The same, in short.
+    pub(super) fn answer_quit(&mut self, t: Tid, place: &mut Reply) -> Brief
+        ensures { Turns (InBrief (QuitEffect t) place.new) self.old result self.new }
+    {
+        if self.is_live(t) {
+            return self.abort(t, Cause::Quit, place);
+        }
+        self.closed(t, place)
+    }
+}

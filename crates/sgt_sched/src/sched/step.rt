@@ -1,0 +1,162 @@
+//! Steps.
+ghost use Rattle.std.specs.Prelude.{◌≡◌, ◌≢◌, ℕ, true, IsTrue, OnErr, ◌↔◌};
+ghost use Rattle.std.specs.Result.{IsOk};
+ghost use Rattle.sgt_model.specs.declared.event.Event.TheVariants.{Step};
+ghost use Rattle.sgt_model.specs.declared.kind.Kind.TheVariants.{Look, Store};
+ghost use Rattle.sgt_model.specs.declared.reply.Cause.TheVariants.{Asked};
+ghost use Rattle.sgt_model.specs.CallEffects.{AbortsIn, StepEffect, StepOn};
+ghost use Rattle.sgt_model.specs.Numbers.{IsValue};
+ghost use Rattle.sgt_model.specs.Traces.{Looks, Puts};
+ghost use Rattle.sgt_model.specs.Walks.{Member};
+ghost use Rattle.sgt_sched.specs.Briefs.{InBrief};
+ghost use Rattle.sgt_sched.specs.Endings.{EndsOne, IsBlocked};
+ghost use Rattle.sgt_sched.specs.Scheduler.{state, Turns, Tries, AbortsInCycle};
+
+use crate::brief::Brief;
+use crate::follow::follow;
+use crate::reads::note_read;
+use crate::sched::Sched;
+use sgt_access::Accesses;
+use sgt_graph::{Graph, Verdict};
+use sgt_model::{Cause, Key, Kind, NoMemory, Reply, Tid, Tids};
+use sgt_proc::Next;
+use sgt_records::Records;
+
+impl<R: Records, A: Accesses, G: Graph> Sched<R, A, G> {
+    /// Lets the procedure of a transaction make its next access (Bernstein, Hadzilacos and Goodman 1987, chapter 4).
+    ///
+    /// Answers: `Unknown` where it was never started; `Over` where it has ended; `Ended` where its procedure is at its end,
+    /// with nothing done; `Aborted` where its procedure asks a code, and exactly where the access would close a cycle; else
+    /// `Looked` with the last value that is not undone, or `Wrote`. `NoMemory` where a growth was refused; then nothing has
+    /// changed. A step that ends the transaction takes no memory.
+    pub fn step(&mut self, t: Tid) -> Result<Reply, NoMemory>
+        ensures done { Tries (StepEffect t) self.old result self.new }
+        ensures no_memory { EndsOne (Step t) (state self.old) → IsOk result }
+    {
+        let mut place = Reply::Ended;
+        let brief = self.answer_step(t, &mut place)?;
+        Ok(brief.reply(&place))
+    }
+
+    // The same, in short.
+    pub(super) fn answer_step(&mut self, t: Tid, place: &mut Reply) -> Result<Brief, NoMemory>
+        ensures done { Tries (InBrief (StepEffect t) place.new) self.old result self.new }
+        ensures place { OnErr result (place.new ≡ place.old) }
+        ensures no_memory { EndsOne (Step t) (state self.old) → IsOk result }
+    {
+        let Some(next) = self.next(t) else {
+            return Ok(self.closed(t, place));
+        };
+        match next {
+            Next::Look(key) => self.look(t, key, place),
+            Next::Put(key, value) => self.store(t, key, value, place),
+            Next::Ends(_) => Ok(Brief::Ended),
+            Next::Asks(code) => Ok(self.abort_asked(t, code, place)),
+        }
+    }
+
+    // Makes a look of a live transaction, or aborts it where the look would close a cycle.
+    fn look(&mut self, t: Tid, key: Key, place: &mut Reply) -> Result<Brief, NoMemory>
+        requires live { (state self.old).nodes t ≡ true }
+        ensures done { Tries (InBrief (StepOn t (Looks key)) place.new) self.old result self.new }
+        ensures place { OnErr result (place.new ≡ place.old) }
+        ensures no_memory { IsBlocked (state self.old) t key Look → IsOk result }
+    {
+        let rivals = self.accesses.rivals(t, key, Kind::Look);
+        if self.abort_in_cycle(t, &rivals, place) {
+            return Ok(Brief::Placed);
+        }
+        let top = self.records.top(key);
+        let value = top.value();
+        self.accesses.reserve(key)?;
+        self.read_from.reserve(1)?;
+        follow(&mut self.graph, t, &rivals);
+        self.accesses.note(t, key, Kind::Look);
+        note_read(&mut self.read_from, &top, t);
+        self.live.look(t, self.procedures.as_slice(), value);
+        Ok(Brief::Looked { key, value })
+    }
+
+    // Makes a store of a live transaction, or aborts it where the store would close a cycle.
+    fn store(&mut self, t: Tid, key: Key, value: i64, place: &mut Reply) -> Result<Brief, NoMemory>
+        requires live { (state self.old).nodes t ≡ true }
+        requires in_range { IsValue value }
+        ensures done { Tries (InBrief (StepOn t (Puts key value)) place.new) self.old result self.new }
+        ensures place { OnErr result (place.new ≡ place.old) }
+        ensures no_memory { IsBlocked (state self.old) t key Store → IsOk result }
+    {
+        let rivals = self.accesses.rivals(t, key, Kind::Store);
+        if self.abort_in_cycle(t, &rivals, place) {
+            return Ok(Brief::Placed);
+        }
+        self.records.reserve(key)?;
+        self.accesses.reserve(key)?;
+        follow(&mut self.graph, t, &rivals);
+        self.records.write(t, key, value);
+        self.accesses.note(t, key, Kind::Store);
+        self.live.store(t, self.procedures.as_slice());
+        Ok(Brief::Wrote { key, value })
+    }
+
+    // Aborts a live transaction where pairs from these rivals to it would close a cycle, and tells whether it did. Most accesses
+    // have no rival.
+    fn abort_in_cycle(&mut self, t: Tid, rivals: &Tids, place: &mut Reply) -> bool
+        requires live { (state self.old).nodes t ≡ true }
+        requires others { (u : ℕ) → Member u rivals.now → ((state self.old).nodes u ≡ true) × (u ≢ t) }
+        ensures { AbortsInCycle t rivals.now self.old place.old result place.new self.new }
+    {
+        !rivals.is_empty() && self.abort_if_closing(t, rivals, place)
+    }
+
+    // The same, where there are rivals.
+    #[inline(never)]
+    fn abort_if_closing(&mut self, t: Tid, rivals: &Tids, place: &mut Reply) -> bool
+        requires live { (state self.old).nodes t ≡ true }
+        requires others { (u : ℕ) → Member u rivals.now → ((state self.old).nodes u ≡ true) × (u ≢ t) }
+        ensures { AbortsInCycle t rivals.now self.old place.old result place.new self.new }
+    {
+        match self.graph.test(t, rivals) {
+            Verdict::Accepted => false,
+            Verdict::Closes(walk) => {
+                self.abort(t, Cause::Cycle(walk), place);
+                true
+            }
+        }
+    }
+
+    // Aborts a live transaction whose procedure asks this code.
+    #[inline(never)]
+    fn abort_asked(&mut self, t: Tid, code: u16, place: &mut Reply) -> Brief
+        requires live { (state self.old).nodes t ≡ true }
+        ensures { Turns (InBrief (AbortsIn t (Asked code)) place.new) self.old result self.new }
+    {
+        self.abort(t, Cause::Asked(code), place)
+    }
+
+    // Whether the next step would end the transaction.
+    pub(super) fn step_ends(&self, t: Tid) -> bool
+        ensures { IsTrue result ↔ EndsOne (Step t) (state self.now) }
+    {
+        let Some(next) = self.next(t) else {
+            return false;
+        };
+        match next {
+            Next::Look(key) => self.is_blocked(t, key, Kind::Look),
+            Next::Put(key, _) => self.is_blocked(t, key, Kind::Store),
+            Next::Ends(_) => false,
+            Next::Asks(_) => true,
+        }
+    }
+
+    // Whether an access of a live transaction would close a cycle.
+    fn is_blocked(&self, t: Tid, key: Key, kind: Kind) -> bool
+        requires live { (state self.now).nodes t ≡ true }
+        ensures { IsTrue result ↔ IsBlocked (state self.now) t key kind }
+    {
+        let rivals = self.accesses.rivals(t, key, kind);
+        match self.graph.test(t, &rivals) {
+            Verdict::Accepted => false,
+            Verdict::Closes(_) => true,
+        }
+    }
+}
