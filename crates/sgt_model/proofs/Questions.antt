@@ -42,7 +42,10 @@ EndsIt event r t = (f : Fate) × (ending_in event r t ≡ Some f)
 
 ends_named : (event : Event) (r : Reply) (t : ℕ) → concerns event t ≡ true → is_ending r ≡ true → EndsIt event r t
 ends_named event (reply.Committed answers) t own e = (fate.Committed, ap (λ b. cond b (Some fate.Committed) None) own)
-ends_named event (reply.Aborted why fell) t own e = (fate.Aborted why, ap (λ b. cond b (Some (fate.Aborted why)) (cond (list_any (λ u. nat_eq u t) fell) (Some (fate.Fell (subject event))) None)) own)
+ends_named event (reply.Aborted why fell) t own e = (
+  fate.Aborted why,
+  ap (λ b. cond b (Some (fate.Aborted why)) (cond (list_any (λ u. nat_eq u t) fell) (Some (fate.Fell (subject event))) None)) own,
+)
 ends_named event _ t own e = absurd (cc)
 
 -- no reply to a live transaction is Over, so the one that tells its end ends it
@@ -50,7 +53,8 @@ ends_named event _ t own e = absurd (cc)
 ending_of : (r answer : Reply) → r ≡ answer → (tells_end answer ≡ true → is_ending answer ≡ true) → tells_end r ≡ true → is_ending r ≡ true
 ending_of r answer is so e = subst (λ x. tells_end x ≡ true → is_ending x ≡ true) (sym is) so e
 
-step_ends : (s : Setting) (past : List Entry) (t : ℕ) (n : Next) (r : Reply) → StepReply s past t n r → tells_end r ≡ true → is_ending r ≡ true
+step_ends : (s : Setting) (past : List Entry) (t : ℕ) (n : Next) (r : Reply) → StepReply s past t n r → tells_end r ≡ true
+    → is_ending r ≡ true
 step_ends s past t (Looks k) r (inl h) = ending_of r _ h.aborts.is (λ e. refl)
 step_ends s past t (Looks k) r (inr h) = ending_of r _ h.is (λ e. e)
 step_ends s past t (Puts k v) r (inl h) = ending_of r _ h.aborts.is (λ e. refl)
@@ -66,12 +70,17 @@ commit_ends past t (Puts k v) r h = ending_of r _ h (λ e. e)
 commit_ends past t (Asks code) r h = ending_of r _ h (λ e. e)
 
 -- the transaction of an event is not live after it, where it ends if it was live: else it was not started, or has ended
-over_at : (past : List Entry) (e : Entry) (t : ℕ) (P : Type 0) → (P → EndsIt e.event e.reply t) → (b : Bool) (o : Option Fate) → nat_lt t (starts past) ≡ b → fate_of past t ≡ o → OfStarted b o e.reply P → live (e ∷ past) t ≡ false
+over_at : (past : List Entry) (e : Entry) (t : ℕ) (P : Type 0) → (P → EndsIt e.event e.reply t) → (b : Bool) (o : Option Fate)
+    → nat_lt t (starts past) ≡ b → fate_of past t ≡ o → OfStarted b o e.reply P → live (e ∷ past) t ≡ false
 over_at past e t P ends true None begun ended h = let f = ends h in ends_now past e t f.0 f.1
-over_at past e t P ends true (Some f) begun ended h = has_fate (e ∷ past) t f (option_or-at_none _ _ (ap (λ r. ending_in e.event r t) h) ∙ ended)
-over_at past e t P ends false o begun ended h = ap (λ r. nat_lt t (cond (is_start r) (starts past + 1) (starts past)) && is_none (fate_of (e ∷ past) t)) h ∙ ap (λ b. b && is_none (fate_of (e ∷ past) t)) begun
+over_at past e t P ends true (Some f) begun ended h =
+    has_fate (e ∷ past) t f (option_or-at_none _ _ (ap (λ r. ending_in e.event r t) h) ∙ ended)
+over_at past e t P ends false o begun ended h =
+    ap (λ r. nat_lt t (cond (is_start r) (starts past + 1) (starts past)) && is_none (fate_of (e ∷ past) t)) h
+    ∙ ap (λ b. b && is_none (fate_of (e ∷ past) t)) begun
 
-over : (past : List Entry) (e : Entry) (t : ℕ) (P : Type 0) → (P → EndsIt e.event e.reply t) → OfLive past t e.reply P → live (e ∷ past) t ≡ false
+over : (past : List Entry) (e : Entry) (t : ℕ) (P : Type 0) → (P → EndsIt e.event e.reply t) → OfLive past t e.reply P
+    → live (e ∷ past) t ≡ false
 over past e t P ends h = over_at past e t P ends (nat_lt t (starts past)) (fate_of past t) refl refl h
 
 named_own : (u t : ℕ) → Some u ≡ Some t → nat_eq u t ≡ true
@@ -91,20 +100,24 @@ over_are_not_live s past e legal t is = by_event e.event refl is
         let h = told (tells_end e.reply) u t x in
         let now : LegalReply s past (Step u) e.reply = subst (λ v. LegalReply s past v e.reply) same legal.1 in
         let own : concerns e.event u ≡ true = ap (λ v. concerns v u) same ∙ eq-eqb u u refl in
-        subst (λ v. live (e ∷ past) v ≡ false) (some_is u t h.1) (over past e u (StepReply s past u (next_of s past u) e.reply) (λ y. ends_named e.event e.reply u own (step_ends s past u (next_of s past u) e.reply y h.0)) now)
+        subst (λ v. live (e ∷ past) v ≡ false) (some_is u t h.1) (over past e u (StepReply s past u (next_of s past u) e.reply)
+        (λ y. ends_named e.event e.reply u own (step_ends s past u (next_of s past u) e.reply y h.0)) now)
     by_event (Commit u) same x =
         let h = told (tells_end e.reply) u t x in
         let now : LegalReply s past (Commit u) e.reply = subst (λ v. LegalReply s past v e.reply) same legal.1 in
         let own : concerns e.event u ≡ true = ap (λ v. concerns v u) same ∙ eq-eqb u u refl in
-        subst (λ v. live (e ∷ past) v ≡ false) (some_is u t h.1) (over past e u (CommitReply past u (next_of s past u) e.reply) (λ y. ends_named e.event e.reply u own (commit_ends past u (next_of s past u) e.reply y h.0)) now)
+        subst (λ v. live (e ∷ past) v ≡ false) (some_is u t h.1) (over past e u (CommitReply past u (next_of s past u) e.reply)
+        (λ y. ends_named e.event e.reply u own (commit_ends past u (next_of s past u) e.reply y h.0)) now)
     by_event (Quit u) same x =
         let now : LegalReply s past (Quit u) e.reply = subst (λ v. LegalReply s past v e.reply) same legal.1 in
         let own : concerns e.event u ≡ true = ap (λ v. concerns v u) same ∙ eq-eqb u u refl in
-        subst (λ v. live (e ∷ past) v ≡ false) (some_is u t x) (over past e u (Aborts past u cause.Quit e.reply) (λ y. ends_named e.event e.reply u own (ap is_ending y.is)) now)
+        subst (λ v. live (e ∷ past) v ≡ false) (some_is u t x) (over past e u (Aborts past u cause.Quit e.reply)
+        (λ y. ends_named e.event e.reply u own (ap is_ending y.is)) now)
 
 -- what is started
 
-started_live : (s : Setting) (past : List Entry) (e : Entry) → Legal s past → e.reply ≡ reply.Started (starts past) → live (e ∷ past) (starts past) ≡ true
+started_live : (s : Setting) (past : List Entry) (e : Entry) → Legal s past → e.reply ≡ reply.Started (starts past)
+    → live (e ∷ past) (starts past) ≡ true
 started_live s past e h is =
     let more : starts (e ∷ past) ≡ starts past + 1 = ap (λ r. cond (is_start r) (starts past + 1) (starts past)) is in
     let none : fate_of past (starts past) ≡ None = unstarted-no_fate s past h (starts past) (le_refl (starts past)) in
@@ -134,7 +147,8 @@ started_are_live s past e legal t is = by_effect (effect s past e.event e.reply 
 
     by_effect : Effect s past e.event e.reply → live (e ∷ past) t ≡ true
     by_effect (idle i) = absurd (cc (sym i.no_start ∙ one))
-    by_effect (begins b) = subst (λ u. live (e ∷ past) u ≡ true) (number_is e.reply (starts past) t b.reply_is number) (started_live s past e legal.0 b.reply_is)
+    by_effect (begins b) = subst (λ u. live (e ∷ past) u ≡ true) (number_is e.reply (starts past) t b.reply_is number)
+        (started_live s past e legal.0 b.reply_is)
     by_effect (accesses x) = absurd (cc (sym x.no_start ∙ one))
     by_effect (commits c) = absurd (cc (sym (ap is_start c.reply_is) ∙ one))
     by_effect (undoes x) = absurd (cc (sym (ap is_start x.reply_is) ∙ one))
@@ -152,9 +166,11 @@ ends_nobody (reply.Aborted why fell) h = absurd (cc)
 ends_nobody _ h = tt
 
 pub others_end_none : OthersEndNone
-others_end_none past e is t alive = live_from (e ∷ past) t (started-stays e past t (live-started past t alive)) (option_or-at_none _ _ (ends_none-no_end e.event e.reply (ends_nobody e.reply is) t) ∙ live-no_fate past t alive)
+others_end_none past e is t alive = live_from (e ∷ past) t (started-stays e past t (live-started past t alive))
+    (option_or-at_none _ _ (ends_none-no_end e.event e.reply (ends_nobody e.reply is) t) ∙ live-no_fate past t alive)
 
-named_cause : (s : Setting) (past : List Entry) (event : Event) (why : Cause) → HasCause s past event why → named_by event ≡ Some (subject event)
+named_cause : (s : Setting) (past : List Entry) (event : Event) (why : Cause) → HasCause s past event why → named_by event ≡ Some
+    (subject event)
 named_cause s past (Start p args) why h = absurd h
 named_cause s past (Step t) why h = refl
 named_cause s past (Commit t) why h = refl
@@ -178,5 +194,6 @@ endings_end_one s past e legal is = by_effect (effect s past e.event e.reply leg
     by_effect (accesses x) = absurd (cc (sym (not_ending e.reply x.ends_none) ∙ is))
     by_effect (commits c) = let own : named_by e.event ≡ Some c.t = ap named_by c.event_is in (c.t, own, c.is_live, named_ends c.t own)
     by_effect (undoes x) =
-        let own : named_by e.event ≡ Some x.undoing.t = named_cause s past e.event x.undoing.why x.has_cause ∙ ap (λ u. Some u) x.subject_is in
+        let own : named_by e.event ≡ Some x.undoing.t = named_cause s past e.event x.undoing.why x.has_cause
+        ∙ ap (λ u. Some u) x.subject_is in
         (x.undoing.t, own, x.undoing.is_live, named_ends x.undoing.t own)
