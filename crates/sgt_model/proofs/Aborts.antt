@@ -15,7 +15,8 @@ abort_has_cause {s} {past} {event} {r} (idle i) = ends_none-cause s past event r
 abort_has_cause {s} {past} {event} {r} (begins b) = subst (λ x. AbortHasCause s past event x) (sym b.reply_is) tt
 abort_has_cause {s} {past} {event} {r} (accesses x) = ends_none-cause s past event r x.ends_none
 abort_has_cause {s} {past} {event} {r} (commits c) = subst (λ x. AbortHasCause s past event x) (sym c.reply_is) tt
-abort_has_cause {s} {past} {event} {r} (undoes x) = subst (λ y. AbortHasCause s past event y) (sym x.reply_is) (x.has_cause, subst (λ t. Falls past t x.undoing.fell) (sym x.subject_is) x.undoing.falls)
+abort_has_cause {s} {past} {event} {r} (undoes x) = subst (λ y. AbortHasCause s past event y) (sym x.reply_is)
+    (x.has_cause, subst (λ t. Falls past t x.undoing.fell) (sym x.subject_is) x.undoing.falls)
 
 pub aborts_have_cause : (s : Setting) (past : List Entry) → Legal s past → AbortsHaveCause s past
 aborts_have_cause s [] h = tt

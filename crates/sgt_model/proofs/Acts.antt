@@ -36,5 +36,7 @@ DoneWith result answers m = (last : Contents) × (result ≡ Done answers last) 
 
 -- a run at once is its trace, said of accesses
 pub record ActsLaw (r : Run) : Type 0 where
-  pub done : (m : Contents) (all : List Access) (answers : List ℤ) → AsAsked (asks_of r) all → FindsIn m all → asks_of r (looked all) (length all) ≡ Ends answers → DoneWith (serial r m) answers (over m all)
-  pub asked : (m : Contents) (all : List Access) (code : ℕ) → AsAsked (asks_of r) all → FindsIn m all → asks_of r (looked all) (length all) ≡ Asks code → serial r m ≡ Asked code
+  pub done : (m : Contents) (all : List Access) (answers : List ℤ) → AsAsked (asks_of r) all → FindsIn m all
+      → asks_of r (looked all) (length all) ≡ Ends answers → DoneWith (serial r m) answers (over m all)
+  pub asked : (m : Contents) (all : List Access) (code : ℕ) → AsAsked (asks_of r) all → FindsIn m all → asks_of r (looked all)
+      (length all) ≡ Asks code → serial r m ≡ Asked code

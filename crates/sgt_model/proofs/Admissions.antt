@@ -22,14 +22,18 @@ use Rattle.sgt_model.proofs.StoredValues.{is_value-fact}
 
 values_fit : (args : List ℤ) → list_all is_value args ≡ true → All IsValue args
 values_fit [] e = All-nil IsValue
-values_fit (a ∷ args) e = let parts = and_parts (is_value a) (list_all is_value args) e in All-cons IsValue a args (is_value-fact a parts.0) (values_fit args parts.1)
+values_fit (a ∷ args) e = let parts = and_parts (is_value a) (list_all is_value args) e in
+    All-cons IsValue a args (is_value-fact a parts.0) (values_fit args parts.1)
 
-at_start : (s : Setting) (past : List Entry) (event : Event) (r : Reply) → Begins s past event r → (before : Call) → IsAdmitted s (unwrap_or (call_in event r (starts past)) before)
+at_start : (s : Setting) (past : List Entry) (event : Event) (r : Reply) → Begins s past event r → (before : Call)
+    → IsAdmitted s (unwrap_or (call_in event r (starts past)) before)
 at_start s past event r b before =
     let parts = and_parts (nat_eq (length b.args) b.count) (list_all is_value b.args) b.fit in
     let call : Call = record { procedure = b.procedure; args = b.args } in
-    let is : call_in event r (starts past) ≡ Some call = ap (λ x. call_in event x (starts past)) b.reply_is ∙ ap (λ x. cond x (call_at event) None) (eq-eqb (starts past) (starts past) refl) ∙ ap call_at b.event_is in
-    subst (λ o. IsAdmitted s (unwrap_or o before)) (sym is) (record { known = b.known ∙ ap Some (sym (eqb-true (length b.args) b.count parts.0)); values = values_fit b.args parts.1 })
+    let is : call_in event r (starts past) ≡ Some call = ap (λ x. call_in event x (starts past)) b.reply_is
+    ∙ ap (λ x. cond x (call_at event) None) (eq-eqb (starts past) (starts past) refl) ∙ ap call_at b.event_is in
+    subst (λ o. IsAdmitted s (unwrap_or o before)) (sym is)
+    (record { known = b.known ∙ ap Some (sym (eqb-true (length b.args) b.count parts.0)); values = values_fit b.args parts.1 })
 
 started_admitted : (s : Setting) (past : List Entry) (t : ℕ) → Legal s past → t < starts past → IsAdmitted s (call_of past t)
 started_admitted s [] t h started = absurd (omega arith)
@@ -39,7 +43,8 @@ started_admitted s (e ∷ past) t h started = by_age (started_admitted s past t 
     by_start new (inl b) =
         let count : starts (e ∷ past) ≡ starts past + 1 = ap (λ r. cond (is_start r) (starts past + 1) (starts past)) b.reply_is in
         let is : starts past ≡ t = omega arith in
-        subst (λ u. IsAdmitted s (unwrap_or (call_in e.event e.reply u) (call_of past u))) is (at_start s past e.event e.reply b (call_of past (starts past)))
+        subst (λ u. IsAdmitted s (unwrap_or (call_in e.event e.reply u) (call_of past u))) is
+        (at_start s past e.event e.reply b (call_of past (starts past)))
     by_start new (inr none) =
         let count : starts (e ∷ past) ≡ starts past = ap (λ b. cond b (starts past + 1) (starts past)) none in
         absurd (omega arith)
@@ -53,9 +58,11 @@ pub committed_admitted : (s : Setting) (past : List Entry) → Legal s past → 
 committed_admitted s [] h = tt
 committed_admitted s (e ∷ past) h = by_end (committed_admitted s past h.0) (commits_or_not (effect s past e.event e.reply h.1))
   where
-    by_end : AreAdmitted s (committed_calls past) → Commits s past e.event e.reply ⊎ Uncommitted s past e.event e.reply → AreAdmitted s (committed_call_in past e.event e.reply ++ committed_calls past)
+    by_end : AreAdmitted s (committed_calls past) → Commits s past e.event e.reply ⊎ Uncommitted s past e.event e.reply
+        → AreAdmitted s (committed_call_in past e.event e.reply ++ committed_calls past)
     by_end before (inl c) =
         let who : subject e.event ≡ c.t = ap subject c.event_is in
         let admitted = started_admitted s past c.t h.0 (live-started past c.t c.is_live) in
-        subst (λ r. AreAdmitted s (committed_call_in past e.event r ++ committed_calls past)) (sym c.reply_is) (before, subst (λ u. IsAdmitted s (call_of past u)) (sym who) admitted)
+        subst (λ r. AreAdmitted s (committed_call_in past e.event r ++ committed_calls past)) (sym c.reply_is)
+        (before, subst (λ u. IsAdmitted s (call_of past u)) (sym who) admitted)
     by_end before (inr quiet) = subst (λ l. AreAdmitted s (l ++ committed_calls past)) (sym quiet.no_call) before

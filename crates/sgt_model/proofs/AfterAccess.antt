@@ -48,26 +48,71 @@ acts_other a u l n = act_other (Some a) a u l refl (λ z. n (sym z))
 acts_own : (a : Access) (u : ℕ) (l : List Access) → u ≡ a.by → act_in (Some a) u l ≡ a ∷ l
 acts_own a u l e = act_own (Some a) a u l refl (sym e)
 
-module _ (s : Setting) (past : List Entry) (h : Legal s past) (before after : State) (i : IsStateAfter s past before) (t : ℕ) (k : Key) (alive : live past t ≡ true) where
+module _ (s : Setting) (past : List Entry) (h : Legal s past) (before after : State) (i : IsStateAfter s past before) (t : ℕ)
+    (k : Key) (alive : live past t ≡ true) where
   -- the pairs, after an access
-  pairs_after : (kind : Kind) (e : Entry) → ((u : ℕ) → live (e ∷ past) u ≡ live past u) → ((u : ℕ) → aborted (e ∷ past) u ≡ aborted past u) → ((u v : ℕ) → FollowsIn past (access_of e) u v ↔ ((t ≡ v) × (has_conflicting past u k kind ≡ true))) → Notes t k kind before after → (u v : ℕ) → (after.pairs u v ≡ true) ↔ LivePair (e ∷ past) u v
-  pairs_after kind e same_live same_aborted follows n u v = (λ q. elim ((n.pairs u v).0 q) [ inl old ↦ old_to old | inr new ↦ new_to new.0 new.1 ], λ q. (n.pairs u v).1 (from q q.pair.precedes))
+  pairs_after : (kind : Kind) (e : Entry) → ((u : ℕ) → live (e ∷ past) u ≡ live past u)
+      → ((u : ℕ) → aborted (e ∷ past) u ≡ aborted past u)
+      → ((u v : ℕ) → FollowsIn past (access_of e) u v ↔ ((t ≡ v) × (has_conflicting past u k kind ≡ true)))
+      → Notes t k kind before after → (u v : ℕ) → (after.pairs u v ≡ true) ↔ LivePair (e ∷ past) u v
+  pairs_after kind e same_live same_aborted follows n u v =
+      (λ q. elim ((n.pairs u v).0 q) [ inl old ↦ old_to old | inr new ↦ new_to new.0 new.1 ], λ q. (n.pairs u v).1 (from q q.pair.precedes))
     where
       old_to : before.pairs u v ≡ true → LivePair (e ∷ past) u v
-      old_to q = let p = (i.pairs u v).0 q in record { first_live = same_live u ∙ p.first_live; second_live = same_live v ∙ p.second_live; pair = record { apart = p.pair.apart; first_stands = same_aborted u ∙ p.pair.first_stands; second_stands = same_aborted v ∙ p.pair.second_stands; precedes = inr p.pair.precedes } }
+      old_to q = let p = (i.pairs u v).0 q in record {
+        first_live = same_live u ∙ p.first_live;
+        second_live = same_live v
+            ∙ p.second_live;
+        pair = record {
+          apart = p.pair.apart;
+          first_stands = same_aborted u ∙ p.pair.first_stands;
+          second_stands = same_aborted v ∙ p.pair.second_stands;
+          precedes = inr p.pair.precedes;
+        };
+      }
 
       new_to : v ≡ t → IsRival before t k kind u → LivePair (e ∷ past) u v
       new_to is_t r =
           let u_live = listed_live s past h before i u k kind r.has_conflicting in
           let v_live : live past v ≡ true = ap (live past) is_t ∙ alive in
-          record { first_live = same_live u ∙ u_live; second_live = same_live v ∙ v_live; pair = record { apart = λ z. r.apart (z ∙ is_t); first_stands = same_aborted u ∙ live-stands past u u_live; second_stands = same_aborted v ∙ live-stands past v v_live; precedes = inl ((follows u v).1 (sym is_t, sym (listed_in-state s past h before i u k kind u_live) ∙ r.has_conflicting)) } }
+          record {
+            first_live = same_live u ∙ u_live;
+            second_live = same_live v ∙ v_live;
+            pair = record {
+              apart = λ z. r.apart (z ∙ is_t);
+              first_stands = same_aborted u ∙ live-stands past u u_live;
+              second_stands = same_aborted v ∙ live-stands past v v_live;
+              precedes = inl ((follows u v).1 (sym is_t, sym (listed_in-state s past h before i u k kind u_live) ∙ r.has_conflicting));
+            };
+          }
 
       from : LivePair (e ∷ past) u v → Precedes (e ∷ past) u v → (before.pairs u v ≡ true) ⊎ ((v ≡ t) × IsRival before t k kind u)
-      from q (inl now) = let f = (follows u v).0 now in inr (sym f.0, record { apart = λ z. q.pair.apart (z ∙ f.0); has_conflicting = listed_in-state s past h before i u k kind (sym (same_live u) ∙ q.first_live) ∙ f.1 })
-      from q (inr p) = inl ((i.pairs u v).1 (record { first_live = sym (same_live u) ∙ q.first_live; second_live = sym (same_live v) ∙ q.second_live; pair = record { apart = q.pair.apart; first_stands = sym (same_aborted u) ∙ q.pair.first_stands; second_stands = sym (same_aborted v) ∙ q.pair.second_stands; precedes = p } }))
+      from q (inl now) = let f = (follows u v).0 now in
+          inr (
+            sym f.0,
+            record {
+              apart = λ z. q.pair.apart (z ∙ f.0);
+              has_conflicting = listed_in-state s past h before i u k kind
+                  (sym (same_live u) ∙ q.first_live) ∙ f.1;
+            },
+          )
+      from q (inr p) =
+          inl ((i.pairs u v).1 (record {
+            first_live = sym (same_live u) ∙ q.first_live;
+            second_live = sym (same_live v)
+                ∙ q.second_live;
+            pair = record {
+              apart = q.pair.apart;
+              first_stands = sym (same_aborted u) ∙ q.pair.first_stands;
+              second_stands = sym (same_aborted v) ∙ q.pair.second_stands;
+              precedes = p;
+            };
+          }))
 
-  accesses_after : (kind : Kind) (value : Option ℤ) → Notes t k kind before after → after.accesses ≡ access_list (live past) past ++ listed_in (live past) (Some (record { by = t; key = k; kind = kind; value = value }))
-  accesses_after kind value n = n.accesses ∙ ap₂ (λ l b. l ++ cond b (record { by = t; key = k; kind = kind } ∷ []) []) i.accesses (sym alive)
+  accesses_after : (kind : Kind) (value : Option ℤ) → Notes t k kind before after → after.accesses ≡ access_list
+      (live past) past ++ listed_in (live past) (Some (record { by = t; key = k; kind = kind; value = value }))
+  accesses_after kind value n = n.accesses ∙ ap₂ (λ l b. l ++ cond b (record { by = t; key = k; kind = kind } ∷ []) []) i.accesses
+      (sym alive)
 
   not_committed : committed past t ≡ false
   not_committed = ap has_committed (live-no_fate past t alive)
@@ -90,10 +135,27 @@ module _ (s : Setting) (past : List Entry) (h : Legal s past) (before after : St
       a = record { by = t; key = k; kind = Look; value = found before k }
 
       to : (u v : ℕ) → Has after.read_from u v → LiveRead (look_entry t k (found before k) ∷ past) v u
-      to u v q = elim ((l.read_from u v).0 q) [ inl old ↦ (let p = (i.read_from u v).0 old in record { reader_live = p.reader_live; source_live = p.source_live; read = inr p.read }) | inr new ↦ record { reader_live = ap (live past) new.0 ∙ alive; source_live = source_live s past h before i k u new.2; read = inl ((λ z. new.1 (sym z ∙ new.0)), (refl, sym new.0, source_from s past h before i k u new.2)) } ]
+      to u v q = elim ((l.read_from u v).0 q) [
+        | inl old ↦ (let p = (i.read_from u v).0 old in
+            record { reader_live = p.reader_live; source_live = p.source_live; read = inr p.read })
+        | inr new ↦ record {
+          reader_live = ap (live past) new.0 ∙ alive;
+          source_live = source_live s past h before i k u new.2;
+          read = inl ((λ z. new.1 (sym z ∙ new.0)), (refl, sym new.0, source_from s past h before i k u new.2));
+        }
+      ]
 
       from : (u v : ℕ) → LiveRead (look_entry t k (found before k) ∷ past) v u → Has after.read_from u v
-      from u v q = (l.read_from u v).1 (elim q.read [ inl now ↦ inr (sym now.1.1, (λ z. now.0 (sym (z ∙ now.1.1))), source_to s past h before i k u q.source_live now.1.2) | inr old ↦ inl ((i.read_from u v).1 (record { reader_live = q.reader_live; source_live = q.source_live; read = old })) ])
+      from u v q =
+          (l.read_from u v).1
+          (elim q.read [
+            | inl now ↦ inr (
+              sym now.1.1,
+              (λ z. now.0 (sym (z ∙ now.1.1))),
+              source_to s past h before i k u q.source_live now.1.2,
+            )
+            | inr old ↦ inl ((i.read_from u v).1 (record { reader_live = q.reader_live; source_live = q.source_live; read = old }))
+          ])
 
       other : (u : ℕ) → u ≢ t → live past u ≡ true → after.left u ≡ left_of s.rules (look_entry t k (found before k) ∷ past) u
       other u n u_live =
@@ -104,9 +166,12 @@ module _ (s : Setting) (past : List Entry) (h : Legal s past) (before after : St
       own u e u_live =
           let more = sym (acts_own a u (acts past u) e) in
           let was : before.left t ≡ left_of s.rules past u = ap before.left (sym e) ∙ i.left u u_live in
-          ap after.left e ∙ (l.own_left ∙ (ap (left.after_look (found before k)) was ∙ (sym (left_looked s past h u k (found before k) (ap (next_of s past) e ∙ next)) ∙ ap (left_by s (call_of past u)) more)))
+          ap after.left e
+          ∙ (l.own_left ∙ (ap (left.after_look (found before k)) was
+          ∙ (sym (left_looked s past h u k (found before k) (ap (next_of s past) e ∙ next)) ∙ ap (left_by s (call_of past u)) more)))
 
-  stored_chain : (b : Bool) (v : ℤ) (c : List (ℕ × ℤ)) → cond b (write_last t v c) c ≡ store_into (cond (b && true) (Some (record { by = t; key = k; kind = Store; value = Some v })) None) c
+  stored_chain : (b : Bool) (v : ℤ) (c : List (ℕ × ℤ)) → cond b (write_last t v c) c ≡ store_into
+      (cond (b && true) (Some (record { by = t; key = k; kind = Store; value = Some v })) None) c
   stored_chain true v c = refl
   stored_chain false v c = refl
 
@@ -120,8 +185,15 @@ module _ (s : Setting) (past : List Entry) (h : Legal s past) (before after : St
     nodes = λ u. l.notes.nodes u ∙ i.nodes u;
     pairs = pairs_after Store (store_entry t k w) (λ u. refl) (λ u. refl) (λ u v. ((λ x. x), (λ x. x))) l.notes;
     accesses = accesses_after Store (Some w) l.notes;
-    chain = λ j. l.chain j ∙ (ap (λ c. cond (key_eq k j) (write_last t w c) c) (i.chain j) ∙ (stored_chain (key_eq k j) w (chain_of (live past) j past) ∙ ap (λ b. store_into (cond (key_eq k j && b) (Some (record { by = t; key = k; kind = Store; value = Some w })) None) (chain_of (live past) j past)) (sym alive)));
-    settled = λ j. l.notes.settled j ∙ (i.settled j ∙ ap (λ o. value_or o (s.opening j)) (sym (ap (λ b. option_or (cond (key_eq k j && b) (Some (record { by = t; key = k; kind = Store; value = Some w })) None) (newest_store (committed past) j past)) not_committed ∙ not_settled (key_eq k j) (record { by = t; key = k; kind = Store; value = Some w }) (newest_store (committed past) j past))));
+    chain = λ j. l.chain j ∙ (ap (λ c. cond (key_eq k j) (write_last t w c) c) (i.chain j)
+        ∙ (stored_chain (key_eq k j) w (chain_of (live past) j past)
+        ∙ ap (λ b. store_into (cond (key_eq k j && b) (Some (record { by = t; key = k; kind = Store; value = Some w })) None)
+        (chain_of (live past) j past)) (sym alive)));
+    settled = λ j. l.notes.settled j
+        ∙ (i.settled j ∙ ap (λ o. value_or o (s.opening j))
+        (sym (ap (λ b. option_or (cond (key_eq k j && b) (Some (record { by = t; key = k; kind = Store; value = Some w })) None)
+        (newest_store (committed past) j past)) not_committed ∙ not_settled (key_eq k j)
+        (record { by = t; key = k; kind = Store; value = Some w }) (newest_store (committed past) j past))));
     read_from = λ u v. (to u v, from u v);
     fates = λ u. l.notes.fates u ∙ i.fates u;
     starts = l.notes.starts ∙ i.starts;
@@ -132,10 +204,15 @@ module _ (s : Setting) (past : List Entry) (h : Legal s past) (before after : St
       a = record { by = t; key = k; kind = Store; value = Some w }
 
       to : (u v : ℕ) → Has after.read_from u v → LiveRead (store_entry t k w ∷ past) v u
-      to u v q = let p = (i.read_from u v).0 ((l.read_from u v).0 q) in record { reader_live = p.reader_live; source_live = p.source_live; read = inr p.read }
+      to u v q = let p = (i.read_from u v).0 ((l.read_from u v).0 q) in
+          record { reader_live = p.reader_live; source_live = p.source_live; read = inr p.read }
 
       from : (u v : ℕ) → LiveRead (store_entry t k w ∷ past) v u → Has after.read_from u v
-      from u v q = (l.read_from u v).1 (elim q.read [ inl now ↦ absurd (is_no_look now.1.0) | inr old ↦ (i.read_from u v).1 (record { reader_live = q.reader_live; source_live = q.source_live; read = old }) ])
+      from u v q =
+          (l.read_from u v).1 (elim q.read [
+            | inl now ↦ absurd (is_no_look now.1.0)
+            | inr old ↦ (i.read_from u v).1 (record { reader_live = q.reader_live; source_live = q.source_live; read = old })
+          ])
         where
           is_no_look : Store ≡ Look → ⊥
           is_no_look z = cc
@@ -149,4 +226,7 @@ module _ (s : Setting) (past : List Entry) (h : Legal s past) (before after : St
       own u e u_live =
           let more = sym (acts_own a u (acts past u) e) in
           let was : before.left t ≡ left_of s.rules past u = ap before.left (sym e) ∙ i.left u u_live in
-          ap after.left e ∙ (l.own_left ∙ (ap left.after_store was ∙ (sym (left_stored s past h u k w (ap (next_of s past) e ∙ next)) ∙ (ap (λ values. left.left_after (left_of_call s.rules (call_of past u)) values (suc (made past u))) (sym (append-nil (reads past u))) ∙ ap (left_by s (call_of past u)) more))))
+          ap after.left e
+          ∙ (l.own_left ∙ (ap left.after_store was ∙ (sym (left_stored s past h u k w (ap (next_of s past) e ∙ next))
+          ∙ (ap (λ values. left.left_after (left_of_call s.rules (call_of past u)) values (suc (made past u)))
+          (sym (append-nil (reads past u))) ∙ ap (left_by s (call_of past u)) more))))

@@ -64,7 +64,8 @@ module _ (s : Setting) (past : List Entry) (gone : ℕ → Bool) (e : Entry) (x 
 
       go : (b : Bool) → gone u ≡ b → (nat_lt u (starts past) && is_none (fate_of (e ∷ past) u)) ≡ (live past u && not b)
       go false g = ap (λ o. nat_lt u (starts past) && is_none o) (fate_stays u g) ∙ and_true (live past u)
-      go true g = let f = x.ends u g in ap (λ o. nat_lt u (starts past) && is_none (option_or o (fate_of past u))) f.1 ∙ and_false (nat_lt u (starts past)) (is_none (fate_of past u))
+      go true g = let f = x.ends u g in ap (λ o. nat_lt u (starts past) && is_none (option_or o (fate_of past u))) f.1
+          ∙ and_false (nat_lt u (starts past)) (is_none (fate_of past u))
 
   live_was : (u : ℕ) → live (e ∷ past) u ≡ true → (live past u ≡ true) × (gone u ≡ false)
   live_was u q = let p = and_parts (live past u) (not (gone u)) (sym (live_after u) ∙ q) in (p.0, not-true (gone u) p.1)
@@ -98,13 +99,20 @@ module _ (s : Setting) (past : List Entry) (gone : ℕ → Bool) (e : Entry) (x 
       accesses : acts past u ≡ acts (e ∷ past) u
       accesses = sym (act_none (access_of e) u (acts past u) x.no_access)
 
-  pub after_end : (before after : State) → IsStateAfter s past before → Removes gone before after → ((k : Key) → after.settled k ≡ settled s.opening (e ∷ past) k) → ((u : ℕ) → after.fates u ≡ fate_of (e ∷ past) u) → IsStateAfter s (e ∷ past) after
+  pub after_end : (before after : State) → IsStateAfter s past before → Removes gone before after
+      → ((k : Key) → after.settled k ≡ settled s.opening (e ∷ past) k) → ((u : ℕ) → after.fates u ≡ fate_of (e ∷ past) u)
+      → IsStateAfter s (e ∷ past) after
   after_end before after i r same_settled same_fates = record {
     lives = r.live ∙ (ap (filter (λ u. not (gone u))) i.lives ∙ live_ones_after);
     nodes = λ u. r.nodes u ∙ (ap (λ b. b && not (gone u)) (i.nodes u) ∙ sym (live_after u));
     pairs = λ u v. (pairs_to u v, pairs_from u v);
-    accesses = r.accesses ∙ (ap (filter (λ a. not (gone a.by))) i.accesses ∙ (sym (access_list-removed (live past) gone past) ∙ (ap (λ q. access_list q past) live_is ∙ sym (ap (λ o. access_list (live (e ∷ past)) past ++ listed_in (live (e ∷ past)) o) x.no_access ∙ append-nil (access_list (live (e ∷ past)) past)))));
-    chain = λ k. r.chain k ∙ (ap (filter (λ w. not (gone w.0))) (i.chain k) ∙ (sym (chain-removed gone (live past) k past) ∙ (ap (λ q. chain_of q k past) live_is ∙ sym (ap (λ o. store_into (stores (live (e ∷ past)) k o) (chain_of (live (e ∷ past)) k past)) x.no_access))));
+    accesses = r.accesses ∙ (ap (filter (λ a. not (gone a.by))) i.accesses ∙ (sym (access_list-removed (live past) gone past)
+        ∙ (ap (λ q. access_list q past) live_is
+        ∙ sym (ap (λ o. access_list (live (e ∷ past)) past ++ listed_in (live (e ∷ past)) o) x.no_access
+        ∙ append-nil (access_list (live (e ∷ past)) past)))));
+    chain = λ k. r.chain k ∙ (ap (filter (λ w. not (gone w.0))) (i.chain k) ∙ (sym (chain-removed gone (live past) k past)
+        ∙ (ap (λ q. chain_of q k past) live_is
+        ∙ sym (ap (λ o. store_into (stores (live (e ∷ past)) k o) (chain_of (live (e ∷ past)) k past)) x.no_access))));
     settled = same_settled;
     read_from = λ u v. (read_to u v, read_from u v);
     fates = same_fates;
@@ -113,7 +121,9 @@ module _ (s : Setting) (past : List Entry) (gone : ℕ → Bool) (e : Entry) (x 
   }
     where
       live_ones_after : filter (λ u. not (gone u)) (live_ones past) ≡ live_ones (e ∷ past)
-      live_ones_after = filter-both (λ u. not (gone u)) (live past) (begun past) ∙ (filter-same _ _ (begun past) (λ u. sym (live_after u)) ∙ ap (filter (live (e ∷ past))) (sym (ap (λ b. cond b (begun past ++ starts past ∷ []) (begun past)) x.no_start)))
+      live_ones_after = filter-both (λ u. not (gone u)) (live past) (begun past)
+          ∙ (filter-same _ _ (begun past) (λ u. sym (live_after u)) ∙ ap (filter (live (e ∷ past)))
+          (sym (ap (λ b. cond b (begun past ++ starts past ∷ []) (begun past)) x.no_start)))
 
       live_is : (λ u. live past u && not (gone u)) ≡ live (e ∷ past)
       live_is = fun_ext (λ u. sym (live_after u))
@@ -125,22 +135,47 @@ module _ (s : Setting) (past : List Entry) (gone : ℕ → Bool) (e : Entry) (x 
           let gu = not-true (gone u) g.0 in
           let gv = not-true (gone v) g.1 in
           let l = (i.pairs u v).0 p.0 in
-          record { first_live = live_stays u l.first_live gu; second_live = live_stays v l.second_live gv; pair = record { apart = l.pair.apart; first_stands = aborted_stays u gu ∙ l.pair.first_stands; second_stands = aborted_stays v gv ∙ l.pair.second_stands; precedes = inr l.pair.precedes } }
+          record {
+            first_live = live_stays u l.first_live gu;
+            second_live = live_stays v l.second_live gv;
+            pair = record {
+              apart = l.pair.apart;
+              first_stands = aborted_stays u gu ∙ l.pair.first_stands;
+              second_stands = aborted_stays v gv ∙ l.pair.second_stands;
+              precedes = inr l.pair.precedes;
+            };
+          }
 
       pairs_from : (u v : ℕ) → LivePair (e ∷ past) u v → after.pairs u v ≡ true
       pairs_from u v q =
           let lu = live_was u q.first_live in
           let lv = live_was v q.second_live in
-          r.pairs u v ∙ and_from (before.pairs u v) (not (gone u) && not (gone v)) ((i.pairs u v).1 (record { first_live = lu.0; second_live = lv.0; pair = record { apart = q.pair.apart; first_stands = live-stands past u lu.0; second_stands = live-stands past v lv.0; precedes = precedes_was u v q.pair.precedes } })) (and_from (not (gone u)) (not (gone v)) (ap not lu.1) (ap not lv.1))
+          r.pairs u v ∙ and_from (before.pairs u v) (not (gone u) && not (gone v))
+          ((i.pairs u v).1
+          (record {
+            first_live = lu.0;
+            second_live = lv.0;
+            pair = record {
+              apart = q.pair.apart;
+              first_stands = live-stands past u lu.0;
+              second_stands = live-stands past v lv.0;
+              precedes = precedes_was u v q.pair.precedes;
+            };
+          })) (and_from (not (gone u)) (not (gone v)) (ap not lu.1) (ap not lv.1))
 
       read_to : (u v : ℕ) → Has after.read_from u v → LiveRead (e ∷ past) v u
-      read_to u v q = let p = (r.read_from u v).0 q in let l = (i.read_from u v).0 p.0 in record { reader_live = live_stays v l.reader_live p.2; source_live = live_stays u l.source_live p.1; read = inr l.read }
+      read_to u v q = let p = (r.read_from u v).0 q in let l = (i.read_from u v).0 p.0 in
+          record { reader_live = live_stays v l.reader_live p.2; source_live = live_stays u l.source_live p.1; read = inr l.read }
 
       read_from : (u v : ℕ) → LiveRead (e ∷ past) v u → Has after.read_from u v
       read_from u v q =
           let lv = live_was v q.reader_live in
           let lu = live_was u q.source_live in
-          (r.read_from u v).1 ((i.read_from u v).1 (record { reader_live = lv.0; source_live = lu.0; read = read_was v u q.read }), lu.1, lv.1)
+          (r.read_from u v).1 (
+            (i.read_from u v).1 (record { reader_live = lv.0; source_live = lu.0; read = read_was v u q.read }),
+            lu.1,
+            lv.1,
+          )
 
 -- none is gone
 abbrev pub no_one : ℕ → Bool
@@ -166,8 +201,11 @@ removes_none c = record {
   left = λ u g. refl;
 }
 
-pub after_nothing : (s : Setting) (past : List Entry) (e : Entry) (c : State) → EndsAll no_one e past → IsStateAfter s past c → IsStateAfter s (e ∷ past) c
-after_nothing s past e c x i = after_end s past no_one e x c c i (removes_none c) (λ k. i.settled k ∙ sym (ap₂ (λ o q. value_or (option_or o (newest_store q k past)) (s.opening k)) (ap (stores (committed (e ∷ past)) k) x.no_access) (fun_ext (λ u. ap has_committed (same u))))) (λ u. i.fates u ∙ sym (same u))
+pub after_nothing : (s : Setting) (past : List Entry) (e : Entry) (c : State) → EndsAll no_one e past → IsStateAfter s past c
+    → IsStateAfter s (e ∷ past) c
+after_nothing s past e c x i = after_end s past no_one e x c c i (removes_none c)
+    (λ k. i.settled k ∙ sym (ap₂ (λ o q. value_or (option_or o (newest_store q k past)) (s.opening k))
+    (ap (stores (committed (e ∷ past)) k) x.no_access) (fun_ext (λ u. ap has_committed (same u))))) (λ u. i.fates u ∙ sym (same u))
   where
     same : (u : ℕ) → fate_of (e ∷ past) u ≡ fate_of past u
     same u = ap (λ o. option_or o (fate_of past u)) (x.stays u refl)
@@ -193,18 +231,27 @@ committed_now : (b : Bool) (o : Option Fate) → has_committed (option_or (cond 
 committed_now true o = refl
 committed_now false o = refl
 
-pub after_commit : (s : Setting) (past : List Entry) → Legal s past → (t : ℕ) (answers : List ℤ) (before after : State) → live past t ≡ true → IsStateAfter s past before → Settles t before after → IsStateAfter s (commit_entry t answers ∷ past) after
-after_commit s past h t answers before after alive i x = after_end s past (λ u. nat_eq t u) (commit_entry t answers) (commit_ends t answers past) before after i x.removes settles (λ u. x.fates u ∙ (ap (cond (nat_eq t u) (Some fate.Committed)) (i.fates u) ∙ fate_now (nat_eq t u) fate.Committed (fate_of past u)))
+pub after_commit : (s : Setting) (past : List Entry) → Legal s past → (t : ℕ) (answers : List ℤ) (before after : State)
+    → live past t ≡ true → IsStateAfter s past before → Settles t before after → IsStateAfter s (commit_entry t answers ∷ past) after
+after_commit s past h t answers before after alive i x = after_end s past (λ u. nat_eq t u) (commit_entry t answers)
+    (commit_ends t answers past) before after i x.removes settles
+    (λ u. x.fates u ∙ (ap (cond (nat_eq t u) (Some fate.Committed)) (i.fates u) ∙ fate_now (nat_eq t u) fate.Committed (fate_of past u)))
   where
-    value_split : (k : Key) (np nq : Option Access) → newest_store (λ u. nat_eq t u) k past ≡ np → option_or (stored_value np) (value_or nq (s.opening k)) ≡ value_or (option_or np nq) (s.opening k)
+    value_split : (k : Key) (np nq : Option Access) → newest_store (λ u. nat_eq t u) k past ≡ np → option_or (stored_value np)
+        (value_or nq (s.opening k)) ≡ value_or (option_or np nq) (s.opening k)
     value_split k None nq e = refl
     value_split k (Some a) nq e = sym (newest-value (λ u. nat_eq t u) k past a e)
 
     settles : (k : Key) → after.settled k ≡ settled s.opening (commit_entry t answers ∷ past) k
     settles k =
         let own = ap (value_in t) (i.chain k) ∙ chain-value (live past) t k past alive in
-        let split = newest-split (λ u. nat_eq t u) (committed past) k past (λ a u is c p. live_before_committed s past h t u alive c (subst (λ v. Precedes past v u) (sym (eqb-true t a is)) p)) in
-        x.settled k ∙ (ap₂ option_or own (i.settled k) ∙ (value_split k (newest_store (λ u. nat_eq t u) k past) (newest_store (committed past) k past) refl ∙ (ap (λ o. value_or o (s.opening k)) (sym split) ∙ ap (λ q. value_or (newest_store q k past) (s.opening k)) (fun_ext (λ u. sym (committed_now (nat_eq t u) (fate_of past u)))))))
+        let split = newest-split (λ u. nat_eq t u) (committed past) k past (λ a u is c p. live_before_committed s past h t u alive c
+        (subst (λ v. Precedes past v u) (sym (eqb-true t a is)) p)) in
+        x.settled k
+        ∙ (ap₂ option_or own (i.settled k)
+        ∙ (value_split k (newest_store (λ u. nat_eq t u) k past) (newest_store (committed past) k past) refl
+        ∙ (ap (λ o. value_or o (s.opening k)) (sym split) ∙ ap (λ q. value_or (newest_store q k past) (s.opening k))
+        (fun_ext (λ u. sym (committed_now (nat_eq t u) (fate_of past u)))))))
 
 -- the entry of an abort
 abbrev pub abort_entry : Event → Cause → List ℕ → Entry
@@ -225,10 +272,15 @@ of_quit t = record { concerns = λ u. refl; subject = refl }
 abbrev pub gone_with : ℕ → List ℕ → ℕ → Bool
 gone_with t fell u = nat_eq t u || list_any (λ v. nat_eq v u) fell
 
-ending : (event : Event) (t : ℕ) (why : Cause) (fell : List ℕ) → Of event t → (u : ℕ) → ending_in event (reply.Aborted why fell) u ≡ cond (nat_eq t u) (Some (fate.Aborted why)) (cond (list_any (λ v. nat_eq v u) fell) (Some (fate.Fell t)) None)
-ending event t why fell o u = ap₂ (λ b v. cond b (Some (fate.Aborted why)) (cond (list_any (λ w. nat_eq w u) fell) (Some (fate.Fell v)) None)) (o.concerns u) o.subject
+ending : (event : Event) (t : ℕ) (why : Cause) (fell : List ℕ) → Of event t → (u : ℕ)
+    → ending_in event (reply.Aborted why fell) u ≡ cond (nat_eq t u) (Some (fate.Aborted why))
+    (cond (list_any (λ v. nat_eq v u) fell) (Some (fate.Fell t)) None)
+ending event t why fell o u =
+    ap₂ (λ b v. cond b (Some (fate.Aborted why)) (cond (list_any (λ w. nat_eq w u) fell) (Some (fate.Fell v)) None))
+    (o.concerns u) o.subject
 
-abort_ends : (event : Event) (t : ℕ) (why : Cause) (fell : List ℕ) (past : List Entry) → Of event t → EndsAll (gone_with t fell) (abort_entry event why fell) past
+abort_ends : (event : Event) (t : ℕ) (why : Cause) (fell : List ℕ) (past : List Entry) → Of event t → EndsAll (gone_with t fell)
+    (abort_entry event why fell) past
 abort_ends event t why fell past o = record {
   no_start = refl;
   no_access = refl;
@@ -247,24 +299,36 @@ abort_ends event t why fell past o = record {
     some false true g = (fate.Fell t, refl)
     some false false g = absurd (cc)
 
-pub after_abort : (s : Setting) (past : List Entry) (event : Event) (t : ℕ) (why : Cause) (fell : List ℕ) (before after : State) → Of event t → ((u : ℕ) → gone_with t fell u ≡ true → live past u ≡ true) → IsStateAfter s past before → Drops t why fell before after → IsStateAfter s (abort_entry event why fell ∷ past) after
-after_abort s past event t why fell before after o lived i x = after_end s past (gone_with t fell) e (abort_ends event t why fell past o) before after i x.removes settles (λ u. x.fates u ∙ (ap (λ (f : Option Fate). cond (nat_eq t u) (Some (fate.Aborted why)) (cond (list_any (λ v. nat_eq v u) fell) (Some (fate.Fell t)) f)) (i.fates u) ∙ (twice (nat_eq t u) (list_any (λ v. nat_eq v u) fell) (fate_of past u) ∙ ap (λ z. option_or z (fate_of past u)) (sym (ending event t why fell o u)))))
+pub after_abort : (s : Setting) (past : List Entry) (event : Event) (t : ℕ) (why : Cause) (fell : List ℕ) (before after : State)
+    → Of event t → ((u : ℕ) → gone_with t fell u ≡ true → live past u ≡ true) → IsStateAfter s past before
+    → Drops t why fell before after → IsStateAfter s (abort_entry event why fell ∷ past) after
+after_abort s past event t why fell before after o lived i x =
+    after_end s past (gone_with t fell) e (abort_ends event t why fell past o) before after i x.removes settles
+    (λ u. x.fates u
+    ∙ (ap (λ (f : Option Fate). cond (nat_eq t u) (Some (fate.Aborted why))
+    (cond (list_any (λ v. nat_eq v u) fell) (Some (fate.Fell t)) f)) (i.fates u)
+    ∙ (twice (nat_eq t u) (list_any (λ v. nat_eq v u) fell) (fate_of past u) ∙ ap (λ z. option_or z (fate_of past u))
+    (sym (ending event t why fell o u)))))
   where
     e : Entry
     e = abort_entry event why fell
 
-    twice : (b d : Bool) (f : Option Fate) → cond b (Some (fate.Aborted why)) (cond d (Some (fate.Fell t)) f) ≡ option_or (cond b (Some (fate.Aborted why)) (cond d (Some (fate.Fell t)) None)) f
+    twice : (b d : Bool) (f : Option Fate) → cond b (Some (fate.Aborted why)) (cond d (Some (fate.Fell t)) f) ≡ option_or
+        (cond b (Some (fate.Aborted why)) (cond d (Some (fate.Fell t)) None)) f
     twice true d f = refl
     twice false true f = refl
     twice false false f = refl
 
-    commits : (b d : Bool) (f : Option Fate) → ((b || d) ≡ true → has_committed f ≡ false) → has_committed f ≡ has_committed (option_or (cond b (Some (fate.Aborted why)) (cond d (Some (fate.Fell t)) None)) f)
+    commits : (b d : Bool) (f : Option Fate) → ((b || d) ≡ true → has_committed f ≡ false) → has_committed f ≡ has_committed
+        (option_or (cond b (Some (fate.Aborted why)) (cond d (Some (fate.Fell t)) None)) f)
     commits true d f h = h refl
     commits false true f h = h refl
     commits false false f h = refl
 
     same_commits : (u : ℕ) → committed past u ≡ committed (abort_entry event why fell ∷ past) u
-    same_commits u = commits (nat_eq t u) (list_any (λ v. nat_eq v u) fell) (fate_of past u) (λ g. ap has_committed (live-no_fate past u (lived u g))) ∙ ap (λ z. has_committed (option_or z (fate_of past u))) (sym (ending event t why fell o u))
+    same_commits u = commits (nat_eq t u) (list_any (λ v. nat_eq v u) fell) (fate_of past u)
+        (λ g. ap has_committed (live-no_fate past u (lived u g))) ∙ ap (λ z. has_committed (option_or z (fate_of past u)))
+        (sym (ending event t why fell o u))
 
     settles : (k : Key) → after.settled k ≡ settled s.opening (abort_entry event why fell ∷ past) k
     settles k = x.settled k ∙ (i.settled k ∙ ap (λ q. value_or (newest_store q k past) (s.opening k)) (fun_ext same_commits))

@@ -50,13 +50,20 @@ module _ (s : Setting) (past : List Entry) (h : Legal s past) (p : ℕ) (args : 
       n : ℕ
       n = starts past
 
-      go : (u < starts past) ⊎ (starts past ≤ u) → (u ≡ starts past) ⊎ (u ≢ starts past) → live (start_entry p args (starts past) ∷ past) u ≡ (live past u || nat_eq u (starts past))
-      go (inl lt) z = lower (nat_lt u (starts past + 1)) (nat_lt u (starts past)) (nat_eq u (starts past)) (is_none (fate_of past u)) (lt-ltb u (starts past + 1) (omega arith)) (lt-ltb u (starts past) lt) (ne_eqb u (starts past) (λ e. absurd (omega (arith, e))))
-      go (inr le) (inl e) = same (nat_lt u (starts past + 1)) (nat_lt u (starts past)) (nat_eq u (starts past)) (is_none (fate_of past u)) (lt-ltb u (starts past + 1) (omega arith)) (le-ltb u (starts past) le) (eq-eqb u (starts past) e) (ap is_none (unstarted-no_fate s past h u le))
-      go (inr le) (inr n) = above (nat_lt u (starts past + 1)) (nat_lt u (starts past)) (nat_eq u (starts past)) (is_none (fate_of past u)) (le-ltb u (starts past + 1) (omega arith)) (le-ltb u (starts past) le) (ne_eqb u (starts past) n)
+      go : (u < starts past) ⊎ (starts past ≤ u) → (u ≡ starts past) ⊎ (u ≢ starts past)
+          → live (start_entry p args (starts past) ∷ past) u ≡ (live past u || nat_eq u (starts past))
+      go (inl lt) z = lower (nat_lt u (starts past + 1)) (nat_lt u (starts past)) (nat_eq u (starts past))
+          (is_none (fate_of past u)) (lt-ltb u (starts past + 1) (omega arith)) (lt-ltb u (starts past) lt)
+          (ne_eqb u (starts past) (λ e. absurd (omega (arith, e))))
+      go (inr le) (inl e) = same (nat_lt u (starts past + 1)) (nat_lt u (starts past)) (nat_eq u (starts past))
+          (is_none (fate_of past u)) (lt-ltb u (starts past + 1) (omega arith)) (le-ltb u (starts past) le)
+          (eq-eqb u (starts past) e) (ap is_none (unstarted-no_fate s past h u le))
+      go (inr le) (inr n) = above (nat_lt u (starts past + 1)) (nat_lt u (starts past)) (nat_eq u (starts past))
+          (is_none (fate_of past u)) (le-ltb u (starts past + 1) (omega arith)) (le-ltb u (starts past) le) (ne_eqb u (starts past) n)
 
   started_same : (u : ℕ) → u < starts past → live (start_entry p args (starts past) ∷ past) u ≡ live past u
-  started_same u lt = live_is u ∙ (ap (λ b. live past u || b) (ne_eqb u (starts past) (λ e. absurd (omega (arith, e)))) ∙ or_false (live past u))
+  started_same u lt = live_is u ∙ (ap (λ b. live past u || b) (ne_eqb u (starts past) (λ e. absurd (omega (arith, e))))
+      ∙ or_false (live past u))
     where
       or_false : (b : Bool) → (b || false) ≡ b
       or_false true = refl
@@ -71,15 +78,24 @@ module _ (s : Setting) (past : List Entry) (h : Legal s past) (p : ℕ) (args : 
   was_live : (u : ℕ) → u < starts past → live (start_entry p args (starts past) ∷ past) u ≡ true → live past u ≡ true
   was_live u lt l = sym (started_same u lt) ∙ l
 
-  pub after_start : (before after : State) → IsStateAfter s past before → Starts (left_of_call s.rules (record { procedure = p; args = args })) before after → IsStateAfter s (start_entry p args (starts past) ∷ past) after
+  pub after_start : (before after : State) → IsStateAfter s past before
+      → Starts (left_of_call s.rules (record { procedure = p; args = args })) before after
+      → IsStateAfter s (start_entry p args (starts past) ∷ past) after
   after_start before after i x = record {
     lives = x.live ∙ (ap₂ (λ l n. l ++ n ∷ []) i.lives i.starts ∙ live_ones_after);
     nodes = λ u. x.nodes u ∙ (ap₂ (λ b n. b || nat_eq u n) (i.nodes u) i.starts ∙ sym (live_is u));
-    pairs = λ u v. ((λ q. pairs_to u v ((i.pairs u v).0 (sym (x.pairs u v) ∙ q))), (λ q. x.pairs u v ∙ (i.pairs u v).1 (pairs_from u v q q.pair.precedes)));
-    accesses = x.accesses ∙ (i.accesses ∙ (access_list-agree (live past) (live (start_entry p args (starts past) ∷ past)) past agree ∙ sym (append-nil (access_list (live (start_entry p args (starts past) ∷ past)) past))));
+    pairs = λ u v. (
+      (λ q. pairs_to u v ((i.pairs u v).0 (sym (x.pairs u v) ∙ q))),
+      (λ q. x.pairs u v ∙ (i.pairs u v).1 (pairs_from u v q q.pair.precedes)),
+    );
+    accesses = x.accesses ∙ (i.accesses ∙ (access_list-agree (live past) (live (start_entry p args (starts past) ∷ past)) past agree
+        ∙ sym (append-nil (access_list (live (start_entry p args (starts past) ∷ past)) past))));
     chain = λ k. x.chain k ∙ (i.chain k ∙ chain-agree (live past) (live (start_entry p args (starts past) ∷ past)) k past agree);
     settled = λ k. x.settled k ∙ i.settled k;
-    read_from = λ u v. ((λ q. read_to u v ((i.read_from u v).0 ((x.read_from u v).0 q))), (λ q. (x.read_from u v).1 ((i.read_from u v).1 (read_back u v q q.read))));
+    read_from = λ u v. (
+      (λ q. read_to u v ((i.read_from u v).0 ((x.read_from u v).0 q))),
+      (λ q. (x.read_from u v).1 ((i.read_from u v).1 (read_back u v q q.read))),
+    );
     fates = λ u. x.fates u ∙ i.fates u;
     starts = x.starts ∙ ap (λ n. n + 1) i.starts;
     left = λ u l. still_left u l (cases_lt u (starts past));
@@ -90,21 +106,46 @@ module _ (s : Setting) (past : List Entry) (h : Legal s past) (p : ℕ) (args : 
       or_true false = refl
 
       live_ones_after : live_ones past ++ starts past ∷ [] ≡ live_ones (start_entry p args (starts past) ∷ past)
-      live_ones_after = sym (filter-append (live (start_entry p args (starts past) ∷ past)) (begun past) (starts past ∷ []) ∙ ap₂ (λ l b. l ++ cond b (starts past ∷ []) []) (filter_listed (live (start_entry p args (starts past) ∷ past)) (live past) (begun past) (λ u m. started_same u (begun_below past u m))) (live_is (starts past) ∙ (ap (λ b. live past (starts past) || b) (eq-eqb (starts past) (starts past) refl) ∙ or_true (live past (starts past)))))
+      live_ones_after = sym (filter-append (live (start_entry p args (starts past) ∷ past)) (begun past) (starts past ∷ [])
+          ∙ ap₂ (λ l b. l ++ cond b (starts past ∷ []) []) (filter_listed (live (start_entry p args (starts past) ∷ past))
+          (live past) (begun past) (λ u m. started_same u (begun_below past u m))) (live_is (starts past)
+          ∙ (ap (λ b. live past (starts past) || b) (eq-eqb (starts past) (starts past) refl) ∙ or_true (live past (starts past)))))
 
       pairs_to : (u v : ℕ) → LivePair past u v → LivePair (start_entry p args (starts past) ∷ past) u v
-      pairs_to u v q = record { first_live = lives_on u q.first_live; second_live = lives_on v q.second_live; pair = record { apart = q.pair.apart; first_stands = q.pair.first_stands; second_stands = q.pair.second_stands; precedes = inr q.pair.precedes } }
+      pairs_to u v q = record {
+        first_live = lives_on u q.first_live;
+        second_live = lives_on v q.second_live;
+        pair = record {
+          apart = q.pair.apart;
+          first_stands = q.pair.first_stands;
+          second_stands = q.pair.second_stands;
+          precedes = inr q.pair.precedes;
+        };
+      }
 
-      pairs_from : (u v : ℕ) → LivePair (start_entry p args (starts past) ∷ past) u v → Precedes (start_entry p args (starts past) ∷ past) u v → LivePair past u v
+      pairs_from : (u v : ℕ) → LivePair (start_entry p args (starts past) ∷ past) u v
+          → Precedes (start_entry p args (starts past) ∷ past) u v → LivePair past u v
       pairs_from u v q (inl now) = absurd now
-      pairs_from u v q (inr old) = let w = precedes-started s past h u v old in record { first_live = was_live u w.0 q.first_live; second_live = was_live v w.1 q.second_live; pair = record { apart = q.pair.apart; first_stands = q.pair.first_stands; second_stands = q.pair.second_stands; precedes = old } }
+      pairs_from u v q (inr old) = let w = precedes-started s past h u v old in
+          record {
+            first_live = was_live u w.0 q.first_live;
+            second_live = was_live v w.1 q.second_live;
+            pair = record {
+              apart = q.pair.apart;
+              first_stands = q.pair.first_stands;
+              second_stands = q.pair.second_stands;
+              precedes = old;
+            };
+          }
 
       read_to : (u v : ℕ) → LiveRead past v u → LiveRead (start_entry p args (starts past) ∷ past) v u
       read_to u v q = record { reader_live = lives_on v q.reader_live; source_live = lives_on u q.source_live; read = inr q.read }
 
-      read_back : (u v : ℕ) → LiveRead (start_entry p args (starts past) ∷ past) v u → ReadFrom (start_entry p args (starts past) ∷ past) v u → LiveRead past v u
+      read_back : (u v : ℕ) → LiveRead (start_entry p args (starts past) ∷ past) v u
+          → ReadFrom (start_entry p args (starts past) ∷ past) v u → LiveRead past v u
       read_back u v q (inl now) = absurd now.1
-      read_back u v q (inr old) = let w = precedes-started s past h u v (read-precedes past v u old) in record { reader_live = was_live v w.1 q.reader_live; source_live = was_live u w.0 q.source_live; read = old }
+      read_back u v q (inr old) = let w = precedes-started s past h u v (read-precedes past v u old) in
+          record { reader_live = was_live v w.1 q.reader_live; source_live = was_live u w.0 q.source_live; read = old }
 
       other_call : (b : Bool) (c d : Call) → b ≡ false → unwrap_or (cond b (Some c) None) d ≡ d
       other_call true c d z = absurd (cc)
@@ -114,15 +155,22 @@ module _ (s : Setting) (past : List Entry) (h : Legal s past) (p : ℕ) (args : 
       own_call true c d z = refl
       own_call false c d z = absurd (cc)
 
-      still_left : (u : ℕ) → live (start_entry p args (starts past) ∷ past) u ≡ true → (u < starts past) ⊎ (starts past ≤ u) → after.left u ≡ left_of s.rules (start_entry p args (starts past) ∷ past) u
+      still_left : (u : ℕ) → live (start_entry p args (starts past) ∷ past) u ≡ true → (u < starts past) ⊎ (starts past ≤ u)
+          → after.left u ≡ left_of s.rules (start_entry p args (starts past) ∷ past) u
       still_left u l (inl lt) =
-          let call : call_of (start_entry p args (starts past) ∷ past) u ≡ call_of past u = other_call (nat_eq (starts past) u) (record { procedure = p; args = args }) (call_of past u) (ne_eqb (starts past) u (λ e. absurd (omega (arith, e)))) in
-          x.left u (λ e. absurd (omega (arith, e, i.starts))) ∙ (i.left u (was_live u lt l) ∙ ap (λ c. left_by s c (acts past u)) (sym call))
+          let call : call_of (start_entry p args (starts past) ∷ past) u ≡ call_of past u =
+          other_call (nat_eq (starts past) u) (record { procedure = p; args = args }) (call_of past u)
+          (ne_eqb (starts past) u (λ e. absurd (omega (arith, e)))) in
+          x.left u (λ e. absurd (omega (arith, e, i.starts))) ∙ (i.left u (was_live u lt l) ∙ ap (λ c. left_by s c (acts past u))
+          (sym call))
       still_left u l (inr le) =
           let is : u ≡ starts past = at_end (live-started (start_entry p args (starts past) ∷ past) u l) le in
-          let call : call_of (start_entry p args (starts past) ∷ past) u ≡ record { procedure = p; args = args } = own_call (nat_eq (starts past) u) (record { procedure = p; args = args }) (call_of past u) (eq-eqb (starts past) u (sym is)) in
+          let call : call_of (start_entry p args (starts past) ∷ past) u ≡ record { procedure = p; args = args } =
+          own_call (nat_eq (starts past) u) (record { procedure = p; args = args }) (call_of past u)
+          (eq-eqb (starts past) u (sym is)) in
           let unused = acts_unstarted s past u h le in
-          ap after.left (is ∙ sym i.starts) ∙ (x.own_left ∙ (ap (left_by s (record { procedure = p; args = args })) (sym unused) ∙ ap (λ c. left_by s c (acts past u)) (sym call)))
+          ap after.left (is ∙ sym i.starts) ∙ (x.own_left ∙ (ap (left_by s (record { procedure = p; args = args })) (sym unused)
+          ∙ ap (λ c. left_by s c (acts past u)) (sym call)))
         where
           at_end : u < starts past + 1 → starts past ≤ u → u ≡ starts past
           at_end lt le = omega arith

@@ -15,7 +15,12 @@ use Rattle.sgt_model.proofs.ChainOrder.{is_first, is_last}
 module _ (most : ℕ) (c : State) (sound : Sound most c) where
   -- of `write`: after an accepted verdict t's value, if there, is the last of its chain
   pub may_write : (t : ℕ) (k : Key) → c.nodes t ≡ true → ((rest : List ℕ) → Blocks c t k Store rest → ⊥) → IsLastIn t (c.chain k)
-  may_write t k node free = is_last (PairIn c) t (c.chain k) (sound.order k) (λ u n m p. free (u ∷ []) (record { distinct = ((λ q. elim q [ inl e ↦ n (sym e) | inr z ↦ z ]), ((λ z. z), tt)); pairs = (p, tt); rival = record { apart = n; has_conflicting = sound.writers k u m } }))
+  may_write t k node free = is_last (PairIn c) t (c.chain k) (sound.order k)
+      (λ u n m p. free (u ∷ []) (record {
+        distinct = ((λ q. elim q [ inl e ↦ n (sym e) | inr z ↦ z ]), ((λ z. z), tt));
+        pairs = (p, tt);
+        rival = record { apart = n; has_conflicting = sound.writers k u m };
+      }))
 
   -- of `settle`: with no live predecessor each value of t is the first of its chain
   pub may_settle : (t : ℕ) → ((u : ℕ) → c.pairs u t ≡ true → ⊥) → (k : Key) → IsFirstIn t (c.chain k)
@@ -26,29 +31,38 @@ module _ (most : ℕ) (c : State) (sound : Sound most c) where
   next_no_node h = absurd (let lt = sound.begun c.starts h in omega arith)
 
 -- a number of a list is left out
-pub removed : (x : ℕ) (ys : List ℕ) → Member x ys → (zs : List ℕ) × (length ys ≡ suc (length zs)) × ((y : ℕ) → Member y ys → y ≢ x → Member y zs)
+pub removed : (x : ℕ) (ys : List ℕ) → Member x ys → (zs : List ℕ) × (length ys ≡ suc (length zs)) × ((y : ℕ) → Member y ys → y ≢ x
+    → Member y zs)
 removed x [] m = absurd m
 removed x (y ∷ ys) (inl e) = (ys, refl, λ z m other. elim m [ inl same ↦ absurd (other (same ∙ sym e)) | inr k ↦ k ])
 removed x (y ∷ ys) (inr m) = let (zs, long, keep) = removed x ys m in
     (y ∷ zs, ap suc long, λ z k other. elim k [ inl same ↦ inl same | inr j ↦ inr (keep z j other) ])
 
 -- a chain in order, of an order that relates none to itself, is no longer than a list that has all its writers
-chain_fits : (R : ℕ → ℕ → Type 0) → ((a b : ℕ) → R a b → a ≢ b) → (c : List (ℕ × ℤ)) (ys : List ℕ) → InOrder R c → ((t : ℕ) → writes_in t c ≡ true → Member t ys) → length c ≤ length ys
+chain_fits : (R : ℕ → ℕ → Type 0) → ((a b : ℕ) → R a b → a ≢ b) → (c : List (ℕ × ℤ)) (ys : List ℕ) → InOrder R c
+    → ((t : ℕ) → writes_in t c ≡ true → Member t ys) → length c ≤ length ys
 chain_fits R apart [] ys h w = omega arith
 chain_fits R apart (x ∷ c) ys h w =
     let (zs, long, keep) = removed x.0 ys (w x.0 (or_left (nat_eq x.0 x.0) (writes_in x.0 c) (eq-eqb x.0 x.0 refl))) in
-    let rest : length c ≤ length zs = chain_fits R apart c zs h.1 (λ t m. keep t (w t (or_right (nat_eq x.0 t) (writes_in t c) m)) (after c h.0 t m)) in
+    let rest : length c ≤ length zs = chain_fits R apart c zs h.1 (λ t m. keep t (w t (or_right (nat_eq x.0 t) (writes_in t c) m))
+    (after c h.0 t m)) in
     omega arith
   where
     after : (d : List (ℕ × ℤ)) → EachAfter R x.0 d → (t : ℕ) → writes_in t d ≡ true → t ≢ x.0
     after [] h t m = absurd (cc)
-    after (y ∷ d) h t m = elim (or_cases (nat_eq y.0 t) (writes_in t d) m) [ inl now ↦ (λ z. apart x.0 y.0 h.0 (sym (eqb-true y.0 t now ∙ z))) | inr later ↦ after d h.1 t later ]
+    after (y ∷ d) h t m =
+        elim (or_cases (nat_eq y.0 t) (writes_in t d) m) [
+          | inl now ↦ (λ z. apart x.0 y.0 h.0 (sym (eqb-true y.0 t now ∙ z)))
+          | inr later ↦ after d h.1 t later
+        ]
 
 module _ (most : ℕ) (c : State) (sound : Sound most c) where
   -- of `write`: a chain without t's value has room
   pub chain_room : (t : ℕ) (k : Key) → c.nodes t ≡ true → writes_in t (c.chain k) ≡ false → length (c.chain k) < most
   chain_room t k node out =
       let (zs, long, keep) = removed t c.live ((sound.listed t).0 node) in
-      let fits : length (c.chain k) ≤ length zs = chain_fits (PairIn c) (λ a b p. sound.pair_apart a b p) (c.chain k) zs (sound.order k) (λ u m. keep u ((sound.listed u).0 (sound.access_nodes u k Store (sound.writers k u m))) (λ z. both_ways (writes_in u (c.chain k)) (ap (λ v. writes_in v (c.chain k)) z ∙ out) m)) in
+      let fits : length (c.chain k) ≤ length zs = chain_fits (PairIn c) (λ a b p. sound.pair_apart a b p) (c.chain k) zs
+      (sound.order k) (λ u m. keep u ((sound.listed u).0 (sound.access_nodes u k Store (sound.writers k u m)))
+      (λ z. both_ways (writes_in u (c.chain k)) (ap (λ v. writes_in v (c.chain k)) z ∙ out) m)) in
       let few = sound.few in
       omega arith

@@ -115,7 +115,8 @@ pub record Undoing (past : List Entry) (event : Event) (r : Reply) : Type 0 wher
   pub fell : List ℕ
   pub is_live : live past t ≡ true
   pub falls : Falls past t fell
-  pub ends : (u : ℕ) → ending_in event r u ≡ cond (nat_eq t u) (Some (fate.Aborted why)) (cond (list_any (λ v. nat_eq v u) fell) (Some (fate.Fell t)) None)
+  pub ends : (u : ℕ) → ending_in event r u ≡ cond (nat_eq t u) (Some (fate.Aborted why))
+      (cond (list_any (λ v. nat_eq v u) fell) (Some (fate.Fell t)) None)
 
 -- so it did by an Aborted reply, which names the cause
 pub record Undoes (s : Setting) (past : List Entry) (event : Event) (r : Reply) : Type 0 where
@@ -136,15 +137,31 @@ idle_at {s} {past} {event} e i = subst (λ x. Effect s past event x) (sym e) (id
 
 -- a start
 
-begin_at : (s : Setting) (past : List Entry) (p : ℕ) (args : List ℤ) (count : ℕ) → takes s.rules p ≡ Some count → (fit spent full : Bool) → args_fit count args ≡ fit → nat_eq (starts past) s.rules.limits.begins ≡ spent → nat_eq (length (live_ones past)) s.rules.limits.live ≡ full → Effect s past (Start p args) (cond fit (cond spent reply.Spent (cond full reply.Full (reply.Started (starts past)))) reply.BadArgs)
+begin_at : (s : Setting) (past : List Entry) (p : ℕ) (args : List ℤ) (count : ℕ) → takes s.rules p ≡ Some count
+    → (fit spent full : Bool) → args_fit count args ≡ fit → nat_eq (starts past) s.rules.limits.begins ≡ spent
+    → nat_eq (length (live_ones past)) s.rules.limits.live ≡ full → Effect s past (Start p args)
+    (cond fit (cond spent reply.Spent (cond full reply.Full (reply.Started (starts past)))) reply.BadArgs)
 begin_at s past p args count known false spent full f n l = idle (record { no_start = refl; no_access = refl; ends_none = tt })
 begin_at s past p args count known true true full f n l = idle (record { no_start = refl; no_access = refl; ends_none = tt })
 begin_at s past p args count known true false true f n l = idle (record { no_start = refl; no_access = refl; ends_none = tt })
-begin_at s past p args count known true false false f n l = begins (record { procedure = p; args = args; count = count; event_is = refl; reply_is = refl; known = known; fit = f; not_spent = n; not_full = l })
+begin_at s past p args count known true false false f n l =
+    begins (record {
+      procedure = p;
+      args = args;
+      count = count;
+      event_is = refl;
+      reply_is = refl;
+      known = known;
+      fit = f;
+      not_spent = n;
+      not_full = l;
+    })
 
-start_at : (s : Setting) (past : List Entry) (p : ℕ) (args : List ℤ) (o : Option ℕ) → takes s.rules p ≡ o → Effect s past (Start p args) (taken_reply s.rules.limits (starts past) (length (live_ones past)) o args)
+start_at : (s : Setting) (past : List Entry) (p : ℕ) (args : List ℤ) (o : Option ℕ) → takes s.rules p ≡ o
+    → Effect s past (Start p args) (taken_reply s.rules.limits (starts past) (length (live_ones past)) o args)
 start_at s past p args None known = idle (record { no_start = refl; no_access = refl; ends_none = tt })
-start_at s past p args (Some count) known = begin_at s past p args count known (args_fit count args) (nat_eq (starts past) s.rules.limits.begins) (nat_eq (length (live_ones past)) s.rules.limits.live) refl refl refl
+start_at s past p args (Some count) known = begin_at s past p args count known (args_fit count args)
+    (nat_eq (starts past) s.rules.limits.begins) (nat_eq (length (live_ones past)) s.rules.limits.live) refl refl refl
 
 -- what the events of a transaction share
 
@@ -152,40 +169,101 @@ pub none_from : {A : Type 0} (o : Option A) → is_none o ≡ true → o ≡ Non
 none_from None e = refl
 none_from (Some x) e = absurd (cc)
 
-of_live-at : (s : Setting) (past : List Entry) (event : Event) (t : ℕ) (r : Reply) (P : Type 0) (b : Bool) (o : Option Fate) → nat_lt t (starts past) ≡ b → fate_of past t ≡ o → (live past t ≡ true → P → Effect s past event r) → OfStarted b o r P → Effect s past event r
+of_live-at : (s : Setting) (past : List Entry) (event : Event) (t : ℕ) (r : Reply) (P : Type 0) (b : Bool) (o : Option Fate)
+    → nat_lt t (starts past) ≡ b → fate_of past t ≡ o → (live past t ≡ true → P → Effect s past event r) → OfStarted b o r P
+    → Effect s past event r
 of_live-at s past event t r P true None started ended rest h = rest (and_from _ _ started (ap is_none ended)) h
 of_live-at s past event t r P true (Some f) started ended rest h = idle_at h (record { no_start = refl; no_access = refl; ends_none = tt })
 of_live-at s past event t r P false o started ended rest h = idle_at h (record { no_start = refl; no_access = refl; ends_none = tt })
 
-of_live : (s : Setting) (past : List Entry) (event : Event) (t : ℕ) (r : Reply) (P : Type 0) → (live past t ≡ true → P → Effect s past event r) → OfLive past t r P → Effect s past event r
+of_live : (s : Setting) (past : List Entry) (event : Event) (t : ℕ) (r : Reply) (P : Type 0)
+    → (live past t ≡ true → P → Effect s past event r) → OfLive past t r P → Effect s past event r
 of_live s past event t r P rest h = of_live-at s past event t r P (nat_lt t (starts past)) (fate_of past t) refl refl rest h
 
 -- an abort
 
-abort_at : (s : Setting) (past : List Entry) (t : ℕ) (why : Cause) (r : Reply) → live past t ≡ true → HasCause s past (Step t) why → Aborts past t why r → Effect s past (Step t) r
-abort_at s past t why r alive due a = subst (λ x. Effect s past (Step t) x) (sym a.is) (undoes (record { undoing = record { t = t; why = why; fell = a.fell; is_live = alive; falls = a.falls; ends = λ u. refl }; subject_is = refl; reply_is = refl; has_cause = due }))
+abort_at : (s : Setting) (past : List Entry) (t : ℕ) (why : Cause) (r : Reply) → live past t ≡ true → HasCause s past (Step t) why
+    → Aborts past t why r → Effect s past (Step t) r
+abort_at s past t why r alive due a = subst (λ x. Effect s past (Step t) x) (sym a.is)
+    (undoes (record {
+      undoing = record { t = t; why = why; fell = a.fell; is_live = alive; falls = a.falls; ends = λ u. refl };
+      subject_is = refl;
+      reply_is = refl;
+      has_cause = due;
+    }))
 
 quit_at : (s : Setting) (past : List Entry) (t : ℕ) (r : Reply) → live past t ≡ true → Aborts past t cause.Quit r → Effect s past (Quit t) r
-quit_at s past t r alive a = subst (λ x. Effect s past (Quit t) x) (sym a.is) (undoes (record { undoing = record { t = t; why = cause.Quit; fell = a.fell; is_live = alive; falls = a.falls; ends = λ u. refl }; subject_is = refl; reply_is = refl; has_cause = tt }))
+quit_at s past t r alive a = subst (λ x. Effect s past (Quit t) x) (sym a.is)
+    (undoes (record {
+      undoing = record {
+        t = t;
+        why = cause.Quit;
+        fell = a.fell;
+        is_live = alive;
+        falls = a.falls;
+        ends = λ u. refl;
+      };
+      subject_is = refl;
+      reply_is = refl;
+      has_cause = tt;
+    }))
 
-refuse_at : (s : Setting) (past : List Entry) (t : ℕ) (k : Key) (kind : Kind) (r : Reply) → live past t ≡ true → Wants (next_of s past t) k kind → Refuses past t k kind r → Effect s past (Step t) r
-refuse_at s past t k kind r alive wants h = abort_at s past t (cause.Cycle (t ∷ h.rest)) r alive (record { rest = h.rest; is = refl; key = k; kind = kind; wants = wants; closes = h.closes; no_order = refused_has_no_order past t k kind h.rest h.closes }) h.aborts
+refuse_at : (s : Setting) (past : List Entry) (t : ℕ) (k : Key) (kind : Kind) (r : Reply) → live past t ≡ true
+    → Wants (next_of s past t) k kind → Refuses past t k kind r → Effect s past (Step t) r
+refuse_at s past t k kind r alive wants h = abort_at s past t (cause.Cycle (t ∷ h.rest)) r alive
+    (record {
+      rest = h.rest;
+      is = refl;
+      key = k;
+      kind = kind;
+      wants = wants;
+      closes = h.closes;
+      no_order = refused_has_no_order past t k kind h.rest h.closes;
+    }) h.aborts
 
 -- a step
 
-step_at : (s : Setting) (past : List Entry) (t : ℕ) (r : Reply) (n : Next) → next_of s past t ≡ n → live past t ≡ true → StepReply s past t n r → Effect s past (Step t) r
+step_at : (s : Setting) (past : List Entry) (t : ℕ) (r : Reply) (n : Next) → next_of s past t ≡ n → live past t ≡ true
+    → StepReply s past t n r → Effect s past (Step t) r
 step_at s past t r (Looks k) e alive (inl h) = refuse_at s past t k Look r alive (subst (λ n. Wants n k Look) (sym e) (refl, refl)) h
-step_at s past t r (Looks k) e alive (inr h) = let access : Access = record { by = t; key = k; kind = Look; value = visible s.opening past k } in subst (λ x. Effect s past (Step t) x) (sym h.is) (accesses (record { access = access; event_is = refl; access_is = refl; no_start = refl; ends_none = tt; is_live = alive; free = h.free; fits = subst (λ n. Fits n access) (sym e) (refl, refl); found = λ look. refl }))
+step_at s past t r (Looks k) e alive (inr h) =
+    let access : Access = record { by = t; key = k; kind = Look; value = visible s.opening past k } in
+    subst (λ x. Effect s past (Step t) x) (sym h.is)
+    (accesses (record {
+      access = access;
+      event_is = refl;
+      access_is = refl;
+      no_start = refl;
+      ends_none = tt;
+      is_live = alive;
+      free = h.free;
+      fits = subst (λ n. Fits n access) (sym e) (refl, refl);
+      found = λ look. refl;
+    }))
 step_at s past t r (Puts k v) e alive (inl h) = refuse_at s past t k Store r alive (subst (λ n. Wants n k Store) (sym e) (refl, refl)) h
-step_at s past t r (Puts k v) e alive (inr h) = let access : Access = record { by = t; key = k; kind = Store; value = Some v } in subst (λ x. Effect s past (Step t) x) (sym h.is) (accesses (record { access = access; event_is = refl; access_is = refl; no_start = refl; ends_none = tt; is_live = alive; free = h.free; fits = subst (λ n. Fits n access) (sym e) (refl, refl, refl); found = λ (look : Store ≡ Look). absurd (cc) }))
+step_at s past t r (Puts k v) e alive (inr h) = let access : Access = record { by = t; key = k; kind = Store; value = Some v } in
+    subst (λ x. Effect s past (Step t) x) (sym h.is)
+    (accesses (record {
+      access = access;
+      event_is = refl;
+      access_is = refl;
+      no_start = refl;
+      ends_none = tt;
+      is_live = alive;
+      free = h.free;
+      fits = subst (λ n. Fits n access) (sym e) (refl, refl, refl);
+      found = λ (look : Store ≡ Look). absurd (cc);
+    }))
 step_at s past t r (Ends answers) e alive h = idle_at h (record { no_start = refl; no_access = refl; ends_none = tt })
 step_at s past t r (Asks code) e alive h = abort_at s past t (cause.Asked code) r alive e h
 
 -- a commit
 
-commit_at : (s : Setting) (past : List Entry) (t : ℕ) (r : Reply) (n : Next) → next_of s past t ≡ n → live past t ≡ true → CommitReply past t n r → Effect s past (Commit t) r
+commit_at : (s : Setting) (past : List Entry) (t : ℕ) (r : Reply) (n : Next) → next_of s past t ≡ n → live past t ≡ true
+    → CommitReply past t n r → Effect s past (Commit t) r
 commit_at s past t r (Ends answers) e alive (inl h) = idle_at h.is (record { no_start = refl; no_access = refl; ends_none = tt })
-commit_at s past t r (Ends answers) e alive (inr h) = commits (record { t = t; answers = answers; event_is = refl; reply_is = h.is; is_live = alive; none_live = h.none_live; next = e })
+commit_at s past t r (Ends answers) e alive (inr h) =
+    commits (record { t = t; answers = answers; event_is = refl; reply_is = h.is; is_live = alive; none_live = h.none_live; next = e })
 commit_at s past t r (Looks k) e alive h = idle_at h (record { no_start = refl; no_access = refl; ends_none = tt })
 commit_at s past t r (Puts k v) e alive h = idle_at h (record { no_start = refl; no_access = refl; ends_none = tt })
 commit_at s past t r (Asks code) e alive h = idle_at h (record { no_start = refl; no_access = refl; ends_none = tt })
@@ -193,6 +271,8 @@ commit_at s past t r (Asks code) e alive h = idle_at h (record { no_start = refl
 -- each legal reply has one of the effects
 pub effect : (s : Setting) (past : List Entry) (event : Event) (r : Reply) → LegalReply s past event r → Effect s past event r
 effect s past (Start p args) r h = subst (λ x. Effect s past (Start p args) x) (sym h) (start_at s past p args (takes s.rules p) refl)
-effect s past (Step t) r h = of_live s past (Step t) t r (StepReply s past t (next_of s past t) r) (step_at s past t r (next_of s past t) refl) h
-effect s past (Commit t) r h = of_live s past (Commit t) t r (CommitReply past t (next_of s past t) r) (commit_at s past t r (next_of s past t) refl) h
+effect s past (Step t) r h = of_live s past (Step t) t r (StepReply s past t (next_of s past t) r)
+    (step_at s past t r (next_of s past t) refl) h
+effect s past (Commit t) r h = of_live s past (Commit t) t r (CommitReply past t (next_of s past t) r)
+    (commit_at s past t r (next_of s past t) refl) h
 effect s past (Quit t) r h = of_live s past (Quit t) t r (Aborts past t cause.Quit r) (quit_at s past t r) h

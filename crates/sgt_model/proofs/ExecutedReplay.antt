@@ -17,14 +17,17 @@ run_is : (p : Option Program) (args : List ℤ) (m : Contents) → serial (run_i
 run_is None args m = refl
 run_is (Some p) args m = serial_is p args m
 
-call_is : (opening : Contents) (programs : List Program) (limits : Limits) (c : Call) (m : Contents) → serial (run_of (setting opening programs limits).rules c) m ≡ execution_of programs c m
+call_is : (opening : Contents) (programs : List Program) (limits : Limits) (c : Call) (m : Contents)
+    → serial (run_of (setting opening programs limits).rules c) m ≡ execution_of programs c m
 call_is opening programs limits c m = run_is (slice_get programs c.procedure) c.args m
 
-replay_is : (opening : Contents) (programs : List Program) (limits : Limits) (calls : List Call) → run_in_turn (setting opening programs limits) calls ≡ execute_in_turn opening programs calls
+replay_is : (opening : Contents) (programs : List Program) (limits : Limits) (calls : List Call)
+    → run_in_turn (setting opening programs limits) calls ≡ execute_in_turn opening programs calls
 replay_is opening programs limits [] = refl
 replay_is opening programs limits (c ∷ before) =
     let ran : Folded = execute_in_turn opening programs before in
-    ap (λ (f : Folded). with_outcome (serial (run_of (setting opening programs limits).rules c) f.last) f) (replay_is opening programs limits before)
+    ap (λ (f : Folded). with_outcome (serial (run_of (setting opening programs limits).rules c) f.last) f)
+    (replay_is opening programs limits before)
     ∙ ap (λ o. with_outcome o ran) (call_is opening programs limits c ran.last)
 
 -- the law

@@ -27,7 +27,8 @@ ranged : (fits : Bool) (v : ℤ) → provided fits v 1000 ≡ got_or_code (cond 
 ranged true v = refl
 ranged false v = refl
 
-both_are : (f : ℤ → ℤ → ℤ) (a b : Got) → in_turn (got_or_code a) (got_or_code b) (λ x y. value_or_overflow (f x y)) ≡ got_or_code (both (λ x y. bounded (f x y)) a b)
+both_are : (f : ℤ → ℤ → ℤ) (a b : Got) → in_turn (got_or_code a) (got_or_code b) (λ x y. value_or_overflow (f x y)) ≡ got_or_code
+    (both (λ x y. bounded (f x y)) a b)
 both_are f (is a) (is b) = ranged (is_value (f a b)) (f a b)
 both_are f (is a) over = refl
 both_are f (is a) missing = refl
@@ -49,43 +50,55 @@ value_is : (t : Term) (args : List ℤ) (w : Workspace) → evaluate t args w �
 value_is (num n) args w = refl
 value_is (arg n) args w = found_is (slice_get args n)
 value_is (reg n) args w = found_is (slice_index_or w.registers n None)
-value_is (sum a b) args w = rw (value_is a args w, value_is b args w) (both_are (λ x y. x +ℤ y) (value_of a args w.registers) (value_of b args w.registers))
-value_is (diff a b) args w = rw (value_is a args w, value_is b args w) (both_are (λ x y. x -ℤ y) (value_of a args w.registers) (value_of b args w.registers))
+value_is (sum a b) args w = rw (value_is a args w, value_is b args w) (both_are (λ x y. x +ℤ y) (value_of a args w.registers)
+    (value_of b args w.registers))
+value_is (diff a b) args w = rw (value_is a args w, value_is b args w) (both_are (λ x y. x -ℤ y) (value_of a args w.registers)
+    (value_of b args w.registers))
 
 test_is : (t : Test) (args : List ℤ) (w : Workspace) → decide t args w ≡ test_or_code (result_of t args w.registers)
-test_is (less a b) args w = rw (value_is a args w, value_is b args w) (compared_are int_lt (value_of a args w.registers) (value_of b args w.registers))
-test_is (at_most a b) args w = rw (value_is a args w, value_is b args w) (compared_are int_le (value_of a args w.registers) (value_of b args w.registers))
-test_is (equal a b) args w = rw (value_is a args w, value_is b args w) (compared_are int_eq (value_of a args w.registers) (value_of b args w.registers))
+test_is (less a b) args w = rw (value_is a args w, value_is b args w) (compared_are int_lt (value_of a args w.registers)
+    (value_of b args w.registers))
+test_is (at_most a b) args w = rw (value_is a args w, value_is b args w) (compared_are int_le (value_of a args w.registers)
+    (value_of b args w.registers))
+test_is (equal a b) args w = rw (value_is a args w, value_is b args w) (compared_are int_eq (value_of a args w.registers)
+    (value_of b args w.registers))
 
 -- what comes after a part: its result goes on, and a code is asked
 abbrev after : {A : Type 0} → OrCode A → (A → Outcome) → Outcome
 after (Ok a) go = go a
 after (Err code) go = Asked code
 
-after_both : {A B : Type 0} (r : OrCode A) (next : A → OrCode B) (go : B → Outcome) → after (and_then r next) go ≡ after r (λ a. after (next a) go)
+after_both : {A B : Type 0} (r : OrCode A) (next : A → OrCode B) (go : B → Outcome) → after (and_then r next) go ≡ after r
+    (λ a. after (next a) go)
 after_both (Ok a) next go = refl
 after_both (Err code) next go = refl
 
 -- the tests of a run, one by one
 
-value_step : (g : Got) (r : OrCode ℤ) (go : ℤ → Run) (m : Contents) (next : ℤ → OrCode Workspace) (rest : Workspace → Outcome) → r ≡ got_or_code g → ((v : ℤ) → serial (go v) m ≡ after (next v) rest) → serial (with_value g go) m ≡ after (and_then r next) rest
+value_step : (g : Got) (r : OrCode ℤ) (go : ℤ → Run) (m : Contents) (next : ℤ → OrCode Workspace) (rest : Workspace → Outcome)
+    → r ≡ got_or_code g → ((v : ℤ) → serial (go v) m ≡ after (next v) rest) → serial (with_value g go) m ≡ after (and_then r next) rest
 value_step (is v) r go m next rest e same = rw e (same v)
 value_step over r go m next rest e same = rw e refl
 value_step missing r go m next rest e same = rw e refl
 
-key_step : (fits : Bool) (key : Key) (go : Run) (m : Contents) (next : Key → OrCode Workspace) (rest : Workspace → Outcome) → serial go m ≡ after (next key) rest → serial (cond fits go wrong) m ≡ after (and_then (provided fits key 0) next) rest
+key_step : (fits : Bool) (key : Key) (go : Run) (m : Contents) (next : Key → OrCode Workspace) (rest : Workspace → Outcome)
+    → serial go m ≡ after (next key) rest → serial (cond fits go wrong) m ≡ after (and_then (provided fits key 0) next) rest
 key_step true key go m next rest same = same
 key_step false key go m next rest same = refl
 
-found_step : (o : Option ℤ) (absent : ℕ) (go : ℤ → Run) (m : Contents) (next : ℤ → OrCode Workspace) (rest : Workspace → Outcome) → ((v : ℤ) → serial (go v) m ≡ after (next v) rest) → serial (if_found absent o go) m ≡ after (and_then (ok_or o absent) next) rest
+found_step : (o : Option ℤ) (absent : ℕ) (go : ℤ → Run) (m : Contents) (next : ℤ → OrCode Workspace) (rest : Workspace → Outcome)
+    → ((v : ℤ) → serial (go v) m ≡ after (next v) rest) → serial (if_found absent o go) m ≡ after (and_then (ok_or o absent) next) rest
 found_step None absent go m next rest same = refl
 found_step (Some v) absent go m next rest same = same v
 
-last_step : (fits : Bool) (w : Workspace) (go : Run) (m : Contents) (rest : Workspace → Outcome) → serial go m ≡ rest w → serial (cond fits go wrong) m ≡ after (provided fits w 0) rest
+last_step : (fits : Bool) (w : Workspace) (go : Run) (m : Contents) (rest : Workspace → Outcome) → serial go m ≡ rest w
+    → serial (cond fits go wrong) m ≡ after (provided fits w 0) rest
 last_step true w go m rest same = same
 last_step false w go m rest same = refl
 
-test_step : (h : Holds) (r : OrCode Bool) (ys ns : Run) (m : Contents) (next : Bool → OrCode Workspace) (rest : Workspace → Outcome) → r ≡ test_or_code h → serial ys m ≡ after (next true) rest → serial ns m ≡ after (next false) rest → serial (with_test h ys ns) m ≡ after (and_then r next) rest
+test_step : (h : Holds) (r : OrCode Bool) (ys ns : Run) (m : Contents) (next : Bool → OrCode Workspace) (rest : Workspace → Outcome)
+    → r ≡ test_or_code h → serial ys m ≡ after (next true) rest → serial ns m ≡ after (next false) rest
+    → serial (with_test h ys ns) m ≡ after (and_then r next) rest
 test_step (holds true) r ys ns m next rest e yes_same no_same = rw e yes_same
 test_step (holds false) r ys ns m next rest e yes_same no_same = rw e no_same
 test_step too_far r ys ns m next rest e yes_same no_same = rw e refl
@@ -98,11 +111,14 @@ abbrev along : List ℤ → Way → Workspace → Outcome
 along args behind w = serial (run args behind w.registers w.answers) w.working
 
 -- what the first statement does, and then what is behind it
-behind_first : (args : List ℤ) (b : Block) (behind : Way) (r : OrCode Workspace) (first : Outcome) → ((w : Workspace) → along args (onto b behind) w ≡ after (execute args b w) (along args behind)) → first ≡ after r (along args (onto b behind)) → first ≡ after (and_then r (λ next. execute args b next)) (along args behind)
+behind_first : (args : List ℤ) (b : Block) (behind : Way) (r : OrCode Workspace) (first : Outcome)
+    → ((w : Workspace) → along args (onto b behind) w ≡ after (execute args b w) (along args behind))
+    → first ≡ after r (along args (onto b behind)) → first ≡ after (and_then r (λ next. execute args b next)) (along args behind)
 behind_first args b behind (Ok w) first same so = so ∙ same w
 behind_first args b behind (Err code) first same so = so
 
-block_is : (args : List ℤ) (b : Block) (behind : Way) (w : Workspace) → along args (onto b behind) w ≡ after (execute args b w) (along args behind)
+block_is : (args : List ℤ) (b : Block) (behind : Way) (w : Workspace) → along args (onto b behind) w ≡ after (execute args b w)
+    (along args behind)
 block_is args empty behind w = refl
 block_is args (look to table id absent b) behind w =
     behind_first args b behind (look_at_record args to table id absent w) _ (block_is args b behind)
@@ -112,12 +128,14 @@ block_is args (look to table id absent b) behind w =
 block_is args (put table id value b) behind w =
     behind_first args b behind (put_record args table id value w) _ (block_is args b behind)
     (value_step (value_of id args w.registers) (evaluate id args w) _ w.working _ (along args (onto b behind)) (value_is id args w)
-    (λ n. value_step (value_of value args w.registers) (evaluate value args w) _ w.working _ (along args (onto b behind)) (value_is value args w)
+    (λ n. value_step (value_of value args w.registers) (evaluate value args w) _ w.working _ (along args (onto b behind))
+    (value_is value args w)
     (λ v. key_step (is_key table n) (table, n) _ w.working _ (along args (onto b behind))
     (last_step (is_value v) _ _ w.working (along args (onto b behind)) refl))))
 block_is args (save to value b) behind w =
     behind_first args b behind (let_register args to value w) _ (block_is args b behind)
-    (value_step (value_of value args w.registers) (evaluate value args w) _ w.working _ (along args (onto b behind)) (value_is value args w) (λ v. refl))
+    (value_step (value_of value args w.registers) (evaluate value args w) _ w.working _ (along args (onto b behind))
+    (value_is value args w) (λ v. refl))
 block_is args (ask code b) behind w = refl
 block_is args (choose test ys ns b) behind w =
     test_step (result_of test args w.registers) (decide test args w) _ _ w.working _ (along args behind) (test_is test args w)

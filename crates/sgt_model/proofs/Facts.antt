@@ -56,7 +56,8 @@ live-no_fate past t h = none_from _ (and_parts _ _ h).1
 pub live_from : (past : List Entry) (t : ℕ) → t < starts past → fate_of past t ≡ None → live past t ≡ true
 live_from past t started open_still = and_from _ _ (lt-ltb t (starts past) started) (ap is_none open_still)
 
-Commits-ends : {s : Setting} {past : List Entry} {event : Event} {r : Reply} (c : Commits s past event r) (u : ℕ) → ending_in event r u ≡ cond (nat_eq c.t u) (Some fate.Committed) None
+Commits-ends : {s : Setting} {past : List Entry} {event : Event} {r : Reply} (c : Commits s past event r) (u : ℕ)
+    → ending_in event r u ≡ cond (nat_eq c.t u) (Some fate.Committed) None
 Commits-ends {s} {past} {event} {r} c u = ap₂ (λ x y. ending_in x y u) c.event_is c.reply_is
 
 Commits-no_access : {s : Setting} {past : List Entry} {event : Event} {r : Reply} → Commits s past event r → access_in event r ≡ None
@@ -71,7 +72,8 @@ Begins-no_end {s} {past} {event} {r} b u = ap (λ x. ending_in event x u) b.repl
 Undoes-no_access : {s : Setting} {past : List Entry} {event : Event} {r : Reply} → Undoes s past event r → access_in event r ≡ None
 Undoes-no_access {s} {past} {event} {r} x = ap (λ y. access_in event y) x.reply_is
 
-access_case : {s : Setting} {past : List Entry} {event : Event} {r : Reply} → Effect s past event r → (a : Access) → access_in event r ≡ Some a → (x : Accesses s past event r) × (x.access ≡ a)
+access_case : {s : Setting} {past : List Entry} {event : Event} {r : Reply} → Effect s past event r → (a : Access)
+    → access_in event r ≡ Some a → (x : Accesses s past event r) × (x.access ≡ a)
 access_case (idle i) a e = absurd (cc (sym i.no_access ∙ e))
 access_case (begins b) a e = absurd (cc (sym (Begins-no_access b) ∙ e))
 access_case (accesses x) a e = (x, some_is _ _ (sym x.access_is ∙ e))
@@ -79,28 +81,40 @@ access_case (commits c) a e = absurd (cc (sym (Commits-no_access c) ∙ e))
 access_case (undoes x) a e = absurd (cc (sym (Undoes-no_access x) ∙ e))
 
 -- an access is by a live transaction
-pub access-live : (s : Setting) (past : List Entry) (event : Event) (r : Reply) → LegalReply s past event r → (a : Access) → access_in event r ≡ Some a → live past a.by ≡ true
-access-live s past event r h a e = let x = access_case (effect s past event r h) a e in subst (λ (b : Access). live past b.by ≡ true) x.1 x.0.is_live
+pub access-live : (s : Setting) (past : List Entry) (event : Event) (r : Reply) → LegalReply s past event r → (a : Access)
+    → access_in event r ≡ Some a → live past a.by ≡ true
+access-live s past event r h a e = let x = access_case (effect s past event r h) a e in
+    subst (λ (b : Access). live past b.by ≡ true) x.1 x.0.is_live
 
 -- and closes no walk
-pub access-free : (s : Setting) (past : List Entry) (event : Event) (r : Reply) → LegalReply s past event r → (a : Access) → access_in event r ≡ Some a → (rest : List ℕ) → Closes past a.by a.key a.kind rest → ⊥
-access-free s past event r h a e = let x = access_case (effect s past event r h) a e in subst (λ (b : Access). (rest : List ℕ) → Closes past b.by b.key b.kind rest → ⊥) x.1 x.0.free
+pub access-free : (s : Setting) (past : List Entry) (event : Event) (r : Reply) → LegalReply s past event r → (a : Access)
+    → access_in event r ≡ Some a → (rest : List ℕ) → Closes past a.by a.key a.kind rest → ⊥
+access-free s past event r h a e = let x = access_case (effect s past event r h) a e in
+    subst (λ (b : Access). (rest : List ℕ) → Closes past b.by b.key b.kind rest → ⊥) x.1 x.0.free
 
 -- and is what comes next
-pub access-fits : (s : Setting) (past : List Entry) (event : Event) (r : Reply) → LegalReply s past event r → (a : Access) → access_in event r ≡ Some a → Fits (next_of s past a.by) a
-access-fits s past event r h a e = let x = access_case (effect s past event r h) a e in subst (λ (b : Access). Fits (next_of s past b.by) b) x.1 x.0.fits
+pub access-fits : (s : Setting) (past : List Entry) (event : Event) (r : Reply) → LegalReply s past event r → (a : Access)
+    → access_in event r ≡ Some a → Fits (next_of s past a.by) a
+access-fits s past event r h a e = let x = access_case (effect s past event r h) a e in
+    subst (λ (b : Access). Fits (next_of s past b.by) b) x.1 x.0.fits
 
 -- and where it is a look, found what was visible
-pub look-found : (s : Setting) (past : List Entry) (event : Event) (r : Reply) → LegalReply s past event r → (a : Access) → access_in event r ≡ Some a → a.kind ≡ Look → a.value ≡ visible s.opening past a.key
-look-found s past event r h a e = let x = access_case (effect s past event r h) a e in subst (λ (b : Access). b.kind ≡ Look → b.value ≡ visible s.opening past b.key) x.1 x.0.found
+pub look-found : (s : Setting) (past : List Entry) (event : Event) (r : Reply) → LegalReply s past event r → (a : Access)
+    → access_in event r ≡ Some a → a.kind ≡ Look → a.value ≡ visible s.opening past a.key
+look-found s past event r h a e = let x = access_case (effect s past event r h) a e in
+    subst (λ (b : Access). b.kind ≡ Look → b.value ≡ visible s.opening past b.key) x.1 x.0.found
 
 -- and ends none
-pub access-no_end : (s : Setting) (past : List Entry) (event : Event) (r : Reply) → LegalReply s past event r → (a : Access) → access_in event r ≡ Some a → (u : ℕ) → ending_in event r u ≡ None
+pub access-no_end : (s : Setting) (past : List Entry) (event : Event) (r : Reply) → LegalReply s past event r → (a : Access)
+    → access_in event r ≡ Some a → (u : ℕ) → ending_in event r u ≡ None
 access-no_end s past event r h a e u = ends_none-no_end event r (access_case (effect s past event r h) a e).0.ends_none u
 
 pub member_from : (u : ℕ) (l : List ℕ) → list_any (λ v. nat_eq v u) l ≡ true → Member u l
 member_from u [] e = absurd (cc)
-member_from u (v ∷ l) e = elim (or_cases (nat_eq v u) (list_any (λ w. nat_eq w u) l) e) [ inl h ↦ inl (sym (eqb-true v u h)) | inr h ↦ inr (member_from u l h) ]
+member_from u (v ∷ l) e = elim (or_cases (nat_eq v u) (list_any (λ w. nat_eq w u) l) e) [
+  | inl h ↦ inl (sym (eqb-true v u h))
+  | inr h ↦ inr (member_from u l h)
+]
 
 pub member_to : (u : ℕ) (l : List ℕ) → Member u l → list_any (λ v. nat_eq v u) l ≡ true
 member_to u [] h = absurd h
@@ -114,7 +128,8 @@ ends_at a t x f e = go (nat_eq a t) refl e
     go true h e = (eqb-true a t h, some_is x f e)
     go false h e = absurd (cc)
 
-undone_at : (b c : Bool) (x y f : Fate) → has_aborted (Some x) ≡ true → has_aborted (Some y) ≡ true → cond b (Some x) (cond c (Some y) None) ≡ Some f → ((b ≡ true) ⊎ (c ≡ true)) × (has_aborted (Some f) ≡ true)
+undone_at : (b c : Bool) (x y f : Fate) → has_aborted (Some x) ≡ true → has_aborted (Some y) ≡ true
+    → cond b (Some x) (cond c (Some y) None) ≡ Some f → ((b ≡ true) ⊎ (c ≡ true)) × (has_aborted (Some f) ≡ true)
 undone_at true c x y f hx hy e = (inl refl, ap has_aborted (sym e) ∙ hx)
 undone_at false true x y f hx hy e = (inr refl, ap has_aborted (sym e) ∙ hy)
 undone_at false false x y f hx hy e = absurd (cc)
@@ -129,37 +144,57 @@ pub record Undone (past : List Entry) (event : Event) (r : Reply) (t : ℕ) (f :
   pub is : (undo.t ≡ t) ⊎ Member t undo.fell
   pub is_abort : has_aborted (Some f) ≡ true
 
-undone_case : {past : List Entry} {event : Event} {r : Reply} (x : Undoing past event r) (t : ℕ) (f : Fate) → ending_in event r t ≡ Some f → Undone past event r t f
+undone_case : {past : List Entry} {event : Event} {r : Reply} (x : Undoing past event r) (t : ℕ) (f : Fate)
+    → ending_in event r t ≡ Some f → Undone past event r t f
 undone_case x t f e =
     let h = undone_at (nat_eq x.t t) (list_any (λ v. nat_eq v t) x.fell) _ _ f refl refl (sym (x.ends t) ∙ e) in
     record { undo = x; is = elim h.0 [ inl q ↦ inl (eqb-true x.t t q) | inr q ↦ inr (member_from t x.fell q) ]; is_abort = h.1 }
 
 -- what ended a transaction: its commit, or an abort
-pub end_case : {s : Setting} {past : List Entry} {event : Event} {r : Reply} → Effect s past event r → (t : ℕ) (f : Fate) → ending_in event r t ≡ Some f → Ended s past event r t f ⊎ Undone past event r t f
+pub end_case : {s : Setting} {past : List Entry} {event : Event} {r : Reply} → Effect s past event r → (t : ℕ) (f : Fate)
+    → ending_in event r t ≡ Some f → Ended s past event r t f ⊎ Undone past event r t f
 end_case {event = event} {r = r} (idle i) t f e = absurd (cc (sym (ends_none-no_end event r i.ends_none t) ∙ e))
 end_case (begins b) t f e = absurd (cc (sym (Begins-no_end b t) ∙ e))
 end_case {event = event} {r = r} (accesses x) t f e = absurd (cc (sym (ends_none-no_end event r x.ends_none t) ∙ e))
-end_case (commits c) t f e = let h = ends_at c.t t _ f (sym (Commits-ends c t) ∙ e) in inl (record { commit = c; is = h.0; fate_is = sym h.1 })
+end_case (commits c) t f e = let h = ends_at c.t t _ f (sym (Commits-ends c t) ∙ e) in
+    inl (record { commit = c; is = h.0; fate_is = sym h.1 })
 end_case (undoes x) t f e = inr (undone_case x.undoing t f e)
 
-pub end_live : {s : Setting} {past : List Entry} {event : Event} {r : Reply} (t : ℕ) (f : Fate) → Ended s past event r t f ⊎ Undone past event r t f → live past t ≡ true
+pub end_live : {s : Setting} {past : List Entry} {event : Event} {r : Reply} (t : ℕ) (f : Fate)
+    → Ended s past event r t f ⊎ Undone past event r t f → live past t ≡ true
 end_live {past = past} t f (inl h) = subst (λ u. live past u ≡ true) h.is h.commit.is_live
-end_live {past = past} t f (inr h) = elim h.is [ inl q ↦ subst (λ u. live past u ≡ true) q h.undo.is_live | inr q ↦ (h.undo.falls.each t q).0 ]
+end_live {past = past} t f (inr h) = elim h.is [
+  | inl q ↦ subst (λ u. live past u ≡ true) q h.undo.is_live
+  | inr q ↦ (h.undo.falls.each t q).0
+]
 
 -- what an entry ends was live
-pub end-live : (s : Setting) (past : List Entry) (event : Event) (r : Reply) → LegalReply s past event r → (t : ℕ) (f : Fate) → ending_in event r t ≡ Some f → live past t ≡ true
+pub end-live : (s : Setting) (past : List Entry) (event : Event) (r : Reply) → LegalReply s past event r → (t : ℕ) (f : Fate)
+    → ending_in event r t ≡ Some f → live past t ≡ true
 end-live s past event r h t f e = end_live t f (end_case (effect s past event r h) t f e)
 
 -- what has ended is not ended again
-pub ended-no_end : (s : Setting) (past : List Entry) (event : Event) (r : Reply) → LegalReply s past event r → (t : ℕ) (f : Fate) → fate_of past t ≡ Some f → ending_in event r t ≡ None
+pub ended-no_end : (s : Setting) (past : List Entry) (event : Event) (r : Reply) → LegalReply s past event r → (t : ℕ) (f : Fate)
+    → fate_of past t ≡ Some f → ending_in event r t ≡ None
 ended-no_end s past event r h t f e = none_unless _ (λ g q. absurd (cc (sym (live-no_fate past t (end-live s past event r h t g q)) ∙ e)))
 
 -- a transaction that commits had no live one before it, and no other ends with it
-pub commit-none_live : (s : Setting) (past : List Entry) (event : Event) (r : Reply) → LegalReply s past event r → (t : ℕ) → ending_in event r t ≡ Some fate.Committed → NoneLive past t
-commit-none_live s past event r h t e = elim (end_case (effect s past event r h) t fate.Committed e) [ inl q ↦ subst (λ u. NoneLive past u) q.is q.commit.none_live | inr q ↦ absurd (cc q.is_abort) ]
+pub commit-none_live : (s : Setting) (past : List Entry) (event : Event) (r : Reply) → LegalReply s past event r → (t : ℕ)
+    → ending_in event r t ≡ Some fate.Committed → NoneLive past t
+commit-none_live s past event r h t e =
+    elim (end_case (effect s past event r h) t fate.Committed e) [
+      | inl q ↦ subst (λ u. NoneLive past u) q.is q.commit.none_live
+      | inr q ↦ absurd (cc q.is_abort)
+    ]
 
-pub commit-no_end : (s : Setting) (past : List Entry) (event : Event) (r : Reply) → LegalReply s past event r → (t : ℕ) → ending_in event r t ≡ Some fate.Committed → (u : ℕ) → t ≢ u → ending_in event r u ≡ None
-commit-no_end s past event r h t e u apart = elim (end_case (effect s past event r h) t fate.Committed e) [ inl q ↦ Commits-ends q.commit u ∙ ap (λ b. cond b (Some fate.Committed) None) (ne_eqb q.commit.t u (λ x. apart (sym q.is ∙ x))) | inr q ↦ absurd (cc q.is_abort) ]
+pub commit-no_end : (s : Setting) (past : List Entry) (event : Event) (r : Reply) → LegalReply s past event r → (t : ℕ)
+    → ending_in event r t ≡ Some fate.Committed → (u : ℕ) → t ≢ u → ending_in event r u ≡ None
+commit-no_end s past event r h t e u apart =
+    elim (end_case (effect s past event r h) t fate.Committed e) [
+      | inl q ↦ Commits-ends q.commit u
+          ∙ ap (λ b. cond b (Some fate.Committed) None) (ne_eqb q.commit.t u (λ x. apart (sym q.is ∙ x)))
+      | inr q ↦ absurd (cc q.is_abort)
+    ]
 
 -- on a whole history
 
@@ -174,13 +209,19 @@ pub started-stays : (e : Entry) (past : List Entry) (t : ℕ) → t < starts pas
 started-stays e past t h = lt_of_lt_of_le h (starts-grow e past)
 
 -- a fate is final
-pub fate-final : (s : Setting) (e : Entry) (past : List Entry) → Legal s (e ∷ past) → (t : ℕ) (f : Fate) → fate_of past t ≡ Some f → fate_of (e ∷ past) t ≡ Some f
+pub fate-final : (s : Setting) (e : Entry) (past : List Entry) → Legal s (e ∷ past) → (t : ℕ) (f : Fate) → fate_of past t ≡ Some f
+    → fate_of (e ∷ past) t ≡ Some f
 fate-final s e past h t f ended = option_or-at_none _ _ (ended-no_end s past e.event e.reply h.1 t f ended) ∙ ended
 
 -- what has ended was started
 pub ended-started : (s : Setting) (past : List Entry) → Legal s past → (t : ℕ) (f : Fate) → fate_of past t ≡ Some f → t < starts past
 ended-started s [] h t f ended = absurd (cc)
-ended-started s (e ∷ past) h t f ended = elim (option_or-cases _ _ f ended) [ inl now ↦ started-stays e past t (live-started past t (end-live s past e.event e.reply h.1 t f now)) | inr before ↦ started-stays e past t (ended-started s past h.0 t f before.1) ]
+ended-started s (e ∷ past) h t f ended =
+    elim (option_or-cases _ _ f ended) [
+      | inl now ↦ started-stays e past t
+          (live-started past t (end-live s past e.event e.reply h.1 t f now))
+      | inr before ↦ started-stays e past t (ended-started s past h.0 t f before.1)
+    ]
 
 pub unstarted-no_fate : (s : Setting) (past : List Entry) → Legal s past → (t : ℕ) → starts past ≤ t → fate_of past t ≡ None
 unstarted-no_fate s past h t unstarted = none_unless _ (λ f ended. let started = ended-started s past h t f ended in omega arith)
@@ -198,21 +239,25 @@ committed-fate past t h = go (fate_of past t) h
     go (Some (fate.Aborted why)) h = absurd (cc)
     go (Some (fate.Fell u)) h = absurd (cc)
 
-pub committed-stays : (s : Setting) (e : Entry) (past : List Entry) → Legal s (e ∷ past) → (t : ℕ) → committed past t ≡ true → committed (e ∷ past) t ≡ true
+pub committed-stays : (s : Setting) (e : Entry) (past : List Entry) → Legal s (e ∷ past) → (t : ℕ) → committed past t ≡ true
+    → committed (e ∷ past) t ≡ true
 committed-stays s e past h t c = ap has_committed (fate-final s e past h t fate.Committed (committed-fate past t c))
 
 aborted_fate : (o : Option Fate) → has_aborted o ≡ true → (f : Fate) × (o ≡ Some f)
 aborted_fate None h = absurd (cc)
 aborted_fate (Some f) h = (f, refl)
 
-pub aborted-fate : (past : List Entry) (t : ℕ) → aborted past t ≡ true → (f : Fate) × (fate_of past t ≡ Some f) × (has_aborted (Some f) ≡ true)
+pub aborted-fate : (past : List Entry) (t : ℕ) → aborted past t ≡ true
+    → (f : Fate) × (fate_of past t ≡ Some f) × (has_aborted (Some f) ≡ true)
 aborted-fate past t h = let a = aborted_fate (fate_of past t) h in (a.0, a.1, sym (ap has_aborted a.1) ∙ h)
 
-pub aborted-stays : (s : Setting) (e : Entry) (past : List Entry) → Legal s (e ∷ past) → (t : ℕ) → aborted past t ≡ true → aborted (e ∷ past) t ≡ true
+pub aborted-stays : (s : Setting) (e : Entry) (past : List Entry) → Legal s (e ∷ past) → (t : ℕ) → aborted past t ≡ true
+    → aborted (e ∷ past) t ≡ true
 aborted-stays s e past h t a = let f = aborted-fate past t a in ap has_aborted (fate-final s e past h t f.0 f.1) ∙ f.2
 
 -- the other way: what is not aborted after an entry was not aborted before it
-pub stood-before : (s : Setting) (e : Entry) (past : List Entry) → Legal s (e ∷ past) → (t : ℕ) → aborted (e ∷ past) t ≡ false → aborted past t ≡ false
+pub stood-before : (s : Setting) (e : Entry) (past : List Entry) → Legal s (e ∷ past) → (t : ℕ) → aborted (e ∷ past) t ≡ false
+    → aborted past t ≡ false
 stood-before s e past h t stands = go (aborted past t) refl
   where
     go : (b : Bool) → aborted past t ≡ b → b ≡ false
@@ -239,19 +284,33 @@ status past t started = go (fate_of past t) refl
     go (Some (fate.Fell u)) e = inr (inr (ap has_aborted e))
 
 -- a started one that is neither live nor aborted is committed
-pub committed_else : (past : List Entry) (t : ℕ) → t < starts past → (live past t ≡ true → ⊥) → aborted past t ≡ false → committed past t ≡ true
-committed_else past t started not_live stands = elim (status past t started) [ inl alive ↦ absurd (not_live alive) | inr (inl c) ↦ c | inr (inr a) ↦ absurd (both_ways _ stands a) ]
+pub committed_else : (past : List Entry) (t : ℕ) → t < starts past → (live past t ≡ true → ⊥) → aborted past t ≡ false
+    → committed past t ≡ true
+committed_else past t started not_live stands = elim (status past t started) [
+  | inl alive ↦ absurd (not_live alive)
+  | inr (inl c) ↦ c
+  | inr (inr a) ↦ absurd (both_ways _ stands a)
+]
 
 -- committed now or before
-pub commit-case : (e : Entry) (past : List Entry) (t : ℕ) → committed (e ∷ past) t ≡ true → (ending_in e.event e.reply t ≡ Some fate.Committed) ⊎ ((ending_in e.event e.reply t ≡ None) × (committed past t ≡ true))
-commit-case e past t h = elim (option_or-cases _ _ _ (committed-fate (e ∷ past) t h)) [ inl now ↦ inl now | inr before ↦ inr (before.0, ap has_committed before.1) ]
+pub commit-case : (e : Entry) (past : List Entry) (t : ℕ) → committed (e ∷ past) t ≡ true
+    → (ending_in e.event e.reply t ≡ Some fate.Committed) ⊎ ((ending_in e.event e.reply t ≡ None) × (committed past t ≡ true))
+commit-case e past t h = elim (option_or-cases _ _ _ (committed-fate (e ∷ past) t h)) [
+  | inl now ↦ inl now
+  | inr before ↦ inr (before.0, ap has_committed before.1)
+]
 
 -- aborted now or before
-pub abort-case : (e : Entry) (past : List Entry) (t : ℕ) → aborted (e ∷ past) t ≡ true → ((f : Fate) × (ending_in e.event e.reply t ≡ Some f) × (has_aborted (Some f) ≡ true)) ⊎ (aborted past t ≡ true)
-abort-case e past t h = let a = aborted-fate (e ∷ past) t h in elim (option_or-cases _ _ _ a.1) [ inl now ↦ inl (a.0, now, a.2) | inr before ↦ inr (ap has_aborted before.1 ∙ a.2) ]
+pub abort-case : (e : Entry) (past : List Entry) (t : ℕ) → aborted (e ∷ past) t ≡ true
+    → ((f : Fate) × (ending_in e.event e.reply t ≡ Some f) × (has_aborted (Some f) ≡ true)) ⊎ (aborted past t ≡ true)
+abort-case e past t h = let a = aborted-fate (e ∷ past) t h in elim (option_or-cases _ _ _ a.1) [
+  | inl now ↦ inl (a.0, now, a.2)
+  | inr before ↦ inr (ap has_aborted before.1 ∙ a.2)
+]
 
 -- at an access no fate changes
-pub access-same_fate : (s : Setting) (e : Entry) (past : List Entry) → Legal s (e ∷ past) → (a : Access) → access_of e ≡ Some a → (t : ℕ) → fate_of (e ∷ past) t ≡ fate_of past t
+pub access-same_fate : (s : Setting) (e : Entry) (past : List Entry) → Legal s (e ∷ past) → (a : Access) → access_of e ≡ Some a
+    → (t : ℕ) → fate_of (e ∷ past) t ≡ fate_of past t
 access-same_fate s e past h a is t = option_or-at_none _ _ (access-no_end s past e.event e.reply h.1 a is t)
 
 -- on accesses
@@ -265,7 +324,8 @@ pub record Conflicting (o : Option Access) (t : ℕ) (k : Key) (kind : Kind) : T
 
 pub conflicts-access : (o : Option Access) (t : ℕ) (k : Key) (kind : Kind) → conflicts o t k kind ≡ true → Conflicting o t k kind
 conflicts-access None t k kind h = absurd (cc)
-conflicts-access (Some a) t k kind h = let p = and_parts _ _ h in let q = and_parts _ _ p.1 in record { access = a; is = refl; by = eqb-true a.by t p.0; same_key = q.0; one_stores = q.1 }
+conflicts-access (Some a) t k kind h = let p = and_parts _ _ h in let q = and_parts _ _ p.1 in
+    record { access = a; is = refl; by = eqb-true a.by t p.0; same_key = q.0; one_stores = q.1 }
 
 pub record Follows (past : List Entry) (o : Option Access) (t u : ℕ) : Type 0 where
   pub access : Access
@@ -278,14 +338,26 @@ follows-access past None t u h = absurd h
 follows-access past (Some a) t u h = record { access = a; is = refl; by = h.0; access_list = h.1 }
 
 -- who has an access was started, and so unstarted transactions have none
-pub has_conflicting-started : (s : Setting) (past : List Entry) → Legal s past → (t : ℕ) (k : Key) (kind : Kind) → has_conflicting past t k kind ≡ true → t < starts past
+pub has_conflicting-started : (s : Setting) (past : List Entry) → Legal s past → (t : ℕ) (k : Key) (kind : Kind)
+    → has_conflicting past t k kind ≡ true → t < starts past
 has_conflicting-started s [] h t k kind q = absurd (cc)
-has_conflicting-started s (e ∷ past) h t k kind q = elim (or_cases _ _ q) [ inl now ↦ let c = conflicts-access _ t k kind now in started-stays e past t (subst (λ u. u < starts past) c.by (live-started past _ (access-live s past e.event e.reply h.1 c.access c.is))) | inr before ↦ started-stays e past t (has_conflicting-started s past h.0 t k kind before) ]
+has_conflicting-started s (e ∷ past) h t k kind q = elim (or_cases _ _ q) [
+  | inl now ↦ let c = conflicts-access _ t k kind now in
+      started-stays e past t
+      (subst (λ u. u < starts past) c.by (live-started past _ (access-live s past e.event e.reply h.1 c.access c.is)))
+  | inr before ↦ started-stays e past t (has_conflicting-started s past h.0 t k kind before)
+]
 
-pub precedes-started : (s : Setting) (past : List Entry) → Legal s past → (t u : ℕ) → Precedes past t u → (t < starts past) × (u < starts past)
+pub precedes-started : (s : Setting) (past : List Entry) → Legal s past → (t u : ℕ) → Precedes past t u
+    → (t < starts past) × (u < starts past)
 precedes-started s [] h t u p = absurd p
-precedes-started s (e ∷ past) h t u (inl now) = let f = follows-access past (access_of e) t u now in (started-stays e past t (has_conflicting-started s past h.0 t _ _ f.access_list), started-stays e past u (subst (λ v. v < starts past) f.by (live-started past _ (access-live s past e.event e.reply h.1 f.access f.is))))
-precedes-started s (e ∷ past) h t u (inr before) = let p = precedes-started s past h.0 t u before in (started-stays e past t p.0, started-stays e past u p.1)
+precedes-started s (e ∷ past) h t u (inl now) = let f = follows-access past (access_of e) t u now in (
+  started-stays e past t (has_conflicting-started s past h.0 t _ _ f.access_list),
+  started-stays e past u
+      (subst (λ v. v < starts past) f.by (live-started past _ (access-live s past e.event e.reply h.1 f.access f.is))),
+)
+precedes-started s (e ∷ past) h t u (inr before) = let p = precedes-started s past h.0 t u before in
+    (started-stays e past t p.0, started-stays e past u p.1)
 
 -- an entry at which nothing commits
 pub record Uncommitted (s : Setting) (past : List Entry) (event : Event) (r : Reply) : Type 0 where
@@ -295,31 +367,46 @@ pub record Uncommitted (s : Setting) (past : List Entry) (event : Event) (r : Re
   pub agrees : CommitAgrees s past event r
 
 uncommitted : (s : Setting) (past : List Entry) (event : Event) (r : Reply) → EndsNone r → Uncommitted s past event r
-uncommitted s past event r h = record { no_call = ends_none-no_commit past event r h; tells_none = ends_none-tells_none r h; no_commit = λ u e. cc (sym (ends_none-no_end event r h u) ∙ e); agrees = ends_none-agrees s past event r h }
+uncommitted s past event r h = record {
+  no_call = ends_none-no_commit past event r h;
+  tells_none = ends_none-tells_none r h;
+  no_commit = λ u e. cc (sym (ends_none-no_end event r h u) ∙ e);
+  agrees = ends_none-agrees s past event r h;
+}
 
 undone_uncommitted : (s : Setting) (past : List Entry) (event : Event) (r : Reply) → Undoes s past event r → Uncommitted s past event r
-undone_uncommitted s past event r x = record { no_call = ap (λ y. committed_call_in past event y) x.reply_is; tells_none = ap told_in x.reply_is; no_commit = λ u e. no_commit u (end_case (undoes x) u fate.Committed e); agrees = subst (λ y. CommitAgrees s past event y) (sym x.reply_is) tt }
+undone_uncommitted s past event r x = record {
+  no_call = ap (λ y. committed_call_in past event y) x.reply_is;
+  tells_none = ap told_in x.reply_is;
+  no_commit = λ u e. no_commit u (end_case (undoes x) u fate.Committed e);
+  agrees = subst (λ y. CommitAgrees s past event y) (sym x.reply_is) tt;
+}
   where
     no_commit : (u : ℕ) → Ended s past event r u fate.Committed ⊎ Undone past event r u fate.Committed → ⊥
     no_commit u (inl c) = cc (sym x.reply_is ∙ c.commit.reply_is)
     no_commit u (inr y) = cc y.is_abort
 
-pub commits_or_not : {s : Setting} {past : List Entry} {event : Event} {r : Reply} → Effect s past event r → Commits s past event r ⊎ Uncommitted s past event r
+pub commits_or_not : {s : Setting} {past : List Entry} {event : Event} {r : Reply} → Effect s past event r
+    → Commits s past event r ⊎ Uncommitted s past event r
 commits_or_not {s} {past} {event} {r} (idle i) = inr (uncommitted s past event r i.ends_none)
-commits_or_not {s} {past} {event} {r} (begins b) = inr (subst (λ x. Uncommitted s past event x) (sym b.reply_is) (uncommitted s past event _ tt))
+commits_or_not {s} {past} {event} {r} (begins b) =
+    inr (subst (λ x. Uncommitted s past event x) (sym b.reply_is) (uncommitted s past event _ tt))
 commits_or_not {s} {past} {event} {r} (accesses x) = inr (uncommitted s past event r x.ends_none)
 commits_or_not (commits c) = inl c
 commits_or_not {s} {past} {event} {r} (undoes x) = inr (undone_uncommitted s past event r x)
 
 -- the call of a transaction that was started stays
-call_in-kept : {s : Setting} {past : List Entry} {event : Event} {r : Reply} → Effect s past event r → (t : ℕ) → t < starts past → call_in event r t ≡ None
+call_in-kept : {s : Setting} {past : List Entry} {event : Event} {r : Reply} → Effect s past event r → (t : ℕ) → t < starts past
+    → call_in event r t ≡ None
 call_in-kept {s} {past} {event} {r} (idle i) t h = no_start-no_call event r i.no_start t
-call_in-kept {s} {past} {event} {r} (begins b) t h = ap (λ x. call_in event x t) b.reply_is ∙ ap (λ c. cond c (call_at event) None) (ne_eqb (starts past) t (λ e. omega arith))
+call_in-kept {s} {past} {event} {r} (begins b) t h = ap (λ x. call_in event x t) b.reply_is ∙ ap (λ c. cond c (call_at event) None)
+    (ne_eqb (starts past) t (λ e. omega arith))
 call_in-kept {s} {past} {event} {r} (accesses x) t h = no_start-no_call event r x.no_start t
 call_in-kept {s} {past} {event} {r} (commits c) t h = ap (λ x. call_in event x t) c.reply_is
 call_in-kept {s} {past} {event} {r} (undoes x) t h = ap (λ y. call_in event y t) x.reply_is
 
-pub call-kept : (s : Setting) (past : List Entry) (e : Entry) (t : ℕ) → LegalReply s past e.event e.reply → t < starts past → call_of (e ∷ past) t ≡ call_of past t
+pub call-kept : (s : Setting) (past : List Entry) (e : Entry) (t : ℕ) → LegalReply s past e.event e.reply → t < starts past
+    → call_of (e ∷ past) t ≡ call_of past t
 call-kept s past e t h started = ap (λ x. unwrap_or x (call_of past t)) (call_in-kept (effect s past e.event e.reply h) t started)
 
 -- finality over several entries
@@ -328,6 +415,7 @@ pub legal_older : (s : Setting) (newer older : List Entry) → Legal s (newer ++
 legal_older s [] older h = h
 legal_older s (e ∷ newer) older h = legal_older s newer older h.0
 
-pub aborts-stay : (s : Setting) (newer older : List Entry) (u : ℕ) → Legal s (newer ++ older) → aborted older u ≡ true → aborted (newer ++ older) u ≡ true
+pub aborts-stay : (s : Setting) (newer older : List Entry) (u : ℕ) → Legal s (newer ++ older) → aborted older u ≡ true
+    → aborted (newer ++ older) u ≡ true
 aborts-stay s [] older u legal h = h
 aborts-stay s (e ∷ newer) older u legal h = aborted-stays s e (newer ++ older) legal u (aborts-stay s newer older u legal.0 h)

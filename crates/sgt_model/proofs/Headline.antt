@@ -12,7 +12,8 @@ use Rattle.sgt_model.proofs.NoCycle.{no_cycle}
 use Rattle.sgt_model.proofs.Aborts.{aborts_have_cause}
 
 pub commits_in_order : (s : Setting) (past : List Entry) → Legal s past → CommitsInOrder past
-commits_in_order s past h = record { pairs = pair_commits_before s past h; sources = λ t u c reads. (source_commits_before s past h t u c reads).1 }
+commits_in_order s past h =
+    record { pairs = pair_commits_before s past h; sources = λ t u c reads. (source_commits_before s past h t u c reads).1 }
 
 pub headline : (s : Setting) (past : List Entry) → Legal s past → Headline s past
 headline s past h = record {

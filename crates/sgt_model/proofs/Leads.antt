@@ -19,7 +19,8 @@ module _ (test : ℕ → ℕ → Bool) where
   leads_from n nodes b h = elim (or_cases _ _ h) [ inl past ↦ past | inr through ↦ (and_parts _ _ through).1 ]
 
   -- what leads to one of the nodes leads to where that leads
-  leads_trans : (nodes : List ℕ) (a n b : ℕ) → Member n nodes → leads test nodes a n ≡ true → leads test nodes n b ≡ true → leads test nodes a b ≡ true
+  leads_trans : (nodes : List ℕ) (a n b : ℕ) → Member n nodes → leads test nodes a n ≡ true → leads test nodes n b ≡ true
+      → leads test nodes a b ≡ true
   leads_trans [] a n b m to from = absurd m
   leads_trans (k ∷ nodes) a n b (inl e) to from =
       let first : leads test nodes a k ≡ true = leads_to k nodes a (subst (λ x. leads test (k ∷ nodes) a x ≡ true) e to) in
@@ -43,17 +44,26 @@ module _ (test : ℕ → ℕ → Bool) where
 
   module _ (step : ℕ → ℕ → Type 0) where
     -- where the test is of the relation, what leads somewhere reaches it
-    pub leads-reaches : ((a b : ℕ) → test a b ≡ true → step a b) → (nodes : List ℕ) (a b : ℕ) → leads test nodes a b ≡ true → Reaches step a b
-    leads-reaches so [] a b h = elim (or_cases _ _ h) [ inl same ↦ subst (λ x. Reaches step a x) (eqb-true a b same) (reaches_self step a) | inr one ↦ (b ∷ [], (so a b one, tt), refl) ]
+    pub leads-reaches : ((a b : ℕ) → test a b ≡ true → step a b) → (nodes : List ℕ) (a b : ℕ) → leads test nodes a b ≡ true
+        → Reaches step a b
+    leads-reaches so [] a b h = elim (or_cases _ _ h) [
+      | inl same ↦ subst (λ x. Reaches step a x) (eqb-true a b same)
+          (reaches_self step a)
+      | inr one ↦ (b ∷ [], (so a b one, tt), refl)
+    ]
     leads-reaches so (n ∷ nodes) a b h = elim (or_cases _ _ h) [
       | inl past ↦ leads-reaches so nodes a b past
-      | inr through ↦ let p = and_parts _ _ through in reaches_trans step a n b (leads-reaches so nodes a n p.0) (leads-reaches so nodes n b p.1)
+      | inr through ↦ let p = and_parts _ _ through in reaches_trans step a n b (leads-reaches so nodes a n p.0)
+          (leads-reaches so nodes n b p.1)
     ]
 
     -- and where each step comes to one of the nodes, the other way round
-    path_leads : ((a b : ℕ) → step a b → test a b ≡ true) → (nodes : List ℕ) → ((a b : ℕ) → step a b → Member b nodes) → (a : ℕ) (path : List ℕ) → PathOf step a path → leads test nodes a (last_of a path) ≡ true
+    path_leads : ((a b : ℕ) → step a b → test a b ≡ true) → (nodes : List ℕ) → ((a b : ℕ) → step a b → Member b nodes)
+        → (a : ℕ) (path : List ℕ) → PathOf step a path → leads test nodes a (last_of a path) ≡ true
     path_leads to nodes within a [] p = leads_step nodes a a (or_left _ _ (eq-eqb a a refl))
-    path_leads to nodes within a (u ∷ path) p = leads_trans nodes a u (last_of u path) (within a u p.0) (leads_step nodes a u (or_right _ _ (to a u p.0))) (path_leads to nodes within u path p.1)
+    path_leads to nodes within a (u ∷ path) p = leads_trans nodes a u (last_of u path) (within a u p.0)
+        (leads_step nodes a u (or_right _ _ (to a u p.0))) (path_leads to nodes within u path p.1)
 
-    pub reaches-leads : ((a b : ℕ) → step a b → test a b ≡ true) → (nodes : List ℕ) → ((a b : ℕ) → step a b → Member b nodes) → (a b : ℕ) → Reaches step a b → leads test nodes a b ≡ true
+    pub reaches-leads : ((a b : ℕ) → step a b → test a b ≡ true) → (nodes : List ℕ) → ((a b : ℕ) → step a b → Member b nodes)
+        → (a b : ℕ) → Reaches step a b → leads test nodes a b ≡ true
     reaches-leads to nodes within a b (path, p, e) = subst (λ x. leads test nodes a x ≡ true) e (path_leads to nodes within a path p)

@@ -25,40 +25,52 @@ onto_followed (answer value b) more behind = ap (way.answer value) (onto_followe
 
 -- the run from where statements came to, with a way behind them
 abbrev run_reached : List ℤ → Way → OrCode Reached → Run
-run_reached args behind (Ok (AtLook key to absent r)) = looks key (λ found. if_found absent found (λ v. run r.args (onto r.statements behind) (slice_set r.registers to (Some v)) r.answers))
+run_reached args behind (Ok (AtLook key to absent r)) =
+    looks key (λ found. if_found absent found (λ v. run r.args (onto r.statements behind) (slice_set r.registers to (Some v)) r.answers))
 run_reached args behind (Ok (AtStore key v r)) = puts key v (run r.args (onto r.statements behind) r.registers r.answers)
 run_reached args behind (Ok (AtEnd registers answers)) = run args behind registers answers
 run_reached args behind (Err code) = asks code
 
 -- the tests of a run, one by one
 
-value_step : (args : List ℤ) (behind : Way) (g : Got) (go : ℤ → Run) (next : ℤ → OrCode Reached) → ((v : ℤ) → go v ≡ run_reached args behind (next v)) → with_value g go ≡ run_reached args behind (and_then (number_or_code g) next)
+value_step : (args : List ℤ) (behind : Way) (g : Got) (go : ℤ → Run) (next : ℤ → OrCode Reached)
+    → ((v : ℤ) → go v ≡ run_reached args behind (next v)) → with_value g go ≡ run_reached args behind (and_then (number_or_code g) next)
 value_step args behind (is v) go next same = same v
 value_step args behind over go next same = refl
 value_step args behind missing go next same = refl
 
-provided_step : {A : Type 0} (args : List ℤ) (behind : Way) (fits : Bool) (a : A) (go : Run) (next : A → OrCode Reached) → go ≡ run_reached args behind (next a) → cond fits go wrong ≡ run_reached args behind (and_then (provided fits a 0) next)
+provided_step : {A : Type 0} (args : List ℤ) (behind : Way) (fits : Bool) (a : A) (go : Run) (next : A → OrCode Reached)
+    → go ≡ run_reached args behind (next a) → cond fits go wrong ≡ run_reached args behind (and_then (provided fits a 0) next)
 provided_step args behind true a go next same = same
 provided_step args behind false a go next same = refl
 
-last_step : (args : List ℤ) (behind : Way) (fits : Bool) (r : Reached) (go : Run) → go ≡ run_reached args behind (Ok r) → cond fits go wrong ≡ run_reached args behind (provided fits r 0)
+last_step : (args : List ℤ) (behind : Way) (fits : Bool) (r : Reached) (go : Run) → go ≡ run_reached args behind (Ok r)
+    → cond fits go wrong ≡ run_reached args behind (provided fits r 0)
 last_step args behind true r go same = same
 last_step args behind false r go same = refl
 
-test_step : (args : List ℤ) (behind : Way) (h : Holds) (ys ns : Run) (next : Bool → OrCode Reached) → ys ≡ run_reached args behind (next true) → ns ≡ run_reached args behind (next false) → with_test h ys ns ≡ run_reached args behind (and_then (choice_or_code h) next)
+test_step : (args : List ℤ) (behind : Way) (h : Holds) (ys ns : Run) (next : Bool → OrCode Reached) → ys ≡ run_reached args behind
+    (next true) → ns ≡ run_reached args behind (next false) → with_test h ys ns ≡ run_reached args behind (and_then (choice_or_code h) next)
 test_step args behind (holds true) ys ns next yes_same no_same = yes_same
 test_step args behind (holds false) ys ns next yes_same no_same = no_same
 test_step args behind too_far ys ns next yes_same no_same = refl
 test_step args behind unknown ys ns next yes_same no_same = refl
 
 -- what is behind an If: with the branch's end its run goes on
-if_step : (args : List ℤ) (b : Block) (behind : Way) (o : OrCode Reached) → ((registers : Registers) (answers : List ℤ) → run args (onto b behind) registers answers ≡ run_reached args behind (reach b args registers answers)) → run_reached args (onto b behind) o ≡ run_reached args behind (and_then o (then_behind b (λ registers answers. reach b args registers answers)))
-if_step args b behind (Ok (AtLook key to absent r)) same = ap (λ w. looks key (λ found. if_found absent found (λ v. run r.args w (slice_set r.registers to (Some v)) r.answers))) (onto_followed r.statements b behind)
-if_step args b behind (Ok (AtStore key v r)) same = ap (λ w. puts key v (run r.args w r.registers r.answers)) (onto_followed r.statements b behind)
+if_step : (args : List ℤ) (b : Block) (behind : Way) (o : OrCode Reached) → ((registers : Registers) (answers : List ℤ)
+    → run args (onto b behind) registers answers ≡ run_reached args behind (reach b args registers answers))
+    → run_reached args (onto b behind) o ≡ run_reached args behind
+    (and_then o (then_behind b (λ registers answers. reach b args registers answers)))
+if_step args b behind (Ok (AtLook key to absent r)) same =
+    ap (λ w. looks key (λ found. if_found absent found (λ v. run r.args w (slice_set r.registers to (Some v)) r.answers)))
+    (onto_followed r.statements b behind)
+if_step args b behind (Ok (AtStore key v r)) same = ap (λ w. puts key v (run r.args w r.registers r.answers))
+    (onto_followed r.statements b behind)
 if_step args b behind (Ok (AtEnd registers answers)) same = same registers answers
 if_step args b behind (Err code) same = refl
 
-reach_is : (args : List ℤ) (b : Block) (behind : Way) (registers : Registers) (answers : List ℤ) → run args (onto b behind) registers answers ≡ run_reached args behind (reach b args registers answers)
+reach_is : (args : List ℤ) (b : Block) (behind : Way) (registers : Registers) (answers : List ℤ)
+    → run args (onto b behind) registers answers ≡ run_reached args behind (reach b args registers answers)
 reach_is args empty behind registers answers = refl
 reach_is args (look to table id absent b) behind registers answers =
     value_step args behind (value_of id args registers) _ _ (λ n. provided_step args behind (is_key table n) (table, n) _ _ refl)
@@ -75,7 +87,8 @@ reach_is args (choose test ys ns b) behind registers answers =
     (reach_is args ns (onto b behind) registers answers ∙ if_step args b behind (reach ns args registers answers) (reach_is args b behind))
 reach_is args (answer value b) behind registers answers =
     value_step args behind (value_of value args registers) _ _
-    (λ v. provided_step args behind (nat_lt (length answers) 8) (answers ++ v ∷ []) _ _ (reach_is args b behind registers (answers ++ v ∷ [])))
+    (λ v. provided_step args behind (nat_lt (length answers) 8) (answers ++ v ∷ []) _ _
+    (reach_is args b behind registers (answers ++ v ∷ [])))
 
 -- the run that is still to be done
 
@@ -91,7 +104,8 @@ at_end args (Ok (AtEnd registers answers)) = refl
 at_end args (Err code) = refl
 
 run_left_is : (l : Left) → run_left l ≡ run_reached [] way.end (reached l)
-run_left_is (ToRun r) = reach_is r.args r.statements way.end r.registers r.answers ∙ at_end r.args (reach r.statements r.args r.registers r.answers)
+run_left_is (ToRun r) = reach_is r.args r.statements way.end r.registers r.answers
+    ∙ at_end r.args (reach r.statements r.args r.registers r.answers)
 run_left_is (ToAsk code) = refl
 
 -- what a run does next
@@ -127,17 +141,20 @@ abbrev behind_first_store : Run → Run
 behind_first_store (puts k v rest) = rest
 behind_first_store r = r
 
-found_is : (found : Option ℤ) (to absent : ℕ) (r : Rest) → run_left (with_found found to absent r) ≡ if_found absent found (λ v. run r.args (onto r.statements way.end) (slice_set r.registers to (Some v)) r.answers)
+found_is : (found : Option ℤ) (to absent : ℕ) (r : Rest) → run_left (with_found found to absent r) ≡ if_found absent found
+    (λ v. run r.args (onto r.statements way.end) (slice_set r.registers to (Some v)) r.answers)
 found_is None to absent r = refl
 found_is (Some v) to absent r = refl
 
-look_reached : (found : Option ℤ) (o : OrCode Reached) (l : Left) → run_left l ≡ run_reached [] way.end o → run_left (behind_look found o l) ≡ behind_first_look found (run_reached [] way.end o)
+look_reached : (found : Option ℤ) (o : OrCode Reached) (l : Left) → run_left l ≡ run_reached [] way.end o
+    → run_left (behind_look found o l) ≡ behind_first_look found (run_reached [] way.end o)
 look_reached found (Ok (AtLook key to absent r)) l same = found_is found to absent r
 look_reached found (Ok (AtStore key v r)) l same = same
 look_reached found (Ok (AtEnd registers answers)) l same = same
 look_reached found (Err code) l same = same
 
-store_reached : (o : OrCode Reached) (l : Left) → run_left l ≡ run_reached [] way.end o → run_left (behind_store o l) ≡ behind_first_store (run_reached [] way.end o)
+store_reached : (o : OrCode Reached) (l : Left) → run_left l ≡ run_reached [] way.end o
+    → run_left (behind_store o l) ≡ behind_first_store (run_reached [] way.end o)
 store_reached (Ok (AtLook key to absent r)) l same = same
 store_reached (Ok (AtStore key v r)) l same = refl
 store_reached (Ok (AtEnd registers answers)) l same = same
@@ -151,15 +168,19 @@ store_is l r same = store_reached (reached l) l (run_left_is l) ∙ ap behind_fi
 
 -- the first access of some
 
-look_first : (l : Left) (key : Key) (found : Option ℤ) (values : List (Option ℤ)) (made : ℕ) → next_left l ≡ Looks key → left_after l (found ∷ values) (suc made) ≡ left_after (after_look found l) values made
-look_first l key found values made next = ap (λ n. after_next n l (found ∷ values) (λ then values_then. left_after then values_then made)) next
+look_first : (l : Left) (key : Key) (found : Option ℤ) (values : List (Option ℤ)) (made : ℕ) → next_left l ≡ Looks key
+    → left_after l (found ∷ values) (suc made) ≡ left_after (after_look found l) values made
+look_first l key found values made next =
+    ap (λ n. after_next n l (found ∷ values) (λ then values_then. left_after then values_then made)) next
 
-store_first : (l : Left) (key : Key) (v : ℤ) (values : List (Option ℤ)) (made : ℕ) → next_left l ≡ Puts key v → left_after l values (suc made) ≡ left_after (after_store l) values made
+store_first : (l : Left) (key : Key) (v : ℤ) (values : List (Option ℤ)) (made : ℕ) → next_left l ≡ Puts key v → left_after l values
+    (suc made) ≡ left_after (after_store l) values made
 store_first l key v values made next = ap (λ n. after_next n l values (λ then values_then. left_after then values_then made)) next
 
 -- the laws, for what is left that a run is of
 
-pub next_after : (made : ℕ) (r : Run) (l : Left) (values : List (Option ℤ)) → run_left l ≡ r → Used r values made → next_left (left_after l values made) ≡ next_at (trace r values) made
+pub next_after : (made : ℕ) (r : Run) (l : Left) (values : List (Option ℤ)) → run_left l ≡ r → Used r values made
+    → next_left (left_after l values made) ≡ next_at (trace r values) made
 next_after zero r l [] same used = next_is l r same ∙ next_of_trace r
 next_after zero r l (v ∷ values) same used = absurd used
 next_after (suc made) (looks k go) l [] same used = absurd used
@@ -172,7 +193,9 @@ next_after (suc made) (puts k v rest) l values same used =
 next_after (suc made) (ends answers) l values same used = absurd used
 next_after (suc made) (asks code) l values same used = absurd used
 
-pub look_after : (made : ℕ) (r : Run) (l : Left) (values : List (Option ℤ)) → run_left l ≡ r → Used r values made → (key : Key) (found : Option ℤ) → next_left (left_after l values made) ≡ Looks key → left_after l (values ++ found ∷ []) (suc made) ≡ after_look found (left_after l values made)
+pub look_after : (made : ℕ) (r : Run) (l : Left) (values : List (Option ℤ)) → run_left l ≡ r → Used r values made
+    → (key : Key) (found : Option ℤ) → next_left (left_after l values made) ≡ Looks key → left_after l (values ++ found ∷ [])
+    (suc made) ≡ after_look found (left_after l values made)
 look_after zero r l [] same used key found next = look_first l key found [] 0 next
 look_after zero r l (v ∷ values) same used key found next = absurd used
 look_after (suc made) (looks k go) l [] same used key found next = absurd used
@@ -191,7 +214,9 @@ look_after (suc made) (puts k w rest) l values same used key found next =
 look_after (suc made) (ends answers) l values same used key found next = absurd used
 look_after (suc made) (asks code) l values same used key found next = absurd used
 
-pub store_after : (made : ℕ) (r : Run) (l : Left) (values : List (Option ℤ)) → run_left l ≡ r → Used r values made → (key : Key) (v : ℤ) → next_left (left_after l values made) ≡ Puts key v → left_after l values (suc made) ≡ after_store (left_after l values made)
+pub store_after : (made : ℕ) (r : Run) (l : Left) (values : List (Option ℤ)) → run_left l ≡ r → Used r values made
+    → (key : Key) (v : ℤ) → next_left (left_after l values made) ≡ Puts key v → left_after l values (suc made) ≡ after_store
+    (left_after l values made)
 store_after zero r l [] same used key v next = store_first l key v [] 0 next
 store_after zero r l (w ∷ values) same used key v next = absurd used
 store_after (suc made) (looks k go) l [] same used key v next = absurd used

@@ -24,9 +24,13 @@ left_by s c all = left_after (left_of_call s.rules c) (looked all) (length all)
 
 -- accesses that were asked for use the values that they looked at
 
-one_used : (r : Run) (done : List Access) (a : Access) (n : Next) → next_at (trace r (looked done)) (length done) ≡ n → Fits n a → Used r (looked done) (length done) → Used r (looked done ++ if_look a.kind a.value) (suc (length done))
-one_used r done a (Looks k) next fits used = subst (λ kind. Used r (looked done ++ if_look kind a.value) (suc (length done))) (sym fits.1) (used_look-suc r (looked done) (length done) k a.value used next)
-one_used r done a (Puts k v) next fits used = subst (λ kind. Used r (looked done ++ if_look kind a.value) (suc (length done))) (sym fits.1) (subst (λ l. Used r l (suc (length done))) (sym (append-nil (looked done))) (used_store-suc r (looked done) (length done) k v used next))
+one_used : (r : Run) (done : List Access) (a : Access) (n : Next) → next_at (trace r (looked done)) (length done) ≡ n → Fits n a
+    → Used r (looked done) (length done) → Used r (looked done ++ if_look a.kind a.value) (suc (length done))
+one_used r done a (Looks k) next fits used = subst (λ kind. Used r (looked done ++ if_look kind a.value) (suc (length done)))
+    (sym fits.1) (used_look-suc r (looked done) (length done) k a.value used next)
+one_used r done a (Puts k v) next fits used = subst (λ kind. Used r (looked done ++ if_look kind a.value) (suc (length done)))
+    (sym fits.1) (subst (λ l. Used r l (suc (length done))) (sym (append-nil (looked done)))
+    (used_store-suc r (looked done) (length done) k v used next))
 one_used r done a (Ends answers) next fits used = absurd fits
 one_used r done a (Asks code) next fits used = absurd fits
 
@@ -45,10 +49,12 @@ module _ (p : Option Program) (args : List ℤ) (values : List (Option ℤ)) (ma
   pub next_if : next_left (left_after (left_if p args) values made) ≡ next_at (trace (run_if p args) values) made
   next_if = next_after made (run_if p args) (left_if p args) values (run_at_start p args) used
 
-  pub looked_if : (key : Key) (found : Option ℤ) → next_at (trace (run_if p args) values) made ≡ Looks key → left_after (left_if p args) (values ++ found ∷ []) (suc made) ≡ after_look found (left_after (left_if p args) values made)
+  pub looked_if : (key : Key) (found : Option ℤ) → next_at (trace (run_if p args) values) made ≡ Looks key
+      → left_after (left_if p args) (values ++ found ∷ []) (suc made) ≡ after_look found (left_after (left_if p args) values made)
   looked_if key found next = look_after made (run_if p args) (left_if p args) values (run_at_start p args) used key found (next_if ∙ next)
 
-  pub stored_if : (key : Key) (v : ℤ) → next_at (trace (run_if p args) values) made ≡ Puts key v → left_after (left_if p args) values (suc made) ≡ after_store (left_after (left_if p args) values made)
+  pub stored_if : (key : Key) (v : ℤ) → next_at (trace (run_if p args) values) made ≡ Puts key v
+      → left_after (left_if p args) values (suc made) ≡ after_store (left_after (left_if p args) values made)
   stored_if key v next = store_after made (run_if p args) (left_if p args) values (run_at_start p args) used key v (next_if ∙ next)
 
 -- so it is in a legal history
@@ -59,8 +65,11 @@ module _ (s : Setting) (past : List Entry) (h : Legal s past) (t : ℕ) where
   pub next_is_left : next_left (left_of s.rules past t) ≡ next_of s past t
   next_is_left = next_if (s.rules.procedures (call_of past t).procedure) (call_of past t).args (reads past t) (made past t) used_so_far
 
-  pub left_looked : (key : Key) (found : Option ℤ) → next_of s past t ≡ Looks key → left_after (left_of_call s.rules (call_of past t)) (reads past t ++ found ∷ []) (suc (made past t)) ≡ after_look found (left_of s.rules past t)
+  pub left_looked : (key : Key) (found : Option ℤ) → next_of s past t ≡ Looks key
+      → left_after (left_of_call s.rules (call_of past t)) (reads past t ++ found ∷ []) (suc (made past t)) ≡ after_look found
+      (left_of s.rules past t)
   left_looked = looked_if (s.rules.procedures (call_of past t).procedure) (call_of past t).args (reads past t) (made past t) used_so_far
 
-  pub left_stored : (key : Key) (v : ℤ) → next_of s past t ≡ Puts key v → left_after (left_of_call s.rules (call_of past t)) (reads past t) (suc (made past t)) ≡ after_store (left_of s.rules past t)
+  pub left_stored : (key : Key) (v : ℤ) → next_of s past t ≡ Puts key v → left_after (left_of_call s.rules (call_of past t))
+      (reads past t) (suc (made past t)) ≡ after_store (left_of s.rules past t)
   left_stored = stored_if (s.rules.procedures (call_of past t).procedure) (call_of past t).args (reads past t) (made past t) used_so_far

@@ -15,7 +15,8 @@ use Rattle.sgt_model.proofs.Paths.{last_is_member, Simple, simple, simple_some, 
 use Rattle.sgt_model.proofs.Facts.{access-free, stood-before}
 
 -- where t reaches another transaction that the access conflicts with, there is a walk that it closes
-pub closes_from_reach : (past : List Entry) (t : ℕ) (k : Key) (kind : Kind) (y : ℕ) → Reaches (Pair past) t y → y ≢ t → has_conflicting past y k kind ≡ true
+pub closes_from_reach : (past : List Entry) (t : ℕ) (k : Key) (kind : Kind) (y : ℕ) → Reaches (Pair past) t y → y ≢ t
+    → has_conflicting past y k kind ≡ true
     → (rest : List ℕ) × Closes past t k kind rest
 closes_from_reach past t k kind y (path, goes, ends) apart conflict =
     let s : Simple (Pair past) t path = simple (Pair past) t path goes in (
@@ -32,15 +33,20 @@ closes_from_reach past t k kind y (path, goes, ends) apart conflict =
 pub reach_from_closes : (past : List Entry) (t : ℕ) (k : Key) (kind : Kind) (rest : List ℕ) → Closes past t k kind rest
     → (y : ℕ) × Reaches (Pair past) t y × (y ≢ t) × (has_conflicting past y k kind ≡ true)
 reach_from_closes past t k kind [] c = absurd (omega (arith, c.at_least_two))
-reach_from_closes past t k kind (u ∷ rest) c =
-    (last_of u rest, (u ∷ rest, c.pairs, refl), (λ e. c.distinct.0 (subst (λ x. Member x (u ∷ rest)) e (last_is_member t u rest))), c.conflict)
+reach_from_closes past t k kind (u ∷ rest) c = (
+  last_of u rest,
+  (u ∷ rest, c.pairs, refl),
+  (λ e. c.distinct.0 (subst (λ x. Member x (u ∷ rest)) e (last_is_member t u rest))),
+  c.conflict,
+)
 
 -- an access closes no walk
 abbrev pub Granted : List Entry → Option Access → Type 0
 Granted past None = Unit {0}
 Granted past (Some a) = (rest : List ℕ) → Closes past a.by a.key a.kind rest → ⊥
 
-granted : (s : Setting) (e : Entry) (past : List Entry) → LegalReply s past e.event e.reply → (o : Option Access) → access_of e ≡ o → Granted past o
+granted : (s : Setting) (e : Entry) (past : List Entry) → LegalReply s past e.event e.reply → (o : Option Access) → access_of e ≡ o
+    → Granted past o
 granted s e past l None is = tt
 granted s e past l (Some a) is = access-free s past e.event e.reply l a is
 
@@ -48,7 +54,8 @@ granted s e past l (Some a) is = access-free s past e.event e.reply l a is
 abbrev pub Earlier : List Entry → Option Access → ℕ → ℕ → Type 0
 Earlier past access a b = (a ≢ b) × (aborted past a ≡ false) × (aborted past b ≡ false) × (FollowsIn past access a b ⊎ Precedes past a b)
 
-pub earlier : (s : Setting) (e : Entry) (past : List Entry) → Legal s (e ∷ past) → (a b : ℕ) → Pair (e ∷ past) a b → Earlier past (access_of e) a b
+pub earlier : (s : Setting) (e : Entry) (past : List Entry) → Legal s (e ∷ past) → (a b : ℕ) → Pair (e ∷ past) a b
+    → Earlier past (access_of e) a b
 earlier s e past l a b p = (p.apart, stood-before s e past l a p.first_stands, stood-before s e past l b p.second_stands, p.precedes)
 
 -- another transaction has an access that this one conflicts with

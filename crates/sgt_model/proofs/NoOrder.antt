@@ -18,13 +18,16 @@ use Rattle.sgt_model.specs.Closes.{Closes}
 use Rattle.sgt_model.specs.Aborts.{IsAccessBy}
 use Rattle.sgt_model.proofs.Paths.{Within, last_is_member}
 
-access_ends : (event : Event) (r : Reply) (t : ℕ) (k : Key) (kind : Kind) → IsAccessBy (access_in event r) t k kind → (u : ℕ) → ending_in event r u ≡ None
+access_ends : (event : Event) (r : Reply) (t : ℕ) (k : Key) (kind : Kind) → IsAccessBy (access_in event r) t k kind → (u : ℕ)
+    → ending_in event r u ≡ None
 access_ends event (reply.Committed answers) t k kind is u = absurd is
 access_ends event (reply.Aborted why fell) t k kind is u = absurd is
 access_ends event _ t k kind is u = refl
 
-access_aborts : (e : Entry) (past : List Entry) (t : ℕ) (k : Key) (kind : Kind) → IsAccessBy (access_of e) t k kind → (u : ℕ) → aborted (e ∷ past) u ≡ aborted past u
-access_aborts e past t k kind is u = ap (λ ending. has_aborted (option_or ending (fate_of past u))) (access_ends e.event e.reply t k kind is u)
+access_aborts : (e : Entry) (past : List Entry) (t : ℕ) (k : Key) (kind : Kind) → IsAccessBy (access_of e) t k kind → (u : ℕ)
+    → aborted (e ∷ past) u ≡ aborted past u
+access_aborts e past t k kind is u = ap (λ ending. has_aborted (option_or ending (fate_of past u)))
+    (access_ends e.event e.reply t k kind is u)
 
 -- what stood, stands after an access
 pub pair_stays : (e : Entry) (past : List Entry) (t : ℕ) (k : Key) (kind : Kind) → IsAccessBy (access_of e) t k kind
@@ -74,9 +77,11 @@ refused_has_no_rank past t k kind (u ∷ rest) c e is rank up =
     let last : ℕ = last_of u rest in
     let member : Member last (u ∷ rest) = last_is_member t u rest in
     let apart : last ≢ t = λ same. c.distinct.0 (subst (λ x. Member x (u ∷ rest)) same member) in
-    let closing : Pair (e ∷ past) last t = pair_made e past t k kind is last apart (last_stands past t u rest c.pairs) c.pairs.0.first_stands c.conflict in
+    let closing : Pair (e ∷ past) last t =
+    pair_made e past t k kind is last apart (last_stands past t u rest c.pairs) c.pairs.0.first_stands c.conflict in
     let falls : rank last < rank t = up last t (inr member) (inl refl) closing in
-    let rises : rank t ≤ rank last = rank_rises (Pair past) rank (t ∷ u ∷ rest) (λ a b ma mb p. up a b ma mb (pair_stays e past t k kind is a b p)) t (u ∷ rest) (λ x m. m) c.pairs in
+    let rises : rank t ≤ rank last = rank_rises (Pair past) rank (t ∷ u ∷ rest)
+    (λ a b ma mb p. up a b ma mb (pair_stays e past t k kind is a b p)) t (u ∷ rest) (λ x m. m) c.pairs in
     omega arith
 
 -- the place of a number in a list

@@ -37,7 +37,8 @@ rising_rest t (u ∷ l) r = r.1
 same_first : (t u : ℕ) (l m : List ℕ) → Rising (t ∷ l) → Rising (u ∷ m) → Member t (u ∷ m) → Member u (t ∷ l) → t ≡ u
 same_first t u l m r q (inl e) k = e
 same_first t u l m r q (inr j) (inl e) = sym e
-same_first t u l m r q (inr j) (inr k) = let less : u < t = rising_below u m q t j in let more : t < u = rising_below t l r u k in absurd (omega arith)
+same_first t u l m r q (inr j) (inr k) = let less : u < t = rising_below u m q t j in let more : t < u = rising_below t l r u k in
+    absurd (omega arith)
 
 rest_within : (t u : ℕ) (l m : List ℕ) → Rising (t ∷ l) → t ≡ u → Within (t ∷ l) (u ∷ m) → Within l m
 rest_within t u l m r e w x k = go (w x (inr k))
@@ -53,7 +54,8 @@ rising_same [] (u ∷ m) r q w v = absurd (v u (inl refl))
 rising_same (t ∷ l) [] r q w v = absurd (w t (inl refl))
 rising_same (t ∷ l) (u ∷ m) r q w v =
     let e : t ≡ u = same_first t u l m r q (w t (inl refl)) (v u (inl refl)) in
-    let rest : l ≡ m = rising_same l m (rising_rest t l r) (rising_rest u m q) (rest_within t u l m r e w) (rest_within u t m l q (sym e) v) in
+    let rest : l ≡ m = rising_same l m (rising_rest t l r) (rising_rest u m q) (rest_within t u l m r e w)
+    (rest_within u t m l q (sym e) v) in
     ap₂ (λ x xs. x ∷ xs) e rest
 
 -- aborts
@@ -62,26 +64,30 @@ falls_within : (past : List Entry) (t : ℕ) (fell other : List ℕ) → Falls p
 falls_within past t fell other f g u m = let x = f.each u m in g.all u x.0 x.1 x.2
 
 same_fall : (past : List Entry) (t : ℕ) (fell other : List ℕ) → Falls past t fell → Falls past t other → fell ≡ other
-same_fall past t fell other f g = rising_same fell other f.rising g.rising (falls_within past t fell other f g) (falls_within past t other fell g f)
+same_fall past t fell other f g = rising_same fell other f.rising g.rising (falls_within past t fell other f g)
+    (falls_within past t other fell g f)
 
 one_abort : (past : List Entry) (t : ℕ) (why : Cause) (r q : Reply) → Aborts past t why r → Aborts past t why q → r ≡ q
 one_abort past t why r q a b = a.is ∙ (ap (λ l. reply.Aborted why l) (same_fall past t a.fell b.fell a.falls b.falls) ∙ sym b.is)
 
 -- steps
 
-one_access : (past : List Entry) (t : ℕ) (k : Key) (kind : Kind) (given r q : Reply) → Refuses past t k kind r ⊎ Makes past t k kind given r → Refuses past t k kind q ⊎ Makes past t k kind given q → SameButWalk r q
+one_access : (past : List Entry) (t : ℕ) (k : Key) (kind : Kind) (given r q : Reply)
+    → Refuses past t k kind r ⊎ Makes past t k kind given r → Refuses past t k kind q ⊎ Makes past t k kind given q → SameButWalk r q
 one_access past t k kind given r q (inl a) (inl b) = inr (record {
   walk = t ∷ a.rest;
   other_walk = t ∷ b.rest;
   fell = a.aborts.fell;
   one = a.aborts.is;
-  other = b.aborts.is ∙ ap (λ l. reply.Aborted (cause.Cycle (t ∷ b.rest)) l) (same_fall past t b.aborts.fell a.aborts.fell b.aborts.falls a.aborts.falls);
+  other = b.aborts.is ∙ ap (λ l. reply.Aborted (cause.Cycle (t ∷ b.rest)) l)
+      (same_fall past t b.aborts.fell a.aborts.fell b.aborts.falls a.aborts.falls);
 })
 one_access past t k kind given r q (inl a) (inr b) = absurd (b.free a.rest a.closes)
 one_access past t k kind given r q (inr a) (inl b) = absurd (a.free b.rest b.closes)
 one_access past t k kind given r q (inr a) (inr b) = inl (a.is ∙ sym b.is)
 
-one_step : (s : Setting) (past : List Entry) (t : ℕ) (next : Next) (r q : Reply) → StepReply s past t next r → StepReply s past t next q → SameButWalk r q
+one_step : (s : Setting) (past : List Entry) (t : ℕ) (next : Next) (r q : Reply) → StepReply s past t next r
+    → StepReply s past t next q → SameButWalk r q
 one_step s past t (Looks k) r q a b = one_access past t k Look _ r q a b
 one_step s past t (Puts k v) r q a b = one_access past t k Store _ r q a b
 one_step s past t (Ends answers) r q a b = inl (a ∙ sym b)
@@ -92,8 +98,10 @@ one_step s past t (Asks code) r q a b = inl (one_abort past t (cause.Asked code)
 one_least : (past : List Entry) (t u v : ℕ) → IsLeastBefore (LivePredecessor past) t u → IsLeastBefore (LivePredecessor past) t v → u ≡ v
 one_least past t u v a b = let below = a.least v b.pair in let above = b.least u a.pair in omega arith
 
-one_end : (past : List Entry) (t : ℕ) (answers : List ℤ) (r q : Reply) → MustWait past t r ⊎ MayCommit past t answers r → MustWait past t q ⊎ MayCommit past t answers q → r ≡ q
-one_end past t answers r q (inl a) (inl b) = a.is ∙ (ap (λ u. reply.Waits u) (one_least past t a.before b.before a.least b.least) ∙ sym b.is)
+one_end : (past : List Entry) (t : ℕ) (answers : List ℤ) (r q : Reply) → MustWait past t r ⊎ MayCommit past t answers r
+    → MustWait past t q ⊎ MayCommit past t answers q → r ≡ q
+one_end past t answers r q (inl a) (inl b) = a.is ∙ (ap (λ u. reply.Waits u) (one_least past t a.before b.before a.least b.least)
+    ∙ sym b.is)
 one_end past t answers r q (inl a) (inr b) = absurd (b.none_live a.before a.least.pair)
 one_end past t answers r q (inr a) (inl b) = absurd (a.none_live b.before b.least.pair)
 one_end past t answers r q (inr a) (inr b) = a.is ∙ sym b.is
@@ -106,13 +114,17 @@ one_commit past t (Asks code) r q a b = a ∙ sym b
 
 -- every event
 
-one_of_started : (P : Reply → Type 0) → ((r q : Reply) → P r → P q → SameButWalk r q) → (started : Bool) (ended : Option Fate) (r q : Reply) → OfStarted started ended r (P r) → OfStarted started ended q (P q) → SameButWalk r q
+one_of_started : (P : Reply → Type 0) → ((r q : Reply) → P r → P q → SameButWalk r q) → (started : Bool) (ended : Option Fate)
+    (r q : Reply) → OfStarted started ended r (P r) → OfStarted started ended q (P q) → SameButWalk r q
 one_of_started P if_live true None r q a b = if_live r q a b
 one_of_started P if_live true (Some fate) r q a b = inl (a ∙ sym b)
 one_of_started P if_live false ended r q a b = inl (a ∙ sym b)
 
 pub replies_are_unique : RepliesAreUnique
 replies_are_unique s past (Start p args) r q a b = inl (a ∙ sym b)
-replies_are_unique s past (Step t) r q a b = one_of_started (λ x. StepReply s past t (next_of s past t) x) (one_step s past t (next_of s past t)) (nat_lt t (starts past)) (fate_of past t) r q a b
-replies_are_unique s past (Commit t) r q a b = one_of_started (λ x. CommitReply past t (next_of s past t) x) (λ x y g h. inl (one_commit past t (next_of s past t) x y g h)) (nat_lt t (starts past)) (fate_of past t) r q a b
-replies_are_unique s past (Quit t) r q a b = one_of_started (λ x. Aborts past t cause.Quit x) (λ x y g h. inl (one_abort past t cause.Quit x y g h)) (nat_lt t (starts past)) (fate_of past t) r q a b
+replies_are_unique s past (Step t) r q a b = one_of_started (λ x. StepReply s past t (next_of s past t) x)
+    (one_step s past t (next_of s past t)) (nat_lt t (starts past)) (fate_of past t) r q a b
+replies_are_unique s past (Commit t) r q a b = one_of_started (λ x. CommitReply past t (next_of s past t) x)
+    (λ x y g h. inl (one_commit past t (next_of s past t) x y g h)) (nat_lt t (starts past)) (fate_of past t) r q a b
+replies_are_unique s past (Quit t) r q a b = one_of_started (λ x. Aborts past t cause.Quit x)
+    (λ x y g h. inl (one_abort past t cause.Quit x y g h)) (nat_lt t (starts past)) (fate_of past t) r q a b

@@ -23,7 +23,8 @@ pub act_none : (x : Option Access) (t : ℕ) (rest : List Access) → x ≡ None
 act_none x t rest h = ap (λ y. act_in y t rest) h
 
 -- who was not started does not act
-skip_unstarted : (s : Setting) (past : List Entry) (e : Entry) (t : ℕ) → LegalReply s past e.event e.reply → starts past ≤ t → acts (e ∷ past) t ≡ acts past t
+skip_unstarted : (s : Setting) (past : List Entry) (e : Entry) (t : ℕ) → LegalReply s past e.event e.reply → starts past ≤ t
+    → acts (e ∷ past) t ≡ acts past t
 skip_unstarted s past e t h unstarted = by_access (access_of e) refl
   where
     apart : (a : Access) → access_of e ≡ Some a → a.by ≢ t
@@ -44,7 +45,8 @@ acts_unstarted s (e ∷ past) t h unstarted =
 abbrev pub PlaysCall : Setting → Call → List Access → Type 0
 PlaysCall s c all = AsAsked (asks_of (run_of s.rules c)) all
 
-plays_on : (s : Setting) (past : List Entry) (e : Entry) (t : ℕ) → LegalReply s past e.event e.reply → PlaysCall s (call_of past t) (acts past t) → PlaysCall s (call_of past t) (acts (e ∷ past) t)
+plays_on : (s : Setting) (past : List Entry) (e : Entry) (t : ℕ) → LegalReply s past e.event e.reply → PlaysCall s (call_of past t)
+    (acts past t) → PlaysCall s (call_of past t) (acts (e ∷ past) t)
 plays_on s past e t h ih = by_access (access_of e) refl
   where
     own : (a : Access) → access_of e ≡ Some a → a.by ≡ t → PlaysCall s (call_of past t) (acts (e ∷ past) t)
@@ -54,13 +56,18 @@ plays_on s past e t h ih = by_access (access_of e) refl
 
     by_access : (x : Option Access) → access_of e ≡ x → PlaysCall s (call_of past t) (acts (e ∷ past) t)
     by_access None is = subst (λ l. PlaysCall s (call_of past t) l) (sym (act_none (access_of e) t (acts past t) is)) ih
-    by_access (Some a) is = ⊎_elim (λ z. own a is z) (λ z. subst (λ l. PlaysCall s (call_of past t) l) (sym (act_other (access_of e) a t (acts past t) is z)) ih) (cases_eq a.by t)
+    by_access (Some a) is =
+        ⊎_elim (λ z. own a is z) (λ z. subst (λ l. PlaysCall s (call_of past t) l)
+        (sym (act_other (access_of e) a t (acts past t) is z)) ih) (cases_eq a.by t)
 
 -- what a transaction did is what its procedure asked for
 pub plays : (s : Setting) (past : List Entry) (t : ℕ) → Legal s past → PlaysCall s (call_of past t) (acts past t)
 plays s [] t h = tt
 plays s (e ∷ past) t h = by_start (plays s past t h.0) (cases_lt t (starts past))
   where
-    by_start : PlaysCall s (call_of past t) (acts past t) → (t < starts past) ⊎ (starts past ≤ t) → PlaysCall s (call_of (e ∷ past) t) (acts (e ∷ past) t)
-    by_start ih (inl started) = subst (λ c. PlaysCall s c (acts (e ∷ past) t)) (sym (call-kept s past e t h.1 started)) (plays_on s past e t h.1 ih)
-    by_start ih (inr unstarted) = subst (λ l. PlaysCall s (call_of (e ∷ past) t) l) (sym (skip_unstarted s past e t h.1 unstarted ∙ acts_unstarted s past t h.0 unstarted)) tt
+    by_start : PlaysCall s (call_of past t) (acts past t) → (t < starts past) ⊎ (starts past ≤ t)
+        → PlaysCall s (call_of (e ∷ past) t) (acts (e ∷ past) t)
+    by_start ih (inl started) = subst (λ c. PlaysCall s c (acts (e ∷ past) t)) (sym (call-kept s past e t h.1 started))
+        (plays_on s past e t h.1 ih)
+    by_start ih (inr unstarted) = subst (λ l. PlaysCall s (call_of (e ∷ past) t) l)
+        (sym (skip_unstarted s past e t h.1 unstarted ∙ acts_unstarted s past t h.0 unstarted)) tt

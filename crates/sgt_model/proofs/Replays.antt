@@ -36,15 +36,20 @@ commit_entry t answers = record { event = Commit t; reply = reply.Committed answ
 committed_own : (past : List Entry) (t : ℕ) (answers : List ℤ) → committed (commit_entry t answers ∷ past) t ≡ true
 committed_own past t answers = ap (λ b. has_committed (option_or (cond b (Some fate.Committed) None) (fate_of past t))) (eq-eqb t t refl)
 
-committed_other : (past : List Entry) (t : ℕ) (answers : List ℤ) (u : ℕ) → u ≢ t → committed (commit_entry t answers ∷ past) u ≡ committed past u
-committed_other past t answers u n = ap (λ b. has_committed (option_or (cond b (Some fate.Committed) None) (fate_of past u))) (ne_eqb t u (λ z. n (sym z)))
+committed_other : (past : List Entry) (t : ℕ) (answers : List ℤ) (u : ℕ) → u ≢ t
+    → committed (commit_entry t answers ∷ past) u ≡ committed past u
+committed_other past t answers u n = ap (λ b. has_committed (option_or (cond b (Some fate.Committed) None) (fate_of past u)))
+    (ne_eqb t u (λ z. n (sym z)))
 
 -- after t's commit the committed value is t's own last one, or else what it was
-pub settled_commit : (s : Setting) (past : List Entry) (t : ℕ) (answers : List ℤ) (k : Key) → Legal s past → live past t ≡ true → settled s.opening (commit_entry t answers ∷ past) k ≡ value_or (newest_store (λ u. nat_eq u t) k past) (settled s.opening past k)
-settled_commit s past t answers k legal is_live = own_or (committed past) (committed (commit_entry t answers ∷ past)) k past t (s.opening k) below (committed_own past t answers) others first
+pub settled_commit : (s : Setting) (past : List Entry) (t : ℕ) (answers : List ℤ) (k : Key) → Legal s past → live past t ≡ true
+    → settled s.opening (commit_entry t answers ∷ past) k ≡ value_or (newest_store (λ u. nat_eq u t) k past) (settled s.opening past k)
+settled_commit s past t answers k legal is_live = own_or (committed past) (committed (commit_entry t answers ∷ past)) k past t
+    (s.opening k) below (committed_own past t answers) others first
   where
     below : (u : ℕ) → committed past u ≡ true → committed (commit_entry t answers ∷ past) u ≡ true
-    below u h = ⊎_elim (λ z. subst (λ v. committed (commit_entry t answers ∷ past) v ≡ true) (sym z) (committed_own past t answers)) (λ n. committed_other past t answers u n ∙ h) (cases_eq u t)
+    below u h = ⊎_elim (λ z. subst (λ v. committed (commit_entry t answers ∷ past) v ≡ true) (sym z) (committed_own past t answers))
+        (λ n. committed_other past t answers u n ∙ h) (cases_eq u t)
 
     others : (b : Access) → newest_store (committed (commit_entry t answers ∷ past)) k past ≡ Some b → b.by ≢ t → committed past b.by ≡ true
     others b h n = sym (committed_other past t answers b.by n) ∙ (found (committed (commit_entry t answers ∷ past)) k past b h).counts
@@ -52,27 +57,40 @@ settled_commit s past t answers k legal is_live = own_or (committed past) (commi
     first : (b : Access) → newest_store (committed (commit_entry t answers ∷ past)) k past ≡ Some b → b.by ≢ t → Precedes past t b.by → ⊥
     first b h n before =
         let c = others b h n in
-        no_pair_from_live s past legal t b.by is_live c (record { apart = λ z. n (sym z); first_stands = live-stands past t is_live; second_stands = committed-stands past b.by c; precedes = before })
+        no_pair_from_live s past legal t b.by is_live c (record {
+          apart = λ z. n (sym z);
+          first_stands = live-stands past t is_live;
+          second_stands = committed-stands past b.by c;
+          precedes = before;
+        })
 
 -- an entry at which nothing commits changes no committed value
-pub settled_quiet : (s : Setting) (past : List Entry) (e : Entry) (k : Key) → Legal s (e ∷ past) → ((u : ℕ) → ending_in e.event e.reply u ≡ Some fate.Committed → ⊥) → settled s.opening (e ∷ past) k ≡ settled s.opening past k
-settled_quiet s past e k h no_commit = ap (λ x. value_or x (s.opening k)) (newest_skip (committed (e ∷ past)) k e past (skipped (store_or_not k (access_of e))) ∙ newest_agree (committed (e ∷ past)) (committed past) k past below (λ a g. committed-stays s e past h a.by (found (committed past) k past a g).counts))
+pub settled_quiet : (s : Setting) (past : List Entry) (e : Entry) (k : Key) → Legal s (e ∷ past)
+    → ((u : ℕ) → ending_in e.event e.reply u ≡ Some fate.Committed → ⊥) → settled s.opening (e ∷ past) k ≡ settled s.opening past k
+settled_quiet s past e k h no_commit =
+    ap (λ x. value_or x (s.opening k)) (newest_skip (committed (e ∷ past)) k e past (skipped (store_or_not k (access_of e)))
+    ∙ newest_agree (committed (e ∷ past)) (committed past) k past below
+    (λ a g. committed-stays s e past h a.by (found (committed past) k past a g).counts))
   where
     below : (u : ℕ) → committed (e ∷ past) u ≡ true → committed past u ≡ true
     below u g = elim (commit-case e past u g) [ inl now ↦ absurd (no_commit u now) | inr before ↦ before.1 ]
 
-    skipped : StoreOf k (access_of e) ⊎ ((q : ℕ → Bool) → stores q k (access_of e) ≡ None) → stores (committed (e ∷ past)) k (access_of e) ≡ None
-    skipped (inl v) = not_counted (committed (e ∷ past)) k (access_of e) v (false_from_ne_true (committed (e ∷ past) v.a.by) (λ g. live-not_committed past v.a.by (access-live s past e.event e.reply h.1 v.a v.is) (below v.a.by g)))
+    skipped : StoreOf k (access_of e) ⊎ ((q : ℕ → Bool) → stores q k (access_of e) ≡ None) → stores (committed (e ∷ past)) k
+        (access_of e) ≡ None
+    skipped (inl v) = not_counted (committed (e ∷ past)) k (access_of e) v (false_from_ne_true (committed (e ∷ past) v.a.by)
+        (λ g. live-not_committed past v.a.by (access-live s past e.event e.reply h.1 v.a v.is) (below v.a.by g)))
     skipped (inr none) = none (committed (e ∷ past))
 
 -- after t's commit the contents of its run are the committed ones
-same_after : (s : Setting) (past : List Entry) (t : ℕ) (answers : List ℤ) → Legal s past → live past t ≡ true → IsSerializable s past → (k : Key) → over (folded s past).last (acts past t) k ≡ settled s.opening (commit_entry t answers ∷ past) k
+same_after : (s : Setting) (past : List Entry) (t : ℕ) (answers : List ℤ) → Legal s past → live past t ≡ true
+    → IsSerializable s past → (k : Key) → over (folded s past).last (acts past t) k ≡ settled s.opening (commit_entry t answers ∷ past) k
 same_after s past t answers h is_live ih k =
     over-acts (folded s past).last past t k
     ∙ (ap (λ v. value_or (newest_store (λ u. nat_eq u t) k past) v) (ih.database k)
     ∙ sym (settled_commit s past t answers k h is_live))
 
-commit_agrees : (s : Setting) (past : List Entry) (event : Event) (r : Reply) → Legal s past → (c : Commits s past event r) → LooksAgree (settled s.opening past) c.t past
+commit_agrees : (s : Setting) (past : List Entry) (event : Event) (r : Reply) → Legal s past → (c : Commits s past event r)
+    → LooksAgree (settled s.opening past) c.t past
 commit_agrees s past event r h c = looks_agree s [] past past c.t refl h c.is_live c.none_live
 
 -- at each commit, each look of its transaction found its own newest store or the committed value
@@ -81,25 +99,34 @@ commits_agree s [] h = tt
 commits_agree s (e ∷ past) h = (commits_agree s past h.0, now (commits_or_not (effect s past e.event e.reply h.1)))
   where
     now : Commits s past e.event e.reply ⊎ Uncommitted s past e.event e.reply → CommitAgrees s past e.event e.reply
-    now (inl c) = subst₂ (λ event r. CommitAgrees s past event r) (sym c.event_is) (sym c.reply_is) (commit_agrees s past e.event e.reply h.0 c)
+    now (inl c) = subst₂ (λ event r. CommitAgrees s past event r) (sym c.event_is) (sym c.reply_is)
+        (commit_agrees s past e.event e.reply h.0 c)
     now (inr quiet) = quiet.agrees
 
 -- the run of a transaction that commits, on the contents so far
-run_done : (s : Setting) (past : List Entry) (event : Event) (r : Reply) → Legal s past → (c : Commits s past event r) → IsSerializable s past → DoneWith (serial (run_of s.rules (call_of past c.t)) (folded s past).last) c.answers (over (folded s past).last (acts past c.t))
+run_done : (s : Setting) (past : List Entry) (event : Event) (r : Reply) → Legal s past → (c : Commits s past event r)
+    → IsSerializable s past → DoneWith (serial (run_of s.rules (call_of past c.t)) (folded s past).last) c.answers
+    (over (folded s past).last (acts past c.t))
 run_done s past event r h c ih =
     let run : Run = run_of s.rules (call_of past c.t) in
-    (law_over_acts run (run_is_trace run)).done (folded s past).last (acts past c.t) c.answers (plays s past c.t h) (finds_in (folded s past).last (settled s.opening past) past c.t ih.database (commit_agrees s past event r h c)) c.next
+    (law_over_acts run (run_is_trace run)).done (folded s past).last (acts past c.t) c.answers (plays s past c.t h)
+    (finds_in (folded s past).last (settled s.opening past) past c.t ih.database (commit_agrees s past event r h c)) c.next
 
-at_commit : (s : Setting) (past : List Entry) (t : ℕ) (answers : List ℤ) → Legal s past → live past t ≡ true → DoneWith (serial (run_of s.rules (call_of past t)) (folded s past).last) answers (over (folded s past).last (acts past t)) → IsSerializable s past → IsSerializable s (commit_entry t answers ∷ past)
+at_commit : (s : Setting) (past : List Entry) (t : ℕ) (answers : List ℤ) → Legal s past → live past t ≡ true
+    → DoneWith (serial (run_of s.rules (call_of past t)) (folded s past).last) answers (over (folded s past).last (acts past t))
+    → IsSerializable s past → IsSerializable s (commit_entry t answers ∷ past)
 at_commit s past t answers h is_live d ih = record {
   answers = ap₂ (λ r l. r ∷ l) (ap result_of d.1) ih.answers;
   database = λ k. ap (λ o. contents_after o (folded s past).last k) d.1 ∙ (d.2 k ∙ same_after s past t answers h is_live ih k);
 }
 
-at_quiet : (s : Setting) (e : Entry) (past : List Entry) → Legal s (e ∷ past) → Uncommitted s past e.event e.reply → IsSerializable s past → IsSerializable s (e ∷ past)
+at_quiet : (s : Setting) (e : Entry) (past : List Entry) → Legal s (e ∷ past) → Uncommitted s past e.event e.reply
+    → IsSerializable s past → IsSerializable s (e ∷ past)
 at_quiet s e past h quiet ih = record {
-  answers = ap (λ l. (run_in_turn s (l ++ committed_calls past)).results) quiet.no_call ∙ (ih.answers ∙ ap (λ l. l ++ told past) (sym quiet.tells_none));
-  database = λ k. ap (λ l. (run_in_turn s (l ++ committed_calls past)).last k) quiet.no_call ∙ (ih.database k ∙ sym (settled_quiet s past e k h quiet.no_commit));
+  answers = ap (λ l. (run_in_turn s (l ++ committed_calls past)).results) quiet.no_call
+      ∙ (ih.answers ∙ ap (λ l. l ++ told past) (sym quiet.tells_none));
+  database = λ k. ap (λ l. (run_in_turn s (l ++ committed_calls past)).last k) quiet.no_call
+      ∙ (ih.database k ∙ sym (settled_quiet s past e k h quiet.no_commit));
 }
 
 -- commit order is serial
@@ -108,5 +135,6 @@ is_serializable s [] h = record { answers = refl; database = λ k. refl }
 is_serializable s (e ∷ past) h = now (is_serializable s past h.0) (commits_or_not (effect s past e.event e.reply h.1))
   where
     now : IsSerializable s past → Commits s past e.event e.reply ⊎ Uncommitted s past e.event e.reply → IsSerializable s (e ∷ past)
-    now ih (inl c) = subst₂ (λ event r. IsSerializable s (record { event = event; reply = r } ∷ past)) (sym c.event_is) (sym c.reply_is) (at_commit s past c.t c.answers h.0 c.is_live (run_done s past e.event e.reply h.0 c ih) ih)
+    now ih (inl c) = subst₂ (λ event r. IsSerializable s (record { event = event; reply = r } ∷ past)) (sym c.event_is)
+        (sym c.reply_is) (at_commit s past c.t c.answers h.0 c.is_live (run_done s past e.event e.reply h.0 c ih) ih)
     now ih (inr quiet) = at_quiet s e past h quiet ih

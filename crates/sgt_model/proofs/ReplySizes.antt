@@ -41,7 +41,8 @@ distinct_fits : (xs ys : List ℕ) → Distinct xs → Within xs ys → length x
 distinct_fits [] ys d w = omega arith
 distinct_fits (x ∷ xs) ys d w =
     let (zs, long, keep) = removed x ys (w x (inl refl)) in
-    let rest : length xs ≤ length zs = distinct_fits xs zs d.1 (λ y m. keep y (w y (inr m)) (λ same. d.0 (subst (λ z. Member z xs) same m))) in
+    let rest : length xs ≤ length zs =
+    distinct_fits xs zs d.1 (λ y m. keep y (w y (inr m)) (λ same. d.0 (subst (λ z. Member z xs) same m))) in
     omega arith
 
 rising_distinct : (l : List ℕ) → Rising l → Distinct l
@@ -51,7 +52,8 @@ rising_distinct (t ∷ l) r = ((λ m. let less : t < t = rising_below t l r t m 
 -- fates and starts
 
 -- an entry whose reply names few ends none by more
-ending_names : (most : ℕ) (event : Event) (r : Reply) (t : ℕ) (f : Fate) → ReplyNamesAtMost most r → ending_in event r t ≡ Some f → FateNamesAtMost most f
+ending_names : (most : ℕ) (event : Event) (r : Reply) (t : ℕ) (f : Fate) → ReplyNamesAtMost most r → ending_in event r t ≡ Some f
+    → FateNamesAtMost most f
 ending_names most event (reply.Aborted why fell) t f few e = go (concerns event t) (list_any (λ u. nat_eq u t) fell) e
   where
     go : (b c : Bool) → cond b (Some (fate.Aborted why)) (cond c (Some (fate.Fell (subject event))) None) ≡ Some f → FateNamesAtMost most f
@@ -65,7 +67,8 @@ ending_names most event (reply.Committed answers) t f few e = go (concerns event
     go false e = absurd (cc)
 ending_names most event _ t f few e = absurd (cc)
 
-start_names : (most : ℕ) (rules : Rules) (begun living p : ℕ) (args : List ℤ) → ReplyNamesAtMost most (start_reply rules begun living p args)
+start_names : (most : ℕ) (rules : Rules) (begun living p : ℕ) (args : List ℤ) → ReplyNamesAtMost most
+    (start_reply rules begun living p args)
 start_names most rules begun living p args = called (takes rules p)
   where
     one_of : (b c : Bool) → ReplyNamesAtMost most (cond b reply.Spent (cond c reply.Full (reply.Started begun)))
@@ -84,7 +87,9 @@ start_names most rules begun living p args = called (takes rules p)
 module _ (s : Setting) (past : List Entry) (h : Legal s past) where
   live_listed : (l : List ℕ) → Distinct l → ((u : ℕ) → Member u l → live past u ≡ true) → length l ≤ s.rules.limits.live
   live_listed l d alive =
-      let fits : length l ≤ length (live_ones past) = distinct_fits l (live_ones past) d (λ u m. kept_member (live past) u (begun past) (alive u m) (begun_has past u (ltb-true u (starts past) (and_parts _ _ (alive u m)).0))) in
+      let fits : length l ≤ length (live_ones past) =
+      distinct_fits l (live_ones past) d (λ u m. kept_member (live past) u (begun past) (alive u m)
+      (begun_has past u (ltb-true u (starts past) (and_parts _ _ (alive u m)).0))) in
       let kept : length (live_ones past) ≤ s.rules.limits.live = (limits_are_kept s past h).1 in
       omega arith
 
@@ -94,13 +99,19 @@ module _ (s : Setting) (past : List Entry) (h : Legal s past) where
   walk_live t [] alive p u (inr m) = absurd m
   walk_live t (v ∷ rest) alive p u (inr m) = walk_live v rest (pair_live s past h t v alive p.0) p.1 u m
 
-  abort_names : (t : ℕ) → live past t ≡ true → (why : Cause) → CauseNamesAtMost s.rules.limits.live why → (r : Reply) → Aborts past t why r → ReplyNamesAtMost s.rules.limits.live r
+  abort_names : (t : ℕ) → live past t ≡ true → (why : Cause) → CauseNamesAtMost s.rules.limits.live why → (r : Reply)
+      → Aborts past t why r → ReplyNamesAtMost s.rules.limits.live r
   abort_names t alive why few r a =
-      let all : suc (length a.fell) ≤ s.rules.limits.live = live_listed (t ∷ a.fell) ((λ m. (a.falls.each t m).1 refl), rising_distinct a.fell a.falls.rising) (λ u m. elim m [ inl e ↦ subst (λ x. live past x ≡ true) (sym e) alive | inr k ↦ (a.falls.each u k).0 ]) in
+      let all : suc (length a.fell) ≤ s.rules.limits.live =
+      live_listed (t ∷ a.fell) ((λ m. (a.falls.each t m).1 refl), rising_distinct a.fell a.falls.rising)
+      (λ u m. elim m [ inl e ↦ subst (λ x. live past x ≡ true) (sym e) alive | inr k ↦ (a.falls.each u k).0 ]) in
       subst (λ x. ReplyNamesAtMost s.rules.limits.live x) (sym a.is) (few, omega arith)
 
-  access_names : (t : ℕ) → live past t ≡ true → (k : Key) (kind : Kind) (given r : Reply) → ReplyNamesAtMost s.rules.limits.live given → Refuses past t k kind r ⊎ Makes past t k kind given r → ReplyNamesAtMost s.rules.limits.live r
-  access_names t alive k kind given r few (inl x) = abort_names t alive (cause.Cycle (t ∷ x.rest)) (live_listed (t ∷ x.rest) x.closes.distinct (walk_live t x.rest alive x.closes.pairs)) r x.aborts
+  access_names : (t : ℕ) → live past t ≡ true → (k : Key) (kind : Kind) (given r : Reply)
+      → ReplyNamesAtMost s.rules.limits.live given → Refuses past t k kind r ⊎ Makes past t k kind given r
+      → ReplyNamesAtMost s.rules.limits.live r
+  access_names t alive k kind given r few (inl x) = abort_names t alive (cause.Cycle (t ∷ x.rest))
+      (live_listed (t ∷ x.rest) x.closes.distinct (walk_live t x.rest alive x.closes.pairs)) r x.aborts
   access_names t alive k kind given r few (inr x) = subst (λ y. ReplyNamesAtMost s.rules.limits.live y) (sym x.is) few
 
   step_names : (t : ℕ) → live past t ≡ true → (next : Next) (r : Reply) → StepReply s past t next r → ReplyNamesAtMost s.rules.limits.live r
@@ -117,18 +128,25 @@ module _ (s : Setting) (past : List Entry) (h : Legal s past) where
   commit_names t (Asks code) r x = subst (λ y. ReplyNamesAtMost s.rules.limits.live y) (sym x) tt
 
   module _ (fates : (t : ℕ) (f : Fate) → fate_of past t ≡ Some f → FateNamesAtMost s.rules.limits.live f) where
-    of_started : (t : ℕ) (r : Reply) (P : Type 0) → (live past t ≡ true → P → ReplyNamesAtMost s.rules.limits.live r) → (b : Bool) (o : Option Fate) → nat_lt t (starts past) ≡ b → fate_of past t ≡ o → OfStarted b o r P → ReplyNamesAtMost s.rules.limits.live r
+    of_started : (t : ℕ) (r : Reply) (P : Type 0) → (live past t ≡ true → P → ReplyNamesAtMost s.rules.limits.live r)
+        → (b : Bool) (o : Option Fate) → nat_lt t (starts past) ≡ b → fate_of past t ≡ o → OfStarted b o r P
+        → ReplyNamesAtMost s.rules.limits.live r
     of_started t r P if_live true None started unended x = if_live (and_from _ _ started (ap is_none unended)) x
     of_started t r P if_live true (Some f) started ended x = subst (λ y. ReplyNamesAtMost s.rules.limits.live y) (sym x) (fates t f ended)
     of_started t r P if_live false o started ended x = subst (λ y. ReplyNamesAtMost s.rules.limits.live y) (sym x) tt
 
     reply_names : (event : Event) (r : Reply) → LegalReply s past event r → ReplyNamesAtMost s.rules.limits.live r
-    reply_names (Start p args) r x = subst (λ y. ReplyNamesAtMost s.rules.limits.live y) (sym x) (start_names s.rules.limits.live s.rules (starts past) (length (live_ones past)) p args)
-    reply_names (Step t) r x = of_started t r (StepReply s past t (next_of s past t) r) (λ alive. step_names t alive (next_of s past t) r) (nat_lt t (starts past)) (fate_of past t) refl refl x
-    reply_names (Commit t) r x = of_started t r (CommitReply past t (next_of s past t) r) (λ alive. commit_names t (next_of s past t) r) (nat_lt t (starts past)) (fate_of past t) refl refl x
-    reply_names (Quit t) r x = of_started t r (Aborts past t cause.Quit r) (λ alive. abort_names t alive cause.Quit tt r) (nat_lt t (starts past)) (fate_of past t) refl refl x
+    reply_names (Start p args) r x = subst (λ y. ReplyNamesAtMost s.rules.limits.live y) (sym x)
+        (start_names s.rules.limits.live s.rules (starts past) (length (live_ones past)) p args)
+    reply_names (Step t) r x = of_started t r (StepReply s past t (next_of s past t) r)
+        (λ alive. step_names t alive (next_of s past t) r) (nat_lt t (starts past)) (fate_of past t) refl refl x
+    reply_names (Commit t) r x = of_started t r (CommitReply past t (next_of s past t) r)
+        (λ alive. commit_names t (next_of s past t) r) (nat_lt t (starts past)) (fate_of past t) refl refl x
+    reply_names (Quit t) r x = of_started t r (Aborts past t cause.Quit r) (λ alive. abort_names t alive cause.Quit tt r)
+        (nat_lt t (starts past)) (fate_of past t) refl refl x
 
-fates_name : (s : Setting) (past : List Entry) → Legal s past → (t : ℕ) (f : Fate) → fate_of past t ≡ Some f → FateNamesAtMost s.rules.limits.live f
+fates_name : (s : Setting) (past : List Entry) → Legal s past → (t : ℕ) (f : Fate) → fate_of past t ≡ Some f
+    → FateNamesAtMost s.rules.limits.live f
 fates_name s [] h t f e = absurd (cc)
 fates_name s (x ∷ past) h t f e = elim (option_or-cases (ending_in x.event x.reply t) (fate_of past t) f e) [
   | inl now ↦ ending_names s.rules.limits.live x.event x.reply t f (reply_names s past h.0 (fates_name s past h.0) x.event x.reply h.1) now

@@ -56,7 +56,8 @@ begun-under : (past : List Entry) → Under (starts past) (begun past)
 begun-under [] = tt
 begun-under (e ∷ past) = go (is_start e.reply) (begun-under past)
   where
-    go : (b : Bool) → Under (starts past) (begun past) → Under (cond b (starts past + 1) (starts past)) (cond b (begun past ++ starts past ∷ []) (begun past))
+    go : (b : Bool) → Under (starts past) (begun past) → Under (cond b (starts past + 1) (starts past))
+        (cond b (begun past ++ starts past ∷ []) (begun past))
     go true h = under-add (starts past) (begun past) h
     go false h = h
 

@@ -19,7 +19,8 @@ filter_fewer : (p q : ℕ → Bool) (l : List ℕ) → ((t : ℕ) → Member t l
 filter_fewer p q [] h = omega arith
 filter_fewer p q (t ∷ l) h = go (p t) (q t) refl refl (filter_fewer p q l (λ u m. h u (inr m)))
   where
-    go : (b c : Bool) → p t ≡ b → q t ≡ c → length (filter p l) ≤ length (filter q l) → length (cond b (t ∷ filter p l) (filter p l)) ≤ length (cond c (t ∷ filter q l) (filter q l))
+    go : (b c : Bool) → p t ≡ b → q t ≡ c → length (filter p l) ≤ length (filter q l)
+        → length (cond b (t ∷ filter p l) (filter p l)) ≤ length (cond c (t ∷ filter q l) (filter q l))
     go true true x y less = omega arith
     go true false x y less = absurd (true≢false (sym (h t (inl refl) x) ∙ y))
     go false true x y less = omega arith
@@ -42,11 +43,17 @@ pub begun_below : (past : List Entry) (t : ℕ) → Member t (begun past) → t 
 begun_below [] t m = absurd m
 begun_below (e ∷ past) t m = go (begun_below past t) (is_start e.reply) m
   where
-    go : (Member t (begun past) → t < starts past) → (b : Bool) → Member t (cond b (begun past ++ starts past ∷ []) (begun past)) → t < cond b (starts past + 1) (starts past)
-    go rest true m = elim (member_append t (begun past) (starts past) m) [ inl k ↦ let before : t < starts past = rest k in omega arith | inr e ↦ omega arith ]
+    go : (Member t (begun past) → t < starts past) → (b : Bool) → Member t (cond b (begun past ++ starts past ∷ []) (begun past))
+        → t < cond b (starts past + 1) (starts past)
+    go rest true m = elim (member_append t (begun past) (starts past) m) [
+      | inl k ↦ let before : t < starts past = rest k in
+          omega arith
+      | inr e ↦ omega arith
+    ]
     go rest false m = rest m
 
-pub starts_or_not : {s : Setting} {past : List Entry} {event : Event} {r : Reply} → Effect s past event r → Begins s past event r ⊎ (is_start r ≡ false)
+pub starts_or_not : {s : Setting} {past : List Entry} {event : Event} {r : Reply} → Effect s past event r
+    → Begins s past event r ⊎ (is_start r ≡ false)
 starts_or_not (idle i) = inr i.no_start
 starts_or_not (begins b) = inl b
 starts_or_not (accesses x) = inr x.no_start
@@ -60,16 +67,29 @@ live_fewer e past = filter_fewer (live (e ∷ past)) (live past) (begun past) (�
 not_equal : (a b : ℕ) → nat_eq a b ≡ false → a ≢ b
 not_equal a b h e = true≢false (sym (eq-eqb a b e) ∙ h)
 
-pub limits_are_kept : (s : Setting) (past : List Entry) → Legal s past → (starts past ≤ s.rules.limits.begins) × (length (live_ones past) ≤ s.rules.limits.live)
+pub limits_are_kept : (s : Setting) (past : List Entry) → Legal s past
+    → (starts past ≤ s.rules.limits.begins) × (length (live_ones past) ≤ s.rules.limits.live)
 limits_are_kept s [] h = (omega arith, omega arith)
 limits_are_kept s (e ∷ past) h = now (limits_are_kept s past h.0) (live_fewer e past) (starts_or_not (effect s past e.event e.reply h.1))
   where
-    now : (starts past ≤ s.rules.limits.begins) × (length (live_ones past) ≤ s.rules.limits.live) → length (filter (live (e ∷ past)) (begun past)) ≤ length (live_ones past) → Begins s past e.event e.reply ⊎ (is_start e.reply ≡ false) → (cond (is_start e.reply) (starts past + 1) (starts past) ≤ s.rules.limits.begins) × (length (filter (live (e ∷ past)) (cond (is_start e.reply) (begun past ++ starts past ∷ []) (begun past))) ≤ s.rules.limits.live)
-    now (few, kept) fewer (inr none) = subst (λ b. (cond b (starts past + 1) (starts past) ≤ s.rules.limits.begins) × (length (filter (live (e ∷ past)) (cond b (begun past ++ starts past ∷ []) (begun past))) ≤ s.rules.limits.live)) (sym none) (few, omega arith)
+    now : (starts past ≤ s.rules.limits.begins) × (length (live_ones past) ≤ s.rules.limits.live)
+        → length (filter (live (e ∷ past)) (begun past)) ≤ length (live_ones past)
+        → Begins s past e.event e.reply ⊎ (is_start e.reply ≡ false)
+        → (cond (is_start e.reply) (starts past + 1) (starts past) ≤ s.rules.limits.begins) × (length
+        (filter (live (e ∷ past)) (cond (is_start e.reply) (begun past ++ starts past ∷ []) (begun past))) ≤ s.rules.limits.live)
+    now (few, kept) fewer (inr none) =
+        subst (λ b. (cond b (starts past + 1) (starts past) ≤ s.rules.limits.begins) × (length
+        (filter (live (e ∷ past)) (cond b (begun past ++ starts past ∷ []) (begun past))) ≤ s.rules.limits.live)) (sym none)
+        (few, omega arith)
     now (few, kept) fewer (inl b) =
         let spent = not_equal (starts past) s.rules.limits.begins b.not_spent in
         let full = not_equal (length (live_ones past)) s.rules.limits.live b.not_full in
         let one : length (filter (live (e ∷ past)) (starts past ∷ [])) ≤ 1 = filter_one (live (e ∷ past)) (starts past) in
-        let sum : length (filter (live (e ∷ past)) (begun past ++ starts past ∷ [])) ≡ length (filter (live (e ∷ past)) (begun past)) + length (filter (live (e ∷ past)) (starts past ∷ [])) = ap length (filter-append (live (e ∷ past)) (begun past) (starts past ∷ [])) ∙ length-append (filter (live (e ∷ past)) (begun past)) (filter (live (e ∷ past)) (starts past ∷ [])) in
+        let sum : length (filter (live (e ∷ past)) (begun past ++ starts past ∷ [])) ≡ length
+        (filter (live (e ∷ past)) (begun past)) + length (filter (live (e ∷ past)) (starts past ∷ [])) =
+        ap length (filter-append (live (e ∷ past)) (begun past) (starts past ∷ []))
+        ∙ length-append (filter (live (e ∷ past)) (begun past)) (filter (live (e ∷ past)) (starts past ∷ [])) in
         let started : is_start e.reply ≡ true = ap is_start b.reply_is in
-        subst (λ c. (cond c (starts past + 1) (starts past) ≤ s.rules.limits.begins) × (length (filter (live (e ∷ past)) (cond c (begun past ++ starts past ∷ []) (begun past))) ≤ s.rules.limits.live)) (sym started) (omega arith, omega arith)
+        subst (λ c. (cond c (starts past + 1) (starts past) ≤ s.rules.limits.begins) × (length
+        (filter (live (e ∷ past)) (cond c (begun past ++ starts past ∷ []) (begun past))) ≤ s.rules.limits.live)) (sym started)
+        (omega arith, omega arith)

@@ -80,36 +80,48 @@ below_at k (x ∷ rows) zero r below at = subst (λ (y : Row). key_lt k y.0 ≡ 
 below_at k (x ∷ rows) (suc i) r below at = below_at k rows i r below.1 at
 
 -- of two rows, the one that stands first has the smaller key
-pub by_key_at : (rows : List Row) (i j : ℕ) (q r : Row) → IsByKey rows → i < j → slice_get rows i ≡ Some q → slice_get rows j ≡ Some r → key_lt q.0 r.0 ≡ true
+pub by_key_at : (rows : List Row) (i j : ℕ) (q r : Row) → IsByKey rows → i < j → slice_get rows i ≡ Some q
+    → slice_get rows j ≡ Some r → key_lt q.0 r.0 ≡ true
 by_key_at [] i j q r rising h at at' = absurd (cc)
 by_key_at (x ∷ rows) zero zero q r rising h at at' = absurd (omega arith)
-by_key_at (x ∷ rows) zero (suc j) q r rising h at at' = subst (λ (y : Row). key_lt y.0 r.0 ≡ true) (same_Some _ _ at) (below_at x.0 rows j r rising.0 at')
+by_key_at (x ∷ rows) zero (suc j) q r rising h at at' = subst (λ (y : Row). key_lt y.0 r.0 ≡ true) (same_Some _ _ at)
+    (below_at x.0 rows j r rising.0 at')
 by_key_at (x ∷ rows) (suc i) zero q r rising h at at' = absurd (omega arith)
 by_key_at (x ∷ rows) (suc i) (suc j) q r rising h at at' = by_key_at rows i j q r rising.1 (omega arith) at at'
 
 -- halving: what comes before a key below the one in the middle comes before it too
-pub low_moves : (rows : List Row) (m : ℕ) (q : Row) (k : Key) → IsByKey rows → slice_get rows m ≡ Some q → key_lt q.0 k ≡ true → (i : ℕ) (r : Row) → i < m + 1 → slice_get rows i ≡ Some r → key_lt r.0 k ≡ true
+pub low_moves : (rows : List Row) (m : ℕ) (q : Row) (k : Key) → IsByKey rows → slice_get rows m ≡ Some q → key_lt q.0 k ≡ true
+    → (i : ℕ) (r : Row) → i < m + 1 → slice_get rows i ≡ Some r → key_lt r.0 k ≡ true
 low_moves rows m q k rising at less i r h at' = within (nat_eq i m) refl where
   within : (t : Bool) → nat_eq i m ≡ t → key_lt r.0 k ≡ true
-  within true e = subst (λ (y : Row). key_lt y.0 k ≡ true) (same_Some _ _ (sym at ∙ (ap (slice_get rows) (sym (eqb-true i m e)) ∙ at'))) less
+  within true e = subst (λ (y : Row). key_lt y.0 k ≡ true)
+      (same_Some _ _ (sym at ∙ (ap (slice_get rows) (sym (eqb-true i m e)) ∙ at'))) less
   within false e = key_lt-trans r.0 q.0 k (by_key_at rows i m r q rising (omega (arith, eqb-false i m e)) at' at) less
 
 -- and none behind it where it does not come first
-pub high_moves : (rows : List Row) (m : ℕ) (q : Row) (k : Key) → IsByKey rows → slice_get rows m ≡ Some q → key_lt q.0 k ≡ false → (i : ℕ) (r : Row) → m ≤ i → slice_get rows i ≡ Some r → key_lt r.0 k ≡ false
+pub high_moves : (rows : List Row) (m : ℕ) (q : Row) (k : Key) → IsByKey rows → slice_get rows m ≡ Some q → key_lt q.0 k ≡ false
+    → (i : ℕ) (r : Row) → m ≤ i → slice_get rows i ≡ Some r → key_lt r.0 k ≡ false
 high_moves rows m q k rising at more i r h at' = within (nat_eq i m) refl where
   within : (t : Bool) → nat_eq i m ≡ t → key_lt r.0 k ≡ false
-  within true e = subst (λ (y : Row). key_lt y.0 k ≡ false) (same_Some _ _ (sym at ∙ (ap (slice_get rows) (sym (eqb-true i m e)) ∙ at'))) more
+  within true e = subst (λ (y : Row). key_lt y.0 k ≡ false)
+      (same_Some _ _ (sym at ∙ (ap (slice_get rows) (sym (eqb-true i m e)) ∙ at'))) more
   within false e = both (key_lt r.0 k) refl where
     both : (t : Bool) → key_lt r.0 k ≡ t → key_lt r.0 k ≡ false
     both false f = f
-    both true f = absurd (true≢false (sym (key_lt-trans q.0 r.0 k (by_key_at rows m i q r rising (omega (arith, eqb-false i m e)) at at') f) ∙ more))
+    both true f =
+        absurd (true≢false (sym (key_lt-trans q.0 r.0 k (by_key_at rows m i q r rising (omega (arith, eqb-false i m e)) at at') f) ∙ more))
 
 -- where all before it come before the key, and none from it on, it is the key's place
-pub place_from : (k : Key) (rows : List Row) (n : ℕ) → n ≤ length rows → ((i : ℕ) (r : Row) → i < n → slice_get rows i ≡ Some r → key_lt r.0 k ≡ true) → ((i : ℕ) (r : Row) → n ≤ i → slice_get rows i ≡ Some r → key_lt r.0 k ≡ false) → IsPlace k rows n
+pub place_from : (k : Key) (rows : List Row) (n : ℕ) → n ≤ length rows → ((i : ℕ) (r : Row) → i < n → slice_get rows i ≡ Some r
+    → key_lt r.0 k ≡ true) → ((i : ℕ) (r : Row) → n ≤ i → slice_get rows i ≡ Some r → key_lt r.0 k ≡ false) → IsPlace k rows n
 place_from k [] zero h below above = tt
 place_from k [] (suc n) h below above = absurd (omega arith)
 place_from k (x ∷ rows) zero h below above = above 0 x (omega arith) refl
-place_from k (x ∷ rows) (suc n) h below above = (below 0 x (omega arith) refl, place_from k rows n (omega arith) (λ i r g. below (suc i) r (omega arith)) (λ i r g. above (suc i) r (omega arith)))
+place_from k (x ∷ rows) (suc n) h below above = (
+  below 0 x (omega arith) refl,
+  place_from k rows n (omega arith) (λ i r g. below (suc i) r (omega arith))
+      (λ i r g. above (suc i) r (omega arith)),
+)
 
 -- what is read at a place within the rows
 pub read_at : (rows seen : List Row) (m : ℕ) (r : Row) → rows ≡ seen → m < length seen → r ≡ get_or rows m r → slice_get seen m ≡ Some r
@@ -139,66 +151,81 @@ contents_at k (r ∷ rows) zero rising place = both (key_eq r.0 k) refl where
   both : (t : Bool) → key_eq r.0 k ≡ t → cond (key_eq r.0 k) (Some r.1) (contents_of rows k) ≡ cond (key_eq r.0 k) (Some r.1) None
   both true e = rw e refl
   both false e = rw e (none_below k rows (below_less k r.0 rows (key_lt-other r.0 k place e) rising.0))
-contents_at k (r ∷ rows) (suc n) rising place = ap (λ b. cond b (Some r.1) (contents_of rows k)) (key_eq-below r.0 k place.0) ∙ contents_at k rows n rising.1 place.1
+contents_at k (r ∷ rows) (suc n) rising place = ap (λ b. cond b (Some r.1) (contents_of rows k)) (key_eq-below r.0 k place.0)
+    ∙ contents_at k rows n rising.1 place.1
 
 -- what a row that is put at the key's place changes
 
-under : (k : Key) (v : ℤ) (x : Row) (rows new : List Row) → key_lt x.0 k ≡ true → (j : Key) → contents_of new j ≡ put_in (contents_of rows) k v j → contents_of (x ∷ new) j ≡ put_in (contents_of (x ∷ rows)) k v j
+under : (k : Key) (v : ℤ) (x : Row) (rows new : List Row) → key_lt x.0 k ≡ true → (j : Key) → contents_of new j ≡ put_in
+    (contents_of rows) k v j → contents_of (x ∷ new) j ≡ put_in (contents_of (x ∷ rows)) k v j
 under k v x rows new less j rest = both (key_eq x.0 j) refl where
-  both : (t : Bool) → key_eq x.0 j ≡ t → cond (key_eq x.0 j) (Some x.1) (contents_of new j) ≡ cond (key_eq k j) (Some v) (cond (key_eq x.0 j) (Some x.1) (contents_of rows j))
+  both : (t : Bool) → key_eq x.0 j ≡ t → cond (key_eq x.0 j) (Some x.1) (contents_of new j) ≡ cond (key_eq k j) (Some v)
+      (cond (key_eq x.0 j) (Some x.1) (contents_of rows j))
   both true e = rw (e, subst (λ i. key_eq k i ≡ false) (key_eq-true x.0 j e) (key_eq-above k x.0 less)) refl
   both false e = rw e rest
 
 -- in place of one with the same key
-pub set_contents : (k : Key) (v : ℤ) (rows : List Row) (n : ℕ) (r : Row) → IsPlace k rows n → slice_get rows n ≡ Some r → r.0 ≡ k → (j : Key) → contents_of (slice_set rows n (k, v)) j ≡ put_in (contents_of rows) k v j
+pub set_contents : (k : Key) (v : ℤ) (rows : List Row) (n : ℕ) (r : Row) → IsPlace k rows n → slice_get rows n ≡ Some r → r.0 ≡ k
+    → (j : Key) → contents_of (slice_set rows n (k, v)) j ≡ put_in (contents_of rows) k v j
 set_contents k v [] n r place at same j = absurd (cc)
 set_contents k v (x ∷ rows) zero r place at same j = both (key_eq k j) refl where
   first : x.0 ≡ k
   first = ap (λ (y : Row). y.0) (same_Some _ _ at) ∙ same
 
-  both : (t : Bool) → key_eq k j ≡ t → cond (key_eq k j) (Some v) (contents_of rows j) ≡ cond (key_eq k j) (Some v) (cond (key_eq x.0 j) (Some x.1) (contents_of rows j))
+  both : (t : Bool) → key_eq k j ≡ t → cond (key_eq k j) (Some v) (contents_of rows j) ≡ cond (key_eq k j) (Some v)
+      (cond (key_eq x.0 j) (Some x.1) (contents_of rows j))
   both true e = rw e refl
   both false e = rw (first, e) refl
-set_contents k v (x ∷ rows) (suc n) r place at same j = under k v x rows (slice_set rows n (k, v)) place.0 j (set_contents k v rows n r place.1 at same j)
+set_contents k v (x ∷ rows) (suc n) r place at same j = under k v x rows (slice_set rows n (k, v)) place.0 j
+    (set_contents k v rows n r place.1 at same j)
 
 -- or as a new one
-pub insert_contents : (k : Key) (v : ℤ) (rows : List Row) (n : ℕ) → IsPlace k rows n → (j : Key) → contents_of (insert rows n (k, v)) j ≡ put_in (contents_of rows) k v j
+pub insert_contents : (k : Key) (v : ℤ) (rows : List Row) (n : ℕ) → IsPlace k rows n → (j : Key)
+    → contents_of (insert rows n (k, v)) j ≡ put_in (contents_of rows) k v j
 insert_contents k v [] zero place j = refl
 insert_contents k v [] (suc n) place j = absurd place
 insert_contents k v (x ∷ rows) zero place j = refl
 insert_contents k v (x ∷ rows) (suc n) place j = under k v x rows (insert rows n (k, v)) place.0 j (insert_contents k v rows n place.1 j)
 
-set_below : (i k : Key) (v : ℤ) (rows : List Row) (n : ℕ) (r : Row) → slice_get rows n ≡ Some r → r.0 ≡ k → IsBelow i rows → IsBelow i (slice_set rows n (k, v))
+set_below : (i k : Key) (v : ℤ) (rows : List Row) (n : ℕ) (r : Row) → slice_get rows n ≡ Some r → r.0 ≡ k → IsBelow i rows
+    → IsBelow i (slice_set rows n (k, v))
 set_below i k v [] n r at same below = absurd (cc)
-set_below i k v (x ∷ rows) zero r at same below = (subst (λ j. key_lt i j ≡ true) (ap (λ (y : Row). y.0) (same_Some _ _ at) ∙ same) below.0, below.1)
+set_below i k v (x ∷ rows) zero r at same below =
+    (subst (λ j. key_lt i j ≡ true) (ap (λ (y : Row). y.0) (same_Some _ _ at) ∙ same) below.0, below.1)
 set_below i k v (x ∷ rows) (suc n) r at same below = (below.0, set_below i k v rows n r at same below.1)
 
 -- rows stay by key, and of values
-pub set_by_key : (k : Key) (v : ℤ) (rows : List Row) (n : ℕ) (r : Row) → slice_get rows n ≡ Some r → r.0 ≡ k → IsByKey rows → IsByKey (slice_set rows n (k, v))
+pub set_by_key : (k : Key) (v : ℤ) (rows : List Row) (n : ℕ) (r : Row) → slice_get rows n ≡ Some r → r.0 ≡ k → IsByKey rows
+    → IsByKey (slice_set rows n (k, v))
 set_by_key k v [] n r at same rising = absurd (cc)
-set_by_key k v (x ∷ rows) zero r at same rising = (subst (λ i. IsBelow i rows) (ap (λ (y : Row). y.0) (same_Some _ _ at) ∙ same) rising.0, rising.1)
+set_by_key k v (x ∷ rows) zero r at same rising =
+    (subst (λ i. IsBelow i rows) (ap (λ (y : Row). y.0) (same_Some _ _ at) ∙ same) rising.0, rising.1)
 set_by_key k v (x ∷ rows) (suc n) r at same rising = (set_below x.0 k v rows n r at same rising.0, set_by_key k v rows n r at same rising.1)
 
-insert_below : (i k : Key) (v : ℤ) (rows : List Row) (n : ℕ) → key_lt i k ≡ true → IsPlace k rows n → IsBelow i rows → IsBelow i (insert rows n (k, v))
+insert_below : (i k : Key) (v : ℤ) (rows : List Row) (n : ℕ) → key_lt i k ≡ true → IsPlace k rows n → IsBelow i rows
+    → IsBelow i (insert rows n (k, v))
 insert_below i k v [] zero less place below = (less, tt)
 insert_below i k v [] (suc n) less place below = absurd place
 insert_below i k v (x ∷ rows) zero less place below = (less, below)
 insert_below i k v (x ∷ rows) (suc n) less place below = (below.0, insert_below i k v rows n less place.1 below.1)
 
-pub insert_by_key : (k : Key) (v : ℤ) (rows : List Row) (n : ℕ) → IsPlace k rows n → ((r : Row) → slice_get rows n ≡ Some r → key_eq r.0 k ≡ false) → IsByKey rows → IsByKey (insert rows n (k, v))
+pub insert_by_key : (k : Key) (v : ℤ) (rows : List Row) (n : ℕ) → IsPlace k rows n
+    → ((r : Row) → slice_get rows n ≡ Some r → key_eq r.0 k ≡ false) → IsByKey rows → IsByKey (insert rows n (k, v))
 insert_by_key k v [] zero place new rising = (tt, tt)
 insert_by_key k v [] (suc n) place new rising = absurd place
 insert_by_key k v (x ∷ rows) zero place new rising =
     let less = key_lt-other x.0 k place (new x refl) in
     ((less, below_less k x.0 rows less rising.0), rising)
-insert_by_key k v (x ∷ rows) (suc n) place new rising = (insert_below x.0 k v rows n place.0 place.1 rising.0, insert_by_key k v rows n place.1 new rising.1)
+insert_by_key k v (x ∷ rows) (suc n) place new rising =
+    (insert_below x.0 k v rows n place.0 place.1 rising.0, insert_by_key k v rows n place.1 new rising.1)
 
 pub set_values : (k : Key) (v : ℤ) (rows : List Row) (n : ℕ) → IsValue v → HasValues rows → HasValues (slice_set rows n (k, v))
 set_values k v [] n h all = all
 set_values k v (x ∷ rows) zero h all = (h, all.1)
 set_values k v (x ∷ rows) (suc n) h all = (all.0, set_values k v rows n h all.1)
 
-pub insert_values : (k : Key) (v : ℤ) (rows : List Row) (n : ℕ) → IsPlace k rows n → IsValue v → HasValues rows → HasValues (insert rows n (k, v))
+pub insert_values : (k : Key) (v : ℤ) (rows : List Row) (n : ℕ) → IsPlace k rows n → IsValue v → HasValues rows
+    → HasValues (insert rows n (k, v))
 insert_values k v [] zero place h all = (h, tt)
 insert_values k v [] (suc n) place h all = absurd place
 insert_values k v (x ∷ rows) zero place h all = (h, all)
@@ -212,21 +239,26 @@ place_within k (x ∷ rows) (suc n) place = let h = place_within k rows n place.
 
 -- what is found there
 
-pub found_place : (k : Key) (rows : List Row) (n : ℕ) (r : Row) → IsPlace k rows n → slice_get rows n ≡ Some r → key_eq r.0 k ≡ true → IsFound k rows (Ok n)
+pub found_place : (k : Key) (rows : List Row) (n : ℕ) (r : Row) → IsPlace k rows n → slice_get rows n ≡ Some r → key_eq r.0 k ≡ true
+    → IsFound k rows (Ok n)
 found_place k rows n r place at e = (place, r.1, at ∙ ap (λ i. Some (i, r.1)) (key_eq-true r.0 k e))
 
-pub other_place : (k : Key) (rows : List Row) (n : ℕ) (r : Row) → IsPlace k rows n → slice_get rows n ≡ Some r → key_eq r.0 k ≡ false → IsFound k rows (Err n)
+pub other_place : (k : Key) (rows : List Row) (n : ℕ) (r : Row) → IsPlace k rows n → slice_get rows n ≡ Some r
+    → key_eq r.0 k ≡ false → IsFound k rows (Err n)
 other_place k rows n r place at e = (place, λ q at'. subst (λ (y : Row). key_eq y.0 k ≡ false) (same_Some _ _ (sym at ∙ at')) e)
 
 pub past_place : (k : Key) (rows : List Row) (n : ℕ) → IsPlace k rows n → length rows ≤ n → IsFound k rows (Err n)
 past_place k rows n place past = (place, λ q at. let h = slice_get_within rows n q at in absurd (omega arith))
 
 -- the key's value, by its row
-pub value_found : (k : Key) (rows : List Row) (n : ℕ) (v : ℤ) → IsByKey rows → IsPlace k rows n → slice_get rows n ≡ Some (k, v) → Some v ≡ contents_of rows k
-value_found k rows n v rising place at = sym (contents_at k rows n rising place ∙ ap (λ o. value_if o k) at ∙ ap (λ b. cond b (Some v) None) (key_eq-refl k))
+pub value_found : (k : Key) (rows : List Row) (n : ℕ) (v : ℤ) → IsByKey rows → IsPlace k rows n → slice_get rows n ≡ Some (k, v)
+    → Some v ≡ contents_of rows k
+value_found k rows n v rising place at = sym (contents_at k rows n rising place ∙ ap (λ o. value_if o k) at
+    ∙ ap (λ b. cond b (Some v) None) (key_eq-refl k))
 
 -- it has none where its place is another's
-pub value_missing : (k : Key) (rows : List Row) (n : ℕ) → IsByKey rows → IsPlace k rows n → ((r : Row) → slice_get rows n ≡ Some r → key_eq r.0 k ≡ false) → None ≡ contents_of rows k
+pub value_missing : (k : Key) (rows : List Row) (n : ℕ) → IsByKey rows → IsPlace k rows n
+    → ((r : Row) → slice_get rows n ≡ Some r → key_eq r.0 k ≡ false) → None ≡ contents_of rows k
 value_missing k rows n rising place other = sym (contents_at k rows n rising place ∙ both (slice_get rows n) refl) where
   both : (o : Option Row) → slice_get rows n ≡ o → value_if (slice_get rows n) k ≡ None
   both None e = ap (λ o. value_if o k) e
@@ -234,20 +266,30 @@ value_missing k rows n rising place other = sym (contents_at k rows n rising pla
 
 -- the rows afterwards, by what was found in the rows before
 
-pub set_rows : (k : Key) (v w : ℤ) (rows seen : List Row) (n : ℕ) (old : ℤ) → w ≡ v → rows ≡ seen → slice_get seen n ≡ Some (k, old) → IsValue v → IsByKey rows × HasValues rows → IsByKey (slice_set rows n (k, w)) × HasValues (slice_set rows n (k, w))
+pub set_rows : (k : Key) (v w : ℤ) (rows seen : List Row) (n : ℕ) (old : ℤ) → w ≡ v → rows ≡ seen → slice_get seen n ≡ Some (k, old)
+    → IsValue v → IsByKey rows × HasValues rows → IsByKey (slice_set rows n (k, w)) × HasValues (slice_set rows n (k, w))
 set_rows k v w rows seen n old value same at fits all =
-    subst (λ z. IsByKey (slice_set rows n (k, z)) × HasValues (slice_set rows n (k, z))) (sym value) (set_by_key k v rows n (k, old) (ap (λ l. slice_get l n) same ∙ at) refl all.0, set_values k v rows n fits all.1)
+    subst (λ z. IsByKey (slice_set rows n (k, z)) × HasValues (slice_set rows n (k, z))) (sym value)
+    (set_by_key k v rows n (k, old) (ap (λ l. slice_get l n) same ∙ at) refl all.0, set_values k v rows n fits all.1)
 
-pub insert_rows : (k : Key) (v w : ℤ) (rows seen new : List Row) (n : ℕ) → w ≡ v → rows ≡ seen → new ≡ insert rows n (k, w) → IsFound k seen (Err n) → IsValue v → IsByKey rows × HasValues rows → IsByKey new × HasValues new
+pub insert_rows : (k : Key) (v w : ℤ) (rows seen new : List Row) (n : ℕ) → w ≡ v → rows ≡ seen → new ≡ insert rows n (k, w)
+    → IsFound k seen (Err n) → IsValue v → IsByKey rows × HasValues rows → IsByKey new × HasValues new
 insert_rows k v w rows seen new n value same is found fits all =
-    subst (λ l. IsByKey l × HasValues l) (sym (is ∙ ap (λ z. insert rows n (k, z)) value)) (insert_by_key k v rows n place (λ r at. found.1 r (ap (λ l. slice_get l n) (sym same) ∙ at)) all.0, insert_values k v rows n place fits all.1) where
+    subst (λ l. IsByKey l × HasValues l) (sym (is ∙ ap (λ z. insert rows n (k, z)) value)) (
+      insert_by_key k v rows n place (λ r at. found.1 r (ap (λ l. slice_get l n) (sym same) ∙ at)) all.0,
+      insert_values k v rows n place fits all.1,
+    ) where
       place : IsPlace k rows n
       place = subst (λ l. IsPlace k l n) (sym same) found.0
 
-pub set_told : (k : Key) (v w : ℤ) (rows seen : List Row) (n : ℕ) (old : ℤ) → w ≡ v → rows ≡ seen → IsPlace k seen n → slice_get seen n ≡ Some (k, old) → (j : Key) → contents_of (slice_set rows n (k, w)) j ≡ put_in (contents_of seen) k v j
+pub set_told : (k : Key) (v w : ℤ) (rows seen : List Row) (n : ℕ) (old : ℤ) → w ≡ v → rows ≡ seen → IsPlace k seen n
+    → slice_get seen n ≡ Some (k, old) → (j : Key) → contents_of (slice_set rows n (k, w)) j ≡ put_in (contents_of seen) k v j
 set_told k v w rows seen n old value same place at j =
-    ap (λ l. contents_of (slice_set l n (k, w)) j) same ∙ ap (λ z. contents_of (slice_set seen n (k, z)) j) value ∙ set_contents k v seen n (k, old) place at refl j
+    ap (λ l. contents_of (slice_set l n (k, w)) j) same ∙ ap (λ z. contents_of (slice_set seen n (k, z)) j) value
+    ∙ set_contents k v seen n (k, old) place at refl j
 
-pub insert_told : (k : Key) (v w : ℤ) (rows seen new : List Row) (n : ℕ) → w ≡ v → rows ≡ seen → new ≡ insert rows n (k, w) → IsPlace k seen n → (j : Key) → contents_of new j ≡ put_in (contents_of seen) k v j
+pub insert_told : (k : Key) (v w : ℤ) (rows seen new : List Row) (n : ℕ) → w ≡ v → rows ≡ seen → new ≡ insert rows n (k, w)
+    → IsPlace k seen n → (j : Key) → contents_of new j ≡ put_in (contents_of seen) k v j
 insert_told k v w rows seen new n value same is place j =
-    ap (λ l. contents_of l j) (is ∙ ap (λ l. insert l n (k, w)) same ∙ ap (λ z. insert seen n (k, z)) value) ∙ insert_contents k v seen n place j
+    ap (λ l. contents_of l j) (is ∙ ap (λ l. insert l n (k, w)) same ∙ ap (λ z. insert seen n (k, z)) value)
+    ∙ insert_contents k v seen n place j

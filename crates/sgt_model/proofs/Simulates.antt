@@ -55,88 +55,153 @@ quiet_idle event _ q = record { no_start = refl; no_access = refl; ends_none = t
 abbrev pub entry : Event → Reply → Entry
 entry event r = record { event = event; reply = r }
 
-pub after_quiet : (s : Setting) (past : List Entry) (event : Event) (r : Reply) (c : State) → quiet r ≡ true → IsStateAfter s past c → IsStateAfter s (entry event r ∷ past) c
+pub after_quiet : (s : Setting) (past : List Entry) (event : Event) (r : Reply) (c : State) → quiet r ≡ true → IsStateAfter s past c
+    → IsStateAfter s (entry event r ∷ past) c
 after_quiet s past event r c q i =
     let idle = quiet_idle event r q in
-    after_nothing s past (entry event r) c (record { no_start = idle.no_start; no_access = idle.no_access; no_call = no_start-no_call event r idle.no_start; stays = λ u g. ends_none-no_end event r idle.ends_none u; ends = λ u g. absurd (never u g) }) i
+    after_nothing s past (entry event r) c (record {
+      no_start = idle.no_start;
+      no_access = idle.no_access;
+      no_call = no_start-no_call event r idle.no_start;
+      stays = λ u g. ends_none-no_end event r idle.ends_none u;
+      ends = λ u g. absurd (never u g);
+    }) i
   where
     never : (u : ℕ) → no_one u ≡ true → ⊥
     never u g = cc
 
-pub stayed : (s : Setting) (past : List Entry) (event : Event) (answer r : Reply) (before after : State) → quiet answer ≡ true → IsStateAfter s past before → Stays answer before r after → (r ≡ answer) × IsStateAfter s (entry event r ∷ past) after
-stayed s past event answer r before after q i x = (x.reply, after_quiet s past event r after (ap quiet x.reply ∙ q) (subst (λ c. IsStateAfter s past c) (sym x.same) i))
+pub stayed : (s : Setting) (past : List Entry) (event : Event) (answer r : Reply) (before after : State) → quiet answer ≡ true
+    → IsStateAfter s past before → Stays answer before r after → (r ≡ answer) × IsStateAfter s (entry event r ∷ past) after
+stayed s past event answer r before after q i x =
+    (x.reply, after_quiet s past event r after (ap quiet x.reply ∙ q) (subst (λ c. IsStateAfter s past c) (sym x.same) i))
 
 module _ (s : Setting) (past : List Entry) (h : Legal s past) (before after : State) (i : IsStateAfter s past before) (t : ℕ) where
-  pub aborted_in : (event : Event) (why : Cause) (r : Reply) → Of event t → live past t ≡ true → AbortsIn t why before r after → Aborts past t why r × IsStateAfter s (entry event r ∷ past) after
-  aborted_in event why r o alive x = (record { fell = x.fell; falls = falls_from s past h before i t x.fell alive x.falls; is = x.reply }, subst (λ z. IsStateAfter s (entry event z ∷ past) after) (sym x.reply) (after_abort s past event t why x.fell before after o lived i x.drops))
+  pub aborted_in : (event : Event) (why : Cause) (r : Reply) → Of event t → live past t ≡ true → AbortsIn t why before r after
+      → Aborts past t why r × IsStateAfter s (entry event r ∷ past) after
+  aborted_in event why r o alive x = (
+    record { fell = x.fell; falls = falls_from s past h before i t x.fell alive x.falls; is = x.reply },
+    subst (λ z. IsStateAfter s (entry event z ∷ past) after) (sym x.reply)
+        (after_abort s past event t why x.fell before after o lived i x.drops),
+  )
     where
       lived : (u : ℕ) → gone_with t x.fell u ≡ true → live past u ≡ true
-      lived u g = elim (or_cases (nat_eq t u) (list_any (λ v. nat_eq v u) x.fell) g) [ inl e ↦ subst (λ v. live past v ≡ true) (eqb-true t u e) alive | inr m ↦ sym (i.nodes u) ∙ (x.falls.each u (member_from u x.fell m)).0 ]
+      lived u g = elim (or_cases (nat_eq t u) (list_any (λ v. nat_eq v u) x.fell) g) [
+        | inl e ↦ subst (λ v. live past v ≡ true)
+            (eqb-true t u e) alive
+        | inr m ↦ sym (i.nodes u) ∙ (x.falls.each u (member_from u x.fell m)).0
+      ]
 
-  refused_in : (k : Key) (kind : Kind) (r : Reply) → live past t ≡ true → RefusesIn t k kind before r after → Refuses past t k kind r × IsStateAfter s (entry (Step t) r ∷ past) after
-  refused_in k kind r alive x = let a = aborted_in (Step t) (cause.Cycle (t ∷ x.rest)) r (of_step t) alive x.aborts in (record { rest = x.rest; closes = closes_from_blocks s past h before i t k kind x.rest x.blocks; aborts = a.0 }, a.1)
+  refused_in : (k : Key) (kind : Kind) (r : Reply) → live past t ≡ true → RefusesIn t k kind before r after
+      → Refuses past t k kind r × IsStateAfter s (entry (Step t) r ∷ past) after
+  refused_in k kind r alive x = let a = aborted_in (Step t) (cause.Cycle (t ∷ x.rest)) r (of_step t) alive x.aborts in
+      (record { rest = x.rest; closes = closes_from_blocks s past h before i t k kind x.rest x.blocks; aborts = a.0 }, a.1)
 
-  free_of : (k : Key) (kind : Kind) → live past t ≡ true → ((rest : List ℕ) → Blocks before t k kind rest → ⊥) → (rest : List ℕ) → Closes past t k kind rest → ⊥
+  free_of : (k : Key) (kind : Kind) → live past t ≡ true → ((rest : List ℕ) → Blocks before t k kind rest → ⊥) → (rest : List ℕ)
+      → Closes past t k kind rest → ⊥
   free_of k kind alive free rest c = free rest (blocks_from_closes s past h before i t k kind rest alive c)
 
-  step_on : (n : Next) (r : Reply) → next_of s past t ≡ n → live past t ≡ true → StepOn t n before r after → StepReply s past t n r × IsStateAfter s (entry (Step t) r ∷ past) after
+  step_on : (n : Next) (r : Reply) → next_of s past t ≡ n → live past t ≡ true → StepOn t n before r after
+      → StepReply s past t n r × IsStateAfter s (entry (Step t) r ∷ past) after
   step_on (Looks k) r next alive (inl x) = let y = refused_in k Look r alive x in (inl y.0, y.1)
-  step_on (Looks k) r next alive (inr x) = (inr (record { free = free_of k Look alive x.free; is = x.reply ∙ ap (reply.Looked k) (found-visible s past h before i k) }), subst (λ z. IsStateAfter s (entry (Step t) z ∷ past) after) (sym x.reply) (after_look s past h before after i t k alive next x.looks))
+  step_on (Looks k) r next alive (inr x) = (
+    inr (record { free = free_of k Look alive x.free; is = x.reply ∙ ap (reply.Looked k) (found-visible s past h before i k) }),
+    subst (λ z. IsStateAfter s (entry (Step t) z ∷ past) after) (sym x.reply) (after_look s past h before after i t k alive next x.looks),
+  )
   step_on (Puts k v) r next alive (inl x) = let y = refused_in k Store r alive x in (inl y.0, y.1)
-  step_on (Puts k v) r next alive (inr x) = (inr (record { free = free_of k Store alive x.free; is = x.reply }), subst (λ z. IsStateAfter s (entry (Step t) z ∷ past) after) (sym x.reply) (after_store s past h before after i t k alive v next x.stores))
+  step_on (Puts k v) r next alive (inr x) = (
+    inr (record { free = free_of k Store alive x.free; is = x.reply }),
+    subst (λ z. IsStateAfter s (entry (Step t) z ∷ past) after) (sym x.reply)
+        (after_store s past h before after i t k alive v next x.stores),
+  )
   step_on (Ends answers) r next alive x = stayed s past (Step t) reply.Ended r before after refl i x
   step_on (Asks code) r next alive x = aborted_in (Step t) (cause.Asked code) r (of_step t) alive x
 
-  commit_on : (n : Next) (r : Reply) → live past t ≡ true → CommitOn t n before r after → CommitReply past t n r × IsStateAfter s (entry (Commit t) r ∷ past) after
-  commit_on (Ends answers) r alive (inl x) = let y = stayed s past (Commit t) (reply.Waits x.on) r before after refl i x.stays in (inl (record { before = x.on; least = least_from s past h before i t x.on x.least; is = y.0 }), y.1)
-  commit_on (Ends answers) r alive (inr x) = (inr (record { none_live = none_from s past h before i t alive x.first; is = x.reply }), subst (λ z. IsStateAfter s (entry (Commit t) z ∷ past) after) (sym x.reply) (after_commit s past h t answers before after alive i x.settles))
+  commit_on : (n : Next) (r : Reply) → live past t ≡ true → CommitOn t n before r after → CommitReply past t n r × IsStateAfter s
+      (entry (Commit t) r ∷ past) after
+  commit_on (Ends answers) r alive (inl x) = let y = stayed s past (Commit t) (reply.Waits x.on) r before after refl i x.stays in
+      (inl (record { before = x.on; least = least_from s past h before i t x.on x.least; is = y.0 }), y.1)
+  commit_on (Ends answers) r alive (inr x) = (
+    inr (record { none_live = none_from s past h before i t alive x.first; is = x.reply }),
+    subst (λ z. IsStateAfter s (entry (Commit t) z ∷ past) after) (sym x.reply)
+        (after_commit s past h t answers before after alive i x.settles),
+  )
   commit_on (Looks k) r alive x = stayed s past (Commit t) reply.NotEnded r before after refl i x
   commit_on (Puts k v) r alive x = stayed s past (Commit t) reply.NotEnded r before after refl i x
   commit_on (Asks code) r alive x = stayed s past (Commit t) reply.NotEnded r before after refl i x
 
   -- what every call on a transaction shares
-  if_open : (event : Event) (r : Reply) (OnContents OnPast : Type 0) → (live past t ≡ true → OnContents → OnPast × IsStateAfter s (entry event r ∷ past) after) → (b : Bool) (o : Option Fate) → nat_lt t (starts past) ≡ b → fate_of past t ≡ o → IfOpen b o before r after OnContents → OfStarted b o r OnPast × IsStateAfter s (entry event r ∷ past) after
+  if_open : (event : Event) (r : Reply) (OnContents OnPast : Type 0)
+      → (live past t ≡ true → OnContents → OnPast × IsStateAfter s (entry event r ∷ past) after) → (b : Bool) (o : Option Fate)
+      → nat_lt t (starts past) ≡ b → fate_of past t ≡ o → IfOpen b o before r after OnContents
+      → OfStarted b o r OnPast × IsStateAfter s (entry event r ∷ past) after
   if_open event r A B go false o e f x = stayed s past event reply.Unknown r before after refl i x
   if_open event r A B go true (Some fate) e f x = stayed s past event (reply.Over fate) r before after refl i x
   if_open event r A B go true None e f x = go (live_from past t (ltb-true t (starts past) e) f) x
 
-  opened : (event : Event) (r : Reply) (OnContents OnPast : Type 0) → (live past t ≡ true → OnContents → OnPast × IsStateAfter s (entry event r ∷ past) after) → IfOpen (nat_lt t before.starts) (before.fates t) before r after OnContents → OfStarted (nat_lt t (starts past)) (fate_of past t) r OnPast × IsStateAfter s (entry event r ∷ past) after
-  opened event r A B go x = if_open event r A B go (nat_lt t (starts past)) (fate_of past t) refl refl (subst (λ n. IfOpen (nat_lt t n) (fate_of past t) before r after A) i.starts (subst (λ o. IfOpen (nat_lt t before.starts) o before r after A) (i.fates t) x))
+  opened : (event : Event) (r : Reply) (OnContents OnPast : Type 0)
+      → (live past t ≡ true → OnContents → OnPast × IsStateAfter s (entry event r ∷ past) after) → IfOpen (nat_lt t before.starts)
+      (before.fates t) before r after OnContents → OfStarted (nat_lt t (starts past)) (fate_of past t) r OnPast × IsStateAfter s
+      (entry event r ∷ past) after
+  opened event r A B go x = if_open event r A B go (nat_lt t (starts past)) (fate_of past t) refl refl
+      (subst (λ n. IfOpen (nat_lt t n) (fate_of past t) before r after A) i.starts
+      (subst (λ o. IfOpen (nat_lt t before.starts) o before r after A) (i.fates t) x))
 
   next_same : live past t ≡ true → next_left (before.left t) ≡ next_of s past t
   next_same alive = ap next_left (i.left t alive) ∙ next_is_left s past h t
 
-  pub step_simulates : (r : Reply) → StepEffect t before r after → LegalReply s past (Step t) r × IsStateAfter s (entry (Step t) r ∷ past) after
-  step_simulates r x = opened (Step t) r (StepOn t (next_left (before.left t)) before r after) (StepReply s past t (next_of s past t) r) (λ alive y. step_on (next_of s past t) r refl alive (subst (λ n. StepOn t n before r after) (next_same alive) y)) x
+  pub step_simulates : (r : Reply) → StepEffect t before r after → LegalReply s past (Step t) r × IsStateAfter s
+      (entry (Step t) r ∷ past) after
+  step_simulates r x = opened (Step t) r (StepOn t (next_left (before.left t)) before r after)
+      (StepReply s past t (next_of s past t) r) (λ alive y. step_on (next_of s past t) r refl alive
+      (subst (λ n. StepOn t n before r after) (next_same alive) y)) x
 
-  pub commit_simulates : (r : Reply) → CommitEffect t before r after → LegalReply s past (Commit t) r × IsStateAfter s (entry (Commit t) r ∷ past) after
-  commit_simulates r x = opened (Commit t) r (CommitOn t (next_left (before.left t)) before r after) (CommitReply past t (next_of s past t) r) (λ alive y. commit_on (next_of s past t) r alive (subst (λ n. CommitOn t n before r after) (next_same alive) y)) x
+  pub commit_simulates : (r : Reply) → CommitEffect t before r after → LegalReply s past (Commit t) r × IsStateAfter s
+      (entry (Commit t) r ∷ past) after
+  commit_simulates r x = opened (Commit t) r (CommitOn t (next_left (before.left t)) before r after)
+      (CommitReply past t (next_of s past t) r) (λ alive y. commit_on (next_of s past t) r alive
+      (subst (λ n. CommitOn t n before r after) (next_same alive) y)) x
 
-  pub quit_simulates : (r : Reply) → QuitEffect t before r after → LegalReply s past (Quit t) r × IsStateAfter s (entry (Quit t) r ∷ past) after
-  quit_simulates r x = opened (Quit t) r (AbortsIn t cause.Quit before r after) (Aborts past t cause.Quit r) (λ alive y. aborted_in (Quit t) cause.Quit r (of_quit t) alive y) x
+  pub quit_simulates : (r : Reply) → QuitEffect t before r after → LegalReply s past (Quit t) r × IsStateAfter s
+      (entry (Quit t) r ∷ past) after
+  quit_simulates r x = opened (Quit t) r (AbortsIn t cause.Quit before r after) (Aborts past t cause.Quit r)
+      (λ alive y. aborted_in (Quit t) cause.Quit r (of_quit t) alive y) x
 
 -- a start
 
-module _ (s : Setting) (past : List Entry) (h : Legal s past) (before after : State) (i : IsStateAfter s past before) (p : ℕ) (args : List ℤ) where
-  start_cases : (begun living : ℕ) (o : Option ℕ) → (taken_reply s.rules.limits begun living o args ≡ reply.Started begun) ⊎ (quiet (taken_reply s.rules.limits begun living o args) ≡ true)
+module _ (s : Setting) (past : List Entry) (h : Legal s past) (before after : State) (i : IsStateAfter s past before) (p : ℕ)
+    (args : List ℤ) where
+  start_cases : (begun living : ℕ) (o : Option ℕ) → (taken_reply s.rules.limits begun living o args ≡ reply.Started begun) ⊎ (quiet
+      (taken_reply s.rules.limits begun living o args) ≡ true)
   start_cases begun living None = inr refl
-  start_cases begun living (Some count) = tests (args_fit count args) (nat_eq begun s.rules.limits.begins) (nat_eq living s.rules.limits.live)
+  start_cases begun living (Some count) = tests (args_fit count args) (nat_eq begun s.rules.limits.begins)
+      (nat_eq living s.rules.limits.live)
     where
-      tests : (a b d : Bool) → let r : Reply = cond a (cond b reply.Spent (cond d reply.Full (reply.Started begun))) reply.BadArgs in (r ≡ reply.Started begun) ⊎ (quiet r ≡ true)
+      tests : (a b d : Bool) → let r : Reply =
+          cond a (cond b reply.Spent (cond d reply.Full (reply.Started begun))) reply.BadArgs in
+          (r ≡ reply.Started begun) ⊎ (quiet r ≡ true)
       tests false b d = inr refl
       tests true true d = inr refl
       tests true false true = inr refl
       tests true false false = inl refl
 
-  pub start_simulates : (r : Reply) → StartEffect s.rules p args before r after → LegalReply s past (Start p args) r × IsStateAfter s (entry (Start p args) r ∷ past) after
-  start_simulates r x = (answer, elim (start_cases (starts past) (length (live_ones past)) (takes s.rules p)) [ inl e ↦ begins (answer ∙ e) | inr q ↦ idle r (ap quiet answer ∙ q) x.does ])
+  pub start_simulates : (r : Reply) → StartEffect s.rules p args before r after
+      → LegalReply s past (Start p args) r × IsStateAfter s (entry (Start p args) r ∷ past) after
+  start_simulates r x = (
+    answer,
+    elim (start_cases (starts past) (length (live_ones past)) (takes s.rules p)) [
+      | inl e ↦ begins (answer ∙ e)
+      | inr q ↦ idle r (ap quiet answer ∙ q) x.does
+    ],
+  )
     where
       answer : r ≡ taken_reply s.rules.limits (starts past) (length (live_ones past)) (takes s.rules p) args
       answer = x.reply ∙ ap₂ (λ n l. taken_reply s.rules.limits n (length l) (takes s.rules p) args) i.starts i.lives
 
       begins : r ≡ reply.Started (starts past) → IsStateAfter s (entry (Start p args) r ∷ past) after
-      begins e = subst (λ z. IsStateAfter s (entry (Start p args) z ∷ past) after) (sym e) (after_start s past h p args before after i (subst (λ z. StartOn (s.rules.procedures p) args before z after) e x.does))
+      begins e = subst (λ z. IsStateAfter s (entry (Start p args) z ∷ past) after) (sym e)
+          (after_start s past h p args before after i (subst (λ z. StartOn (s.rules.procedures p) args before z after) e x.does))
 
-      idle : (z : Reply) → quiet z ≡ true → StartOn (s.rules.procedures p) args before z after → IsStateAfter s (entry (Start p args) z ∷ past) after
+      idle : (z : Reply) → quiet z ≡ true → StartOn (s.rules.procedures p) args before z after
+          → IsStateAfter s (entry (Start p args) z ∷ past) after
       idle (reply.Started t) q d = absurd (cc)
       idle z q d = after_quiet s past (Start p args) z after q (subst (λ c. IsStateAfter s past c) (sym d) i)

@@ -45,11 +45,24 @@ NonePasses test l = (u : ℕ) → Member u l → test u ≡ true → ⊥
 
 -- one more member is the least that passes
 least_first : (test : ℕ → Bool) (t : ℕ) (l : List ℕ) → test t ≡ true → ((u : ℕ) → Member u l → test u ≡ true → t ≤ u) → Least test (t ∷ l)
-least_first test t l h below = record { at = t; member = inl refl; passes = h; least = λ u m q. elim m [ inl e ↦ omega arith | inr k ↦ below u k q ] }
+least_first test t l h below = record {
+  at = t;
+  member = inl refl;
+  passes = h;
+  least = λ u m q. elim m [
+    | inl e ↦ omega arith
+    | inr k ↦ below u k q
+  ];
+}
 
 -- or is not
 least_later : (test : ℕ → Bool) (t : ℕ) (l : List ℕ) (w : Least test l) → (test t ≡ true → w.at ≤ t) → Least test (t ∷ l)
-least_later test t l w above = record { at = w.at; member = inr w.member; passes = w.passes; least = λ u m q. elim m [ inl e ↦ subst (λ x. w.at ≤ x) (sym e) (above (subst (λ x. test x ≡ true) e q)) | inr k ↦ w.least u k q ] }
+least_later test t l w above = record {
+  at = w.at;
+  member = inr w.member;
+  passes = w.passes;
+  least = λ u m q. elim m [ inl e ↦ subst (λ x. w.at ≤ x) (sym e) (above (subst (λ x. test x ≡ true) e q)) | inr k ↦ w.least u k q ];
+}
 
 least_or_none : (test : ℕ → Bool) (l : List ℕ) → Least test l ⊎ NonePasses test l
 least_or_none test [] = inr (λ u m q. m)
@@ -72,8 +85,10 @@ pub begun_has : (past : List Entry) (t : ℕ) → t < starts past → Member t (
 begun_has [] t less = absurd (omega arith)
 begun_has (e ∷ past) t less = go (begun_has past t) (is_start e.reply) less
   where
-    go : (t < starts past → Member t (begun past)) → (b : Bool) → t < cond b (starts past + 1) (starts past) → Member t (cond b (begun past ++ starts past ∷ []) (begun past))
-    go before true less = member_added t (begun past) (starts past) (elim (cases_lt t (starts past)) [ inl early ↦ inl (before early) | inr last ↦ inr (omega arith) ])
+    go : (t < starts past → Member t (begun past)) → (b : Bool) → t < cond b (starts past + 1) (starts past)
+        → Member t (cond b (begun past ++ starts past ∷ []) (begun past))
+    go before true less = member_added t (begun past) (starts past)
+        (elim (cases_lt t (starts past)) [ inl early ↦ inl (before early) | inr last ↦ inr (omega arith) ])
     go before false less = before less
 
 module _ (past : List Entry) (t : ℕ) where
@@ -85,13 +100,20 @@ module _ (past : List Entry) (t : ℕ) where
   falls-each : (u : ℕ) → Member u (filter falls (begun past)) → (live past u ≡ true) × (u ≢ t) × Reaches (Feeds past) t u
   falls-each u m =
       let p = and_parts _ _ (member_kept falls u (begun past) m).0 in
-      let q = and_parts _ _ p.1 in
-      (p.0, (λ e. both_ways _ (not-true _ q.0) (eq-eqb u t e)), leads-reaches (feeds past) (Feeds past) (λ a b h. read_from-so past b a h) (actors past) t u q.1)
+      let q = and_parts _ _ p.1 in (
+        p.0,
+        (λ e. both_ways _ (not-true _ q.0) (eq-eqb u t e)),
+        leads-reaches (feeds past) (Feeds past)
+            (λ a b h. read_from-so past b a h) (actors past) t u q.1,
+      )
 
   falls-all : (u : ℕ) → live past u ≡ true → u ≢ t → Reaches (Feeds past) t u → Member u (filter falls (begun past))
   falls-all u alive apart r =
-      let led : leads (feeds past) (actors past) t u ≡ true = reaches-leads (feeds past) (Feeds past) (λ a b h. so-read_from past b a h) (actors past) (λ a b h. read_from-actor past b a h) t u r in
-      kept_member falls u (begun past) (and_from _ _ alive (and_from _ _ (not_from_false _ (ne_eqb u t apart)) led)) (begun_has past u (ltb-true u (starts past) (and_parts _ _ alive).0))
+      let led : leads (feeds past) (actors past) t u ≡ true =
+      reaches-leads (feeds past) (Feeds past) (λ a b h. so-read_from past b a h) (actors past)
+      (λ a b h. read_from-actor past b a h) t u r in
+      kept_member falls u (begun past) (and_from _ _ alive (and_from _ _ (not_from_false _ (ne_eqb u t apart)) led))
+      (begun_has past u (ltb-true u (starts past) (and_parts _ _ alive).0))
 
   some_fall : (fell : List ℕ) × Falls past t fell
   some_fall = (filter falls (begun past), record { rising = begun-rise falls past; each = falls-each; all = falls-all })
@@ -110,7 +132,8 @@ module _ (past : List Entry) (t : ℕ) where
     walk_to u h = let p = and_parts _ _ h in let q = and_parts _ _ p.1 in
         go p.0 q.0 (leads-reaches (pair past) (Pair past) (pair-so past) (actors past) t u q.1)
       where
-        go : not (nat_eq t u) ≡ true → has_conflicting past u k kind ≡ true → Reaches (Pair past) t u → (rest : List ℕ) × Closes past t k kind rest
+        go : not (nat_eq t u) ≡ true → has_conflicting past u k kind ≡ true → Reaches (Pair past) t u
+            → (rest : List ℕ) × Closes past t k kind rest
         go other touched (path, goes, e) = let w : Simple (Pair past) t path = simple (Pair past) t path goes in (
           w.rest,
           record {
@@ -127,7 +150,8 @@ module _ (past : List Entry) (t : ℕ) where
 
     closing_last : (rest : List ℕ) → Closes past t k kind rest → closing (last_of t rest) ≡ true
     closing_last rest c =
-        let led : leads (pair past) (actors past) t (last_of t rest) ≡ true = reaches-leads (pair past) (Pair past) (so-pair past) (actors past) (λ a b p. (precedes-actors past a b p.precedes).1) t (last_of t rest) (rest, c.pairs, refl) in
+        let led : leads (pair past) (actors past) t (last_of t rest) ≡ true = reaches-leads (pair past) (Pair past) (so-pair past)
+        (actors past) (λ a b p. (precedes-actors past a b p.precedes).1) t (last_of t rest) (rest, c.pairs, refl) in
         and_from _ _ (not_from_false _ (ne_eqb t (last_of t rest) (apart_from_last rest c))) (and_from _ _ c.conflict led)
 
     some_access : (given : Reply) → (r : Reply) × (Refuses past t k kind r ⊎ Makes past t k kind given r)
@@ -136,7 +160,14 @@ module _ (past : List Entry) (t : ℕ) where
           let walk = walk_to w.at w.passes in
           let abort = some_abort (cause.Cycle (t ∷ walk.0)) in
           (abort.0, inl (record { rest = walk.0; closes = walk.1; aborts = abort.1 }))
-      | inr none ↦ (given, inr (record { free = λ rest c. none (last_of t rest) (has_conflicting-actor past (last_of t rest) k kind c.conflict) (closing_last rest c); is = refl }))
+      | inr none ↦ (
+        given,
+        inr (record {
+          free = λ rest c. none (last_of t rest) (has_conflicting-actor past (last_of t rest) k kind c.conflict)
+              (closing_last rest c);
+          is = refl;
+        }),
+      )
     ]
 
   -- who has to be waited for
@@ -160,7 +191,10 @@ module _ (past : List Entry) (t : ℕ) where
         is = refl;
       }),
     )
-    | inr none ↦ (reply.Committed answers, inr (record { none_live = λ u q. none u (before-actor u q.pair) (and_from _ _ q.is_live (so-pair past u t q.pair)); is = refl }))
+    | inr none ↦ (
+      reply.Committed answers,
+      inr (record { none_live = λ u q. none u (before-actor u q.pair) (and_from _ _ q.is_live (so-pair past u t q.pair)); is = refl }),
+    )
   ]
 
   -- to each kind of event
@@ -177,13 +211,17 @@ module _ (past : List Entry) (t : ℕ) where
   some_commit (Puts k v) = (reply.NotEnded, refl)
   some_commit (Asks code) = (reply.NotEnded, refl)
 
-some_of_started : (P : Reply → Type 0) → (r : Reply) × P r → (started : Bool) (ended : Option Fate) → (r : Reply) × OfStarted started ended r (P r)
+some_of_started : (P : Reply → Type 0) → (r : Reply) × P r → (started : Bool) (ended : Option Fate)
+    → (r : Reply) × OfStarted started ended r (P r)
 some_of_started P if_live true None = if_live
 some_of_started P if_live true (Some fate) = (reply.Over fate, refl)
 some_of_started P if_live false ended = (reply.Unknown, refl)
 
 pub some_reply_is_legal : SomeReplyIsLegal
 some_reply_is_legal s past (Start p args) = (start_reply s.rules (starts past) (length (live_ones past)) p args, refl)
-some_reply_is_legal s past (Step t) = some_of_started (λ r. StepReply s past t (next_of s past t) r) (some_step past t s (next_of s past t)) (nat_lt t (starts past)) (fate_of past t)
-some_reply_is_legal s past (Commit t) = some_of_started (λ r. CommitReply past t (next_of s past t) r) (some_commit past t (next_of s past t)) (nat_lt t (starts past)) (fate_of past t)
-some_reply_is_legal s past (Quit t) = some_of_started (λ r. Aborts past t cause.Quit r) (some_abort past t cause.Quit) (nat_lt t (starts past)) (fate_of past t)
+some_reply_is_legal s past (Step t) = some_of_started (λ r. StepReply s past t (next_of s past t) r)
+    (some_step past t s (next_of s past t)) (nat_lt t (starts past)) (fate_of past t)
+some_reply_is_legal s past (Commit t) = some_of_started (λ r. CommitReply past t (next_of s past t) r)
+    (some_commit past t (next_of s past t)) (nat_lt t (starts past)) (fate_of past t)
+some_reply_is_legal s past (Quit t) = some_of_started (λ r. Aborts past t cause.Quit r) (some_abort past t cause.Quit)
+    (nat_lt t (starts past)) (fate_of past t)

@@ -47,7 +47,9 @@ read-apart (e ∷ past) t u (inr h) = read-apart past t u h
 -- a store precedes the look that found it
 pub read-precedes : (past : List Entry) (t u : ℕ) → ReadFrom past t u → Precedes past u t
 read-precedes [] t u h = absurd h
-read-precedes (e ∷ past) t u (inl h) = let l = looks-access past _ t u h.1 in inl (follows_from past _ l.access u t l.is l.by (subst (λ kind. has_conflicting past u l.access.key kind ≡ true) (sym l.looks) (newest-by _ l.access.key past u l.source).1))
+read-precedes (e ∷ past) t u (inl h) = let l = looks-access past _ t u h.1 in
+    inl (follows_from past _ l.access u t l.is l.by (subst (λ kind. has_conflicting past u l.access.key kind ≡ true) (sym l.looks)
+    (newest-by _ l.access.key past u l.source).1))
 read-precedes (e ∷ past) t u (inr h) = inr (read-precedes past t u h)
 
 -- on paths
@@ -57,7 +59,8 @@ reaches-step step t u v r h = reaches_trans step t u v r (v ∷ [], (h, tt), ref
 
 -- on aborts
 
-undoes_more : {past : List Entry} {event : Event} {r : Reply} (x : Undoing past event r) (t u : ℕ) → live past t ≡ true → ReadFrom past t u → (x.t ≡ u) ⊎ Member u x.fell → (x.t ≡ t) ⊎ Member t x.fell
+undoes_more : {past : List Entry} {event : Event} {r : Reply} (x : Undoing past event r) (t u : ℕ) → live past t ≡ true
+    → ReadFrom past t u → (x.t ≡ u) ⊎ Member u x.fell → (x.t ≡ t) ⊎ Member t x.fell
 undoes_more {past} x t u alive h hit = go (cases_eq t x.t) hit
   where
     go : ((t ≡ x.t) ⊎ (t ≡ x.t → ⊥)) → (x.t ≡ u) ⊎ Member u x.fell → (x.t ≡ t) ⊎ Member t x.fell
@@ -65,14 +68,16 @@ undoes_more {past} x t u alive h hit = go (cases_eq t x.t) hit
     go (inr ne) (inl e) = inr (x.falls.all t alive ne (t ∷ [], (subst (λ w. ReadFrom past t w) (sym e) h, tt), refl))
     go (inr ne) (inr m) = inr (x.falls.all t alive ne (reaches-step (Feeds past) x.t u t (x.falls.each u m).2 h))
 
-undoes_aborts : {past : List Entry} {event : Event} {r : Reply} (x : Undoing past event r) (t : ℕ) → (x.t ≡ t) ⊎ Member t x.fell → has_aborted (ending_in event r t) ≡ true
+undoes_aborts : {past : List Entry} {event : Event} {r : Reply} (x : Undoing past event r) (t : ℕ) → (x.t ≡ t) ⊎ Member t x.fell
+    → has_aborted (ending_in event r t) ≡ true
 undoes_aborts {past} {event} {r} x t hit = ap has_aborted (x.ends t) ∙ go (nat_eq x.t t) (list_any (λ v. nat_eq v t) x.fell) (both hit)
   where
     both : (x.t ≡ t) ⊎ Member t x.fell → (nat_eq x.t t ≡ true) ⊎ (list_any (λ v. nat_eq v t) x.fell ≡ true)
     both (inl e) = inl (eq-eqb _ _ e)
     both (inr m) = inr (member_to t x.fell m)
 
-    go : (b c : Bool) → (b ≡ true) ⊎ (c ≡ true) → has_aborted (cond b (Some (fate.Aborted x.why)) (cond c (Some (fate.Fell x.t)) None)) ≡ true
+    go : (b c : Bool) → (b ≡ true) ⊎ (c ≡ true)
+        → has_aborted (cond b (Some (fate.Aborted x.why)) (cond c (Some (fate.Fell x.t)) None)) ≡ true
     go true c h = refl
     go false true h = refl
     go false false h = elim h [ inl e ↦ e | inr e ↦ e ]
@@ -82,8 +87,14 @@ abort_wins None p h = absurd (cc)
 abort_wins (Some f) p h = h
 
 -- a live transaction falls with what it has read from
-pub falls_with : (s : Setting) (e : Entry) (past : List Entry) → Legal s (e ∷ past) → (t u : ℕ) → live past t ≡ true → ReadFrom past t u → (f : Fate) → ending_in e.event e.reply u ≡ Some f → has_aborted (Some f) ≡ true → aborted (e ∷ past) t ≡ true
-falls_with s e past h t u alive reads f now is = elim (end_case (effect s past e.event e.reply h.1) u f now) [ inl c ↦ absurd (cc (sym is ∙ ap (λ g. has_aborted (Some g)) c.fate_is)) | inr x ↦ abort_wins _ _ (undoes_aborts x.undo t (undoes_more x.undo t u alive reads x.is)) ]
+pub falls_with : (s : Setting) (e : Entry) (past : List Entry) → Legal s (e ∷ past) → (t u : ℕ) → live past t ≡ true
+    → ReadFrom past t u → (f : Fate) → ending_in e.event e.reply u ≡ Some f → has_aborted (Some f) ≡ true → aborted (e ∷ past) t ≡ true
+falls_with s e past h t u alive reads f now is =
+    elim (end_case (effect s past e.event e.reply h.1) u f now) [
+      | inl c ↦ absurd
+          (cc (sym is ∙ ap (λ g. has_aborted (Some g)) c.fate_is))
+      | inr x ↦ abort_wins _ _ (undoes_aborts x.undo t (undoes_more x.undo t u alive reads x.is))
+    ]
 
 -- the two laws of a history, which one induction proves together
 record Sound (past : List Entry) : Type 0 where
@@ -94,7 +105,8 @@ source_stands : (past : List Entry) (u : ℕ) (k : Key) → IsBy (newest_store (
 source_stands past u k h = not-true _ (newest-by (λ v. not (aborted past v)) k past u h).0
 
 -- a source of one that stands after an entry did not fall at it
-no_fall : (s : Setting) (e : Entry) (past : List Entry) → Legal s (e ∷ past) → Sound past → (t u : ℕ) → aborted (e ∷ past) t ≡ false → ReadFrom past t u → (f : Fate) → ending_in e.event e.reply u ≡ Some f → has_aborted (Some f) ≡ true → ⊥
+no_fall : (s : Setting) (e : Entry) (past : List Entry) → Legal s (e ∷ past) → Sound past → (t u : ℕ) → aborted (e ∷ past) t ≡ false
+    → ReadFrom past t u → (f : Fate) → ending_in e.event e.reply u ≡ Some f → has_aborted (Some f) ≡ true → ⊥
 no_fall s e past h sound t u stands reads f now is = go (status past t (precedes-started s past h.0 u t (read-precedes past t u reads)).1)
   where
     go : (live past t ≡ true) ⊎ ((committed past t ≡ true) ⊎ (aborted past t ≡ true)) → ⊥
@@ -102,7 +114,8 @@ no_fall s e past h sound t u stands reads f now is = go (status past t (precedes
     go (inr (inl c)) = live-not_committed past u (end-live s past e.event e.reply h.1 u f now) (sound.commits t u c reads).0
     go (inr (inr a)) = both_ways _ (stood-before s e past h t stands) a
 
-stands_after : (s : Setting) (e : Entry) (past : List Entry) → Legal s (e ∷ past) → Sound past → (t u : ℕ) → aborted (e ∷ past) t ≡ false → ReadFrom (e ∷ past) t u → aborted (e ∷ past) u ≡ false
+stands_after : (s : Setting) (e : Entry) (past : List Entry) → Legal s (e ∷ past) → Sound past → (t u : ℕ)
+    → aborted (e ∷ past) t ≡ false → ReadFrom (e ∷ past) t u → aborted (e ∷ past) u ≡ false
 stands_after s e past h sound t u stands (inl now) =
     let l = looks-access past _ t u now.1 in
     ap has_aborted (access-same_fate s e past h l.access l.is u) ∙ source_stands past u l.access.key l.source
@@ -110,10 +123,14 @@ stands_after s e past h sound t u stands (inr reads) = go (aborted (e ∷ past) 
   where
     go : (b : Bool) → aborted (e ∷ past) u ≡ b → b ≡ false
     go false q = refl
-    go true q = absurd (elim (abort-case e past u q) [ inl now ↦ no_fall s e past h sound t u stands reads now.0 now.1 now.2 | inr before ↦ both_ways _ (sound.stands t u (stood-before s e past h t stands) reads) before ])
+    go true q = absurd (elim (abort-case e past u q) [
+      | inl now ↦ no_fall s e past h sound t u stands reads now.0 now.1 now.2
+      | inr before ↦ both_ways _ (sound.stands t u (stood-before s e past h t stands) reads) before
+    ])
 
 -- at the commit of t, what it has read from has committed
-source_committed : (s : Setting) (e : Entry) (past : List Entry) → Legal s (e ∷ past) → Sound past → (t u : ℕ) → ending_in e.event e.reply t ≡ Some fate.Committed → ReadFrom past t u → committed past u ≡ true
+source_committed : (s : Setting) (e : Entry) (past : List Entry) → Legal s (e ∷ past) → Sound past → (t u : ℕ)
+    → ending_in e.event e.reply t ≡ Some fate.Committed → ReadFrom past t u → committed past u ≡ true
 source_committed s e past h sound t u now reads = go (status past u (precedes-started s past h.0 u t precedes).0)
   where
     precedes : Precedes past u t
@@ -126,25 +143,45 @@ source_committed s e past h sound t u now reads = go (status past u (precedes-st
     u_stands = sound.stands t u t_stands reads
 
     go : (live past u ≡ true) ⊎ ((committed past u ≡ true) ⊎ (aborted past u ≡ true)) → committed past u ≡ true
-    go (inl alive) = absurd (commit-none_live s past e.event e.reply h.1 t now u (record { is_live = alive; pair = record { apart = λ q. read-apart past t u reads (sym q); first_stands = u_stands; second_stands = t_stands; precedes = precedes } }))
+    go (inl alive) =
+        absurd (commit-none_live s past e.event e.reply h.1 t now u
+        (record {
+          is_live = alive;
+          pair = record {
+            apart = λ q. read-apart past t u reads (sym q);
+            first_stands = u_stands;
+            second_stands = t_stands;
+            precedes = precedes;
+          };
+        }))
     go (inr (inl c)) = c
     go (inr (inr a)) = absurd (both_ways _ u_stands a)
 
-commits_after : (s : Setting) (e : Entry) (past : List Entry) → Legal s (e ∷ past) → Sound past → (t u : ℕ) → committed (e ∷ past) t ≡ true → ReadFrom (e ∷ past) t u → (committed (e ∷ past) u ≡ true) × CommitsBefore (e ∷ past) u t
+commits_after : (s : Setting) (e : Entry) (past : List Entry) → Legal s (e ∷ past) → Sound past → (t u : ℕ)
+    → committed (e ∷ past) t ≡ true → ReadFrom (e ∷ past) t u → (committed (e ∷ past) u ≡ true) × CommitsBefore (e ∷ past) u t
 commits_after s e past h sound t u c (inl now) =
     let l = looks-access past _ t u now.1 in
     let alive = subst (λ v. live past v ≡ true) l.by (access-live s past e.event e.reply h.1 l.access l.is) in
     absurd (cc (sym (committed-fate (e ∷ past) t c) ∙ (access-same_fate s e past h l.access l.is t ∙ live-no_fate past t alive)))
-commits_after s e past h sound t u c (inr reads) = elim (commit-case e past t c) [ inl now ↦ let before = source_committed s e past h sound t u now reads in (committed-stays s e past h u before, inl (now, before)) | inr before ↦ let both = sound.commits t u before.1 reads in (committed-stays s e past h u both.0, inr both.1) ]
+commits_after s e past h sound t u c (inr reads) =
+    elim (commit-case e past t c) [
+      | inl now ↦ let before = source_committed s e past h sound t u now reads in
+          (committed-stays s e past h u before, inl (now, before))
+      | inr before ↦ let both = sound.commits t u before.1 reads in
+          (committed-stays s e past h u both.0, inr both.1)
+    ]
 
 sound : (s : Setting) (past : List Entry) → Legal s past → Sound past
 sound s [] h = record { stands = λ t u q r. absurd r; commits = λ t u q r. absurd r }
-sound s (e ∷ past) h = let before = sound s past h.0 in record { stands = λ t u. stands_after s e past h before t u; commits = λ t u. commits_after s e past h before t u }
+sound s (e ∷ past) h = let before = sound s past h.0 in
+    record { stands = λ t u. stands_after s e past h before t u; commits = λ t u. commits_after s e past h before t u }
 
 -- who stands has read only from such as stand
-pub source_of_standing_stands : (s : Setting) (past : List Entry) → Legal s past → (t u : ℕ) → aborted past t ≡ false → ReadFrom past t u → aborted past u ≡ false
+pub source_of_standing_stands : (s : Setting) (past : List Entry) → Legal s past → (t u : ℕ) → aborted past t ≡ false
+    → ReadFrom past t u → aborted past u ≡ false
 source_of_standing_stands s past h = (sound s past h).stands
 
 -- a committed reader's sources are committed, and earlier
-pub source_commits_before : (s : Setting) (past : List Entry) → Legal s past → (t u : ℕ) → committed past t ≡ true → ReadFrom past t u → (committed past u ≡ true) × CommitsBefore past u t
+pub source_commits_before : (s : Setting) (past : List Entry) → Legal s past → (t u : ℕ) → committed past t ≡ true
+    → ReadFrom past t u → (committed past u ≡ true) × CommitsBefore past u t
 source_commits_before s past h = (sound s past h).commits

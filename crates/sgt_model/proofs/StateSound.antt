@@ -21,11 +21,26 @@ use Rattle.sgt_model.proofs.Room.{limits_are_kept}
 use Rattle.sgt_model.proofs.Listed.{member_added, kept_member, member_kept}
 use Rattle.sgt_model.proofs.Verdict.{listed_in-state, listed_live}
 
-pub order_from_state : (s : Setting) (past : List Entry) → Legal s past → (c : State) → IsStateAfter s past c → (k : Key) → InOrder (PairIn c) (c.chain k)
-order_from_state s past h c i k = subst (λ l. InOrder (PairIn c) l) (sym (i.chain k)) (in_order-among (Before past) (PairIn c) (chain_of (live past) k past) (λ a b ma mb r. (i.pairs a b).1 (record { first_live = (chain-wrote (live past) k past a ma).counts; second_live = (chain-wrote (live past) k past b mb).counts; pair = record { apart = r.0; first_stands = live-stands past a (chain-wrote (live past) k past a ma).counts; second_stands = live-stands past b (chain-wrote (live past) k past b mb).counts; precedes = r.1 } })) (chain-ordered (live past) k past))
+pub order_from_state : (s : Setting) (past : List Entry) → Legal s past → (c : State) → IsStateAfter s past c → (k : Key)
+    → InOrder (PairIn c) (c.chain k)
+order_from_state s past h c i k = subst (λ l. InOrder (PairIn c) l) (sym (i.chain k))
+    (in_order-among (Before past) (PairIn c) (chain_of (live past) k past)
+    (λ a b ma mb r. (i.pairs a b).1 (record {
+      first_live = (chain-wrote (live past) k past a ma).counts;
+      second_live = (chain-wrote (live past) k past b mb).counts;
+      pair = record {
+        apart = r.0;
+        first_stands = live-stands past a
+            (chain-wrote (live past) k past a ma).counts;
+        second_stands = live-stands past b (chain-wrote (live past) k past b mb).counts;
+        precedes = r.1;
+      };
+    })) (chain-ordered (live past) k past))
 
-pub writers_from_state : (s : Setting) (past : List Entry) (h : Legal s past) (c : State) (i : IsStateAfter s past c) (k : Key) (t : ℕ) → writes_in t (c.chain k) ≡ true → lists_conflicting c.accesses t k Store ≡ true
-writers_from_state s past h c i k t m = let w = chain-wrote (live past) k past t (ap (writes_in t) (sym (i.chain k)) ∙ m) in listed_in-state s past h c i t k Store w.counts ∙ w.stored
+pub writers_from_state : (s : Setting) (past : List Entry) (h : Legal s past) (c : State) (i : IsStateAfter s past c) (k : Key)
+    (t : ℕ) → writes_in t (c.chain k) ≡ true → lists_conflicting c.accesses t k Store ≡ true
+writers_from_state s past h c i k t m = let w = chain-wrote (live past) k past t (ap (writes_in t) (sym (i.chain k)) ∙ m) in
+    listed_in-state s past h c i t k Store w.counts ∙ w.stored
 
 -- the list of the live ones has each that is live, and no other
 
@@ -36,14 +51,19 @@ begun_has (e ∷ past) t lt = go (is_start e.reply) (begun_has past t) lt
     now_or : t < starts past + 1 → (t < starts past → Member t (begun past)) → Member t (begun past) ⊎ (t ≡ starts past)
     now_or lt before = elim (cases_lt t (starts past)) [ inl l ↦ inl (before l) | inr le ↦ inr (omega arith) ]
 
-    go : (b : Bool) → (t < starts past → Member t (begun past)) → t < cond b (starts past + 1) (starts past) → Member t (cond b (begun past ++ starts past ∷ []) (begun past))
+    go : (b : Bool) → (t < starts past → Member t (begun past)) → t < cond b (starts past + 1) (starts past)
+        → Member t (cond b (begun past ++ starts past ∷ []) (begun past))
     go true before lt = member_added t (begun past) (starts past) (now_or lt before)
     go false before lt = before lt
 
 pub state_is_sound : (s : Setting) (past : List Entry) → Legal s past → (c : State) → IsStateAfter s past c → Sound s.rules.limits.live c
 state_is_sound s past h c i = record {
   begun = λ t q. subst (λ n. t < n) (sym i.starts) (live-started past t (sym (i.nodes t) ∙ q));
-  listed = λ t. ((λ q. subst (λ l. Member t l) (sym i.lives) (kept_member (live past) t (begun past) (sym (i.nodes t) ∙ q) (begun_has past t (live-started past t (sym (i.nodes t) ∙ q))))), (λ m. i.nodes t ∙ (member_kept (live past) t (begun past) (subst (λ l. Member t l) i.lives m)).0));
+  listed = λ t. (
+    (λ q. subst (λ l. Member t l) (sym i.lives) (kept_member (live past) t (begun past) (sym (i.nodes t) ∙ q)
+        (begun_has past t (live-started past t (sym (i.nodes t) ∙ q))))),
+    (λ m. i.nodes t ∙ (member_kept (live past) t (begun past) (subst (λ l. Member t l) i.lives m)).0),
+  );
   few = subst (λ l. length l ≤ s.rules.limits.live) (sym i.lives) (limits_are_kept s past h).1;
   pair_nodes = λ t u q. let p = (i.pairs t u).0 q in (i.nodes t ∙ p.first_live, i.nodes u ∙ p.second_live);
   pair_apart = λ t u q. ((i.pairs t u).0 q).pair.apart;

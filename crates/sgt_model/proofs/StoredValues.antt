@@ -51,7 +51,8 @@ stores_along args (way.look to table id absent rest) regs answers =
     stores_with _ _ (λ n. stores_where (is_key table n) _ (λ e found. stores_found absent found _ (λ v. stores_along args rest _ answers)))
 stores_along args (way.put table id value rest) regs answers =
     let onwards : Run = run args rest regs answers in
-    stores_with (value_of id args regs) (λ n. with_value (value_of value args regs) (λ v. with_key table n (λ k. with_stored v (puts k v onwards))))
+    stores_with (value_of id args regs) (λ n. with_value (value_of value args regs)
+    (λ v. with_key table n (λ k. with_stored v (puts k v onwards))))
     (λ n. stores_with (value_of value args regs) (λ v. with_key table n (λ k. with_stored v (puts k v onwards)))
     (λ v. stores_where (is_key table n) _ (λ e. stores_value (table, n) v onwards (stores_along args rest regs answers))))
 stores_along args (way.save to value rest) regs answers =
@@ -76,9 +77,11 @@ value_put true v before fits stood = fits
 value_put false v before fits stood = stood
 
 -- a run that stores values leaves values
-hold_after : (r : Run) (m before : Contents) → StoresValues r → HoldValues m → HoldValues before → HoldValues (contents_after (serial r m) before)
+hold_after : (r : Run) (m before : Contents) → StoresValues r → HoldValues m → HoldValues before
+    → HoldValues (contents_after (serial r m) before)
 hold_after (looks k go) m before stores now left = hold_after (go (m k)) m before (stores (m k)) now left
-hold_after (puts k v rest) m before stores now left = hold_after rest (put_in m k v) before stores.1 (λ other. value_put (key_eq k other) v (m other) stores.0 (now other)) left
+hold_after (puts k v rest) m before stores now left = hold_after rest (put_in m k v) before stores.1
+    (λ other. value_put (key_eq k other) v (m other) stores.0 (now other)) left
 hold_after (ends answers) m before stores now left = now
 hold_after (asks code) m before stores now left = left
 

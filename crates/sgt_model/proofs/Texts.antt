@@ -17,5 +17,6 @@ row_block_hidden : (v : Vec Statement Global) → row_block (hidden-the_row-Stat
 row_block_hidden v = row_block_is (hidden-the_row-Statement-0 v) ∙ ap block_of (items_hidden-the_row-Statement-0 v)
 
 -- the text of an If has the texts of its branches
-pub before_if : (c : Cond) (ys ns : Vec Statement Global) (rest : Block) → before (If c ys ns) rest ≡ choose (test_of c) (block_of ys.items) (block_of ns.items) rest
+pub before_if : (c : Cond) (ys ns : Vec Statement Global) (rest : Block) → before (If c ys ns) rest ≡ choose (test_of c)
+    (block_of ys.items) (block_of ns.items) rest
 before_if c ys ns rest = λ i. choose (test_of c) (row_block_hidden ys i) (row_block_hidden ns i) rest

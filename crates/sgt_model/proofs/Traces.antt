@@ -16,7 +16,8 @@ use Rattle.sgt_model.proofs.Acts.{asks_of, AsAsked, stored, over, FindsIn, ActsL
 -- the law holds of each run
 pub run_is_trace : (r : Run) → RunIsTrace r
 run_is_trace (looks k go) m [] f = tt
-run_is_trace (looks k go) m (v ∷ vs) f = subst (λ w. GivesAt (trace (go v) vs).ending (with_stores m (trace (go v) vs).accesses) (serial (go w) m)) f.0 (run_is_trace (go v) m vs f.1)
+run_is_trace (looks k go) m (v ∷ vs) f = subst (λ w. GivesAt (trace (go v) vs).ending (with_stores m (trace (go v) vs).accesses)
+    (serial (go w) m)) f.0 (run_is_trace (go v) m vs f.1)
 run_is_trace (puts k v rest) m vs f = run_is_trace rest (put_in m k v) vs f
 run_is_trace (ends answers) m vs f = refl
 run_is_trace (asks code) m vs f = refl
@@ -65,7 +66,8 @@ length-olds : (done : List Access) → length (olds done) ≡ length done
 length-olds [] = refl
 length-olds (a ∷ done) = length-append (olds done) (as_act a ∷ []) ∙ (ap (λ n. n + 1) (length-olds done) ∙ omega arith)
 
-trace_by : (r : Run) (a : Access) (ws : List (Option ℤ)) → Fits (next_of_run r) a → trace r (if_look a.kind a.value ++ ws) ≡ after_access (as_act a) (trace (left_by r a) ws)
+trace_by : (r : Run) (a : Access) (ws : List (Option ℤ)) → Fits (next_of_run r) a
+    → trace r (if_look a.kind a.value ++ ws) ≡ after_access (as_act a) (trace (left_by r a) ws)
 trace_by (looks k go) a ws h =
     ap (λ kind. trace (looks k go) (if_look kind a.value ++ ws)) h.1
     ∙ ap₂ (λ j kind. after_access (act_of kind j a.value) (trace (go a.value) ws)) (sym h.0) (sym h.1)
@@ -79,19 +81,22 @@ trace_by (asks code) a ws h = absurd h
 behind_append : (xs : List Act) (x : Act) (t : Trace) → behind xs (after_access x t) ≡ behind (xs ++ x ∷ []) t
 behind_append xs x t = ap (λ (l : List Act). record { accesses = l; ending = t.ending }) (sym (append_assoc xs (x ∷ []) t.accesses))
 
-next_left : (r : Run) (done : List Access) → trace r (looked done ++ []) ≡ behind (olds done) (trace (left r done) []) → next_at (trace r (looked done)) (length done) ≡ next_of_run (left r done)
+next_left : (r : Run) (done : List Access) → trace r (looked done ++ []) ≡ behind (olds done) (trace (left r done) [])
+    → next_at (trace r (looked done)) (length done) ≡ next_of_run (left r done)
 next_left r done e =
     ap₂ (asks_of r) (sym (append-nil (looked done))) (sym (length-olds done))
     ∙ (ap (λ t. next_at t (length (olds done))) e
     ∙ (next_behind (olds done) (trace (left r done) []) ∙ first_next (left r done)))
 
 -- the trace over what the acts looked at begins with the acts
-trace_left : (r : Run) (done : List Access) → AsAsked (asks_of r) done → (ws : List (Option ℤ)) → trace r (looked done ++ ws) ≡ behind (olds done) (trace (left r done) ws)
+trace_left : (r : Run) (done : List Access) → AsAsked (asks_of r) done → (ws : List (Option ℤ))
+    → trace r (looked done ++ ws) ≡ behind (olds done) (trace (left r done) ws)
 trace_left r [] h ws = refl
 trace_left r (a ∷ done) h ws =
     ap (λ vs. trace r vs) (append_assoc (looked done) (if_look a.kind a.value) ws)
     ∙ (trace_left r done h.0 (if_look a.kind a.value ++ ws)
-    ∙ (ap (λ t. behind (olds done) t) (trace_by (left r done) a ws (subst (λ n. Fits n a) (next_left r done (trace_left r done h.0 [])) h.1))
+    ∙ (ap (λ t. behind (olds done) t)
+    (trace_by (left r done) a ws (subst (λ n. Fits n a) (next_left r done (trace_left r done h.0 [])) h.1))
     ∙ behind_append (olds done) (as_act a) (trace (left_by (left r done) a) ws)))
 
 -- a look, or a store of a value
@@ -118,7 +123,8 @@ with_append m (look k ∷ xs) ys = with_append m xs ys
 with_append m (put k v ∷ xs) ys = with_append (put_in m k v) xs ys
 
 with_one : (m : Contents) (a : Access) (k : Key) → Shape a → with_stores m (as_act a ∷ []) k ≡ stored a k (m k)
-with_one m a k (inl h) = ap (λ kind. with_stores m (act_of kind a.key a.value ∷ []) k) h ∙ ap (λ kind. cond (is_store kind && key_eq a.key k) a.value (m k)) (sym h)
+with_one m a k (inl h) = ap (λ kind. with_stores m (act_of kind a.key a.value ∷ []) k) h
+    ∙ ap (λ kind. cond (is_store kind && key_eq a.key k) a.value (m k)) (sym h)
 with_one m a k (inr h) =
     ap₂ (λ kind w. with_stores m (act_of kind a.key w ∷ []) k) h.1 h.2
     ∙ ap₂ (λ kind w. cond (is_store kind && key_eq a.key k) w (m k)) (sym h.1) (sym h.2)
@@ -129,16 +135,23 @@ with_over m (a ∷ done) sh k =
     ap (λ f. f k) (with_append m (olds done) (as_act a ∷ []))
     ∙ (with_one (with_stores m (olds done)) a k sh.1 ∙ ap (λ v. stored a k v) (with_over m done sh.0 k))
 
-finds_one : (m : Contents) (a : Access) (ys : List Act) (ws : List (Option ℤ)) → Shape a → (a.kind ≡ Look → a.value ≡ m a.key) → Finds (with_stores m (as_act a ∷ [])) ys ws → Finds m (as_act a ∷ ys) (if_look a.kind a.value ++ ws)
-finds_one m a ys ws (inl h) found = subst (λ kind. Finds (with_stores m (act_of kind a.key a.value ∷ [])) ys ws → Finds m (act_of kind a.key a.value ∷ ys) (if_look kind a.value ++ ws)) (sym h) (λ g. (found h, g))
-finds_one m a ys ws (inr h) found = subst (λ kind. Finds (with_stores m (act_of kind a.key a.value ∷ [])) ys ws → Finds m (act_of kind a.key a.value ∷ ys) (if_look kind a.value ++ ws)) (sym h.1) (λ g. g)
+finds_one : (m : Contents) (a : Access) (ys : List Act) (ws : List (Option ℤ)) → Shape a → (a.kind ≡ Look → a.value ≡ m a.key)
+    → Finds (with_stores m (as_act a ∷ [])) ys ws → Finds m (as_act a ∷ ys) (if_look a.kind a.value ++ ws)
+finds_one m a ys ws (inl h) found = subst (λ kind. Finds (with_stores m (act_of kind a.key a.value ∷ [])) ys ws
+    → Finds m (act_of kind a.key a.value ∷ ys) (if_look kind a.value ++ ws)) (sym h) (λ g. (found h, g))
+finds_one m a ys ws (inr h) found = subst (λ kind. Finds (with_stores m (act_of kind a.key a.value ∷ [])) ys ws
+    → Finds m (act_of kind a.key a.value ∷ ys) (if_look kind a.value ++ ws)) (sym h.1) (λ g. g)
 
-finds_left : (m : Contents) (done : List Access) → Shaped done → FindsIn m done → (ys : List Act) (ws : List (Option ℤ)) → Finds (with_stores m (olds done)) ys ws → Finds m (olds done ++ ys) (looked done ++ ws)
+finds_left : (m : Contents) (done : List Access) → Shaped done → FindsIn m done → (ys : List Act) (ws : List (Option ℤ))
+    → Finds (with_stores m (olds done)) ys ws → Finds m (olds done ++ ys) (looked done ++ ws)
 finds_left m [] sh f ys ws g = g
 finds_left m (a ∷ done) sh f ys ws g =
     let found : a.kind ≡ Look → a.value ≡ with_stores m (olds done) a.key = λ h. f.1 h ∙ sym (with_over m done sh.0 a.key) in
-    let one = finds_one (with_stores m (olds done)) a ys ws sh.1 found (subst (λ n. Finds n ys ws) (with_append m (olds done) (as_act a ∷ [])) g) in
-    subst₂ (λ xs vs. Finds m xs vs) (sym (append_assoc (olds done) (as_act a ∷ []) ys)) (sym (append_assoc (looked done) (if_look a.kind a.value) ws)) (finds_left m done sh.0 f.0 (as_act a ∷ ys) (if_look a.kind a.value ++ ws) one)
+    let one = finds_one (with_stores m (olds done)) a ys ws sh.1 found
+    (subst (λ n. Finds n ys ws) (with_append m (olds done) (as_act a ∷ [])) g) in
+    subst₂ (λ xs vs. Finds m xs vs) (sym (append_assoc (olds done) (as_act a ∷ []) ys))
+    (sym (append_assoc (looked done) (if_look a.kind a.value) ws)) (finds_left m done sh.0 f.0 (as_act a ∷ ys)
+    (if_look a.kind a.value ++ ws) one)
 
 abbrev over_with : List Access → Ending → Trace
 over_with done e = record { accesses = olds done; ending = e }
@@ -155,24 +168,33 @@ asking_trace (puts k v rest) code h = absurd (cc h)
 asking_trace (ends given) code h = absurd (cc h)
 asking_trace (asks given) code h = let e : given ≡ code = cc h in ap (λ c. over_with [] (asking c)) e
 
-whole_trace : (r : Run) (done : List Access) (e : Ending) → AsAsked (asks_of r) done → trace (left r done) [] ≡ over_with [] e → trace r (looked done) ≡ over_with done e
+whole_trace : (r : Run) (done : List Access) (e : Ending) → AsAsked (asks_of r) done → trace (left r done) [] ≡ over_with [] e
+    → trace r (looked done) ≡ over_with done e
 whole_trace r done e h g =
     ap (λ vs. trace r vs) (sym (append-nil (looked done)))
     ∙ (trace_left r done h []
     ∙ (ap (λ t. behind (olds done) t) g
     ∙ ap (λ (l : List Act). record { accesses = l; ending = e }) (append-nil (olds done))))
 
-gives : (r : Run) → RunIsTrace r → (m : Contents) (done : List Access) (e : Ending) → AsAsked (asks_of r) done → FindsIn m done → trace (left r done) [] ≡ over_with [] e → GivesAt e (with_stores m (olds done)) (serial r m)
+gives : (r : Run) → RunIsTrace r → (m : Contents) (done : List Access) (e : Ending) → AsAsked (asks_of r) done → FindsIn m done
+    → trace (left r done) [] ≡ over_with [] e → GivesAt e (with_stores m (olds done)) (serial r m)
 gives r law m done e h f g =
-    let found : Finds m (olds done) (looked done) = subst₂ (λ xs vs. Finds m xs vs) (append-nil (olds done)) (append-nil (looked done)) (finds_left m done (asked_shaped (asks_of r) done h) f [] [] tt) in
+    let found : Finds m (olds done) (looked done) = subst₂ (λ xs vs. Finds m xs vs) (append-nil (olds done))
+    (append-nil (looked done)) (finds_left m done (asked_shaped (asks_of r) done h) f [] [] tt) in
     let P : Trace → Type 0 = λ t. Finds m t.accesses (looked done) → GivesAt t.ending (with_stores m t.accesses) (serial r m) in
     (subst P (whole_trace r done e h g) (law m (looked done))) found
 
-left_next : (r : Run) (done : List Access) → AsAsked (asks_of r) done → next_at (trace r (looked done)) (length done) ≡ next_of_run (left r done)
+left_next : (r : Run) (done : List Access) → AsAsked (asks_of r) done → next_at (trace r (looked done)) (length done) ≡ next_of_run
+    (left r done)
 left_next r done h = next_left r done (trace_left r done h [])
 
 pub law_over_acts : (r : Run) → RunIsTrace r → ActsLaw r
 law_over_acts r law = record {
-  done = λ m done answers h f e. (with_stores m (olds done), gives r law m done (ended answers) h f (ended_trace (left r done) answers (sym (left_next r done h) ∙ e)), with_over m done (asked_shaped (asks_of r) done h));
+  done = λ m done answers h f e. (
+    with_stores m (olds done),
+    gives r law m done (ended answers) h f
+        (ended_trace (left r done) answers (sym (left_next r done h) ∙ e)),
+    with_over m done (asked_shaped (asks_of r) done h),
+  );
   asked = λ m done code h f e. gives r law m done (asking code) h f (asking_trace (left r done) code (sym (left_next r done h) ∙ e));
 }

@@ -5,7 +5,8 @@ use Rattle.sgt_model.specs.Runs.{Run, looks, puts, ends, asks}
 use Rattle.sgt_model.specs.Traces.{Looks, Puts, trace, next_at, Used}
 
 -- where a look is next, its value is used next
-pub used_look-suc : (r : Run) (vs : List (Option ℤ)) (made : ℕ) (k : Key) (v : Option ℤ) → Used r vs made → next_at (trace r vs) made ≡ Looks k → Used r (vs ++ v ∷ []) (suc made)
+pub used_look-suc : (r : Run) (vs : List (Option ℤ)) (made : ℕ) (k : Key) (v : Option ℤ) → Used r vs made
+    → next_at (trace r vs) made ≡ Looks k → Used r (vs ++ v ∷ []) (suc made)
 used_look-suc (looks j go) [] zero k v u e = tt
 used_look-suc (puts j x rest) [] zero k v u e = absurd (cc)
 used_look-suc (ends answers) [] zero k v u e = absurd (cc)
@@ -18,7 +19,8 @@ used_look-suc (ends answers) vs (suc made) k v u e = absurd u
 used_look-suc (asks code) vs (suc made) k v u e = absurd u
 
 -- where a store is next, it is made
-pub used_store-suc : (r : Run) (vs : List (Option ℤ)) (made : ℕ) (k : Key) (x : ℤ) → Used r vs made → next_at (trace r vs) made ≡ Puts k x → Used r vs (suc made)
+pub used_store-suc : (r : Run) (vs : List (Option ℤ)) (made : ℕ) (k : Key) (x : ℤ) → Used r vs made
+    → next_at (trace r vs) made ≡ Puts k x → Used r vs (suc made)
 used_store-suc (looks j go) [] zero k x u e = absurd (cc)
 used_store-suc (puts j y rest) [] zero k x u e = tt
 used_store-suc (ends answers) [] zero k x u e = absurd (cc)
@@ -35,8 +37,10 @@ one_more made = omega arith
 
 -- so it is with the number of accesses as a sum
 
-pub used_look : (r : Run) (vs : List (Option ℤ)) (made : ℕ) (k : Key) (v : Option ℤ) → Used r vs made → next_at (trace r vs) made ≡ Looks k → Used r (vs ++ v ∷ []) (made + 1)
+pub used_look : (r : Run) (vs : List (Option ℤ)) (made : ℕ) (k : Key) (v : Option ℤ) → Used r vs made
+    → next_at (trace r vs) made ≡ Looks k → Used r (vs ++ v ∷ []) (made + 1)
 used_look r vs made k v u e = subst (λ n. Used r (vs ++ v ∷ []) n) (one_more made) (used_look-suc r vs made k v u e)
 
-pub used_store : (r : Run) (vs : List (Option ℤ)) (made : ℕ) (k : Key) (x : ℤ) → Used r vs made → next_at (trace r vs) made ≡ Puts k x → Used r vs (made + 1)
+pub used_store : (r : Run) (vs : List (Option ℤ)) (made : ℕ) (k : Key) (x : ℤ) → Used r vs made
+    → next_at (trace r vs) made ≡ Puts k x → Used r vs (made + 1)
 used_store r vs made k x u e = subst (λ n. Used r vs n) (one_more made) (used_store-suc r vs made k x u e)

@@ -21,12 +21,15 @@ use Rattle.sgt_model.proofs.ExampleSettings.{small_bank, entry, small_bank_put, 
 use Rattle.sgt_model.proofs.ExamplesDeepCascades.{three_levels}
 
 -- where an access closes no walk it is not refused
-not_refused : {past : List Entry} {t : ℕ} {k : Key} {kind : Kind} {why : Cause} {fell : List ℕ} (given : Reply) (set : List ℕ) → free_test past t k kind set ≡ true → (given ≡ reply.Aborted why fell → ⊥) → Refuses past t k kind (reply.Aborted why fell) ⊎ Makes past t k kind given (reply.Aborted why fell) → ⊥
+not_refused : {past : List Entry} {t : ℕ} {k : Key} {kind : Kind} {why : Cause} {fell : List ℕ} (given : Reply) (set : List ℕ)
+    → free_test past t k kind set ≡ true → (given ≡ reply.Aborted why fell → ⊥) → Refuses past t k kind
+    (reply.Aborted why fell) ⊎ Makes past t k kind given (reply.Aborted why fell) → ⊥
 not_refused {past} {t} {k} {kind} given set free apart (inl h) = free-so past t k kind set free h.rest h.closes
 not_refused {past} {t} {k} {kind} given set free apart (inr h) = apart (sym h.is)
 
 -- where a live transaction has a pair into it, a transaction does not commit
-not_committed : {past : List Entry} {t : ℕ} {answers committed_runs : List ℤ} (u : ℕ) → (live past u && pair past u t) ≡ true → MustWait past t (reply.Committed committed_runs) ⊎ MayCommit past t answers (reply.Committed committed_runs) → ⊥
+not_committed : {past : List Entry} {t : ℕ} {answers committed_runs : List ℤ} (u : ℕ) → (live past u && pair past u t) ≡ true
+    → MustWait past t (reply.Committed committed_runs) ⊎ MayCommit past t answers (reply.Committed committed_runs) → ⊥
 not_committed u h (inl w) = cc w.is
 not_committed {past} {t} u h (inr c) = let p = and_parts _ _ h in c.none_live u (record { is_live = p.0; pair = pair-so past u t p.1 })
 
@@ -293,7 +296,8 @@ begins_with_another (inr h) = cc h.is
 -- of three levels of readers all fall, and no other
 
 -- the readers' readers, and theirs
-three_levels_falls : (u : ℕ) → Member u (1 ∷ 2 ∷ 3 ∷ []) → (fell : List ℕ) → LegalReply small_bank_copy three_levels (Quit 0) (reply.Aborted cause.Quit fell) → Member u fell
+three_levels_falls : (u : ℕ) → Member u (1 ∷ 2 ∷ 3 ∷ []) → (fell : List ℕ) → LegalReply small_bank_copy three_levels (Quit 0)
+    (reply.Aborted cause.Quit fell) → Member u fell
 three_levels_falls u m fell h =
     let named : h.fell ≡ fell = cc h.is in
     let fallen = each-so three_levels 0 (1 ∷ 2 ∷ 3 ∷ []) ((1 ∷ []) ∷ (1 ∷ 2 ∷ []) ∷ (1 ∷ 2 ∷ 3 ∷ []) ∷ []) refl u m in

@@ -14,6 +14,7 @@ use Rattle.sgt_model.specs.Accesses.{Access, access_of}
 use Rattle.sgt_model.specs.Fates.{subject, starts, live, live_ones, aborted, committed}
 use Rattle.sgt_model.specs.Values.{newest_store, value_or, settled}
 use Rattle.sgt_model.specs.ReadFrom.{ReadFrom}
+use Rattle.sgt_model.specs.Questions.{named_by, started_in, over_in, is_ending}
 use Rattle.sgt_model.specs.Pairs.{Pair}
 use Rattle.sgt_model.specs.Settings.{Setting}
 use Rattle.sgt_model.specs.Legality.{Legal}
@@ -99,6 +100,22 @@ CommittedAreAdmitted = InEach (λ s past. AreAdmitted s (committed_calls past))
 -- never are more transactions started, or live at once, than the limits say
 abbrev pub LimitsAreKept : Type 0
 LimitsAreKept = InEach (λ s past. (starts past ≤ s.rules.limits.begins) × (length (live_ones past) ≤ s.rules.limits.live))
+
+-- the transaction that an entry starts is live after it
+abbrev pub StartedAreLive : Type 0
+StartedAreLive = (s : Setting) (past : List Entry) (e : Entry) → Legal s (e ∷ past) → (t : ℕ) → started_in e.event e.reply ≡ Some t → live (e ∷ past) t ≡ true
+
+-- the transaction that an entry tells to be over is not live after it
+abbrev pub OverAreNotLive : Type 0
+OverAreNotLive = (s : Setting) (past : List Entry) (e : Entry) → Legal s (e ∷ past) → (t : ℕ) → over_in e.event e.reply ≡ Some t → live (e ∷ past) t ≡ false
+
+-- a reply that ends a live transaction ends the one that its event names: it is live before the entry, and not after it
+abbrev pub EndingsEndOne : Type 0
+EndingsEndOne = (s : Setting) (past : List Entry) (e : Entry) → Legal s (e ∷ past) → is_ending e.reply ≡ true → (t : ℕ) × (named_by e.event ≡ Some t) × (live past t ≡ true) × (live (e ∷ past) t ≡ false)
+
+-- with any other reply all that are live stay live
+abbrev pub OthersEndNone : Type 0
+OthersEndNone = (past : List Entry) (e : Entry) → is_ending e.reply ≡ false → (t : ℕ) → live past t ≡ true → live (e ∷ past) t ≡ true
 
 -- the headline holds of every legal history
 abbrev pub HeadlineHolds : Type 0

@@ -1,6 +1,5 @@
 -- ---- Part 1, what a reader has to trust: the definitions that `Legal` and `Headline` rest on, and no others. Who has read
--- these 23 files knows what is promised.
-
+-- these 23 files knows what the headline says.
 -- numbers and keys
 pub mod Numbers
 pub mod Contents
@@ -30,7 +29,6 @@ pub mod Aborts
 pub mod CommitOrder
 pub mod Headline
 -- ---- Part 2, words of single contracts: what types and functions say of themselves beside these.
-
 pub mod Bounds
 pub mod Databases
 pub mod Programs
@@ -39,7 +37,6 @@ pub mod Histories
 pub mod Questions
 -- ---- Part 3, laws: what is proved of the definitions of part 1. None has to be trusted. The plain meaning of the language
 -- (`Executions`) stands here, as a law joins it to runs.
-
 pub mod Admissions
 pub mod Laws
 pub mod OneReply
@@ -49,7 +46,6 @@ pub mod Executions
 pub mod ExecutedReplay
 -- ---- Part 4, the scheduler's room: the state that a scheduler keeps in place of the history, what its calls do to it, and
 -- why that is legal. It is proved of the definitions of part 1, so none of it has to be trusted.
-
 -- the state, and the one that belongs to a history
 pub mod Left
 pub mod AccessList

@@ -22,7 +22,7 @@ abbrev pub started_number : Reply → Option ℕ
 started_number (reply.Started t) = Some t
 started_number _ = None
 
--- it starts nothing, as a start is answered then
+-- it is what a start is answered where nothing is started
 abbrev pub is_refusal : Reply → Bool
 is_refusal reply.NoProcedure = true
 is_refusal reply.BadArgs = true

@@ -162,7 +162,7 @@ impl Reply {
         matches!(self, Reply::Started(_))
     }
 
-    /// Whether it starts nothing, as a start is answered then.
+    /// Whether it is what a start is answered where nothing is started.
     pub fn is_refusal(&self) -> bool
         ensures { result ≡ is_refusal self.now }
     {
