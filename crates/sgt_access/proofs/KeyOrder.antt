@@ -31,7 +31,8 @@ access_order = ranks_by key_order (λ (a : ListedAccess). a.key)
 pub derived_lt : (a b : Key) → is_some_and is_lt (partial_ordering_then (Some (nat_cmp a.0 b.0)) (Some (int_cmp a.1 b.1))) ≡ key_lt a b
 derived_lt a b = ap (is_some_and is_lt) (Some-then (nat_cmp a.0 b.0) (int_cmp a.1 b.1))
 
-pub derived_le : (a b : Key) → is_some_and is_le (partial_ordering_then (Some (nat_cmp a.0 b.0)) (Some (int_cmp a.1 b.1))) ≡ is_le (key_cmp a b)
+pub derived_le : (a b : Key) → is_some_and is_le (partial_ordering_then (Some (nat_cmp a.0 b.0)) (Some (int_cmp a.1 b.1))) ≡ is_le
+    (key_cmp a b)
 derived_le a b = ap (is_some_and is_le) (Some-then (nat_cmp a.0 b.0) (int_cmp a.1 b.1))
 
 -- no key is before itself
@@ -109,10 +110,12 @@ at_most_below Greater Greater le h = h
 
 -- accesses by key are parted by a key
 pub parted_before : (xs : List ListedAccess) (k : Key) → IsByKey xs → IsPartitionedBy (λ (a : ListedAccess). key_lt a.key k) xs
-parted_before xs k sorted i j d le short h = less_below _ _ (searchable_from_sorted key_order (λ (a : ListedAccess). a.key) xs k sorted i j d le short) h
+parted_before xs k sorted i j d le short h =
+    less_below _ _ (searchable_from_sorted key_order (λ (a : ListedAccess). a.key) xs k sorted i j d le short) h
 
 pub parted_through : (xs : List ListedAccess) (k : Key) → IsByKey xs → IsPartitionedBy (λ (a : ListedAccess). is_le (key_cmp a.key k)) xs
-parted_through xs k sorted i j d le short h = at_most_below _ _ (searchable_from_sorted key_order (λ (a : ListedAccess). a.key) xs k sorted i j d le short) h
+parted_through xs k sorted i j d le short h =
+    at_most_below _ _ (searchable_from_sorted key_order (λ (a : ListedAccess). a.key) xs k sorted i j d le short) h
 
 -- one more, behind those that are not after it and before those that are, leaves them by key
 pub by_key_inserted : (xs : List ListedAccess) (i : ℕ) (a : ListedAccess) → i ≤ length xs → IsByKey xs
@@ -122,15 +125,19 @@ by_key_inserted xs i a within sorted before after k d low high =
     let long = length-insert xs i a within in
     ⊎_elim
     (λ below. ⊎_elim
-    (λ deep. rw (get_or-insert_below xs i a d (k + 1) deep within, get_or-insert_below xs i a d k below within) (sorted k d low (omega arith)))
+    (λ deep. rw (get_or-insert_below xs i a d (k + 1) deep within, get_or-insert_below xs i a d k below within)
+    (sorted k d low (omega arith)))
     (λ edge. rw (at_place (k + 1) (omega arith), get_or-insert_below xs i a d k below within) (before k d low below))
     (cases_lt (k + 1) i))
     (λ from. ⊎_elim
-    (λ same. rw (get_or-insert_above xs i a d k from within, at_place k same) (access_order.one_way a (get_or xs k d) (after k d from (omega arith))))
+    (λ same. rw (get_or-insert_above xs i a d k from within, at_place k same)
+    (access_order.one_way a (get_or xs k d) (after k d from (omega arith))))
     (λ apart.
     let back : (k - 1) + 1 ≡ k = omega arith in
-    let one : get_or (insert xs i a) k d ≡ get_or xs (k - 1) d = ap (λ n. get_or (insert xs i a) n d) (sym back) ∙ get_or-insert_above xs i a d (k - 1) (omega arith) within in
-    let two : get_or (insert xs i a) (k + 1) d ≡ get_or xs ((k - 1) + 1) d = get_or-insert_above xs i a d k from within ∙ ap (λ n. get_or xs n d) (sym back) in
+    let one : get_or (insert xs i a) k d ≡ get_or xs (k - 1) d = ap (λ n. get_or (insert xs i a) n d) (sym back)
+    ∙ get_or-insert_above xs i a d (k - 1) (omega arith) within in
+    let two : get_or (insert xs i a) (k + 1) d ≡ get_or xs ((k - 1) + 1) d = get_or-insert_above xs i a d k from within
+    ∙ ap (λ n. get_or xs n d) (sym back) in
     rw (two, one) (sorted (k - 1) d (omega arith) (omega arith)))
     (cases_eq k i))
     (cases_lt k i)
@@ -147,7 +154,8 @@ read_at : (xs : List ListedAccess) (i : ℕ) (x d : ListedAccess) → i < length
 read_at xs i x d short is = get_or_default xs i d x short ∙ sym is
 
 -- after one that is after a key, all are
-pub after_from : (xs : List ListedAccess) (k : Key) (i : ℕ) (x : ListedAccess) → IsByKey xs → i < length xs → x ≡ get_or xs i x → key_lt k x.key ≡ true
+pub after_from : (xs : List ListedAccess) (k : Key) (i : ℕ) (x : ListedAccess) → IsByKey xs → i < length xs → x ≡ get_or xs i x
+    → key_lt k x.key ≡ true
     → AllWithin (λ (a : ListedAccess). key_lt k a.key ≡ true) xs i (length xs)
 after_from xs k i x sorted within is after n d low high = at (is_le (key_cmp (get_or xs n d).key k)) refl
   where
@@ -159,6 +167,9 @@ after_from xs k i x sorted within is after n d low high = at (is_le (key_cmp (ge
     at true e = absurd (true≢false (sym there ∙ not_after (get_or xs i d).key k (parted_through xs k sorted i n d low high e)))
 
 -- one more that is not after it
-pub through_next : (xs : List ListedAccess) (k : Key) (i : ℕ) (x : ListedAccess) → i < length xs → x ≡ get_or xs i x → key_lt k x.key ≡ false
-    → AllWithin (λ (a : ListedAccess). key_lt k a.key ≡ false) xs 0 i → AllWithin (λ (a : ListedAccess). key_lt k a.key ≡ false) xs 0 (i + 1)
-through_next xs k i x within is through before n d low high = ⊎_elim (λ below. before n d low below) (λ from. let same : n ≡ i = omega arith in rw (same, read_at xs i x d within is) through) (cases_lt n i)
+pub through_next : (xs : List ListedAccess) (k : Key) (i : ℕ) (x : ListedAccess) → i < length xs → x ≡ get_or xs i x
+    → key_lt k x.key ≡ false
+    → AllWithin (λ (a : ListedAccess). key_lt k a.key ≡ false) xs 0 i
+    → AllWithin (λ (a : ListedAccess). key_lt k a.key ≡ false) xs 0 (i + 1)
+through_next xs k i x within is through before n d low high = ⊎_elim (λ below. before n d low below)
+    (λ from. let same : n ≡ i = omega arith in rw (same, read_at xs i x d within is) through) (cases_lt n i)

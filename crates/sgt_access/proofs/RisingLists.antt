@@ -23,8 +23,16 @@ member_inserted xs i t u =
     let parts = member_joined (take i xs) (drop i xs) u in
     let whole = member_joined (take i xs) (t ∷ drop i xs) u in
     let same = take-append-drop i xs in (
-      λ m. elim (whole.0 m) [ inl front ↦ inr (subst (Member u) same (parts.1 (inl front))) | inr back ↦ elim back [ inl here ↦ inl here | inr later ↦ inr (subst (Member u) same (parts.1 (inr later))) ] ],
-      λ m. elim m [ inl here ↦ whole.1 (inr (inl here)) | inr old ↦ elim (parts.0 (subst (Member u) (sym same) old)) [ inl front ↦ whole.1 (inl front) | inr back ↦ whole.1 (inr (inr back)) ] ],
+      λ m. elim (whole.0 m) [
+        | inl front ↦ inr (subst (Member u) same (parts.1 (inl front)))
+        | inr back ↦
+            elim back [ inl here ↦ inl here | inr later ↦ inr (subst (Member u) same (parts.1 (inr later))) ]
+      ],
+      λ m. elim m [
+        | inl here ↦ whole.1 (inr (inl here))
+        | inr old ↦
+            elim (parts.0 (subst (Member u) (sym same) old)) [ inl front ↦ whole.1 (inl front) | inr back ↦ whole.1 (inr (inr back)) ]
+      ],
     )
 
 -- a number at an index is a member
@@ -58,8 +66,15 @@ pub place_absent : (xs : List ℕ) (t i : ℕ) → IsPlace xs t i → Member t x
 place_absent [] t i at m = m
 place_absent (x ∷ xs) t zero at (inl e) = omega (arith, at.after 0 (omega arith) (omega arith))
 place_absent (x ∷ xs) t (suc i) at (inl e) = omega (arith, at.before 0 (omega arith))
-place_absent (x ∷ xs) t zero at (inr m) = place_absent xs t zero (record { within = omega arith; before = λ k lt. omega arith; after = λ k le lt. at.after (suc k) (omega arith) (omega arith) }) m
-place_absent (x ∷ xs) t (suc i) at (inr m) = place_absent xs t i (record { within = let w = at.within in omega arith; before = λ k lt. at.before (suc k) (omega arith); after = λ k le lt. at.after (suc k) (omega arith) (omega arith) }) m
+place_absent (x ∷ xs) t zero at (inr m) = place_absent xs t zero
+    (record { within = omega arith; before = λ k lt. omega arith; after = λ k le lt. at.after (suc k) (omega arith) (omega arith) }) m
+place_absent (x ∷ xs) t (suc i) at (inr m) = place_absent xs t i
+    (record {
+      within = let w = at.within in omega arith;
+      before = λ k lt. at.before (suc k) (omega arith);
+      after = λ k le lt. at.after
+          (suc k) (omega arith) (omega arith);
+    }) m
 
 -- put in at its place, it leaves the list rising
 pub place_rises : (xs : List ℕ) (t i : ℕ) → Rising xs → IsPlace xs t i → Rising (insert xs i t)
@@ -69,18 +84,30 @@ place_rises (x ∷ xs) t zero h at = (at.after 0 (omega arith) (omega arith), h)
 place_rises (x ∷ []) t (suc zero) h at = (at.before 0 (omega arith), tt)
 place_rises (x ∷ []) t (suc (suc i)) h at = let w = at.within in omega arith
 place_rises (x ∷ y ∷ xs) t (suc zero) h at = (at.before 0 (omega arith), (at.after 1 (omega arith) (omega arith), h.1))
-place_rises (x ∷ y ∷ xs) t (suc (suc i)) h at = (h.0, place_rises (y ∷ xs) t (suc i) h.1 (record { within = let w = at.within in omega arith; before = λ k lt. at.before (suc k) (omega arith); after = λ k le lt. at.after (suc k) (omega arith) (omega arith) }))
+place_rises (x ∷ y ∷ xs) t (suc (suc i)) h at = (
+  h.0,
+  place_rises (y ∷ xs) t (suc i) h.1 (record {
+    within = let w = at.within in
+        omega arith;
+    before = λ k lt. at.before (suc k) (omega arith);
+    after = λ k le lt. at.after (suc k) (omega arith) (omega arith);
+  }),
+)
 
 -- a binary search finds the number, or its place
-pub search_finds : (xs ys : List ℕ) (t : ℕ) (r : Result ℕ ℕ) → ys ≡ xs → Rising xs → IsBinarySearchResult (λ y. nat_cmp y t) ys r → MatchResult r (λ i. Member t xs) (λ i. IsPlace xs t i)
+pub search_finds : (xs ys : List ℕ) (t : ℕ) (r : Result ℕ ℕ) → ys ≡ xs → Rising xs → IsBinarySearchResult (λ y. nat_cmp y t) ys r
+    → MatchResult r (λ i. Member t xs) (λ i. IsPlace xs t i)
 search_finds xs ys t r same h is = go r (searched xs t r (subst (λ l. IsBinarySearchResult (λ y. nat_cmp y t) l r) same is) (by_index xs h))
   where
-    go : (r : Result ℕ ℕ) → MatchResult r (λ i. (i < length xs) × (get_or xs i 0 ≡ t)) (λ i. (i ≤ length xs) × ((k : ℕ) → k < i → get_or xs k 0 < t) × ((k : ℕ) → i ≤ k → k < length xs → t < get_or xs k 0)) → MatchResult r (λ i. Member t xs) (λ i. IsPlace xs t i)
+    go : (r : Result ℕ ℕ) → MatchResult r (λ i. (i < length xs) × (get_or xs i 0 ≡ t))
+        (λ i. (i ≤ length xs) × ((k : ℕ) → k < i → get_or xs k 0 < t) × ((k : ℕ) → i ≤ k → k < length xs → t < get_or xs k 0))
+        → MatchResult r (λ i. Member t xs) (λ i. IsPlace xs t i)
     go (Ok i) at = member_at xs i t at.0 at.1
     go (Err i) at = record { within = at.0; before = at.1; after = at.2 }
 
 -- a list without one of its members
-removed : (x : ℕ) (ys : List ℕ) → Member x ys → (zs : List ℕ) × (length ys ≡ suc (length zs)) × ((y : ℕ) → Member y ys → y ≢ x → Member y zs)
+removed : (x : ℕ) (ys : List ℕ) → Member x ys → (zs : List ℕ) × (length ys ≡ suc (length zs))
+    × ((y : ℕ) → Member y ys → y ≢ x → Member y zs)
 removed x [] m = absurd m
 removed x (y ∷ ys) (inl e) = (ys, refl, λ z m other. elim m [ inl same ↦ absurd (other (same ∙ sym e)) | inr k ↦ k ])
 removed x (y ∷ ys) (inr m) = let (zs, long, keep) = removed x ys m in
@@ -107,8 +134,10 @@ rising_distinct (x ∷ []) h = ((λ m. m), tt)
 rising_distinct (x ∷ y ∷ xs) h = ((λ m. let lt = rising_above x (y ∷ xs) h x m in omega arith), rising_distinct (y ∷ xs) h.1)
 
 -- where at most so many numbers pass a test, rising ones that pass it are fewer while another passes it too
-pub room_left : (most : ℕ) (counts : ℕ → Bool) (xs : List ℕ) (t : ℕ) → AtMost most counts → Rising xs → ((u : ℕ) → Member u xs → counts u ≡ true) → counts t ≡ true → (Member t xs → ⊥) → length xs < most
+pub room_left : (most : ℕ) (counts : ℕ → Bool) (xs : List ℕ) (t : ℕ) → AtMost most counts → Rising xs
+    → ((u : ℕ) → Member u xs → counts u ≡ true) → counts t ≡ true → (Member t xs → ⊥) → length xs < most
 room_left most counts xs t few h all also out =
-    let whole : length (t ∷ xs) ≤ length few.among = fits (t ∷ xs) few.among (out, rising_distinct xs h) (λ u m. elim m [ inl e ↦ few.all u (subst (λ z. counts z ≡ true) (sym e) also) | inr m' ↦ few.all u (all u m') ]) in
+    let whole : length (t ∷ xs) ≤ length few.among = fits (t ∷ xs) few.among (out, rising_distinct xs h)
+    (λ u m. elim m [ inl e ↦ few.all u (subst (λ z. counts z ≡ true) (sym e) also) | inr m' ↦ few.all u (all u m') ]) in
     let enough = few.few in
     omega arith

@@ -18,11 +18,13 @@ module _ {X : Type 0} (p : X → Bool) where
   pub any_past : (n : ℕ) (xs : List X) → AllWithin (λ x. p x ≡ false) xs 0 n → list_any p (drop n xs) ≡ list_any p xs
   any_past zero xs h = refl
   any_past (suc n) [] h = refl
-  any_past (suc n) (x ∷ xs) h = any_past n xs (λ k d low high. h (suc k) d (omega arith) (omega arith)) ∙ sym (ap (λ b. b || list_any p xs) (h 0 x (omega arith) (omega arith)))
+  any_past (suc n) (x ∷ xs) h = any_past n xs (λ k d low high. h (suc k) d (omega arith) (omega arith))
+      ∙ sym (ap (λ b. b || list_any p xs) (h 0 x (omega arith) (omega arith)))
 
   none_within : (xs : List X) → AllWithin (λ x. p x ≡ false) xs 0 (length xs) → list_any p xs ≡ false
   none_within [] h = refl
-  none_within (x ∷ xs) h = ap (λ b. b || list_any p xs) (h 0 x (omega arith) (omega arith)) ∙ none_within xs (λ k d low high. h (suc k) d (omega arith) (omega arith))
+  none_within (x ∷ xs) h = ap (λ b. b || list_any p xs) (h 0 x (omega arith) (omega arith))
+      ∙ none_within xs (λ k d low high. h (suc k) d (omega arith) (omega arith))
 
   -- and at the end
   pub any_before : (n : ℕ) (xs : List X) → AllWithin (λ x. p x ≡ false) xs n (length xs) → list_any p (take n xs) ≡ list_any p xs
@@ -39,12 +41,14 @@ module _ {X : Type 0} (p : X → Bool) where
   any_filtered q [] = refl
   any_filtered q (x ∷ xs) = at (any_filtered q xs) (q x)
     where
-      at : list_any p (filter q xs) ≡ list_any (λ x. q x && p x) xs → (b : Bool) → list_any p (cond b (x ∷ filter q xs) (filter q xs)) ≡ ((b && p x) || list_any (λ x. q x && p x) xs)
+      at : list_any p (filter q xs) ≡ list_any (λ x. q x && p x) xs → (b : Bool)
+          → list_any p (cond b (x ∷ filter q xs) (filter q xs)) ≡ ((b && p x) || list_any (λ x. q x && p x) xs)
       at rest true = ap (λ b. p x || b) rest
       at rest false = rest
 
   -- another in the place of one: it passes where that one does
-  pub any_set : (xs : List X) (i : ℕ) (x d : X) → i < length xs → (p (get_or xs i d) ≡ true → p x ≡ true) → list_any p (set xs i x) ≡ (p x || list_any p xs)
+  pub any_set : (xs : List X) (i : ℕ) (x d : X) → i < length xs → (p (get_or xs i d) ≡ true → p x ≡ true)
+      → list_any p (set xs i x) ≡ (p x || list_any p xs)
   any_set [] i x d short passes = absurd (omega arith)
   any_set (y ∷ xs) zero x d short passes = at (p x) (p y) passes
     where
@@ -60,7 +64,8 @@ module _ {X : Type 0} (p : X → Bool) where
       swapped false c = refl
 
 -- items that are alike in what is read of them are so with one in the place of another
-pub reads_set : {X Y : Type 0} (f : X → Y) (xs : List X) (i : ℕ) (x d : X) → i < length xs → f x ≡ f (get_or xs i d) → (k : ℕ) (e : X) → f (get_or (set xs i x) k e) ≡ f (get_or xs k e)
+pub reads_set : {X Y : Type 0} (f : X → Y) (xs : List X) (i : ℕ) (x d : X) → i < length xs → f x ≡ f (get_or xs i d) → (k : ℕ) (e : X)
+    → f (get_or (set xs i x) k e) ≡ f (get_or xs k e)
 reads_set f [] i x d short same k e = absurd (omega arith)
 reads_set f (y ∷ xs) zero x d short same zero e = same
 reads_set f (y ∷ xs) zero x d short same (suc k) e = refl

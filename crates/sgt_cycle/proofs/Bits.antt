@@ -49,7 +49,8 @@ none_in i = ap (λ x. nat_eq x 1) (bit_at-zero i)
 pub minus_set : (a b i : ℕ) → a < 2 ^ 32 → b < 2 ^ 32 → is_set (bit_and a (4294967295 - b)) i ≡ (is_set a i && not (is_set b i))
 unfolding is_set
 minus_set a b i p q = elim (cases_lt i 32) [
-  | inl low ↦ ap (λ x. nat_eq x 1) (bit_at_and a (4294967295 - b) i ∙ ap (min (bit_at a i)) (bit_at_not w32 b i q low)) ∙ digits_minus (bit_at a i) (bit_at b i) (bit_at-lt a i) (bit_at-lt b i)
+  | inl low ↦ ap (λ x. nat_eq x 1) (bit_at_and a (4294967295 - b) i ∙ ap (min (bit_at a i)) (bit_at_not w32 b i q low))
+      ∙ digits_minus (bit_at a i) (bit_at b i) (bit_at-lt a i) (bit_at-lt b i)
   | inr high ↦ common_set a (4294967295 - b) i ∙ rw (none_above a i p high) refl
 ]
 
@@ -68,10 +69,11 @@ some_test x some = ap not (false_from_ne_true (nat_eq (1 * x) 0) (λ t. let e : 
 
 pub has_set : (a k : ℕ) → k < 32 → not (nat_eq (bit_and a (1 * 2 ^ k % 4294967296)) 0) ≡ is_set a k
 unfolding is_set
-has_set a k within = ap (λ m. not (nat_eq (bit_and a m) 0)) (one_shl k 32 within) ∙ ap (λ x. not (nat_eq x 0)) (and_pow a k) ∙ elim (digit (bit_at a k) (bit_at-lt a k)) [
-  | inl e ↦ ap (λ d. not (nat_eq (d * 2 ^ k) 0)) e ∙ zero_test (2 ^ k) ∙ sym (ap (λ x. nat_eq x 1) e)
-  | inr e ↦ ap (λ d. not (nat_eq (d * 2 ^ k) 0)) e ∙ some_test (2 ^ k) (pow_pos k) ∙ sym (ap (λ x. nat_eq x 1) e)
-]
+has_set a k within = ap (λ m. not (nat_eq (bit_and a m) 0)) (one_shl k 32 within) ∙ ap (λ x. not (nat_eq x 0)) (and_pow a k)
+    ∙ elim (digit (bit_at a k) (bit_at-lt a k)) [
+      | inl e ↦ ap (λ d. not (nat_eq (d * 2 ^ k) 0)) e ∙ zero_test (2 ^ k) ∙ sym (ap (λ x. nat_eq x 1) e)
+      | inr e ↦ ap (λ d. not (nat_eq (d * 2 ^ k) 0)) e ∙ some_test (2 ^ k) (pow_pos k) ∙ sym (ap (λ x. nat_eq x 1) e)
+    ]
 
 pub complement_set : (a i : ℕ) → a < 2 ^ 32 → i < 32 → is_set (4294967295 - a) i ≡ not (is_set a i)
 unfolding is_set

@@ -5,13 +5,15 @@ use Rattle.std.proofs.lemmas.Bool.{eq-eqb, eqb-true, and_from, and_parts, or_lef
 use Rattle.sgt_cycle.specs.Links.{is_link, is_end}
 
 -- what stands in the list is a link
-pub link_at : (links : List (ℕ × ℕ)) (i : ℕ) (d : ℕ × ℕ) → i < length links → is_link links (slice_index_or links i d).0 (slice_index_or links i d).1 ≡ true
+pub link_at : (links : List (ℕ × ℕ)) (i : ℕ) (d : ℕ × ℕ) → i < length links
+    → is_link links (slice_index_or links i d).0 (slice_index_or links i d).1 ≡ true
 link_at [] i d below = absurd (omega arith)
 link_at (l ∷ links) zero d below = or_left (nat_eq l.0 l.0 && nat_eq l.1 l.1) _ (and_from _ _ (eq-eqb l.0 l.0 refl) (eq-eqb l.1 l.1 refl))
 link_at (l ∷ links) (suc i) d below = or_right _ _ (link_at links i d (omega arith))
 
 -- a link of a list is its first, or one of the others
-pub link_cases : (l : ℕ × ℕ) (links : List (ℕ × ℕ)) (a b : ℕ) → is_link (l ∷ links) a b ≡ true → ((l.0 ≡ a) × (l.1 ≡ b)) ⊎ (is_link links a b ≡ true)
+pub link_cases : (l : ℕ × ℕ) (links : List (ℕ × ℕ)) (a b : ℕ) → is_link (l ∷ links) a b ≡ true
+    → ((l.0 ≡ a) × (l.1 ≡ b)) ⊎ (is_link links a b ≡ true)
 link_cases l links a b h = elim (or_cases (nat_eq l.0 a && nat_eq l.1 b) _ h) [
   | inl here ↦ let (first, second) = and_parts (nat_eq l.0 a) (nat_eq l.1 b) here in inl (eqb-true l.0 a first, eqb-true l.1 b second)
   | inr there ↦ inr there

@@ -51,7 +51,8 @@ pub take_next : {A : Type 0} → (xs : List A) (i : ℕ) (d : A) → i < length 
 take_next xs i d below = rw (add-one i) (take-suc xs i d below)
 
 -- a member of the first i + 1 is one of the first i, or the next
-pub member_take : (x : ℕ) (xs : List ℕ) (i d : ℕ) → i < length xs → Member x (take (i + 1) xs) ↔ (Member x (take i xs) ⊎ (x ≡ slice_index_or xs i d))
+pub member_take : (x : ℕ) (xs : List ℕ) (i d : ℕ) → i < length xs
+    → Member x (take (i + 1) xs) ↔ (Member x (take i xs) ⊎ (x ≡ slice_index_or xs i d))
 member_take x xs i d below = rw (take_next xs i d below) (member_push x (take i xs) (slice_index_or xs i d))
 
 -- different numbers and one more that is not among them
@@ -70,7 +71,8 @@ distinct_apart (x ∷ xs) d zero (suc j) rises below same = d.0 (subst (λ y. Me
 distinct_apart (x ∷ xs) d (suc i) (suc j) rises below same = distinct_apart xs d.1 i j (omega arith) (omega arith) same
 
 -- a list without one of its members
-removed : (x : ℕ) (ys : List ℕ) → Member x ys → (zs : List ℕ) × (length ys ≡ suc (length zs)) × ((y : ℕ) → Member y ys → y ≢ x → Member y zs)
+removed : (x : ℕ) (ys : List ℕ) → Member x ys → (zs : List ℕ) × (length ys ≡ suc (length zs))
+    × ((y : ℕ) → Member y ys → y ≢ x → Member y zs)
 removed x [] m = elim m [ ]
 removed x (y ∷ ys) (inl e) = (ys, refl, λ z m other. elim m [ inl same ↦ absurd (other (same ∙ sym e)) | inr k ↦ k ])
 removed x (y ∷ ys) (inr m) = let (zs, long, keep) = removed x ys m in
@@ -81,5 +83,6 @@ pub distinct_fits : (xs ys : List ℕ) → Distinct xs → Within xs ys → leng
 distinct_fits [] ys d w = omega arith
 distinct_fits (x ∷ xs) ys d w =
     let (zs, long, keep) = removed x ys (w x (inl refl)) in
-    let rest : length xs ≤ length zs = distinct_fits xs zs d.1 (λ y m. keep y (w y (inr m)) (λ same. d.0 (subst (λ z. Member z xs) same m))) in
+    let rest : length xs ≤ length zs =
+    distinct_fits xs zs d.1 (λ y m. keep y (w y (inr m)) (λ same. d.0 (subst (λ z. Member z xs) same m))) in
     omega arith

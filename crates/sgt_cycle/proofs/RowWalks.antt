@@ -19,12 +19,17 @@ places_member (suc n) set t = go (places_member n set t) (is_set set n) refl
     go : (Member t (places_below n set) ↔ ((t < n) × (is_set set t ≡ true))) → (b : Bool) → is_set set n ≡ b
         → Member t (cond b (n ∷ places_below n set) (places_below n set)) ↔ ((t < suc n) × (is_set set t ≡ true))
     go old true e = (
-      (λ m. elim m [ inl same ↦ (omega arith, subst (λ x. is_set set x ≡ true) (sym same) e) | inr k ↦ let h = old.0 k in let low : t < n = h.0 in (omega arith, h.1) ]),
+      (λ m. elim m [
+        | inl same ↦ (omega arith, subst (λ x. is_set set x ≡ true) (sym same) e)
+        | inr k ↦ let h = old.0 k in let low : t < n =
+            h.0 in (omega arith, h.1)
+      ]),
       (λ h. let low : t < suc n = h.0 in elim (cases_eq t n) [ inl same ↦ inl same | inr other ↦ inr (old.1 (omega arith, h.1)) ]),
     )
     go old false e = (
       (λ m. let h = old.0 m in let low : t < n = h.0 in (omega arith, h.1)),
-      (λ h. let low : t < suc n = h.0 in elim (cases_eq t n) [ inl same ↦ absurd (both_ways _ e (subst (λ x. is_set set x ≡ true) same h.1)) | inr other ↦ old.1 (omega arith, h.1) ]),
+      (λ h. let low : t < suc n = h.0 in elim (cases_eq t n)
+          [ inl same ↦ absurd (both_ways _ e (subst (λ x. is_set set x ≡ true) same h.1)) | inr other ↦ old.1 (omega arith, h.1) ]),
     )
 
 -- the numbers below n
@@ -54,10 +59,12 @@ pub record Searching (rows : List ℕ) (source targets fresh : ℕ) (path : List
   pub distinct : Distinct path
   pub met : (x : ℕ) → Member x path → (x < 32) × (is_set fresh x ≡ false)
   pub source_met : is_set fresh source ≡ false
-  pub done : (a : ℕ) → is_set fresh a ≡ false → Member a path ⊎ ((is_set targets a ≡ false) × ((b : ℕ) → is_bit rows a b ≡ true → is_set fresh b ≡ false))
+  pub done : (a : ℕ) → is_set fresh a ≡ false → Member a
+      path ⊎ ((is_set targets a ≡ false) × ((b : ℕ) → is_bit rows a b ≡ true → is_set fresh b ≡ false))
 
 module _ (test : ℕ → ℕ → Bool) where
-  path_push : (t : ℕ) (q : List ℕ) (here next : ℕ) → PathOf (Holds test) t (q ++ here ∷ []) → Holds test here next → PathOf (Holds test) t ((q ++ here ∷ []) ++ next ∷ [])
+  path_push : (t : ℕ) (q : List ℕ) (here next : ℕ) → PathOf (Holds test) t (q ++ here ∷ []) → Holds test here next
+      → PathOf (Holds test) t ((q ++ here ∷ []) ++ next ∷ [])
   path_push t [] here next p h = (p.0, (h, tt))
   path_push t (x ∷ q) here next p h = (p.0, path_push x q here next p.1 h)
 
@@ -65,7 +72,8 @@ module _ (test : ℕ → ℕ → Bool) where
   path_front t [] here p = tt
   path_front t (x ∷ q) here p = (p.0, path_front x q here p.1)
 
-  follows_push : (q : List ℕ) (here next : ℕ) → Follows test (q ++ here ∷ []) → Holds test here next → Follows test ((q ++ here ∷ []) ++ next ∷ [])
+  follows_push : (q : List ℕ) (here next : ℕ) → Follows test (q ++ here ∷ []) → Holds test here next
+      → Follows test ((q ++ here ∷ []) ++ next ∷ [])
   follows_push [] here next p h = (h, tt)
   follows_push (x ∷ q) here next p h = path_push x q here next p h
 
@@ -87,17 +95,24 @@ distinct_front (x ∷ q) here d = ((λ m. d.0 ((member_push x q here).1 (inl m))
 
 module _ (rows : List ℕ) (source targets : ℕ) where
   pub search_starts : (fresh : ℕ) → source < 32 → ((i : ℕ) → i < 32 → is_set fresh i ≡ not (nat_eq i source))
-      → ((i : ℕ) → 32 ≤ i → is_set targets i ≡ false) → ((i j : ℕ) → 32 ≤ i → is_bit rows i j ≡ false) → Searching rows source targets fresh (source ∷ [])
+      → ((i : ℕ) → 32 ≤ i → is_set targets i ≡ false) → ((i j : ℕ) → 32 ≤ i → is_bit rows i j ≡ false)
+      → Searching rows source targets fresh (source ∷ [])
   search_starts fresh low others no_target no_row = record {
     begins = refl;
     follows = tt;
     distinct = ((λ m. m), tt);
-    met = λ x m. elim m [ inl e ↦ (subst (λ y. y < 32) (sym e) low, subst (λ y. is_set fresh y ≡ false) (sym e) met_source) | inr none ↦ absurd none ];
+    met =
+        λ x m. elim m [
+          | inl e ↦ (subst (λ y. y < 32) (sym e) low, subst (λ y. is_set fresh y ≡ false) (sym e) met_source)
+          | inr none ↦
+              absurd none
+        ];
     source_met = met_source;
     done = λ a old. elim (cases_lt a 32) [
       | inl below ↦ elim (cases_eq a source) [
         | inl same ↦ inl (inl same)
-        | inr other ↦ absurd (both_ways _ old (others a below ∙ ap not (false_from_ne_true (nat_eq a source) (λ t. other (eqb-true a source t)))))
+        | inr other ↦ absurd (both_ways _ old (others a below
+            ∙ ap not (false_from_ne_true (nat_eq a source) (λ t. other (eqb-true a source t)))))
       ]
       | inr high ↦ inr (no_target a high, λ b step. absurd (both_ways _ (no_row a b high) step))
     ];
@@ -108,7 +123,8 @@ module _ (rows : List ℕ) (source targets : ℕ) where
 
   -- a path of one more place fits
   pub search_fits : (fresh : ℕ) (path : List ℕ) → Searching rows source targets fresh path → length path ≤ 32
-  search_fits fresh path s = omega (arith, distinct_fits path (counted 32) s.distinct (λ x m. counted_member 32 x (s.met x m).0), counted_length 32)
+  search_fits fresh path s =
+      omega (arith, distinct_fits path (counted 32) s.distinct (λ x m. counted_member 32 x (s.met x m).0), counted_length 32)
 
   module _ (fresh : ℕ) (q : List ℕ) (here : ℕ) (s : Searching rows source targets fresh (q ++ here ∷ [])) where
     pub search_here : here < 32
@@ -116,7 +132,8 @@ module _ (rows : List ℕ) (source targets : ℕ) where
 
     -- a step to a place that was not met
     pub search_push : (next fresh' : ℕ) → next < 32 → is_bit rows here next ≡ true → is_set fresh next ≡ true
-        → ((i : ℕ) → is_set fresh' i ≡ (is_set fresh i && not (nat_eq i next))) → Searching rows source targets fresh' ((q ++ here ∷ []) ++ next ∷ [])
+        → ((i : ℕ) → is_set fresh' i ≡ (is_set fresh i && not (nat_eq i next)))
+        → Searching rows source targets fresh' ((q ++ here ∷ []) ++ next ∷ [])
     search_push next fresh' low step new less = record {
       begins = first_push source q here next s.begins;
       follows = follows_push (is_bit rows) q here next s.follows step;
@@ -142,12 +159,18 @@ module _ (rows : List ℕ) (source targets : ℕ) where
         gone = less next ∙ ap (λ x. is_set fresh next && not x) (eq-eqb next next refl) ∙ ap (λ x. x && false) new
 
         was : (i : ℕ) → i ≢ next → is_set fresh' i ≡ false → is_set fresh i ≡ false
-        was i other e = false_from_ne_true (is_set fresh i) (λ t. both_ways _ e (less i ∙ and_from _ _ t (ap not (false_from_ne_true (nat_eq i next) (λ u. other (eqb-true i next u))))))
+        was i other e = false_from_ne_true (is_set fresh i)
+            (λ t. both_ways _ e (less i ∙ and_from _ _ t (ap not (false_from_ne_true (nat_eq i next) (λ u. other (eqb-true i next u))))))
 
     -- so there is room for one more
     pub search_room : (next : ℕ) → next < 32 → is_set fresh next ≡ true → length ((q ++ here ∷ []) ++ next ∷ []) ≤ 32
     search_room next low new =
-        omega (arith, distinct_fits ((q ++ here ∷ []) ++ next ∷ []) (counted 32) (distinct_push (q ++ here ∷ []) next s.distinct (λ m. both_ways _ (s.met next m).1 new)) within, counted_length 32)
+        omega (
+          arith,
+          distinct_fits ((q ++ here ∷ []) ++ next ∷ []) (counted 32)
+              (distinct_push (q ++ here ∷ []) next s.distinct (λ m. both_ways _ (s.met next m).1 new)) within,
+          counted_length 32,
+        )
       where
         within : Within ((q ++ here ∷ []) ++ next ∷ []) (counted 32)
         within x m = elim ((member_push x (q ++ here ∷ []) next).0 m) [
@@ -156,7 +179,8 @@ module _ (rows : List ℕ) (source targets : ℕ) where
         ]
 
     -- back from a place whose steps all lead to places that were met
-    pub search_pop : is_set targets here ≡ false → ((b : ℕ) → is_bit rows here b ≡ true → is_set fresh b ≡ false) → Searching rows source targets fresh q
+    pub search_pop : is_set targets here ≡ false → ((b : ℕ) → is_bit rows here b ≡ true → is_set fresh b ≡ false)
+        → Searching rows source targets fresh q
     search_pop no_target closed = record {
       begins = first_front source q here s.begins;
       follows = follows_front (is_bit rows) q here s.follows;
@@ -166,7 +190,11 @@ module _ (rows : List ℕ) (source targets : ℕ) where
       done = λ a old. elim (s.done a old) [
         | inl m ↦ elim ((member_push a q here).0 m) [
           | inl k ↦ inl k
-          | inr e ↦ inr (subst (λ x. is_set targets x ≡ false) (sym e) no_target, λ b link. closed b (subst (λ x. is_bit rows x b ≡ true) e link))
+          | inr e ↦ inr (
+            subst (λ x. is_set targets x ≡ false) (sym e) no_target,
+            λ b link. closed b
+                (subst (λ x. is_bit rows x b ≡ true) e link),
+          )
         ]
         | inr h ↦ inr h
       ];
@@ -179,8 +207,10 @@ module _ (rows : List ℕ) (source targets : ℕ) where
         last : Member here (places targets)
         last = (places_member 32 targets here).1 (search_here, target)
 
-        go : (q : List ℕ) → First source (q ++ here ∷ []) → Follows (is_bit rows) (q ++ here ∷ []) → Distinct (q ++ here ∷ []) → IsWalk (is_bit rows) source (places targets) (q ++ here ∷ [])
-        go [] f p d = ([], ap (λ x. x ∷ []) f, record { distinct = ((λ m. m), tt); goes = tt; ends = subst (λ x. Member x (places targets)) f last })
+        go : (q : List ℕ) → First source (q ++ here ∷ []) → Follows (is_bit rows) (q ++ here ∷ []) → Distinct (q ++ here ∷ [])
+            → IsWalk (is_bit rows) source (places targets) (q ++ here ∷ [])
+        go [] f p d =
+            ([], ap (λ x. x ∷ []) f, record { distinct = ((λ m. m), tt); goes = tt; ends = subst (λ x. Member x (places targets)) f last })
         go (x ∷ q) f p d = (
           q ++ here ∷ [],
           ap (λ y. y ∷ q ++ here ∷ []) f,
@@ -194,7 +224,8 @@ module _ (rows : List ℕ) (source targets : ℕ) where
   -- where no path is left, none leads to a target
   pub search_none : (fresh : ℕ) → Searching rows source targets fresh [] → NoWalk (is_bit rows) source (places targets)
   search_none fresh s rest w =
-      let closed : is_set fresh (last_of source rest) ≡ false = closed_path (Holds (is_bit rows)) (λ x. is_set fresh x ≡ false) (λ a b old link. (outside a old).1 b link) source rest s.source_met w.goes in
+      let closed : is_set fresh (last_of source rest) ≡ false = closed_path (Holds (is_bit rows)) (λ x. is_set fresh x ≡ false)
+      (λ a b old link. (outside a old).1 b link) source rest s.source_met w.goes in
       both_ways _ (outside (last_of source rest) closed).0 ((places_member 32 targets (last_of source rest)).0 w.ends).1
     where
       outside : (a : ℕ) → is_set fresh a ≡ false → (is_set targets a ≡ false) × ((b : ℕ) → is_bit rows a b ≡ true → is_set fresh b ≡ false)

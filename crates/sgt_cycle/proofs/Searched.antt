@@ -19,14 +19,17 @@ pub record Collected (targets : List ℕ) (i : ℕ) (seen : List ℕ) : Type 0 w
   pub exact : (t : ℕ) → Member t seen ↔ Member t (take i targets)
   pub short : length seen ≤ i
 
-module _ (targets : List ℕ) (i : ℕ) (seen : List ℕ) (r : ℕ) (below : i < length targets) (is : r ≡ slice_index_or targets i r) (c : Collected targets i seen) where
+module _ (targets : List ℕ) (i : ℕ) (seen : List ℕ) (r : ℕ) (below : i < length targets) (is : r ≡ slice_index_or targets i r)
+    (c : Collected targets i seen) where
   -- the next one is new
   pub collected_push : (Member r seen → ⊥) → Collected targets (i + 1) (seen ++ r ∷ [])
   collected_push new = record {
     distinct = distinct_push seen r c.distinct new;
     exact = λ t. (
-      (λ m. (member_take t targets i r below).1 (elim ((member_push t seen r).0 m) [ inl old ↦ inl ((c.exact t).0 old) | inr e ↦ inr (e ∙ is) ])),
-      (λ m. (member_push t seen r).1 (elim ((member_take t targets i r below).0 m) [ inl old ↦ inl ((c.exact t).1 old) | inr e ↦ inr (e ∙ sym is) ])),
+      (λ m. (member_take t targets i r below).1 (elim ((member_push t seen r).0 m)
+          [ inl old ↦ inl ((c.exact t).0 old) | inr e ↦ inr (e ∙ is) ])),
+      (λ m. (member_push t seen r).1 (elim ((member_take t targets i r below).0 m)
+          [ inl old ↦ inl ((c.exact t).1 old) | inr e ↦ inr (e ∙ sym is) ])),
     );
     short = omega (arith, length-append seen (r ∷ []), c.short);
   }
@@ -37,7 +40,8 @@ module _ (targets : List ℕ) (i : ℕ) (seen : List ℕ) (r : ℕ) (below : i <
     distinct = c.distinct;
     exact = λ t. (
       (λ m. (member_take t targets i r below).1 (inl ((c.exact t).0 m))),
-      (λ m. elim ((member_take t targets i r below).0 m) [ inl early ↦ (c.exact t).1 early | inr e ↦ subst (λ x. Member x seen) (sym (e ∙ sym is)) old ]),
+      (λ m. elim ((member_take t targets i r below).0 m)
+          [ inl early ↦ (c.exact t).1 early | inr e ↦ subst (λ x. Member x seen) (sym (e ∙ sym is)) old ]),
     );
     short = omega (arith, c.short);
   }
@@ -84,7 +88,8 @@ module _ (links : List (ℕ × ℕ)) (targets : List ℕ) where
   }
 
   -- all that was seen are targets and ends of links
-  seen_within : (few : AtMost 32 (is_end links)) (first seen : List ℕ) → Within targets first → LeadsBack (is_link links) targets seen → Within seen (first ++ few.among)
+  seen_within : (few : AtMost 32 (is_end links)) (first seen : List ℕ) → Within targets first → LeadsBack (is_link links) targets seen
+      → Within seen (first ++ few.among)
   seen_within few first seen known leads x m =
       let (j, below, at) = member_at x seen m in
       subst (λ y. Member y (first ++ few.among)) (at 0) (elim (leads j below) [
@@ -100,7 +105,8 @@ module _ (links : List (ℕ × ℕ)) (targets : List ℕ) where
       omega (arith, length-append first few.among, few.few)
     where
       within : Within (a ∷ seen) (first ++ few.among)
-      within x (inl e) = subst (λ y. Member y (first ++ few.among)) (sym e) ((member_append a first few.among).1 (inr (few.all a (link_ends links a to link).0)))
+      within x (inl e) = subst (λ y. Member y (first ++ few.among)) (sym e)
+          ((member_append a first few.among).1 (inr (few.all a (link_ends links a to link).0)))
       within x (inr m) = seen_within few first seen known s.back x m
 
   -- a source is pushed
@@ -113,7 +119,9 @@ module _ (links : List (ℕ × ℕ)) (targets : List ℕ) where
         distinct = distinct_push seen a s.distinct new;
         targets_in = λ t m. (member_push t seen a).1 (inl (s.targets_in t m));
         within = omega (arith, length-append seen (a ∷ []));
-        closed = λ x y link m. (member_push x seen a).1 (inl (s.closed x y link (subst (λ l. Member y l) (take-append-le at seen (a ∷ []) s.within) m)));
+        closed =
+            λ x y link m. (member_push x seen a).1 (inl (s.closed x y link
+            (subst (λ l. Member y l) (take-append-le at seen (a ∷ []) s.within) m)));
       }
 
   -- or all sources of this number were seen

@@ -41,7 +41,8 @@ module _ (test : ℕ → ℕ → Bool) (source : ℕ) (seen : List ℕ) where
       }
 
   -- the walk goes on to a place before
-  pub walked_next : (at : ℕ) (path : List ℕ) (next r u : ℕ) → Distinct seen → Walked test source seen at path → at < length seen → r ≡ slice_index_or seen at r
+  pub walked_next : (at : ℕ) (path : List ℕ) (next r u : ℕ) → Distinct seen → Walked test source seen at path → at < length seen
+      → r ≡ slice_index_or seen at r
       → next < length (take at seen) → Holds test r (slice_index (take at seen) next) → u ≡ slice_index_or seen next u
       → (next < length seen) × Walked test source seen next (path ++ u ∷ [])
   walked_next at path next r u distinct w below is within link to =
@@ -74,7 +75,8 @@ walked_fits links source seen at path few w =
   where
     along : (t : ℕ) (rest : List ℕ) → PathOf (Holds (is_link links)) t rest → Within rest few.among
     along t [] p x m = elim m [ ]
-    along t (u ∷ rest) p x (inl e) = subst (λ y. Member y few.among) (sym e) (few.all u (or_right (nat_eq source u) _ (link_ends links t u p.0).1))
+    along t (u ∷ rest) p x (inl e) =
+        subst (λ y. Member y few.among) (sym e) (few.all u (or_right (nat_eq source u) _ (link_ends links t u p.0).1))
     along t (u ∷ rest) p x (inr m) = along u rest p.1 x m
 
     within : Within (source ∷ w.rest) few.among
@@ -82,18 +84,21 @@ walked_fits links source seen at path few w =
     within x (inr m) = along source w.rest w.goes x m
 
 -- in a path whose neighbours are related each number is related to the next, and only in such a path
-pub follows_iff : (test : ℕ → ℕ → Bool) (path : List ℕ) → Follows test path ↔ ((k : ℕ) → k + 1 < length path → Holds test (slice_index path k) (slice_index path (k + 1)))
+pub follows_iff : (test : ℕ → ℕ → Bool) (path : List ℕ)
+    → Follows test path ↔ ((k : ℕ) → k + 1 < length path → Holds test (slice_index path k) (slice_index path (k + 1)))
 follows_iff test [] = ((λ p k below. absurd (omega arith)), λ each. tt)
 follows_iff test (t ∷ rest) = (
   (λ p k below. rw (add-one k) (each t rest p k (omega arith))),
   (λ f. path t rest (λ k below. rw (add-one k) at (f k (omega arith)))),
 )
   where
-    each : (t : ℕ) (rest : List ℕ) → PathOf (Holds test) t rest → (k : ℕ) → k < length rest → Holds test (slice_index (t ∷ rest) k) (slice_index rest k)
+    each : (t : ℕ) (rest : List ℕ) → PathOf (Holds test) t rest → (k : ℕ) → k < length rest
+        → Holds test (slice_index (t ∷ rest) k) (slice_index rest k)
     each t [] p k below = absurd (omega arith)
     each t (u ∷ rest) p zero below = p.0
     each t (u ∷ rest) p (suc k) below = each u rest p.1 k (omega arith)
 
-    path : (t : ℕ) (rest : List ℕ) → ((k : ℕ) → k < length rest → Holds test (slice_index (t ∷ rest) k) (slice_index rest k)) → PathOf (Holds test) t rest
+    path : (t : ℕ) (rest : List ℕ) → ((k : ℕ) → k < length rest → Holds test (slice_index (t ∷ rest) k) (slice_index rest k))
+        → PathOf (Holds test) t rest
     path t [] f = tt
     path t (u ∷ rest) f = (f 0 (omega arith), path u rest (λ k below. f (suc k) (omega arith)))

@@ -38,7 +38,8 @@ last_none test none (suc n) = ap (λ b. cond b n (last_below n test)) (none n) �
 
 pub none_placed : (taken : ℕ) (tids : List ℕ) (u : ℕ) → ((i : ℕ) → is_set taken i ≡ false) → is_placed taken tids u ≡ false
 none_placed taken tids u none =
-    le-ltb (place_of taken tids u) 32 (let e : place_of taken tids u ≡ 32 = last_none (is_at taken tids u) (λ i. ap (λ x. x && nat_eq (slice_index tids i) u) (none i)) 32 in omega arith)
+    le-ltb (place_of taken tids u) 32 (let e : place_of taken tids u ≡ 32 =
+    last_none (is_at taken tids u) (λ i. ap (λ x. x && nat_eq (slice_index tids i) u) (none i)) 32 in omega arith)
 
 pub empty_graph : (tids rows : List ℕ) → length tids ≡ 32 → ((i j : ℕ) → is_bit rows i j ≡ false) → IsBitGraph 0 tids rows rows
 empty_graph tids rows size none = record {
@@ -63,7 +64,8 @@ alone_left taken p alone i = none_in i ∙ sym (ap (λ x. x && not (nat_eq i p))
     nothing false = refl
 
 -- where one place alone is taken there is no pair
-module _ (taken : ℕ) (tids pairs reached : List ℕ) (g : IsBitGraph taken tids pairs reached) (p : ℕ) (alone : (i : ℕ) → is_set taken i ≡ nat_eq i p) where
+module _ (taken : ℕ) (tids pairs reached : List ℕ) (g : IsBitGraph taken tids pairs reached) (p : ℕ)
+    (alone : (i : ℕ) → is_set taken i ≡ nat_eq i p) where
   pub alone_none : (i j : ℕ) → is_bit pairs i j ≡ false
   alone_none i j = false_from_ne_true (is_bit pairs i j) (λ h.
       let (a, b) = g.of_taken i j h in
@@ -83,7 +85,8 @@ module _ (taken : ℕ) (tids pairs reached : List ℕ) (g : IsBitGraph taken tid
 
 -- a transaction more, at a free place
 module _ (taken : ℕ) (tids pairs reached : List ℕ) (g : IsBitGraph taken tids pairs reached) (t p taken' : ℕ) (low : p < 32)
-    (is_free : is_set taken p ≡ false) (new : is_placed taken tids t ≡ false) (more : (i : ℕ) → is_set taken' i ≡ (is_set taken i || nat_eq i p)) where
+    (is_free : is_set taken p ≡ false) (new : is_placed taken tids t ≡ false)
+    (more : (i : ℕ) → is_set taken' i ≡ (is_set taken i || nat_eq i p)) where
   here : p < length tids
   here = subst (λ n. p < n) (sym g.size) low
 
@@ -108,7 +111,8 @@ module _ (taken : ℕ) (tids pairs reached : List ℕ) (g : IsBitGraph taken tid
       at_from taken' (slice_set tids p t) u i (more i ∙ or_left (is_set taken i) _ parts.0) (get_or-set_other tids p i t 0 other ∙ parts.1)
 
   new_at : is_at taken' (slice_set tids p t) t p ≡ true
-  new_at = at_from taken' (slice_set tids p t) t p (more p ∙ or_right (is_set taken p) _ (eq-eqb p p refl)) (get_or-set_same tids p t 0 here)
+  new_at =
+      at_from taken' (slice_set tids p t) t p (more p ∙ or_right (is_set taken p) _ (eq-eqb p p refl)) (get_or-set_same tids p t 0 here)
 
   pub grown : IsBitGraph taken' (slice_set tids p t) pairs reached
   grown = record {
@@ -127,7 +131,8 @@ module _ (taken : ℕ) (tids pairs reached : List ℕ) (g : IsBitGraph taken tid
       | inl old ↦ g.low i old
       | inr same ↦ subst (λ x. x < 32) (sym (eqb-true i p same)) low
     ];
-    of_taken = λ i j h. let both = g.of_taken i j h in (more i ∙ or_left (is_set taken i) _ both.0, more j ∙ or_left (is_set taken j) _ both.1);
+    of_taken = λ i j h. let both = g.of_taken i j h in
+        (more i ∙ or_left (is_set taken i) _ both.0, more j ∙ or_left (is_set taken j) _ both.1);
     closure = g.closure;
     acyclic = g.acyclic;
   }
@@ -139,22 +144,27 @@ module _ (taken : ℕ) (tids pairs reached : List ℕ) (g : IsBitGraph taken tid
         | inr e ↦ or_right (is_placed taken tids u) _ (eq-eqb u t e.1)
       ])
       (λ h. elim (or_cases (is_placed taken tids u) _ h) [
-        | inl old ↦ at_placed taken' (slice_set tids p t) (placed taken' (slice_set tids p t) pairs reached grown) u _ (old_at u _ (placed_at taken tids u old))
-        | inr e ↦ at_placed taken' (slice_set tids p t) (placed taken' (slice_set tids p t) pairs reached grown) u p (subst (λ v. is_at taken' (slice_set tids p t) v p ≡ true) (sym (eqb-true u t e)) new_at)
+        | inl old ↦ at_placed taken' (slice_set tids p t) (placed taken' (slice_set tids p t) pairs reached grown) u _
+            (old_at u _ (placed_at taken tids u old))
+        | inr e ↦ at_placed taken' (slice_set tids p t) (placed taken' (slice_set tids p t) pairs reached grown) u p
+            (subst (λ v. is_at taken' (slice_set tids p t) v p ≡ true) (sym (eqb-true u t e)) new_at)
       ])
 
   pub grown_pairs : (u v : ℕ) → is_pair taken' (slice_set tids p t) pairs u v ≡ is_pair taken tids pairs u v
   grown_pairs u v = same_test _ _
       (λ h.
-      let (i, j, a, b, step) = pair_at taken' (slice_set tids p t) (placed taken' (slice_set tids p t) pairs reached grown) pairs grown.of_taken u v h in
+      let (i, j, a, b, step) =
+      pair_at taken' (slice_set tids p t) (placed taken' (slice_set tids p t) pairs reached grown) pairs grown.of_taken u v h in
       let both = g.of_taken i j step in
       pair_from taken tids (placed taken tids pairs reached g) pairs u v i j (old u i a both.0) (old v j b both.1) ∙ step)
       (λ h.
       let (i, j, a, b, step) = pair_at taken tids (placed taken tids pairs reached g) pairs g.of_taken u v h in
-      pair_from taken' (slice_set tids p t) (placed taken' (slice_set tids p t) pairs reached grown) pairs u v i j (old_at u i a) (old_at v j b) ∙ step)
+      pair_from taken' (slice_set tids p t) (placed taken' (slice_set tids p t) pairs reached grown) pairs u v i j (old_at u i a)
+      (old_at v j b) ∙ step)
     where
       old : (u i : ℕ) → is_at taken' (slice_set tids p t) u i ≡ true → is_set taken i ≡ true → is_at taken tids u i ≡ true
-      old u i h there = elim (at_cases u i h) [ inl x ↦ x | inr x ↦ absurd (both_ways _ is_free (subst (λ y. is_set taken y ≡ true) x.0 there)) ]
+      old u i h there =
+          elim (at_cases u i h) [ inl x ↦ x | inr x ↦ absurd (both_ways _ is_free (subst (λ y. is_set taken y ≡ true) x.0 there)) ]
 
 -- pairs from some places into one
 module _ (taken : ℕ) (tids pairs reached : List ℕ) (g : IsBitGraph taken tids pairs reached) (from p : ℕ) (new after : List ℕ)
@@ -169,11 +179,13 @@ module _ (taken : ℕ) (tids pairs reached : List ℕ) (g : IsBitGraph taken tid
 
   module _ (after_is : (i j : ℕ) → (is_bit after i j ≡ true) ↔ ((is_bit reached i j ≡ true) ⊎ (Before i × After j))) where
     leads_old : (i j : ℕ) → Leads pairs i j → Leads new i j
-    leads_old i j (k, step, (path, goes, ends)) = (k, (new_is i k).1 (inl step), (path, path_map (λ a b h. (new_is a b).1 (inl h)) k path goes, ends))
+    leads_old i j (k, step, (path, goes, ends)) =
+        (k, (new_is i k).1 (inl step), (path, path_map (λ a b h. (new_is a b).1 (inl h)) k path goes, ends))
 
     to_place : (i : ℕ) → Before i → Leads new i p
     to_place i (inl h) = leads_step new i p ((new_is i p).1 (inr (h, refl)))
-    to_place i (inr (k, first, h)) = leads_join new i k p (leads_old i k (g.closure.leads i k first)) (leads_step new k p ((new_is k p).1 (inr (h, refl))))
+    to_place i (inr (k, first, h)) =
+        leads_join new i k p (leads_old i k (g.closure.leads i k first)) (leads_step new k p ((new_is k p).1 (inr (h, refl))))
 
     from_place : (i j : ℕ) → Leads new i p → After j → Leads new i j
     from_place i j l (inl e) = subst (λ x. Leads new i x) (sym e) l
@@ -198,9 +210,19 @@ module _ (taken : ℕ) (tids pairs reached : List ℕ) (g : IsBitGraph taken tid
       size = g.size;
       apart = g.apart;
       low = g.low;
-      of_taken = λ i j h. elim ((new_is i j).0 h) [ inl o ↦ g.of_taken i j o | inr n ↦ (sources i n.0, subst (λ x. is_set taken x ≡ true) (sym n.1) there) ];
+      of_taken =
+          λ i j h. elim ((new_is i j).0 h) [
+            | inl o ↦ g.of_taken i j o
+            | inr n ↦
+                (sources i n.0, subst (λ x. is_set taken x ≡ true) (sym n.1) there)
+          ];
       closure = record {
-        each = λ i j h. elim ((new_is i j).0 h) [ inl o ↦ (after_is i j).1 (inl (g.closure.each i j o)) | inr n ↦ (after_is i j).1 (inr (inl n.0, inl n.1)) ];
+        each =
+            λ i j h. elim ((new_is i j).0 h) [
+              | inl o ↦ (after_is i j).1 (inl (g.closure.each i j o))
+              | inr n ↦
+                  (after_is i j).1 (inr (inl n.0, inl n.1))
+            ];
         joins = λ i j k a b. elim ((after_is i j).0 a) [
           | inl x ↦ elim ((after_is j k).0 b) [
             | inl y ↦ (after_is i k).1 (inl (g.closure.joins i j k x y))
@@ -211,9 +233,15 @@ module _ (taken : ℕ) (tids pairs reached : List ℕ) (g : IsBitGraph taken tid
             | inr y ↦ (after_is i k).1 (inr (x.0, y.1))
           ]
         ];
-        leads = λ i j h. elim ((after_is i j).0 h) [ inl o ↦ leads_old i j (g.closure.leads i j o) | inr n ↦ from_place i j (to_place i n.0) n.1 ];
+        leads =
+            λ i j h. elim ((after_is i j).0 h) [
+              | inl o ↦ leads_old i j (g.closure.leads i j o)
+              | inr n ↦
+                  from_place i j (to_place i n.0) n.1
+            ];
       };
-      acyclic = λ i. false_from_ne_true (is_bit after i i) (λ h. elim ((after_is i i).0 h) [ inl o ↦ both_ways _ (g.acyclic i) o | inr n ↦ no_return i n.0 n.1 ]);
+      acyclic = λ i. false_from_ne_true (is_bit after i i)
+          (λ h. elim ((after_is i i).0 h) [ inl o ↦ both_ways _ (g.acyclic i) o | inr n ↦ no_return i n.0 n.1 ]);
     }
 
 -- without a place
@@ -246,7 +274,8 @@ module _ (taken : ℕ) (tids pairs reached : List ℕ) (g : IsBitGraph taken tid
       let parts = at_parts taken tids u i h in
       at_from taken' tids u i (left i ∙ and_from _ _ parts.0 (is_other i other)) parts.1
 
-  pub freed : (after : List ℕ) → IsClosure new after → ((i j : ℕ) → Leads pairs i j → is_bit reached i j ≡ true) → IsBitGraph taken' tids new after
+  pub freed : (after : List ℕ) → IsClosure new after → ((i j : ℕ) → Leads pairs i j → is_bit reached i j ≡ true)
+      → IsBitGraph taken' tids new after
   freed after closure all = record {
     size = g.size;
     apart = λ i j u a b. g.apart i j u (was_at u i a).0 (was_at u j b).0;
@@ -263,22 +292,26 @@ module _ (taken : ℕ) (tids pairs reached : List ℕ) (g : IsBitGraph taken tid
   pub first_freed : (after : List ℕ) → ((i : ℕ) → is_bit pairs i p ≡ true → ⊥)
       → ((i j : ℕ) → is_bit after i j ≡ (is_bit reached i j && (not (nat_eq i p) && not (nat_eq j p)))) → IsClosure new after
   first_freed after none after_is = record {
-    each = λ i j h. let (old, a, b) = old_pair i j h in after_is i j ∙ and_from _ _ (g.closure.each i j old) (and_from _ _ (is_other i a) (is_other j b));
+    each = λ i j h. let (old, a, b) = old_pair i j h in after_is i j
+        ∙ and_from _ _ (g.closure.each i j old) (and_from _ _ (is_other i a) (is_other j b));
     joins = λ i j k x y.
         let (first, a) = and_parts (is_bit reached i j) _ (sym (after_is i j) ∙ x) in
         let (second, b) = and_parts (is_bit reached j k) _ (sym (after_is j k) ∙ y) in
-        after_is i k ∙ and_from _ _ (g.closure.joins i j k first second) (and_from _ _ (and_parts (not (nat_eq i p)) _ a).0 (and_parts (not (nat_eq j p)) (not (nat_eq k p)) b).1);
+        after_is i k ∙ and_from _ _ (g.closure.joins i j k first second)
+        (and_from _ _ (and_parts (not (nat_eq i p)) _ a).0 (and_parts (not (nat_eq j p)) (not (nat_eq k p)) b).1);
     leads = λ i j h.
         let (old, rest) = and_parts (is_bit reached i j) _ (sym (after_is i j) ∙ h) in
         around i j (other_is i (and_parts (not (nat_eq i p)) _ rest).0) (g.closure.leads i j old);
   }
     where
       step_around : (i j : ℕ) → i ≢ p → is_bit pairs i j ≡ true → is_bit new i j ≡ true
-      step_around i j other h = new_is i j ∙ and_from _ _ h (and_from _ _ (is_other i other) (is_other j (λ e. none i (subst (λ x. is_bit pairs i x ≡ true) e h))))
+      step_around i j other h = new_is i j ∙ and_from _ _ h
+          (and_from _ _ (is_other i other) (is_other j (λ e. none i (subst (λ x. is_bit pairs i x ≡ true) e h))))
 
       path_around : (i : ℕ) (path : List ℕ) → i ≢ p → PathOf (Holds (is_bit pairs)) i path → PathOf (Holds (is_bit new)) i path
       path_around i [] other goes = tt
-      path_around i (j ∷ path) other goes = (step_around i j other goes.0, path_around j path (λ e. none i (subst (λ x. is_bit pairs i x ≡ true) e goes.0)) goes.1)
+      path_around i (j ∷ path) other goes =
+          (step_around i j other goes.0, path_around j path (λ e. none i (subst (λ x. is_bit pairs i x ≡ true) e goes.0)) goes.1)
 
       around : (i j : ℕ) → i ≢ p → Leads pairs i j → Leads new i j
       around i j other (k, step, (path, goes, ends)) =
@@ -286,11 +319,14 @@ module _ (taken : ℕ) (tids pairs reached : List ℕ) (g : IsBitGraph taken tid
 
   module _ (after : List ℕ) (h : IsBitGraph taken' tids new after) (t : ℕ) (here : is_at taken tids t p ≡ true) where
     not_it : (u i : ℕ) → is_at taken tids u i ≡ true → (i ≢ p) → not (nat_eq t u) ≡ true
-    not_it u i a other = ap not (false_from_ne_true (nat_eq t u) (λ e. other (g.apart i p u a (subst (λ x. is_at taken tids x p ≡ true) (eqb-true t u e) here))))
+    not_it u i a other =
+        ap not (false_from_ne_true (nat_eq t u) (λ e. other
+        (g.apart i p u a (subst (λ x. is_at taken tids x p ≡ true) (eqb-true t u e) here))))
 
     apart_from : (u i : ℕ) → is_at taken tids u i ≡ true → not (nat_eq t u) ≡ true → i ≢ p
     apart_from u i a other e =
-        both_ways _ (ap not (eq-eqb t u (sym (at_parts taken tids t p here).1 ∙ ap (λ x. slice_index tids x) (sym e) ∙ (at_parts taken tids u i a).1))) other
+        both_ways _ (ap not (eq-eqb t u (sym (at_parts taken tids t p here).1 ∙ ap (λ x. slice_index tids x) (sym e)
+        ∙ (at_parts taken tids u i a).1))) other
 
     freed_nodes : (u : ℕ) → is_placed taken' tids u ≡ (is_placed taken tids u && not (nat_eq t u))
     freed_nodes u = same_test _ _
@@ -306,7 +342,8 @@ module _ (taken : ℕ) (tids pairs reached : List ℕ) (g : IsBitGraph taken tid
         let (i, j, a, b, step) = pair_at taken' tids (placed taken' tids new after h) new h.of_taken u v k in
         let (x, i_other) = was_at u i a in
         let (y, j_other) = was_at v j b in
-        and_from _ _ (pair_from taken tids (placed taken tids pairs reached g) pairs u v i j x y ∙ (old_pair i j step).0) (and_from _ _ (not_it u i x i_other) (not_it v j y j_other)))
+        and_from _ _ (pair_from taken tids (placed taken tids pairs reached g) pairs u v i j x y ∙ (old_pair i j step).0)
+        (and_from _ _ (not_it u i x i_other) (not_it v j y j_other)))
         (λ k.
         let (old, rest) = and_parts (is_pair taken tids pairs u v) _ k in
         let (first, second) = and_parts (not (nat_eq t u)) (not (nat_eq t v)) rest in
@@ -320,7 +357,8 @@ module _ (taken : ℕ) (tids pairs reached : List ℕ) (g : IsBitGraph taken tid
     pub removed_nodes : (tids' : List ℕ) → tids' ≡ tids → (u : ℕ) → is_placed taken' tids' u ≡ (is_placed taken tids u && not (nat_eq t u))
     removed_nodes tids' same u = ap (λ x. is_placed taken' x u) same ∙ freed_nodes u
 
-    pub removed_pairs : (tids' : List ℕ) → tids' ≡ tids → (u v : ℕ) → is_pair taken' tids' new u v ≡ (is_pair taken tids pairs u v && (not (nat_eq t u) && not (nat_eq t v)))
+    pub removed_pairs : (tids' : List ℕ) → tids' ≡ tids → (u v : ℕ)
+        → is_pair taken' tids' new u v ≡ (is_pair taken tids pairs u v && (not (nat_eq t u) && not (nat_eq t v)))
     removed_pairs tids' same u v = ap (λ x. is_pair taken' x new u v) same ∙ freed_pairs u v
 
 -- a walk over places goes through places below 32
@@ -337,15 +375,19 @@ walk_low taken tids pairs reached g p from path low (rest, is, w) i m = elim (su
     go p (q ∷ rest) goes (inr k) = go q rest goes.1 k
 
 -- what a verdict says of places it says of transactions
-module _ (taken : ℕ) (tids pairs reached : List ℕ) (g : IsBitGraph taken tids pairs reached) (t place targets : ℕ) (preds : List ℕ) (here : is_at taken tids t place ≡ true)
+module _ (taken : ℕ) (tids pairs reached : List ℕ) (g : IsBitGraph taken tids pairs reached) (t place targets : ℕ) (preds : List ℕ)
+    (here : is_at taken tids t place ≡ true)
     (exact : (i : ℕ) → (is_set targets i ≡ true) ↔ ((is_set taken i ≡ true) × Member (slice_index tids i) preds)) where
-  pub verdict_of : ((u : ℕ) → Member u preds → u ≢ t) → (verdict : Verdict) → IsPlaceVerdict tids pairs reached place targets verdict → IsVerdict (is_pair taken tids pairs) t preds verdict
+  pub verdict_of : ((u : ℕ) → Member u preds → u ≢ t) → (verdict : Verdict) → IsPlaceVerdict tids pairs reached place targets verdict
+      → IsVerdict (is_pair taken tids pairs) t preds verdict
   verdict_of others Accepted v = accepted taken tids pairs reached g t place targets preds here exact others v
   verdict_of others (Closes walk) (path, is, same) = closes taken tids pairs reached g t place targets preds here exact path walk is same
 
   -- pairs from the targets to the place are what an insertion adds
-  pub inserts : ((u : ℕ) → Member u preds → is_placed taken tids u ≡ true) → (verdict : Verdict) → verdict ≡ Accepted → (taken' : ℕ) (tids' new reached' : List ℕ)
-      → taken' ≡ taken → tids' ≡ tids → ((i j : ℕ) → is_bit new i j ≡ (is_bit pairs i j || (is_set targets i && nat_eq j place))) → IsBitGraph taken' tids' new reached'
+  pub inserts : ((u : ℕ) → Member u preds → is_placed taken tids u ≡ true) → (verdict : Verdict) → verdict ≡ Accepted
+      → (taken' : ℕ) (tids' new reached' : List ℕ)
+      → taken' ≡ taken → tids' ≡ tids → ((i j : ℕ) → is_bit new i j ≡ (is_bit pairs i j || (is_set targets i && nat_eq j place)))
+      → IsBitGraph taken' tids' new reached'
       → Inserts (is_pair taken tids pairs) (is_pair taken' tids' new) t preds verdict
   inserts nodes verdict is taken' tids' new reached' same_taken same_tids more after =
       subst (λ x. Inserts (is_pair taken tids pairs) (is_pair taken' tids' new) t preds x) (sym is) (λ u v.
@@ -355,16 +397,20 @@ module _ (taken : ℕ) (tids pairs reached : List ℕ) (g : IsBitGraph taken tid
       (subst (λ x. (i j : ℕ) → is_bit new i j ≡ true → (is_set x i ≡ true) × (is_set x j ≡ true)) same_taken after.of_taken) nodes u v)))
 
 -- a transaction that is nowhere has no pairs
-pub none_in_place : (taken : ℕ) (tids pairs reached : List ℕ) → IsBitGraph taken tids pairs reached → (t : ℕ) → ((i : ℕ) → is_at taken tids t i ≡ false)
+pub none_in_place : (taken : ℕ) (tids pairs reached : List ℕ) → IsBitGraph taken tids pairs reached → (t : ℕ)
+    → ((i : ℕ) → is_at taken tids t i ≡ false)
     → (u : ℕ) → is_pair taken tids pairs u t ≡ false
 none_in_place taken tids pairs reached g t none u = false_from_ne_true (is_pair taken tids pairs u t) (λ h.
     let (i, j, a, b, step) = pair_at taken tids (placed taken tids pairs reached g) pairs g.of_taken u t h in
     both_ways _ (none j) b)
 
 -- without it nothing changes
-module _ (taken : ℕ) (tids pairs reached : List ℕ) (g : IsBitGraph taken tids pairs reached) (t : ℕ) (none : (i : ℕ) → is_at taken tids t i ≡ false) where
+module _ (taken : ℕ) (tids pairs reached : List ℕ) (g : IsBitGraph taken tids pairs reached) (t : ℕ)
+    (none : (i : ℕ) → is_at taken tids t i ≡ false) where
   other_than : (u i : ℕ) → is_at taken tids u i ≡ true → not (nat_eq t u) ≡ true
-  other_than u i a = ap not (false_from_ne_true (nat_eq t u) (λ e. both_ways _ (none i) (subst (λ x. is_at taken tids x i ≡ true) (sym (eqb-true t u e)) a)))
+  other_than u i a =
+      ap not (false_from_ne_true (nat_eq t u) (λ e. both_ways _ (none i)
+      (subst (λ x. is_at taken tids x i ≡ true) (sym (eqb-true t u e)) a)))
 
   pub absent_nodes : (u : ℕ) → is_placed taken tids u ≡ (is_placed taken tids u && not (nat_eq t u))
   absent_nodes u = same_test _ _
@@ -379,12 +425,14 @@ module _ (taken : ℕ) (tids pairs reached : List ℕ) (g : IsBitGraph taken tid
       (λ h. (and_parts (is_pair taken tids pairs u v) _ h).0)
 
 -- the column of a place: who has a pair to it
-module _ (taken : ℕ) (tids pairs reached : List ℕ) (g : IsBitGraph taken tids pairs reached) (t place : ℕ) (here : is_at taken tids t place ≡ true) (column alone : ℕ)
+module _ (taken : ℕ) (tids pairs reached : List ℕ) (g : IsBitGraph taken tids pairs reached) (t place : ℕ)
+    (here : is_at taken tids t place ≡ true) (column alone : ℕ)
     (alone_is : (i : ℕ) → is_set alone i ≡ nat_eq i place)
     (column_is : (i : ℕ) → (is_set column i ≡ true) ↔ ((j : ℕ) × (is_bit pairs i j ≡ true) × (is_set alone j ≡ true))) where
   in_column : (i : ℕ) → (is_set column i ≡ true) ↔ (is_bit pairs i place ≡ true)
   in_column i = (
-    (λ h. let (j, step, only) = (column_is i).0 h in subst (λ x. is_bit pairs i x ≡ true) (eqb-true j place (sym (alone_is j) ∙ only)) step),
+    (λ h. let (j, step, only) = (column_is i).0 h in subst (λ x. is_bit pairs i x ≡ true) (eqb-true j place (sym (alone_is j) ∙ only))
+        step),
     (λ step. (column_is i).1 (place, step, alone_is place ∙ eq-eqb place place refl)),
   )
 
@@ -398,10 +446,12 @@ module _ (taken : ℕ) (tids pairs reached : List ℕ) (g : IsBitGraph taken tid
   least_of u l =
       let step : is_bit pairs l.place place ≡ true = (in_column l.place).0 l.set_there in
       record {
-        pair = pair_from taken tids (placed taken tids pairs reached g) pairs u t l.place place (at_from taken tids u l.place (g.of_taken l.place place step).0 l.there) here ∙ step;
+        pair = pair_from taken tids (placed taken tids pairs reached g) pairs u t l.place place
+            (at_from taken tids u l.place (g.of_taken l.place place step).0 l.there) here ∙ step;
         least = λ v h.
             let (i, j, a, b, link) = pair_at taken tids (placed taken tids pairs reached g) pairs g.of_taken v t h in
-            let column_i : is_set column i ≡ true = (in_column i).1 (subst (λ x. is_bit pairs i x ≡ true) (g.apart j place t b here) link) in
+            let column_i : is_set column i ≡ true =
+            (in_column i).1 (subst (λ x. is_bit pairs i x ≡ true) (g.apart j place t b here) link) in
             subst (λ x. u ≤ x) (at_parts taken tids v i a).1 (l.least i column_i);
       }
 
@@ -414,10 +464,6 @@ abbrev pub counted : ℕ → List ℕ
 counted zero = []
 counted (suc n) = n ∷ counted n
 
-counted_length : (n : ℕ) → length (counted n) ≡ n
-counted_length zero = refl
-counted_length (suc n) = ap suc (counted_length n)
-
 counted_below : (n t : ℕ) → Member t (counted n) → t < n
 counted_below zero t m = absurd m
 counted_below (suc n) t (inl e) = omega arith
@@ -429,24 +475,31 @@ counted_distinct (suc n) = ((λ m. let low : n < n = counted_below n n m in absu
 
 -- where all places are taken, there are 32 transactions
 module _ (taken : ℕ) (tids pairs reached : List ℕ) (g : IsBitGraph taken tids pairs reached) where
-  name_member : (i : ℕ) (rest : List ℕ) → is_set taken i ≡ true → ((x : ℕ) → Member x rest → is_set taken x ≡ true) → Member (slice_index tids i) (map (λ i. slice_index tids i) rest) → Member i rest
+  name_member : (i : ℕ) (rest : List ℕ) → is_set taken i ≡ true → ((x : ℕ) → Member x rest → is_set taken x ≡ true)
+      → Member (slice_index tids i) (map (λ i. slice_index tids i) rest) → Member i rest
   name_member i [] there all m = m
-  name_member i (j ∷ rest) there all (inl e) = inl (g.apart i j (slice_index tids j) (at_from taken tids _ i there e) (at_from taken tids _ j (all j (inl refl)) refl))
+  name_member i (j ∷ rest) there all (inl e) =
+      inl (g.apart i j (slice_index tids j) (at_from taken tids _ i there e) (at_from taken tids _ j (all j (inl refl)) refl))
   name_member i (j ∷ rest) there all (inr m) = inr (name_member i rest there (λ x k. all x (inr k)) m)
 
-  name_distinct : (rest : List ℕ) → ((x : ℕ) → Member x rest → is_set taken x ≡ true) → Distinct rest → Distinct (map (λ i. slice_index tids i) rest)
+  name_distinct : (rest : List ℕ) → ((x : ℕ) → Member x rest → is_set taken x ≡ true) → Distinct rest
+      → Distinct (map (λ i. slice_index tids i) rest)
   name_distinct [] all d = tt
-  name_distinct (j ∷ rest) all d = ((λ m. d.0 (name_member j rest (all j (inl refl)) (λ x k. all x (inr k)) m)), name_distinct rest (λ x k. all x (inr k)) d.1)
+  name_distinct (j ∷ rest) all d =
+      ((λ m. d.0 (name_member j rest (all j (inl refl)) (λ x k. all x (inr k)) m)), name_distinct rest (λ x k. all x (inr k)) d.1)
 
-  names_placed : (rest : List ℕ) → ((x : ℕ) → Member x rest → is_set taken x ≡ true) → (u : ℕ) → Member u (map (λ i. slice_index tids i) rest) → is_placed taken tids u ≡ true
+  names_placed : (rest : List ℕ) → ((x : ℕ) → Member x rest → is_set taken x ≡ true) → (u : ℕ)
+      → Member u (map (λ i. slice_index tids i) rest) → is_placed taken tids u ≡ true
   names_placed [] all u m = absurd m
-  names_placed (j ∷ rest) all u (inl e) = at_placed taken tids (placed taken tids pairs reached g) u j (at_from taken tids u j (all j (inl refl)) (sym e))
+  names_placed (j ∷ rest) all u (inl e) =
+      at_placed taken tids (placed taken tids pairs reached g) u j (at_from taken tids u j (all j (inl refl)) (sym e))
   names_placed (j ∷ rest) all u (inr m) = names_placed rest (λ x k. all x (inr k)) u m
 
   pub no_room : AtMost 31 (is_placed taken tids) → ((i : ℕ) → i < 32 → is_set taken i ≡ true) → ⊥
   no_room room all =
       let each : (x : ℕ) → Member x (counted 32) → is_set taken x ≡ true = λ x m. all x (counted_below 32 x m) in
       let fits : length (map (λ i. slice_index tids i) (counted 32)) ≤ length room.among =
-      distinct_fits (map (λ i. slice_index tids i) (counted 32)) room.among (name_distinct (counted 32) each (counted_distinct 32)) (λ u m. room.all u (names_placed (counted 32) each u m)) in
+      distinct_fits (map (λ i. slice_index tids i) (counted 32)) room.among (name_distinct (counted 32) each (counted_distinct 32))
+      (λ u m. room.all u (names_placed (counted 32) each u m)) in
       let few : length room.among ≤ 31 = room.few in
       absurd (omega arith)

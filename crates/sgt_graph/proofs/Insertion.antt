@@ -12,7 +12,8 @@ use Rattle.sgt_cycle.specs.Walk.{Holds, NoWalk}
 use Rattle.sgt_graph.proofs.Lists.{pushed_cases}
 
 -- where no walk leads to a target, no path does
-pub no_path : (test : ℕ → ℕ → Bool) (t : ℕ) (targets : List ℕ) → NoWalk test t targets → (u : ℕ) → Member u targets → Reaches (Holds test) t u → ⊥
+pub no_path : (test : ℕ → ℕ → Bool) (t : ℕ) (targets : List ℕ) → NoWalk test t targets → (u : ℕ) → Member u targets
+    → Reaches (Holds test) t u → ⊥
 no_path test t targets none u m (path, goes, ends) =
     let s : Simple (Holds test) t path = simple (Holds test) t path goes in
     none s.rest (record { distinct = s.distinct; goes = s.goes; ends = subst (λ x. Member x targets) (sym (s.ends ∙ ends)) m })
@@ -22,17 +23,20 @@ abbrev pub Adds : List (ℕ × ℕ) → List (ℕ × ℕ) → ℕ → List ℕ �
 Adds old new t preds = (a b : ℕ) → (is_link new a b ≡ true) ↔ ((is_link old a b ≡ true) ⊎ ((b ≡ t) × Member a preds))
 
 -- no path leads from t to a node to which none led before
-pub still_no_path : (old new : List (ℕ × ℕ)) (t : ℕ) (preds : List ℕ) → Adds old new t preds → (u : ℕ) → (Reaches (Holds (is_link old)) t u → ⊥) → Reaches (Holds (is_link new)) t u → ⊥
-still_no_path old new t preds adds u free (path, goes, ends) = elim (last_new (Holds (is_link old)) (Holds (is_link new)) t (λ x. Member x preds) grows t path goes) [
-  | inl early ↦ free (path, early, ends)
-  | inr reaches ↦ free (subst (λ x. Reaches (Holds (is_link old)) t x) ends reaches)
-]
+pub still_no_path : (old new : List (ℕ × ℕ)) (t : ℕ) (preds : List ℕ) → Adds old new t preds → (u : ℕ)
+    → (Reaches (Holds (is_link old)) t u → ⊥) → Reaches (Holds (is_link new)) t u → ⊥
+still_no_path old new t preds adds u free (path, goes, ends) =
+    elim (last_new (Holds (is_link old)) (Holds (is_link new)) t (λ x. Member x preds) grows t path goes) [
+      | inl early ↦ free (path, early, ends)
+      | inr reaches ↦ free (subst (λ x. Reaches (Holds (is_link old)) t x) ends reaches)
+    ]
   where
     grows : Grows (Holds (is_link old)) (Holds (is_link new)) t (λ x. Member x preds)
     grows = record { each = λ a b h. elim ((adds a b).0 h) [ inl o ↦ inl o | inr n ↦ inr (n.1, n.0) ] }
 
 -- one pair more
-pub adds_next : (old mid new : List (ℕ × ℕ)) (t : ℕ) (preds : List ℕ) (i u : ℕ) → i < length preds → u ≡ slice_index_or preds i u → Adds old mid t (take i preds)
+pub adds_next : (old mid new : List (ℕ × ℕ)) (t : ℕ) (preds : List ℕ) (i u : ℕ) → i < length preds → u ≡ slice_index_or preds i u
+    → Adds old mid t (take i preds)
     → ((a b : ℕ) → is_link new a b ≡ (is_link mid a b || (nat_eq u a && nat_eq t b))) → Adds old new t (take (i + 1) preds)
 adds_next old mid new t preds i u below is adds more a b = (to, from)
   where

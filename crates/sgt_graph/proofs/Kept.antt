@@ -50,10 +50,11 @@ few_kept f (x ∷ xs) = go (f x) (few_kept f xs)
 once_push : (pairs : List (ℕ × ℕ)) (u t : ℕ) → Once pairs → is_link pairs u t ≡ false → Once (pairs ++ (u, t) ∷ [])
 once_push [] u t once new = (refl, tt)
 once_push (p ∷ pairs) u t once new = (
-  false_from_ne_true (is_link (pairs ++ (u, t) ∷ []) p.0 p.1) (λ h. elim (pushed_cases pairs u t p.0 p.1 (sym (pair_push pairs u t p.0 p.1) ∙ h)) [
-    | inl old ↦ both_ways _ once.0 old
-    | inr same ↦ both_ways _ new (pair_here p pairs u t same.0 same.1)
-  ]),
+  false_from_ne_true (is_link (pairs ++ (u, t) ∷ []) p.0 p.1)
+      (λ h. elim (pushed_cases pairs u t p.0 p.1 (sym (pair_push pairs u t p.0 p.1) ∙ h)) [
+        | inl old ↦ both_ways _ once.0 old
+        | inr same ↦ both_ways _ new (pair_here p pairs u t same.0 same.1)
+      ]),
   once_push pairs u t once.1 (false_from_ne_true (is_link pairs u t) (λ h. both_ways _ new (pair_there p pairs u t h))),
 )
 
@@ -64,7 +65,8 @@ once_kept t (p ∷ pairs) once = go (is_apart t p) (once_kept t pairs once.1)
   where
     go : (b : Bool) → Once (filter (is_apart t) pairs) → Once (cond b (p ∷ filter (is_apart t) pairs) (filter (is_apart t) pairs))
     go true rest = (
-      false_from_ne_true (is_link (filter (is_apart t) pairs) p.0 p.1) (λ h. both_ways _ once.0 (and_parts (is_link pairs p.0 p.1) _ (sym (pair_without pairs t p.0 p.1) ∙ h)).0),
+      false_from_ne_true (is_link (filter (is_apart t) pairs) p.0 p.1)
+          (λ h. both_ways _ once.0 (and_parts (is_link pairs p.0 p.1) _ (sym (pair_without pairs t p.0 p.1) ∙ h)).0),
       rest,
     )
     go false rest = rest
@@ -88,7 +90,12 @@ module _ (nodes : List ℕ) (pairs : List (ℕ × ℕ)) (g : IsPairGraph nodes p
   -- its pairs are few
   pub pairs_few : length pairs ≤ 496
   pairs_few = pairs_fit nodes pairs g.few g.once
-      (λ a b h. let (from, to) = g.of_nodes a b h in (node_member a nodes from, node_member b nodes to, λ same. no_way_back g.acyclic a b h ([], tt, sym same)))
+      (λ a b h. let (from, to) = g.of_nodes a b h in (
+        node_member a nodes from,
+        node_member b nodes to,
+        λ same. no_way_back g.acyclic a b h
+            ([], tt, sym same),
+      ))
       (λ a b there back. no_way_back g.acyclic a b there (a ∷ [], (back, tt), refl))
 
   -- a new node
@@ -102,7 +109,8 @@ module _ (nodes : List ℕ) (pairs : List (ℕ × ℕ)) (g : IsPairGraph nodes p
   }
 
   -- a new pair, where no path leads back
-  pub kept_pair : (u t : ℕ) → is_node nodes u ≡ true → is_node nodes t ≡ true → (Reaches (Holds (is_link pairs)) t u → ⊥) → is_link pairs u t ≡ false
+  pub kept_pair : (u t : ℕ) → is_node nodes u ≡ true → is_node nodes t ≡ true → (Reaches (Holds (is_link pairs)) t u → ⊥)
+      → is_link pairs u t ≡ false
       → IsPairGraph nodes (pairs ++ (u, t) ∷ [])
   kept_pair u t from to free new = record {
     few = g.few;
@@ -112,7 +120,8 @@ module _ (nodes : List ℕ) (pairs : List (ℕ × ℕ)) (g : IsPairGraph nodes p
       | inl old ↦ g.of_nodes a b old
       | inr here ↦ (subst (λ x. is_node nodes x ≡ true) (sym here.0) from, subst (λ x. is_node nodes x ≡ true) (sym here.1) to)
     ];
-    acyclic = acyclic_grows (Holds (is_link pairs)) (Holds (is_link (pairs ++ (u, t) ∷ []))) t (λ x. x ≡ u) (record { each = cases }) g.acyclic
+    acyclic =
+        acyclic_grows (Holds (is_link pairs)) (Holds (is_link (pairs ++ (u, t) ∷ []))) t (λ x. x ≡ u) (record { each = cases }) g.acyclic
         (λ x r e. free (subst (λ y. Reaches (Holds (is_link pairs)) t y) e r));
   }
     where

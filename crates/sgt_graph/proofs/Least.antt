@@ -20,7 +20,8 @@ module _ (pairs : List (ℕ × ℕ)) (a b t : ℕ) where
   new_pair e = pair_push pairs a b a t ∙ or_right (is_link pairs a t) _ (and_from _ _ (eq-eqb a a refl) (eq-eqb b t e))
 
   -- a pair to t
-  least_push : (least : Option ℕ) → LeastAmong pairs t least → b ≡ t → LeastAmong (pairs ++ (a, b) ∷ []) t (Some (min (unwrap_or least a) a))
+  least_push : (least : Option ℕ) → LeastAmong pairs t least → b ≡ t
+      → LeastAmong (pairs ++ (a, b) ∷ []) t (Some (min (unwrap_or least a) a))
   least_push None none e = record {
     pair = subst (λ x. is_link (pairs ++ (a, b) ∷ []) x t ≡ true) (omega arith) (new_pair e);
     least = λ v h. elim (pushed_cases pairs a b v t (sym (pair_push pairs a b v t) ∙ h)) [
@@ -41,10 +42,11 @@ module _ (pairs : List (ℕ × ℕ)) (a b t : ℕ) where
 
   -- a pair to another
   least_skip : (least : Option ℕ) → LeastAmong pairs t least → b ≢ t → LeastAmong (pairs ++ (a, b) ∷ []) t least
-  least_skip None none other = λ u. false_from_ne_true (is_link (pairs ++ (a, b) ∷ []) u t) (λ h. elim (pushed_cases pairs a b u t (sym (pair_push pairs a b u t) ∙ h)) [
-    | inl old ↦ both_ways _ (none u) old
-    | inr here ↦ other (sym here.1)
-  ])
+  least_skip None none other = λ u. false_from_ne_true (is_link (pairs ++ (a, b) ∷ []) u t)
+      (λ h. elim (pushed_cases pairs a b u t (sym (pair_push pairs a b u t) ∙ h)) [
+        | inl old ↦ both_ways _ (none u) old
+        | inr here ↦ other (sym here.1)
+      ])
   least_skip (Some u) least other = record {
     pair = old_pair u least.pair;
     least = λ v h. elim (pushed_cases pairs a b v t (sym (pair_push pairs a b v t) ∙ h)) [
@@ -57,10 +59,13 @@ module _ (pairs : List (ℕ × ℕ)) (a b t : ℕ) where
 pub least_next : (pairs : List (ℕ × ℕ)) (i : ℕ) (p : ℕ × ℕ) (t : ℕ) (least : Option ℕ) → i < length pairs → p ≡ slice_index_or pairs i p
     → LeastAmong (take i pairs) t least → p.1 ≡ t → LeastAmong (take (i + 1) pairs) t (Some (min (unwrap_or least p.0) p.0))
 least_next pairs i p t least below is among e =
-    subst (λ l. LeastAmong l t (Some (min (unwrap_or least p.0) p.0))) (sym (rw (add-one i) (take-suc pairs i p below ∙ ap (λ x. take i pairs ++ x ∷ []) (sym is)))) (least_push (take i pairs) p.0 p.1 t least among e)
+    subst (λ l. LeastAmong l t (Some (min (unwrap_or least p.0) p.0)))
+    (sym (rw (add-one i) (take-suc pairs i p below ∙ ap (λ x. take i pairs ++ x ∷ []) (sym is))))
+    (least_push (take i pairs) p.0 p.1 t least among e)
 
 -- or to another
 pub least_same : (pairs : List (ℕ × ℕ)) (i : ℕ) (p : ℕ × ℕ) (t : ℕ) (least : Option ℕ) → i < length pairs → p ≡ slice_index_or pairs i p
     → LeastAmong (take i pairs) t least → p.1 ≢ t → LeastAmong (take (i + 1) pairs) t least
 least_same pairs i p t least below is among other =
-    subst (λ l. LeastAmong l t least) (sym (rw (add-one i) (take-suc pairs i p below ∙ ap (λ x. take i pairs ++ x ∷ []) (sym is)))) (least_skip (take i pairs) p.0 p.1 t least among other)
+    subst (λ l. LeastAmong l t least) (sym (rw (add-one i) (take-suc pairs i p below ∙ ap (λ x. take i pairs ++ x ∷ []) (sym is))))
+    (least_skip (take i pairs) p.0 p.1 t least among other)

@@ -19,15 +19,22 @@ LeastBelow tids set n (Some u) = LeastOf tids set n u
 
 module _ (tids : List ℕ) (set n : ℕ) where
   pub least_skip : (least : Option ℕ) → LeastBelow tids set n least → is_set set n ≡ false → LeastBelow tids set (n + 1) least
-  least_skip None none here = λ i below. elim (cases_eq i n) [ inl e ↦ subst (λ x. is_set set x ≡ false) (sym e) here | inr other ↦ none i (omega arith) ]
+  least_skip None none here =
+      λ i below. elim (cases_eq i n) [ inl e ↦ subst (λ x. is_set set x ≡ false) (sym e) here | inr other ↦ none i (omega arith) ]
   least_skip (Some u) l here = record {
     place = l.place;
     set_there = l.set_there;
     there = l.there;
-    least = λ i below h. elim (cases_eq i n) [ inl e ↦ absurd (both_ways _ here (subst (λ x. is_set set x ≡ true) e h)) | inr other ↦ l.least i (omega arith) h ];
+    least =
+        λ i below h. elim (cases_eq i n) [
+          | inl e ↦ absurd (both_ways _ here (subst (λ x. is_set set x ≡ true) e h))
+          | inr other ↦
+              l.least i (omega arith) h
+        ];
   }
 
-  pub least_more : (least : Option ℕ) (r : ℕ) → LeastBelow tids set n least → is_set set n ≡ true → slice_index tids n ≡ r → LeastBelow tids set (n + 1) (Some (min (unwrap_or least r) r))
+  pub least_more : (least : Option ℕ) (r : ℕ) → LeastBelow tids set n least → is_set set n ≡ true → slice_index tids n ≡ r
+      → LeastBelow tids set (n + 1) (Some (min (unwrap_or least r) r))
   least_more None r none here is = record {
     place = n;
     set_there = here;
@@ -59,12 +66,16 @@ module _ (tids : List ℕ) (set n : ℕ) where
   ]
 
 -- all places are below 32
-pub least_some : (tids : List ℕ) (set n : ℕ) (least : Option ℕ) → 32 ≤ n → ((i : ℕ) → is_set set i ≡ true → i < 32) → LeastBelow tids set n least → IfSome least (IsLeastAt tids set)
+pub least_some : (tids : List ℕ) (set n : ℕ) (least : Option ℕ) → 32 ≤ n → ((i : ℕ) → is_set set i ≡ true → i < 32)
+    → LeastBelow tids set n least → IfSome least (IsLeastAt tids set)
 least_some tids set n None high low l = tt
-least_some tids set n (Some u) high low l = record { place = l.place; set_there = l.set_there; there = l.there; least = λ i h. let below : i < 32 = low i h in l.least i (omega arith) h }
+least_some tids set n (Some u) high low l = record
+    { place = l.place; set_there = l.set_there; there = l.there; least = λ i h. let below : i < 32 = low i h in l.least i (omega arith) h }
 
-pub least_none : (tids : List ℕ) (set n : ℕ) (least : Option ℕ) → 32 ≤ n → ((i : ℕ) → is_set set i ≡ true → i < 32) → LeastBelow tids set n least → IsNone least → (i : ℕ) → is_set set i ≡ false
-least_none tids set n None high low l none i = false_from_ne_true (is_set set i) (λ h. let below : i < 32 = low i h in both_ways _ (l i (omega arith)) h)
+pub least_none : (tids : List ℕ) (set n : ℕ) (least : Option ℕ) → 32 ≤ n → ((i : ℕ) → is_set set i ≡ true → i < 32)
+    → LeastBelow tids set n least → IsNone least → (i : ℕ) → is_set set i ≡ false
+least_none tids set n None high low l none i =
+    false_from_ne_true (is_set set i) (λ h. let below : i < 32 = low i h in both_ways _ (l i (omega arith)) h)
 least_none tids set n (Some u) high low l none i = cc
 
 -- within the list the default does not matter

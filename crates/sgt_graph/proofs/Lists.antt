@@ -14,7 +14,8 @@ use Rattle.sgt_graph.specs.PairGraphs.{is_node, is_apart}
 -- a member is listed, and what is listed is a member
 pub node_member : (t : ℕ) (nodes : List ℕ) → is_node nodes t ≡ true → Member t nodes
 node_member t [] h = cc
-node_member t (u ∷ nodes) h = elim (or_cases (nat_eq t u) _ h) [ inl here ↦ inl (eqb-true t u here) | inr there ↦ inr (node_member t nodes there) ]
+node_member t (u ∷ nodes) h =
+    elim (or_cases (nat_eq t u) _ h) [ inl here ↦ inl (eqb-true t u here) | inr there ↦ inr (node_member t nodes there) ]
 
 pub member_node : (t : ℕ) (nodes : List ℕ) → Member t nodes → is_node nodes t ≡ true
 member_node t [] m = absurd m
@@ -34,10 +35,12 @@ node_push nodes t u = list_any-append (λ x. nat_eq u x) nodes (t ∷ []) ∙ ap
 -- a node of a list without t
 pub node_without : (nodes : List ℕ) (t u : ℕ) → is_node (filter (λ x. not (nat_eq t x)) nodes) u ≡ (is_node nodes u && not (nat_eq t u))
 node_without nodes t u =
-    any-filter_same (λ x. nat_eq u x) (λ x. not (nat_eq t x)) (not (nat_eq t u)) (λ x same. ap (λ y. not (nat_eq t y)) (sym (eqb-true u x same))) nodes ∙ and_comm (not (nat_eq t u)) (is_node nodes u)
+    any-filter_same (λ x. nat_eq u x) (λ x. not (nat_eq t x)) (not (nat_eq t u))
+    (λ x same. ap (λ y. not (nat_eq t y)) (sym (eqb-true u x same))) nodes ∙ and_comm (not (nat_eq t u)) (is_node nodes u)
 
 -- a pair of a list is its first, or one of the others
-pub pair_cases : (p : ℕ × ℕ) (pairs : List (ℕ × ℕ)) (a b : ℕ) → is_link (p ∷ pairs) a b ≡ true → ((p.0 ≡ a) × (p.1 ≡ b)) ⊎ (is_link pairs a b ≡ true)
+pub pair_cases : (p : ℕ × ℕ) (pairs : List (ℕ × ℕ)) (a b : ℕ) → is_link (p ∷ pairs) a b ≡ true
+    → ((p.0 ≡ a) × (p.1 ≡ b)) ⊎ (is_link pairs a b ≡ true)
 pair_cases p pairs a b h = elim (or_cases (nat_eq p.0 a && nat_eq p.1 b) _ h) [
   | inl here ↦ let (first, second) = and_parts (nat_eq p.0 a) (nat_eq p.1 b) here in inl (eqb-true p.0 a first, eqb-true p.1 b second)
   | inr there ↦ inr there
@@ -52,18 +55,22 @@ pub pair_there : (p : ℕ × ℕ) (pairs : List (ℕ × ℕ)) (a b : ℕ) → is
 pair_there p pairs a b h = or_right (nat_eq p.0 a && nat_eq p.1 b) _ h
 
 -- a pair of a list with one more
-pub pair_push : (pairs : List (ℕ × ℕ)) (u t a b : ℕ) → is_link (pairs ++ (u, t) ∷ []) a b ≡ (is_link pairs a b || (nat_eq u a && nat_eq t b))
-pair_push pairs u t a b = list_any-append (λ l. nat_eq l.0 a && nat_eq l.1 b) pairs ((u, t) ∷ []) ∙ ap (λ x. is_link pairs a b || x) (or-false (nat_eq u a && nat_eq t b))
+pub pair_push : (pairs : List (ℕ × ℕ)) (u t a b : ℕ)
+    → is_link (pairs ++ (u, t) ∷ []) a b ≡ (is_link pairs a b || (nat_eq u a && nat_eq t b))
+pair_push pairs u t a b = list_any-append (λ l. nat_eq l.0 a && nat_eq l.1 b) pairs ((u, t) ∷ [])
+    ∙ ap (λ x. is_link pairs a b || x) (or-false (nat_eq u a && nat_eq t b))
 
 -- the same by cases
-pub pushed_cases : (pairs : List (ℕ × ℕ)) (u t a b : ℕ) → (is_link pairs a b || (nat_eq u a && nat_eq t b)) ≡ true → (is_link pairs a b ≡ true) ⊎ ((a ≡ u) × (b ≡ t))
+pub pushed_cases : (pairs : List (ℕ × ℕ)) (u t a b : ℕ) → (is_link pairs a b || (nat_eq u a && nat_eq t b)) ≡ true
+    → (is_link pairs a b ≡ true) ⊎ ((a ≡ u) × (b ≡ t))
 pushed_cases pairs u t a b h = elim (or_cases (is_link pairs a b) _ h) [
   | inl old ↦ inl old
   | inr new ↦ let (first, second) = and_parts (nat_eq u a) (nat_eq t b) new in inr (sym (eqb-true u a first), sym (eqb-true t b second))
 ]
 
 -- a pair that is there already adds nothing
-pub pair_again : (pairs : List (ℕ × ℕ)) (u t : ℕ) → is_link pairs u t ≡ true → (a b : ℕ) → is_link pairs a b ≡ (is_link pairs a b || (nat_eq u a && nat_eq t b))
+pub pair_again : (pairs : List (ℕ × ℕ)) (u t : ℕ) → is_link pairs u t ≡ true → (a b : ℕ)
+    → is_link pairs a b ≡ (is_link pairs a b || (nat_eq u a && nat_eq t b))
 pair_again pairs u t there a b = go (nat_eq u a && nat_eq t b) refl
   where
     go : (x : Bool) → (nat_eq u a && nat_eq t b) ≡ x → is_link pairs a b ≡ (is_link pairs a b || x)
@@ -74,14 +81,17 @@ pair_again pairs u t there a b = go (nat_eq u a && nat_eq t b) refl
     go false e = sym (or-false (is_link pairs a b))
 
 -- a pair of a list without those of t
-pub pair_without : (pairs : List (ℕ × ℕ)) (t a b : ℕ) → is_link (filter (is_apart t) pairs) a b ≡ (is_link pairs a b && (not (nat_eq t a) && not (nat_eq t b)))
+pub pair_without : (pairs : List (ℕ × ℕ)) (t a b : ℕ)
+    → is_link (filter (is_apart t) pairs) a b ≡ (is_link pairs a b && (not (nat_eq t a) && not (nat_eq t b)))
 pair_without pairs t a b =
-    any-filter_same (λ l. nat_eq l.0 a && nat_eq l.1 b) (is_apart t) (is_apart t (a, b)) same pairs ∙ and_comm (is_apart t (a, b)) (is_link pairs a b)
+    any-filter_same (λ l. nat_eq l.0 a && nat_eq l.1 b) (is_apart t) (is_apart t (a, b)) same pairs
+    ∙ and_comm (is_apart t (a, b)) (is_link pairs a b)
   where
     same : (l : ℕ × ℕ) → (nat_eq l.0 a && nat_eq l.1 b) ≡ true → is_apart t l ≡ is_apart t (a, b)
     same l h =
         let (first, second) = and_parts (nat_eq l.0 a) (nat_eq l.1 b) h in
-        ap (λ x. not (nat_eq t x) && not (nat_eq t l.1)) (eqb-true l.0 a first) ∙ ap (λ y. not (nat_eq t a) && not (nat_eq t y)) (eqb-true l.1 b second)
+        ap (λ x. not (nat_eq t x) && not (nat_eq t l.1)) (eqb-true l.0 a first)
+        ∙ ap (λ y. not (nat_eq t a) && not (nat_eq t y)) (eqb-true l.1 b second)
 
 -- the numbers of pairs of nodes are nodes
 pub end_node : (nodes : ℕ → Bool) (pairs : List (ℕ × ℕ)) → OfNodes nodes (is_link pairs) → (t : ℕ) → is_end pairs t ≡ true → nodes t ≡ true

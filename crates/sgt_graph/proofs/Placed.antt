@@ -32,9 +32,15 @@ unfolding places_below
 member_place zero set t low set_there = absurd (omega arith)
 member_place (suc n) set t low set_there = go (member_place n set t) (is_set set n) refl
   where
-    go : (t < n → is_set set t ≡ true → Member t (places_below n set)) → (b : Bool) → is_set set n ≡ b → Member t (cond b (n ∷ places_below n set) (places_below n set))
+    go : (t < n → is_set set t ≡ true → Member t (places_below n set)) → (b : Bool) → is_set set n ≡ b
+        → Member t (cond b (n ∷ places_below n set) (places_below n set))
     go old true e = elim (cases_eq t n) [ inl same ↦ inl same | inr other ↦ inr (old (omega arith) set_there) ]
-    go old false e = elim (cases_eq t n) [ inl same ↦ absurd (both_ways _ e (subst (λ x. is_set set x ≡ true) same set_there)) | inr other ↦ old (omega arith) set_there ]
+    go old false e =
+        elim (cases_eq t n) [
+          | inl same ↦ absurd (both_ways _ e (subst (λ x. is_set set x ≡ true) same set_there))
+          | inr other ↦
+              old (omega arith) set_there
+        ]
 
 -- the last place that passes
 module _ (test : ℕ → Bool) where
@@ -43,7 +49,8 @@ module _ (test : ℕ → Bool) where
   last_passes zero few low = absurd (omega arith)
   last_passes (suc n) few low = go (test n) refl (last_passes n (omega arith)) low
     where
-      go : (b : Bool) → test n ≡ b → (last_below n test < 32 → test (last_below n test) ≡ true) → cond b n (last_below n test) < 32 → test (cond b n (last_below n test)) ≡ true
+      go : (b : Bool) → test n ≡ b → (last_below n test < 32 → test (last_below n test) ≡ true) → cond b n (last_below n test) < 32
+          → test (cond b n (last_below n test)) ≡ true
       go true e old h = e
       go false e old h = old h
 
@@ -54,7 +61,8 @@ module _ (test : ℕ → Bool) where
     where
       go : (b : Bool) → test n ≡ b → (i < n → last_below n test ≡ i) → cond b n (last_below n test) ≡ i
       go true e old = only n e
-      go false e old = elim (cases_eq i n) [ inl same ↦ absurd (both_ways _ e (subst (λ x. test x ≡ true) same here)) | inr other ↦ old (omega arith) ]
+      go false e old =
+          elim (cases_eq i n) [ inl same ↦ absurd (both_ways _ e (subst (λ x. test x ≡ true) same here)) | inr other ↦ old (omega arith) ]
 
 -- what has to be known of the places
 pub record Placed (taken : ℕ) (tids : List ℕ) : Type 0 where
@@ -78,12 +86,15 @@ module _ (taken : ℕ) (tids : List ℕ) where
     pub at_placed : (t i : ℕ) → is_at taken tids t i ≡ true → is_placed taken tids t ≡ true
     at_placed t i h = lt-ltb (place_of taken tids t) 32 (subst (λ x. x < 32) (sym (place_is t i h)) (p.low i (at_parts t i h).0))
 
-    pub pair_from : (pairs : List ℕ) (u v i j : ℕ) → is_at taken tids u i ≡ true → is_at taken tids v j ≡ true → is_pair taken tids pairs u v ≡ is_bit pairs i j
-    pair_from pairs u v i j a b = ap (λ x. is_bit pairs x (place_of taken tids v)) (place_is u i a) ∙ ap (λ x. is_bit pairs i x) (place_is v j b)
+    pub pair_from : (pairs : List ℕ) (u v i j : ℕ) → is_at taken tids u i ≡ true → is_at taken tids v j ≡ true
+        → is_pair taken tids pairs u v ≡ is_bit pairs i j
+    pair_from pairs u v i j a b = ap (λ x. is_bit pairs x (place_of taken tids v)) (place_is u i a)
+        ∙ ap (λ x. is_bit pairs i x) (place_is v j b)
 
     -- a pair is of two places that are taken
     pub pair_at : (pairs : List ℕ) → ((i j : ℕ) → is_bit pairs i j ≡ true → (is_set taken i ≡ true) × (is_set taken j ≡ true))
-        → (u v : ℕ) → is_pair taken tids pairs u v ≡ true → (i j : ℕ) × (is_at taken tids u i ≡ true) × (is_at taken tids v j ≡ true) × (is_bit pairs i j ≡ true)
+        → (u v : ℕ) → is_pair taken tids pairs u v ≡ true → (i j : ℕ) × (is_at taken tids u i ≡ true) × (is_at taken tids v j ≡ true)
+        × (is_bit pairs i j ≡ true)
     pair_at pairs of_taken u v h =
         let both = of_taken (place_of taken tids u) (place_of taken tids v) h in (
           place_of taken tids u,
@@ -99,7 +110,8 @@ module _ (taken : ℕ) (tids pairs reached : List ℕ) (g : IsBitGraph taken tid
   placed = record { apart = g.apart; low = g.low }
 
   -- what is reached by steps stands in the rows reached
-  all_reached : (i k : ℕ) (path : List ℕ) → is_bit pairs i k ≡ true → PathOf (Holds (is_bit pairs)) k path → is_bit reached i (last_of k path) ≡ true
+  all_reached : (i k : ℕ) (path : List ℕ) → is_bit pairs i k ≡ true → PathOf (Holds (is_bit pairs)) k path
+      → is_bit reached i (last_of k path) ≡ true
   all_reached i k [] step p = g.closure.each i k step
   all_reached i k (u ∷ path) step p = g.closure.joins i k (last_of u path) (g.closure.each i k step) (all_reached k u path p.0 p.1)
 
@@ -107,7 +119,8 @@ module _ (taken : ℕ) (tids pairs reached : List ℕ) (g : IsBitGraph taken tid
   leads_reached i j (k, step, (path, goes, ends)) = subst (λ x. is_bit reached i x ≡ true) ends (all_reached i k path step goes)
 
   -- so does what a path along the pairs of transactions comes to
-  pub path_reached : (u v : ℕ) (rest : List ℕ) (i : ℕ) → is_at taken tids u i ≡ true → PathOf (Holds (is_pair taken tids pairs)) u (v ∷ rest)
+  pub path_reached : (u v : ℕ) (rest : List ℕ) (i : ℕ) → is_at taken tids u i ≡ true
+      → PathOf (Holds (is_pair taken tids pairs)) u (v ∷ rest)
       → (j : ℕ) × (is_at taken tids (last_of v rest) j ≡ true) × (is_bit reached i j ≡ true)
   path_reached u v [] i here p =
       let (a, b, at_u, at_v, step) = pair_at taken tids placed pairs g.of_taken u v p.0 in
@@ -128,12 +141,14 @@ module _ (taken : ℕ) (tids pairs reached : List ℕ) (g : IsBitGraph taken tid
   bit_acyclic t (u ∷ rest) some p e =
       let (i, j, at_t, at_u, step) = pair_at taken tids placed pairs g.of_taken t u p.0 in
       let (k, at_last, back) = path_reached t u rest i at_t p in
-      both_ways _ (g.acyclic i) (subst (λ x. is_bit reached i x ≡ true) (g.apart k i t (subst (λ x. is_at taken tids x k ≡ true) e at_last) at_t) back)
+      both_ways _ (g.acyclic i) (subst (λ x. is_bit reached i x ≡ true)
+      (g.apart k i t (subst (λ x. is_at taken tids x k ≡ true) e at_last) at_t) back)
 
   module _ (t place targets : ℕ) (preds : List ℕ) (here : is_at taken tids t place ≡ true)
       (exact : (i : ℕ) → (is_set targets i ≡ true) ↔ ((is_set taken i ≡ true) × Member (slice_index tids i) preds)) where
     -- nothing that is reached is a target, so no walk leads to one
-    pub accepted : ((u : ℕ) → Member u preds → u ≢ t) → ((j : ℕ) → is_set targets j ≡ true → is_bit reached place j ≡ false) → NoWalk (is_pair taken tids pairs) t preds
+    pub accepted : ((u : ℕ) → Member u preds → u ≢ t) → ((j : ℕ) → is_set targets j ≡ true → is_bit reached place j ≡ false)
+        → NoWalk (is_pair taken tids pairs) t preds
     accepted others free [] w = others t w.ends refl
     accepted others free (u ∷ rest) w =
         let (j, at_last, back) = path_reached t u rest place here w.goes in
@@ -150,23 +165,32 @@ module _ (taken : ℕ) (tids pairs reached : List ℕ) (g : IsBitGraph taken tid
         → PathOf (Holds (is_pair taken tids pairs)) (slice_index tids i) (map (λ i. slice_index tids i) rest)
     named_goes i [] there p = tt
     named_goes i (j ∷ rest) there p =
-        let next : is_set taken j ≡ true = (g.of_taken i j p.0).1 in
-        (pair_from taken tids placed pairs (slice_index tids i) (slice_index tids j) i j (at_from taken tids _ i there refl) (at_from taken tids _ j next refl) ∙ p.0, named_goes j rest next p.1)
+        let next : is_set taken j ≡ true = (g.of_taken i j p.0).1 in (
+          pair_from taken tids placed pairs (slice_index tids i) (slice_index tids j) i j (at_from taken tids _ i there refl)
+              (at_from taken tids _ j next refl) ∙ p.0,
+          named_goes j rest next p.1,
+        )
 
-    named_last : (i : ℕ) (rest : List ℕ) → last_of (slice_index tids i) (map (λ i. slice_index tids i) rest) ≡ slice_index tids (last_of i rest)
+    named_last : (i : ℕ) (rest : List ℕ) → last_of (slice_index tids i) (map (λ i. slice_index tids i) rest) ≡ slice_index tids
+        (last_of i rest)
     named_last i [] = refl
     named_last i (j ∷ rest) = named_last j rest
 
-    named_member : (i : ℕ) (rest : List ℕ) → is_set taken i ≡ true → ((x : ℕ) → Member x rest → is_set taken x ≡ true) → Member (slice_index tids i) (map (λ i. slice_index tids i) rest) → Member i rest
+    named_member : (i : ℕ) (rest : List ℕ) → is_set taken i ≡ true → ((x : ℕ) → Member x rest → is_set taken x ≡ true)
+        → Member (slice_index tids i) (map (λ i. slice_index tids i) rest) → Member i rest
     named_member i [] there all m = m
-    named_member i (j ∷ rest) there all (inl e) = inl (g.apart i j (slice_index tids j) (at_from taken tids _ i there e) (at_from taken tids _ j (all j (inl refl)) refl))
+    named_member i (j ∷ rest) there all (inl e) =
+        inl (g.apart i j (slice_index tids j) (at_from taken tids _ i there e) (at_from taken tids _ j (all j (inl refl)) refl))
     named_member i (j ∷ rest) there all (inr m) = inr (named_member i rest there (λ x k. all x (inr k)) m)
 
-    named_distinct : (rest : List ℕ) → ((x : ℕ) → Member x rest → is_set taken x ≡ true) → Distinct rest → Distinct (map (λ i. slice_index tids i) rest)
+    named_distinct : (rest : List ℕ) → ((x : ℕ) → Member x rest → is_set taken x ≡ true) → Distinct rest
+        → Distinct (map (λ i. slice_index tids i) rest)
     named_distinct [] all d = tt
-    named_distinct (j ∷ rest) all d = ((λ m. d.0 (named_member j rest (all j (inl refl)) (λ x k. all x (inr k)) m)), named_distinct rest (λ x k. all x (inr k)) d.1)
+    named_distinct (j ∷ rest) all d =
+        ((λ m. d.0 (named_member j rest (all j (inl refl)) (λ x k. all x (inr k)) m)), named_distinct rest (λ x k. all x (inr k)) d.1)
 
-    pub closes : (path walk : List ℕ) → IsWalk (is_bit pairs) place (places targets) path → walk ≡ map (λ i. slice_index tids i) path → IsWalk (is_pair taken tids pairs) t preds walk
+    pub closes : (path walk : List ℕ) → IsWalk (is_bit pairs) place (places targets) path → walk ≡ map (λ i. slice_index tids i) path
+        → IsWalk (is_pair taken tids pairs) t preds walk
     closes path walk (rest, is, w) same =
         let parts = at_parts taken tids t place here in
         let all : (x : ℕ) → Member x (place ∷ rest) → is_set taken x ≡ true = λ x m. elim m [
@@ -177,15 +201,19 @@ module _ (taken : ℕ) (tids pairs reached : List ℕ) (g : IsBitGraph taken tid
           map (λ i. slice_index tids i) rest,
           same ∙ ap (map (λ i. slice_index tids i)) is ∙ ap (λ x. x ∷ map (λ i. slice_index tids i) rest) parts.1,
           record {
-            distinct = subst (λ x. Distinct (x ∷ map (λ i. slice_index tids i) rest)) parts.1 (named_distinct (place ∷ rest) all w.distinct);
-            goes = subst (λ x. PathOf (Holds (is_pair taken tids pairs)) x (map (λ i. slice_index tids i) rest)) parts.1 (named_goes place rest parts.0 w.goes);
-            ends = subst (λ x. Member (last_of x (map (λ i. slice_index tids i) rest)) preds) parts.1 (subst (λ x. Member x preds) (sym (named_last place rest)) ((exact (last_of place rest)).0 last.1).1);
+            distinct =
+                subst (λ x. Distinct (x ∷ map (λ i. slice_index tids i) rest)) parts.1 (named_distinct (place ∷ rest) all w.distinct);
+            goes = subst (λ x. PathOf (Holds (is_pair taken tids pairs)) x (map (λ i. slice_index tids i) rest)) parts.1
+                (named_goes place rest parts.0 w.goes);
+            ends = subst (λ x. Member (last_of x (map (λ i. slice_index tids i) rest)) preds) parts.1
+                (subst (λ x. Member x preds) (sym (named_last place rest)) ((exact (last_of place rest)).0 last.1).1);
           },
         )
 
     -- pairs from the targets to the place are pairs from the preds to the transaction
     pub inserted : (new : List ℕ) → ((i j : ℕ) → is_bit new i j ≡ (is_bit pairs i j || (is_set targets i && nat_eq j place)))
-        → ((i j : ℕ) → is_bit new i j ≡ true → (is_set taken i ≡ true) × (is_set taken j ≡ true)) → ((u : ℕ) → Member u preds → is_placed taken tids u ≡ true)
+        → ((i j : ℕ) → is_bit new i j ≡ true → (is_set taken i ≡ true) × (is_set taken j ≡ true))
+        → ((u : ℕ) → Member u preds → is_placed taken tids u ≡ true)
         → (u v : ℕ) → (is_pair taken tids new u v ≡ true) ↔ ((is_pair taken tids pairs u v ≡ true) ⊎ ((v ≡ t) × Member u preds))
     inserted new more of_taken nodes u v = (
       (λ h.
@@ -196,7 +224,11 @@ module _ (taken : ℕ) (tids pairs reached : List ℕ) (g : IsBitGraph taken tid
                 let both = and_parts (is_set targets i) _ n in
                 let at_j : j ≡ place = eqb-true j place both.1 in
                 let v_is = (at_parts taken tids v j at_v).1 in
-                inr (sym v_is ∙ ap (λ x. slice_index tids x) at_j ∙ (at_parts taken tids t place here).1, subst (λ x. Member x preds) (at_parts taken tids u i at_u).1 ((exact i).0 both.0).1)
+                inr (
+                  sym v_is ∙ ap (λ x. slice_index tids x) at_j ∙ (at_parts taken tids t place here).1,
+                  subst (λ x. Member x preds)
+                      (at_parts taken tids u i at_u).1 ((exact i).0 both.0).1,
+                )
           ]),
       (λ h. elim h [
         | inl old ↦
@@ -207,6 +239,8 @@ module _ (taken : ℕ) (tids pairs reached : List ℕ) (g : IsBitGraph taken tid
             let at_v : is_at taken tids v place ≡ true = subst (λ x. is_at taken tids x place ≡ true) (sym n.0) here in
             let parts = at_parts taken tids u (place_of taken tids u) at_u in
             pair_from taken tids placed new u v (place_of taken tids u) place at_u at_v ∙ more (place_of taken tids u) place
-            ∙ or_right (is_bit pairs (place_of taken tids u) place) _ (and_from _ _ ((exact (place_of taken tids u)).1 (parts.0, subst (λ x. Member x preds) (sym parts.1) n.1)) (eq-eqb place place refl))
+            ∙ or_right (is_bit pairs (place_of taken tids u) place) _
+            (and_from _ _ ((exact (place_of taken tids u)).1 (parts.0, subst (λ x. Member x preds) (sym parts.1) n.1))
+            (eq-eqb place place refl))
       ]),
     )

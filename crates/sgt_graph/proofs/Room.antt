@@ -9,7 +9,8 @@ use Rattle.sgt_graph.specs.PairGraphs.{Once}
 use Rattle.sgt_graph.proofs.Lists.{pair_cases, pair_here, pair_there}
 
 -- a list without one of its members
-removed : (x : ℕ) (ys : List ℕ) → Member x ys → (zs : List ℕ) × (length ys ≡ suc (length zs)) × ((y : ℕ) → Member y ys → y ≢ x → Member y zs)
+removed : (x : ℕ) (ys : List ℕ) → Member x ys → (zs : List ℕ) × (length ys ≡ suc (length zs))
+    × ((y : ℕ) → Member y ys → y ≢ x → Member y zs)
 removed x [] m = elim m [ ]
 removed x (y ∷ ys) (inl e) = (ys, refl, λ z m other. elim m [ inl same ↦ absurd (other (same ∙ sym e)) | inr k ↦ k ])
 removed x (y ∷ ys) (inr m) = let (zs, long, keep) = removed x ys m in
@@ -20,7 +21,8 @@ pub distinct_fits : (xs ys : List ℕ) → Distinct xs → Within xs ys → leng
 distinct_fits [] ys d w = omega arith
 distinct_fits (x ∷ xs) ys d w =
     let (zs, long, keep) = removed x ys (w x (inl refl)) in
-    let rest : length xs ≤ length zs = distinct_fits xs zs d.1 (λ y m. keep y (w y (inr m)) (λ same. d.0 (subst (λ z. Member z xs) same m))) in
+    let rest : length xs ≤ length zs =
+    distinct_fits xs zs d.1 (λ y m. keep y (w y (inr m)) (λ same. d.0 (subst (λ z. Member z xs) same m))) in
     omega arith
 
 -- each pair is there once, and never the other way round
@@ -43,19 +45,27 @@ Either pairs a b = (is_link pairs a b ≡ true) ⊎ (is_link pairs b a ≡ true)
 
 -- pairs without one of them
 removed_pair : (x y : ℕ) (pairs : List (ℕ × ℕ)) → is_link pairs x y ≡ true
-    → (left : List (ℕ × ℕ)) × (length pairs ≡ suc (length left)) × ((a b : ℕ) → is_link pairs a b ≡ true → ((a ≡ x) × (b ≡ y) → ⊥) → is_link left a b ≡ true)
+    → (left : List (ℕ × ℕ)) × (length pairs ≡ suc (length left))
+    × ((a b : ℕ) → is_link pairs a b ≡ true → ((a ≡ x) × (b ≡ y) → ⊥) → is_link left a b ≡ true)
 removed_pair x y [] h = cc
 removed_pair x y (p ∷ pairs) h = elim (pair_cases p pairs x y h) [
-  | inl here ↦ (pairs, refl, λ a b link other. elim (pair_cases p pairs a b link) [ inl same ↦ absurd (other (sym same.0 ∙ here.0, sym same.1 ∙ here.1)) | inr k ↦ k ])
+  | inl here ↦ (
+    pairs,
+    refl,
+    λ a b link other. elim (pair_cases p pairs a b link)
+        [ inl same ↦ absurd (other (sym same.0 ∙ here.0, sym same.1 ∙ here.1)) | inr k ↦ k ],
+  )
   | inr there ↦ let (left, long, keep) = removed_pair x y pairs there in (
     p ∷ left,
     ap suc long,
-    λ a b link other. elim (pair_cases p pairs a b link) [ inl same ↦ pair_here p left a b same.0 same.1 | inr k ↦ pair_there p left a b (keep a b k other) ],
+    λ a b link other. elim (pair_cases p pairs a b link)
+        [ inl same ↦ pair_here p left a b same.0 same.1 | inr k ↦ pair_there p left a b (keep a b k other) ],
   )
 ]
 
 -- so they are no more than others among which each of them is, one way or the other
-one_way_fits : (pairs others : List (ℕ × ℕ)) → OneWay pairs → ((a b : ℕ) → is_link pairs a b ≡ true → Either others a b) → length pairs ≤ length others
+one_way_fits : (pairs others : List (ℕ × ℕ)) → OneWay pairs → ((a b : ℕ) → is_link pairs a b ≡ true → Either others a b)
+    → length pairs ≤ length others
 unfolding OneWay Either
 one_way_fits [] others o w = omega arith
 one_way_fits (p ∷ pairs) others o w = elim (w p.0 p.1 (pair_here p pairs p.0 p.1 refl refl)) [
@@ -64,7 +74,8 @@ one_way_fits (p ∷ pairs) others o w = elim (w p.0 p.1 (pair_here p pairs p.0 p
 ]
   where
     without : (x y : ℕ) → is_link others x y ≡ true → (is_link pairs x y ≡ true → ⊥) → (is_link pairs y x ≡ true → ⊥)
-        → ((left : List (ℕ × ℕ)) → ((a b : ℕ) → is_link pairs a b ≡ true → (is_link left a b ≡ true) ⊎ (is_link left b a ≡ true)) → length pairs ≤ length left) → length (p ∷ pairs) ≤ length others
+        → ((left : List (ℕ × ℕ)) → ((a b : ℕ) → is_link pairs a b ≡ true → (is_link left a b ≡ true) ⊎ (is_link left b a ≡ true))
+        → length pairs ≤ length left) → length (p ∷ pairs) ≤ length others
     without x y link never back fits =
         let (left, long, keep) = removed_pair x y others link in
         let rest : length pairs ≤ length left = fits left (λ a b h. elim (w a b (pair_there p pairs a b h)) [
@@ -129,14 +140,17 @@ length-all : (xs : List ℕ) → length (all_pairs xs) ≡ sum_below (length xs)
 unfolding all_pairs sum_below
 length-all [] = refl
 length-all (x ∷ xs) =
-    let more : length (pairs_from x xs ++ all_pairs xs) ≡ length (pairs_from x xs) + length (all_pairs xs) = length-append (pairs_from x xs) (all_pairs xs) in
+    let more : length (pairs_from x xs ++ all_pairs xs) ≡ length (pairs_from x xs) + length (all_pairs xs) =
+    length-append (pairs_from x xs) (all_pairs xs) in
     omega (arith, length-from x xs, length-all xs)
 
 -- 32 nodes have at most 496 pairs
-pub pairs_fit : (nodes : List ℕ) (pairs : List (ℕ × ℕ)) → length nodes ≤ 32 → Once pairs → ((a b : ℕ) → is_link pairs a b ≡ true → Member a nodes × Member b nodes × (a ≢ b))
+pub pairs_fit : (nodes : List ℕ) (pairs : List (ℕ × ℕ)) → length nodes ≤ 32 → Once pairs
+    → ((a b : ℕ) → is_link pairs a b ≡ true → Member a nodes × Member b nodes × (a ≢ b))
     → ((a b : ℕ) → is_link pairs a b ≡ true → is_link pairs b a ≡ true → ⊥) → length pairs ≤ 496
 unfolding sum_below
 pairs_fit nodes pairs few once ends apart =
-    let fits : length pairs ≤ length (all_pairs nodes) = one_way_fits pairs (all_pairs nodes) (one_way pairs once apart) (λ a b h. let (m, k, differ) = ends a b h in all_have nodes a b m k differ) in
+    let fits : length pairs ≤ length (all_pairs nodes) = one_way_fits pairs (all_pairs nodes) (one_way pairs once apart)
+    (λ a b h. let (m, k, differ) = ends a b h in all_have nodes a b m k differ) in
     let most : sum_below (length nodes) ≤ 496 = sum_below_rises (length nodes) 32 few in
     omega (arith, length-all nodes)

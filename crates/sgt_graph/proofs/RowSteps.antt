@@ -42,7 +42,8 @@ pub record Changed (now : ℕ → ℕ → Bool) (old : List ℕ) (n : ℕ) (rows
 
 module _ (now : ℕ → ℕ → Bool) (old : List ℕ) where
   -- all are changed
-  pub changed_all : (n : ℕ) (rows : List ℕ) → 32 ≤ n → Changed now old n rows → ((i j : ℕ) → 32 ≤ i → now i j ≡ false) → (i j : ℕ) → is_bit rows i j ≡ now i j
+  pub changed_all : (n : ℕ) (rows : List ℕ) → 32 ≤ n → Changed now old n rows → ((i j : ℕ) → 32 ≤ i → now i j ≡ false) → (i j : ℕ)
+      → is_bit rows i j ≡ now i j
   changed_all n rows high c none i j = elim (cases_lt i 32) [
     | inl low ↦ c.done i j (omega arith)
     | inr above ↦ let size : length rows ≡ 32 = c.size in no_row rows i j (omega arith) ∙ sym (none i j above)
@@ -56,7 +57,8 @@ module _ (meets : ℕ → Type 0) where
   pub found_none : Found 0 0
   found_none i = ((λ h. absurd (both_ways _ (none_in i) h)), (λ h. absurd (omega (arith, h.0))))
 
-  pub found_more : (n found found' : ℕ) → Found n found → meets n → ((i : ℕ) → is_set found' i ≡ (is_set found i || nat_eq i n)) → Found (n + 1) found'
+  pub found_more : (n found found' : ℕ) → Found n found → meets n → ((i : ℕ) → is_set found' i ≡ (is_set found i || nat_eq i n))
+      → Found (n + 1) found'
   found_more n found found' f here more i = (
     (λ h. elim (or_cases (is_set found i) _ (sym (more i) ∙ h)) [
       | inl old ↦ let k = (f i).0 old in let below : i < n = k.0 in (omega arith, k.1)
@@ -93,7 +95,9 @@ module _ (rows : List ℕ) where
   pub leads_join : (i j k : ℕ) → Leads rows i j → Leads rows j k → Leads rows i k
   leads_join i j k (m, step, rest) second = (m, step, reaches_trans (Holds (is_bit rows)) m j k rest (leads_reach j k second))
 
-  pub closed_next : (n : ℕ) (old new : List ℕ) → ClosedBelow rows n old → ((i j : ℕ) → (is_bit new i j ≡ true) ↔ ((is_bit old i j ≡ true) ⊎ ((is_bit old i n ≡ true) × (is_bit old n j ≡ true)))) → ClosedBelow rows (n + 1) new
+  pub closed_next : (n : ℕ) (old new : List ℕ) → ClosedBelow rows n old
+      → ((i j : ℕ) → (is_bit new i j ≡ true) ↔ ((is_bit old i j ≡ true) ⊎ ((is_bit old i n ≡ true) × (is_bit old n j ≡ true))))
+      → ClosedBelow rows (n + 1) new
   closed_next n old new c more = record {
     each = λ i j h. (more i j).1 (inl (c.each i j h));
     joins = joins;
@@ -108,7 +112,11 @@ module _ (rows : List ℕ) where
 
       joins : (i k j : ℕ) → k < n + 1 → is_bit new i k ≡ true → is_bit new k j ≡ true → is_bit new i j ≡ true
       joins i k j below first second = elim (cases_eq k n) [
-        | inl e ↦ (more i j).1 (inr (to_n i (subst (λ x. is_bit new i x ≡ true) e first), from_n j (subst (λ x. is_bit new x j ≡ true) e second)))
+        | inl e ↦ (more i j).1 (inr (
+          to_n i (subst (λ x. is_bit new i x ≡ true) e first),
+          from_n j
+              (subst (λ x. is_bit new x j ≡ true) e second),
+        ))
         | inr other ↦
             let low : k < n = omega arith in
             elim ((more i k).0 first) [
@@ -136,7 +144,8 @@ pub emptied : (old rows : List ℕ) (p : ℕ) → p < length rows → ((i j : �
 emptied old rows p low out i j = elim (cases_eq i p) [
   | inl e ↦
       subst (λ k. is_bit (slice_set rows p 0) k j ≡ (is_bit old k j && (not (nat_eq k p) && not (nat_eq j p)))) (sym e)
-      (ap (λ x. is_set x j) (get_or-set_same rows p 0 0 low) ∙ none_in j ∙ sym (ap (λ x. is_bit old p j && (not x && not (nat_eq j p))) (eq-eqb p p refl) ∙ and_none (is_bit old p j)))
+      (ap (λ x. is_set x j) (get_or-set_same rows p 0 0 low) ∙ none_in j
+      ∙ sym (ap (λ x. is_bit old p j && (not x && not (nat_eq j p))) (eq-eqb p p refl) ∙ and_none (is_bit old p j)))
   | inr other ↦ ap (λ x. is_set x j) (get_or-set_other rows p i 0 0 other) ∙ out i j
       ∙ ap (λ x. is_bit old i j && (not x && not (nat_eq j p))) (sym (false_from_ne_true (nat_eq i p) (λ t. other (eqb-true i p t))))
 ]

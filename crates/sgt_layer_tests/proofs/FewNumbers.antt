@@ -21,11 +21,14 @@ below_has zero t less = absurd (omega arith)
 below_has (suc n) t less = elim (cases_lt t n) [ inl early ↦ inr (below_has n t early) | inr last ↦ inl (omega arith) ]
 
 -- where the source and all ends are below n, at most n numbers occur
-pub occurs_below : (n : ℕ) (links : List (ℕ × ℕ)) (source : ℕ) → source < n → ((t : ℕ) → is_end links t ≡ true → t < n) → AtMost n (occurs links source)
+pub occurs_below : (n : ℕ) (links : List (ℕ × ℕ)) (source : ℕ) → source < n → ((t : ℕ) → is_end links t ≡ true → t < n)
+    → AtMost n (occurs links source)
 occurs_below n links source first ends = record {
   among = below n;
   few = omega (arith, length-below n);
-  all = λ t occurs. below_has n t (elim (or_cases (nat_eq source t) _ occurs) [ inl same ↦ let e : source ≡ t = eqb-true source t same in omega arith | inr end ↦ ends t end ]);
+  all =
+      λ t occurs. below_has n t (elim (or_cases (nat_eq source t) _ occurs)
+      [ inl same ↦ let e : source ≡ t = eqb-true source t same in omega arith | inr end ↦ ends t end ]);
 }
 
 -- where only numbers below n pass the test, at most n do
@@ -50,7 +53,8 @@ ends_has : (links : List (ℕ × ℕ)) (t : ℕ) → is_end links t ≡ true →
 unfolding ends_of
 ends_has [] t h = cc
 ends_has (l ∷ links) t h = elim (or_cases (nat_eq l.0 t || nat_eq l.1 t) _ h) [
-  | inl here ↦ elim (or_cases (nat_eq l.0 t) _ here) [ inl first ↦ inl (sym (eqb-true l.0 t first)) | inr second ↦ inr (inl (sym (eqb-true l.1 t second))) ]
+  | inl here ↦ elim (or_cases (nat_eq l.0 t) _ here)
+      [ inl first ↦ inl (sym (eqb-true l.0 t first)) | inr second ↦ inr (inl (sym (eqb-true l.1 t second))) ]
   | inr there ↦ inr (inr (ends_has links t there))
 ]
 
@@ -59,5 +63,6 @@ pub occurs_few : (links : List (ℕ × ℕ)) (source : ℕ) → length links ≤
 occurs_few links source short = record {
   among = source ∷ ends_of links;
   few = omega (arith, length-ends_of links);
-  all = λ t occurs. elim (or_cases (nat_eq source t) _ occurs) [ inl same ↦ inl (sym (eqb-true source t same)) | inr end ↦ inr (ends_has links t end) ];
+  all = λ t occurs. elim (or_cases (nat_eq source t) _ occurs)
+      [ inl same ↦ inl (sym (eqb-true source t same)) | inr end ↦ inr (ends_has links t end) ];
 }

@@ -5,9 +5,11 @@ pub most_of_both : (cap both a b x y : ℕ) → both ≡ max a b → a ≡ min c
 most_of_both cap both a b x y e f g = omega arith
 
 -- the deepest of a list, with one more item seen
-pub deepest_with : (cap whole so_far now one item here behind : ℕ) → whole ≡ max so_far (min cap here) → here ≡ max item behind → now ≡ max one so_far → one ≡ min cap item → whole ≡ max now (min cap behind)
+pub deepest_with : (cap whole so_far now one item here behind : ℕ) → whole ≡ max so_far (min cap here) → here ≡ max item behind
+    → now ≡ max one so_far → one ≡ min cap item → whole ≡ max now (min cap behind)
 deepest_with cap whole so_far now one item here behind e f g h = omega arith
 
 -- the total of a list, with one more item seen
-pub total_with : (cap whole so_far now one item here behind : ℕ) → whole ≡ min cap (so_far + here) → here ≡ item + behind → now ≡ min (so_far + one) cap → one ≡ min cap item → whole ≡ min cap (now + behind)
+pub total_with : (cap whole so_far now one item here behind : ℕ) → whole ≡ min cap (so_far + here) → here ≡ item + behind
+    → now ≡ min (so_far + one) cap → one ≡ min cap item → whole ≡ min cap (now + behind)
 total_with cap whole so_far now one item here behind e f g h = omega arith

@@ -18,7 +18,8 @@ use Rattle.sgt_proc.specs.NumberFlaws.{is_bad}
 -- some number along a way is so
 abbrev pub in_way : (Number → Bool) → Way → Bool
 in_way so way.end = false
-in_way so (way.look to table id absent rest) = (so (Register to) || (so (Table table) || (in_term so id || so (Code absent)))) || in_way so rest
+in_way so (way.look to table id absent rest) =
+    (so (Register to) || (so (Table table) || (in_term so id || so (Code absent)))) || in_way so rest
 in_way so (way.put table id value rest) = (so (Table table) || (in_term so id || in_term so value)) || in_way so rest
 in_way so (way.save to value rest) = (so (Register to) || in_term so value) || in_way so rest
 in_way so (way.ask code) = so (Code code)
@@ -30,7 +31,8 @@ or_none true b e f = e
 or_none false b e f = f
 
 -- the ways of a text have no number that the text has not
-pub in_onto : (so : Number → Bool) (b : Block) (rest : Way) → in_block so b ≡ false → in_way so rest ≡ false → in_way so (onto b rest) ≡ false
+pub in_onto : (so : Number → Bool) (b : Block) (rest : Way) → in_block so b ≡ false → in_way so rest ≡ false
+    → in_way so (onto b rest) ≡ false
 in_onto so text.empty rest h r = r
 in_onto so (text.look to table id absent b) rest h r = let p = or_parts _ (in_block so b) h in or_none _ _ p.0 (in_onto so b rest p.1 r)
 in_onto so (text.put table id value b) rest h r = let p = or_parts _ (in_block so b) h in or_none _ _ p.0 (in_onto so b rest p.1 r)
@@ -40,7 +42,8 @@ in_onto so (text.choose test ys ns b) rest h r =
     let p = or_parts (in_test so test || (in_block so ys || in_block so ns)) (in_block so b) h in
     let q = or_parts (in_test so test) (in_block so ys || in_block so ns) p.0 in
     let branches = or_parts (in_block so ys) (in_block so ns) q.1 in
-    or_none _ _ q.0 (or_none _ _ (in_onto so ys (onto b rest) branches.0 (in_onto so b rest p.1 r)) (in_onto so ns (onto b rest) branches.1 (in_onto so b rest p.1 r)))
+    or_none _ _ q.0 (or_none _ _ (in_onto so ys (onto b rest) branches.0 (in_onto so b rest p.1 r))
+    (in_onto so ns (onto b rest) branches.1 (in_onto so b rest p.1 r)))
 in_onto so (text.answer value b) rest h r = let p = or_parts _ (in_block so b) h in or_none _ _ p.0 (in_onto so b rest p.1 r)
 
 -- where no number is so, none in a text is
@@ -62,7 +65,8 @@ in_nothing (text.look to table id absent b) = or_none _ _ (or_none _ _ (term_not
 in_nothing (text.put table id value b) = or_none _ _ (or_none _ _ (term_nothing id) (term_nothing value)) (in_nothing b)
 in_nothing (text.save to value b) = or_none _ _ (term_nothing value) (in_nothing b)
 in_nothing (text.ask code b) = in_nothing b
-in_nothing (text.choose test ys ns b) = or_none _ _ (or_none _ _ (test_nothing test) (or_none _ _ (in_nothing ys) (in_nothing ns))) (in_nothing b)
+in_nothing (text.choose test ys ns b) =
+    or_none _ _ (or_none _ _ (test_nothing test) (or_none _ _ (in_nothing ys) (in_nothing ns))) (in_nothing b)
 in_nothing (text.answer value b) = or_none _ _ (term_nothing value) (in_nothing b)
 
 -- a number that has no flaw

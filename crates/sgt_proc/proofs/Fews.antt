@@ -50,7 +50,8 @@ within_test n (holds false) ys ns h i = i
 within_test n too_far ys ns h i = tt
 within_test n unknown ys ns h i = tt
 
-within_found : (n : ℕ) (absent : ℕ) (found : Option ℤ) (go : ℤ → Run) → ((v : ℤ) → MakesAtMost (go v) n) → MakesAtMost (if_found absent found go) n
+within_found : (n : ℕ) (absent : ℕ) (found : Option ℤ) (go : ℤ → Run) → ((v : ℤ) → MakesAtMost (go v) n)
+    → MakesAtMost (if_found absent found go) n
 within_found n absent None go h = tt
 within_found n absent (Some v) go h = h v
 
@@ -64,24 +65,37 @@ grown w n m h i args regs answers = within_more (run args w regs answers) n m h 
 within_onto : (b : Block) (rest : Way) (n : ℕ) → WayMakesAtMost rest n → WayMakesAtMost (onto b rest) (size b + n)
 within_onto text.empty rest n h args regs answers = grown rest n (0 + n) (omega arith) h args regs answers
 within_onto (text.look to table id absent b) rest n h args regs answers =
-    within_more _ (suc (size b + n)) (1 + size b + n) (omega arith) (within_value (suc (size b + n)) (value_of id args regs) _ (λ v. within_cond (suc (size b + n)) (is_key table v) _ (λ found. within_found (size b + n) absent found _ (λ x. within_onto b rest n h args (slice_set regs to (Some x)) answers))))
+    within_more _ (suc (size b + n)) (1 + size b + n) (omega arith)
+    (within_value (suc (size b + n)) (value_of id args regs) _
+    (λ v. within_cond (suc (size b + n)) (is_key table v) _
+    (λ found. within_found (size b + n) absent found _ (λ x. within_onto b rest n h args (slice_set regs to (Some x)) answers))))
 within_onto (text.put table id value b) rest n h args regs answers =
-    within_more _ (suc (size b + n)) (1 + size b + n) (omega arith) (within_value (suc (size b + n)) (value_of id args regs) _ (λ v. within_value (suc (size b + n)) (value_of value args regs) _ (λ x. within_cond (suc (size b + n)) (is_key table v) _ (within_cond (suc (size b + n)) (is_value x) _ (within_onto b rest n h args regs answers)))))
+    within_more _ (suc (size b + n)) (1 + size b + n) (omega arith)
+    (within_value (suc (size b + n)) (value_of id args regs) _
+    (λ v. within_value (suc (size b + n)) (value_of value args regs) _
+    (λ x. within_cond (suc (size b + n)) (is_key table v) _
+    (within_cond (suc (size b + n)) (is_value x) _ (within_onto b rest n h args regs answers)))))
 within_onto (text.save to value b) rest n h args regs answers =
-    within_more _ (size b + n) (1 + size b + n) (omega arith) (within_value (size b + n) (value_of value args regs) _ (λ x. within_onto b rest n h args (slice_set regs to (Some x)) answers))
+    within_more _ (size b + n) (1 + size b + n) (omega arith)
+    (within_value (size b + n) (value_of value args regs) _ (λ x. within_onto b rest n h args (slice_set regs to (Some x)) answers))
 within_onto (text.ask code b) rest n h args regs answers = tt
 within_onto (text.choose test ys ns b) rest n h args regs answers =
     let behind = within_onto b rest n h in
     within_more _ (size ys + size ns + (size b + n)) (1 + (size ys + size ns) + size b + n) (omega arith)
     (within_test (size ys + size ns + (size b + n)) (result_of test args regs) _ _
-    (grown (onto ys (onto b rest)) (size ys + (size b + n)) (size ys + size ns + (size b + n)) (omega arith) (within_onto ys (onto b rest) (size b + n) behind) args regs answers)
-    (grown (onto ns (onto b rest)) (size ns + (size b + n)) (size ys + size ns + (size b + n)) (omega arith) (within_onto ns (onto b rest) (size b + n) behind) args regs answers))
+    (grown (onto ys (onto b rest)) (size ys + (size b + n)) (size ys + size ns + (size b + n)) (omega arith)
+    (within_onto ys (onto b rest) (size b + n) behind) args regs answers)
+    (grown (onto ns (onto b rest)) (size ns + (size b + n)) (size ys + size ns + (size b + n)) (omega arith)
+    (within_onto ns (onto b rest) (size b + n) behind) args regs answers))
 within_onto (text.answer value b) rest n h args regs answers =
-    within_more _ (size b + n) (1 + size b + n) (omega arith) (within_value (size b + n) (value_of value args regs) _ (λ x. within_cond (size b + n) (nat_lt (length answers) 8) _ (within_onto b rest n h args regs (answers ++ x ∷ []))))
+    within_more _ (size b + n) (1 + size b + n) (omega arith)
+    (within_value (size b + n) (value_of value args regs) _
+    (λ x. within_cond (size b + n) (nat_lt (length answers) 8) _ (within_onto b rest n h args regs (answers ++ x ∷ []))))
 
 -- so a procedure makes at most as many accesses as it has statements
 pub within_size : (p : Program) (args : List ℤ) → MakesAtMost (run_with p args) (size p.body)
-within_size p args = within_more (run_with p args) (size p.body + 0) (size p.body) (omega arith) (within_onto p.body way.end 0 (λ args regs answers. tt) args fresh [])
+within_size p args = within_more (run_with p args) (size p.body + 0) (size p.body) (omega arith)
+    (within_onto p.body way.end 0 (λ args regs answers. tt) args fresh [])
 
 -- and where an access is next, it has made fewer
 
@@ -91,7 +105,8 @@ AccessNext (Puts k v) = Unit {0}
 AccessNext (Ends answers) = ⊥
 AccessNext (Asks code) = ⊥
 
-pub fewer : (r : Run) (n : ℕ) (vs : List (Option ℤ)) (made : ℕ) → MakesAtMost r n → Used r vs made → AccessNext (next_at (trace r vs) made) → made < n
+pub fewer : (r : Run) (n : ℕ) (vs : List (Option ℤ)) (made : ℕ) → MakesAtMost r n → Used r vs made → AccessNext (next_at (trace r vs) made)
+    → made < n
 fewer (looks k go) zero vs made w u a = absurd w
 fewer (looks k go) (suc n) [] zero w u a = omega arith
 fewer (looks k go) (suc n) (v ∷ vs) zero w u a = absurd u
@@ -114,6 +129,8 @@ access_seen (declared.Put k v) a = tt
 access_seen (declared.Ends answers) a = absurd a
 access_seen (declared.Asks code) a = absurd a
 
-pub few_made : (p : Program) (args : List ℤ) (vs : List (Option ℤ)) (made : ℕ) (n : DeclaredNext) → IsFlawless p → seen n ≡ next_at (trace (run_with p args) vs) made → IsAccess n → Used (run_with p args) vs made → made < 64
+pub few_made : (p : Program) (args : List ℤ) (vs : List (Option ℤ)) (made : ℕ) (n : DeclaredNext) → IsFlawless p
+    → seen n ≡ next_at (trace (run_with p args) vs) made → IsAccess n → Used (run_with p args) vs made → made < 64
 few_made p args vs made n flawless told a used =
-    fewer (run_with p args) 64 vs made (within_more (run_with p args) (size p.body) 64 (omega (arith, flawless TooLong)) (within_size p args)) used (subst AccessNext told (access_seen n a))
+    fewer (run_with p args) 64 vs made (within_more (run_with p args) (size p.body) 64 (omega (arith, flawless TooLong))
+    (within_size p args)) used (subst AccessNext told (access_seen n a))

@@ -36,11 +36,13 @@ followed_size (answer value a) b = omega (arith, followed_size a b)
 
 -- where statements come to that others follow
 
-then_then : {A : Type 0} (o : OrCode A) (first : A → OrCode Reached) (go_on : Reached → OrCode Reached) (both : A → OrCode Reached) → ((a : A) → both a ≡ and_then (first a) go_on) → and_then o both ≡ and_then (and_then o first) go_on
+then_then : {A : Type 0} (o : OrCode A) (first : A → OrCode Reached) (go_on : Reached → OrCode Reached) (both : A → OrCode Reached)
+    → ((a : A) → both a ≡ and_then (first a) go_on) → and_then o both ≡ and_then (and_then o first) go_on
 then_then (Ok a) first go_on both same = same a
 then_then (Err code) first go_on both same = refl
 
-last_then : (fits : Bool) (r r' : Reached) (go_on : Reached → OrCode Reached) → Ok r' ≡ go_on r → provided fits r' stuck ≡ and_then (provided fits r stuck) go_on
+last_then : (fits : Bool) (r r' : Reached) (go_on : Reached → OrCode Reached) → Ok r' ≡ go_on r
+    → provided fits r' stuck ≡ and_then (provided fits r stuck) go_on
 last_then true r r' go_on same = same
 last_then false r r' go_on same = refl
 
@@ -48,27 +50,48 @@ abbrev rest_with : Block → List ℤ → Registers → List ℤ → Rest
 rest_with b args registers answers = record { statements = b; args = args; registers = registers; answers = answers }
 
 -- what is behind an If, with more behind that
-if_then : (args : List ℤ) (b more : Block) (o : OrCode Reached) → ((registers : Registers) (answers : List ℤ) → reach (followed_by b more) args registers answers ≡ and_then (reach b args registers answers) (then_behind more (reach more args))) → and_then o (then_behind (followed_by b more) (reach (followed_by b more) args)) ≡ and_then (and_then o (then_behind b (reach b args))) (then_behind more (reach more args))
-if_then args b more (Ok (AtLook key to absent r)) same = ap (λ s. Ok (AtLook key to absent (record { statements = s; args = r.args; registers = r.registers; answers = r.answers }))) (sym (followed_twice r.statements b more))
-if_then args b more (Ok (AtStore key v r)) same = ap (λ s. Ok (AtStore key v (record { statements = s; args = r.args; registers = r.registers; answers = r.answers }))) (sym (followed_twice r.statements b more))
+if_then : (args : List ℤ) (b more : Block) (o : OrCode Reached)
+    → ((registers : Registers) (answers : List ℤ) → reach (followed_by b more) args registers answers ≡ and_then
+    (reach b args registers answers) (then_behind more (reach more args)))
+    → and_then o (then_behind (followed_by b more) (reach (followed_by b more) args)) ≡ and_then (and_then o (then_behind b (reach b args)))
+    (then_behind more (reach more args))
+if_then args b more (Ok (AtLook key to absent r)) same = ap
+    (λ s. Ok (AtLook key to absent (record { statements = s; args = r.args; registers = r.registers; answers = r.answers })))
+    (sym (followed_twice r.statements b more))
+if_then args b more (Ok (AtStore key v r)) same = ap
+    (λ s. Ok (AtStore key v (record { statements = s; args = r.args; registers = r.registers; answers = r.answers })))
+    (sym (followed_twice r.statements b more))
 if_then args b more (Ok (AtEnd registers answers)) same = same registers answers
 if_then args b more (Err code) same = refl
 
-pub reach_followed : (b more : Block) (args : List ℤ) (registers : Registers) (answers : List ℤ) → reach (followed_by b more) args registers answers ≡ and_then (reach b args registers answers) (then_behind more (reach more args))
+pub reach_followed : (b more : Block) (args : List ℤ) (registers : Registers) (answers : List ℤ)
+    → reach (followed_by b more) args registers answers ≡ and_then (reach b args registers answers) (then_behind more (reach more args))
 reach_followed empty more args registers answers = refl
 reach_followed (look to table id absent b) more args registers answers =
     then_then (number_or_code (value_of id args registers)) _ _ _ (λ n.
-    then_then (key_of table n) (λ key. Ok (AtLook key to absent (rest_with b args registers answers))) (then_behind more (reach more args)) (λ key. Ok (AtLook key to absent (rest_with (followed_by b more) args registers answers))) (λ key. refl))
+    then_then (key_of table n) (λ key. Ok (AtLook key to absent (rest_with b args registers answers))) (then_behind more (reach more args))
+    (λ key. Ok (AtLook key to absent (rest_with (followed_by b more) args registers answers))) (λ key. refl))
 reach_followed (put table id value b) more args registers answers =
     then_then (number_or_code (value_of id args registers)) _ _ _ (λ n.
-    then_then (number_or_code (value_of value args registers)) (λ v. and_then (key_of table n) (λ key. provided (is_value v) (AtStore key v (rest_with b args registers answers)) stuck)) (then_behind more (reach more args)) (λ v. and_then (key_of table n) (λ key. provided (is_value v) (AtStore key v (rest_with (followed_by b more) args registers answers)) stuck)) (λ v.
-    then_then (key_of table n) (λ key. provided (is_value v) (AtStore key v (rest_with b args registers answers)) stuck) (then_behind more (reach more args)) (λ key. provided (is_value v) (AtStore key v (rest_with (followed_by b more) args registers answers)) stuck) (λ key.
-    last_then (is_value v) (AtStore key v (rest_with b args registers answers)) (AtStore key v (rest_with (followed_by b more) args registers answers)) (then_behind more (reach more args)) refl)))
+    then_then (number_or_code (value_of value args registers))
+    (λ v. and_then (key_of table n) (λ key. provided (is_value v) (AtStore key v (rest_with b args registers answers)) stuck))
+    (then_behind more (reach more args)) (λ v. and_then (key_of table n)
+    (λ key. provided (is_value v) (AtStore key v (rest_with (followed_by b more) args registers answers)) stuck)) (λ v.
+    then_then (key_of table n) (λ key. provided (is_value v) (AtStore key v (rest_with b args registers answers)) stuck)
+    (then_behind more (reach more args)) (λ key. provided (is_value v)
+    (AtStore key v (rest_with (followed_by b more) args registers answers)) stuck) (λ key.
+    last_then (is_value v) (AtStore key v (rest_with b args registers answers))
+    (AtStore key v (rest_with (followed_by b more) args registers answers)) (then_behind more (reach more args)) refl)))
 reach_followed (save to value b) more args registers answers =
-    then_then (number_or_code (value_of value args registers)) _ _ _ (λ v. reach_followed b more args (slice_set registers to (Some v)) answers)
+    then_then (number_or_code (value_of value args registers)) _ _ _
+    (λ v. reach_followed b more args (slice_set registers to (Some v)) answers)
 reach_followed (ask code b) more args registers answers = refl
 reach_followed (choose test ys ns b) more args registers answers =
-    then_then (choice_or_code (result_of test args registers)) _ _ _ (λ chosen. if_then args b more (cond chosen (reach ys args registers answers) (reach ns args registers answers)) (λ registers_then answers_then. reach_followed b more args registers_then answers_then))
+    then_then (choice_or_code (result_of test args registers)) _ _ _
+    (λ chosen. if_then args b more (cond chosen (reach ys args registers answers) (reach ns args registers answers))
+    (λ registers_then answers_then. reach_followed b more args registers_then answers_then))
 reach_followed (answer value b) more args registers answers =
     then_then (number_or_code (value_of value args registers)) _ _ _ (λ v.
-    then_then (provided (nat_lt (length answers) 8) (answers ++ v ∷ []) stuck) (λ longer. reach b args registers longer) (then_behind more (reach more args)) (λ longer. reach (followed_by b more) args registers longer) (λ longer. reach_followed b more args registers longer))
+    then_then (provided (nat_lt (length answers) 8) (answers ++ v ∷ []) stuck) (λ longer. reach b args registers longer)
+    (then_behind more (reach more args)) (λ longer. reach (followed_by b more) args registers longer)
+    (λ longer. reach_followed b more args registers longer))

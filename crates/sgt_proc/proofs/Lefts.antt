@@ -19,14 +19,16 @@ next_is_first (asks code) vs zero = refl
 next_is_first (asks code) vs (suc made) = refl
 
 -- a look comes next where all accesses before it are made, or no value is left for it
-pub look_is_next : (k : Key) (go : Option ℤ → Run) (vs : List (Option ℤ)) (made : ℕ) → (made ≡ 0) ⊎ (vs ≡ []) → first_of (left_of (looks k go) vs made) ≡ Looks k
+pub look_is_next : (k : Key) (go : Option ℤ → Run) (vs : List (Option ℤ)) (made : ℕ) → (made ≡ 0) ⊎ (vs ≡ [])
+    → first_of (left_of (looks k go) vs made) ≡ Looks k
 look_is_next k go vs zero h = refl
 look_is_next k go [] (suc made) h = refl
 look_is_next k go (v ∷ vs) (suc made) (inl e) = cc
 look_is_next k go (v ∷ vs) (suc made) (inr e) = cc
 
 -- else it is passed over, and finds the next value
-pub look_is_past : (k : Key) (go : Option ℤ → Run) (vs : List (Option ℤ)) (made made' : ℕ) (v : Option ℤ) (vs' : List (Option ℤ)) → made ≡ suc made' → vs ≡ v ∷ vs' → first_of (left_of (looks k go) vs made) ≡ first_of (left_of (go v) vs' made')
+pub look_is_past : (k : Key) (go : Option ℤ → Run) (vs : List (Option ℤ)) (made made' : ℕ) (v : Option ℤ) (vs' : List (Option ℤ))
+    → made ≡ suc made' → vs ≡ v ∷ vs' → first_of (left_of (looks k go) vs made) ≡ first_of (left_of (go v) vs' made')
 look_is_past k go vs made made' v vs' m e = rw (m, e) refl
 
 pub ends_stays : (answers : List ℤ) (vs : List (Option ℤ)) (made : ℕ) → first_of (left_of (ends answers) vs made) ≡ Ends answers

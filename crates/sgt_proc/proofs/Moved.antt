@@ -19,20 +19,27 @@ left_to_run b m (stop.Asks code) h = refl
 left_to_run b m (stop.Absent code) h = absurd h
 
 -- at the start
-pub begun : (p : Program) (args : List ℤ) (m : Place) (s : Stop) → HasFound s → m.args ≡ args → m.registers ≡ fresh → m.answers ≡ [] → m.path.items ≡ [] → m.at ≡ 0 → left_behind p.body m s ≡ left_at_start p args
+pub begun : (p : Program) (args : List ℤ) (m : Place) (s : Stop) → HasFound s → m.args ≡ args → m.registers ≡ fresh → m.answers ≡ []
+    → m.path.items ≡ [] → m.at ≡ 0 → left_behind p.body m s ≡ left_at_start p args
 begun p args m s found same registers answers path at =
-    left_to_run p.body m s found ∙ rw (same, registers, answers, path, at) (ap (λ b. ToRun (record { statements = b; args = args; registers = fresh; answers = [] })) (followed_empty p.body))
+    left_to_run p.body m s found ∙ rw (same, registers, answers, path, at)
+    (ap (λ b. ToRun (record { statements = b; args = args; registers = fresh; answers = [] })) (followed_empty p.body))
 
 module _ (b : Block) (behind now : Place) where
   -- behind a look that found a value
-  pub looked_on : (key : Key) (to absent : ℕ) (v : ℤ) (m : Place) (s : Stop) → reached_at b now (stop.Look key to absent) ≡ reached (left_behind b behind (stop.Look key to absent)) → m ≡ with_found_in (record now { at = now.at + 1 }) to v → HasFound s → left_behind b m s ≡ after_look (Some v) (left_behind b behind (stop.Look key to absent))
+  pub looked_on : (key : Key) (to absent : ℕ) (v : ℤ) (m : Place) (s : Stop)
+      → reached_at b now (stop.Look key to absent) ≡ reached (left_behind b behind (stop.Look key to absent))
+      → m ≡ with_found_in (record now { at = now.at + 1 }) to v → HasFound s
+      → left_behind b m s ≡ after_look (Some v) (left_behind b behind (stop.Look key to absent))
   looked_on key to absent v m s same is found =
       left_to_run b m s found
       ∙ (ap (λ (x : Place). ToRun (rest_from b x x.at)) is
       ∙ ap (λ o. behind_look (Some v) o (left_behind b behind (stop.Look key to absent))) same)
 
   -- behind a store
-  pub stored_on : (key : Key) (v : ℤ) (m : Place) (s : Stop) → reached_at b now (stop.Put key v) ≡ reached (left_behind b behind (stop.Put key v)) → m ≡ record now { at = now.at + 1 } → HasFound s → left_behind b m s ≡ after_store (left_behind b behind (stop.Put key v))
+  pub stored_on : (key : Key) (v : ℤ) (m : Place) (s : Stop)
+      → reached_at b now (stop.Put key v) ≡ reached (left_behind b behind (stop.Put key v)) → m ≡ record now { at = now.at + 1 }
+      → HasFound s → left_behind b m s ≡ after_store (left_behind b behind (stop.Put key v))
   stored_on key v m s same is found =
       left_to_run b m s found
       ∙ (ap (λ (x : Place). ToRun (rest_from b x x.at)) is

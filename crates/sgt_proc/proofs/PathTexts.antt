@@ -48,7 +48,8 @@ list_size [] = omega arith
 list_size (s ∷ list) = omega (arith, list_size list, before_size s (block_of list))
 
 -- the one at a place
-pub behind_at : (list : List Statement) (n : ℕ) (s : Statement) → n < length list → s ≡ get_or list n s → behind n (block_of list) ≡ before s (behind (n + 1) (block_of list))
+pub behind_at : (list : List Statement) (n : ℕ) (s : Statement) → n < length list → s ≡ get_or list n s
+    → behind n (block_of list) ≡ before s (behind (n + 1) (block_of list))
 behind_at list n s h e = behind_list n list ∙ (block_drop list n s h e ∙ ap (before s) (sym (behind_list (n + 1) list)))
 
 -- none at the end
@@ -79,7 +80,8 @@ branch_size held (answer value b) = omega arith
 
 pub inner_size : (path : List Turn) (b : Block) → size (inner path b) ≤ size b
 inner_size [] b = omega arith
-inner_size (t ∷ path) b = omega (arith, inner_size path (branch t.held (behind t.at b)), branch_size t.held (behind t.at b), behind_size t.at b)
+inner_size (t ∷ path) b =
+    omega (arith, inner_size path (branch t.held (behind t.at b)), branch_size t.held (behind t.at b), behind_size t.at b)
 
 -- depths
 
@@ -105,7 +107,8 @@ branch_depth held (answer value b) h = absurd h
 
 pub inner_depth : (path : List Turn) (b : Block) → IsPath path b → length path + depth (inner path b) ≤ depth b
 inner_depth [] b h = omega arith
-inner_depth (t ∷ path) b h = omega (arith, inner_depth path (branch t.held (behind t.at b)) h.1.1, branch_depth t.held (behind t.at b) h.1.0, behind_depth t.at b)
+inner_depth (t ∷ path) b h =
+    omega (arith, inner_depth path (branch t.held (behind t.at b)) h.1.1, branch_depth t.held (behind t.at b) h.1.0, behind_depth t.at b)
 
 -- one turn more
 
@@ -113,14 +116,16 @@ pub inner_last : (path : List Turn) (t : Turn) (b : Block) → inner (path ++ t 
 inner_last [] t b = refl
 inner_last (u ∷ path) t b = inner_last path t (branch u.held (behind u.at b))
 
-pub outer_last : (path : List Turn) (t : Turn) (b : Block) → outer (path ++ t ∷ []) b ≡ followed_by (behind (t.at + 1) (inner path b)) (outer path b)
+pub outer_last : (path : List Turn) (t : Turn) (b : Block)
+    → outer (path ++ t ∷ []) b ≡ followed_by (behind (t.at + 1) (inner path b)) (outer path b)
 outer_last [] t b = sym (followed_empty (behind (t.at + 1) b))
 outer_last (u ∷ path) t b =
     let c = branch u.held (behind u.at b) in
     ap (λ x. followed_by x (behind (u.at + 1) b)) (outer_last path t c)
     ∙ followed_twice (behind (t.at + 1) (inner path c)) (outer path c) (behind (u.at + 1) b)
 
-pub path_more : (path : List Turn) (t : Turn) (b : Block) → IsPath path b → t.at < 64 → IsIf (behind t.at (inner path b)) → IsPath (path ++ t ∷ []) b
+pub path_more : (path : List Turn) (t : Turn) (b : Block) → IsPath path b → t.at < 64 → IsIf (behind t.at (inner path b))
+    → IsPath (path ++ t ∷ []) b
 path_more [] t b h few is = (few, (is, tt))
 path_more (u ∷ path) t b h few is = (h.0, (h.1.0, path_more path t (branch u.held (behind u.at b)) h.1.1 few is))
 

@@ -64,10 +64,13 @@ got_fine (Some v) h = h
 abbrev AreAssigned : (ℕ → Bool) → Registers → Type 0
 AreAssigned so regs = (r : ℕ) → r < 16 → so r ≡ true → IsSomeValue (slice_index_or regs r None)
 
-assigned_next : (so : ℕ → Bool) (regs : Registers) (to : ℕ) (v : ℤ) → length regs ≡ 16 → to < 16 → IsValue v → AreAssigned (λ r. not (nat_eq to r) && so r) regs → AreAssigned so (slice_set regs to (Some v))
+assigned_next : (so : ℕ → Bool) (regs : Registers) (to : ℕ) (v : ℤ) → length regs ≡ 16 → to < 16 → IsValue v
+    → AreAssigned (λ r. not (nat_eq to r) && so r) regs → AreAssigned so (slice_set regs to (Some v))
 assigned_next so regs to v l f g assigned r h e = elim (eqb_tells to r) [
-  | inl p ↦ subst (λ x. IsSomeValue (get_or (set regs to (Some v)) x None)) p.1 (subst IsSomeValue (sym (get_or-set_same regs to (Some v) None (omega arith))) g)
-  | inr p ↦ subst IsSomeValue (sym (get_or-set_other regs to r (Some v) None (λ q. p.1 (sym q)))) (assigned r h (and_from (not (nat_eq to r)) (so r) (rw p.0 refl) e))
+  | inl p ↦ subst (λ x. IsSomeValue (get_or (set regs to (Some v)) x None)) p.1
+      (subst IsSomeValue (sym (get_or-set_same regs to (Some v) None (omega arith))) g)
+  | inr p ↦ subst IsSomeValue (sym (get_or-set_other regs to r (Some v) None (λ q. p.1 (sym q))))
+      (assigned r h (and_from (not (nat_eq to r)) (so r) (rw p.0 refl) e))
 ]
 
 length_next : (regs : Registers) (to : ℕ) (v : ℤ) → length regs ≡ 16 → length (slice_set regs to (Some v)) ≡ 16
@@ -93,7 +96,8 @@ with_key_sound table id f t h s = let e : nat_le table 7 ≡ true = grind (arith
 with_stored_sound : (v : ℤ) (f : Run) → IsValue v → IsSound f → IsSound (with_stored v f)
 with_stored_sound v f h s = rw (is_value_yes v h) s
 
-found_sound : (absent : ℕ) (v : Option ℤ) (f : ℤ → Run) → (1 ≤ absent) × (absent ≤ 999) → MayBeFound v → ((x : ℤ) → IsValue x → IsSound (f x)) → IsSound (if_found absent v f)
+found_sound : (absent : ℕ) (v : Option ℤ) (f : ℤ → Run) → (1 ≤ absent) × (absent ≤ 999) → MayBeFound v
+    → ((x : ℤ) → IsValue x → IsSound (f x)) → IsSound (if_found absent v f)
 found_sound absent None f c h s = (c.0, omega (arith, c.1))
 found_sound absent (Some v) f c h s = s v h
 
@@ -117,7 +121,8 @@ module _ (args : List ℤ) (all_values : All IsValue args) where
   value_fine : (regs : Registers) (t : Term) → Clean (λ so. in_term so t) → AreAssigned (λ r. uses r t) regs → IsFine (value_of t args regs)
   value_fine regs (num v) c assigned = allowed_number (length args) (Literal v) c
   value_fine regs (arg k) c assigned = got_fine (slice_get args k) (arg_has k (allowed_number (length args) (Argument k) c))
-  value_fine regs (reg n) c assigned = got_fine (slice_index_or regs n None) (assigned n (allowed_number (length args) (Register n) c) (eq-eqb n n refl))
+  value_fine regs (reg n) c assigned =
+      got_fine (slice_index_or regs n None) (assigned n (allowed_number (length args) (Register n) c) (eq-eqb n n refl))
   value_fine regs (sum a b) c assigned =
       both_fine (λ x y. x +ℤ y) (value_of a args regs) (value_of b args regs)
       (value_fine regs a (λ f. (or_parts _ _ (c f)).0) (λ r h e. assigned r h (or_left (uses r a) (uses r b) e)))
@@ -127,19 +132,23 @@ module _ (args : List ℤ) (all_values : All IsValue args) where
       (value_fine regs a (λ f. (or_parts _ _ (c f)).0) (λ r h e. assigned r h (or_left (uses r a) (uses r b) e)))
       (value_fine regs b (λ f. (or_parts _ _ (c f)).1) (λ r h e. assigned r h (or_right (uses r a) (uses r b) e)))
 
-  both_known : (op : ℤ → ℤ → Bool) (regs : Registers) (a b : Term) → Clean (λ so. in_term so a || in_term so b) → AreAssigned (λ r. uses r a || uses r b) regs → IsKnown (compared op (value_of a args regs) (value_of b args regs))
+  both_known : (op : ℤ → ℤ → Bool) (regs : Registers) (a b : Term) → Clean (λ so. in_term so a || in_term so b)
+      → AreAssigned (λ r. uses r a || uses r b) regs → IsKnown (compared op (value_of a args regs) (value_of b args regs))
   both_known op regs a b c assigned =
       compared_known op (value_of a args regs) (value_of b args regs)
       (value_fine regs a (λ f. (or_parts _ _ (c f)).0) (λ r h e. assigned r h (or_left (uses r a) (uses r b) e)))
       (value_fine regs b (λ f. (or_parts _ _ (c f)).1) (λ r h e. assigned r h (or_right (uses r a) (uses r b) e)))
 
-  test_known : (regs : Registers) (t : Test) → Clean (λ so. in_test so t) → AreAssigned (λ r. test_uses r t) regs → IsKnown (result_of t args regs)
+  test_known : (regs : Registers) (t : Test) → Clean (λ so. in_test so t) → AreAssigned (λ r. test_uses r t) regs
+      → IsKnown (result_of t args regs)
   test_known regs (less a b) c assigned = both_known _ regs a b c assigned
   test_known regs (at_most a b) c assigned = both_known _ regs a b c assigned
   test_known regs (equal a b) c assigned = both_known _ regs a b c assigned
 
   -- along statements whose numbers are clean, with the registers assigned that are used before they are set, and few answers
-  run_sound : (w : Way) (regs : Registers) (answers : List ℤ) → Clean (λ so. in_way so w) → length regs ≡ 16 → AreAssigned (λ r. uses_unset r w) regs → length answers + most_answers w ≤ 8 → All IsValue answers → IsSound (run args w regs answers)
+  run_sound : (w : Way) (regs : Registers) (answers : List ℤ) → Clean (λ so. in_way so w) → length regs ≡ 16
+      → AreAssigned (λ r. uses_unset r w) regs → length answers + most_answers w ≤ 8 → All IsValue answers
+      → IsSound (run args w regs answers)
   run_sound way.end regs answers c l assigned m all = (omega (arith, m), all)
   run_sound (way.look to table id absent rest) regs answers c l assigned m all =
       let here = (λ (f : Flaw). (or_parts _ _ (c f)).0) in
@@ -149,38 +158,53 @@ module _ (args : List ℤ) (all_values : All IsValue args) where
       let register = allowed_number (length args) (Register to) (λ f. (or_parts _ _ (here f)).0) in
       let is_table = allowed_number (length args) (Table table) (λ f. (or_parts _ _ (others f)).0) in
       let code = allowed_number (length args) (Code absent) (λ f. (or_parts _ _ (ends f)).1) in
-      with_value_sound (value_of id args regs) _ (value_fine regs id (λ f. (or_parts _ _ (ends f)).0) (λ r h e. assigned r h (or_left _ _ e)))
-      (λ n g. with_key_sound table n (λ k. looks k (λ found. if_found absent found (λ v. run args rest (slice_set regs to (Some v)) answers))) is_table g (
+      with_value_sound (value_of id args regs) _ (value_fine regs id (λ f. (or_parts _ _ (ends f)).0)
+      (λ r h e. assigned r h (or_left _ _ e)))
+      (λ n g. with_key_sound table n (λ k. looks k (λ found. if_found absent found
+      (λ v. run args rest (slice_set regs to (Some v)) answers))) is_table g (
         (is_table, g),
         λ found may. found_sound absent found (λ v. run args rest (slice_set regs to (Some v)) answers) code may
-            (λ v h. run_sound rest (slice_set regs to (Some v)) answers behind (length_next regs to v l) (assigned_next (λ r. uses_unset r rest) regs to v l register h (λ r k e. assigned r k (or_right _ _ e))) m all),
+            (λ v h. run_sound rest (slice_set regs to (Some v)) answers behind (length_next regs to v l)
+            (assigned_next (λ r. uses_unset r rest) regs to v l register h (λ r k e. assigned r k (or_right _ _ e))) m all),
       ))
   run_sound (way.put table id value rest) regs answers c l assigned m all =
       let here = (λ (f : Flaw). (or_parts _ _ (c f)).0) in
       let behind = (λ (f : Flaw). (or_parts _ _ (c f)).1) in
       let terms = (λ (f : Flaw). (or_parts _ _ (here f)).1) in
       let is_table = allowed_number (length args) (Table table) (λ f. (or_parts _ _ (here f)).0) in
-      with_value_sound (value_of id args regs) _ (value_fine regs id (λ f. (or_parts _ _ (terms f)).0) (λ r h e. assigned r h (or_left _ _ (or_left _ _ e))))
-      (λ n g. with_value_sound (value_of value args regs) _ (value_fine regs value (λ f. (or_parts _ _ (terms f)).1) (λ r h e. assigned r h (or_left _ _ (or_right _ _ e))))
+      with_value_sound (value_of id args regs) _ (value_fine regs id (λ f. (or_parts _ _ (terms f)).0)
+      (λ r h e. assigned r h (or_left _ _ (or_left _ _ e))))
+      (λ n g. with_value_sound (value_of value args regs) _
+      (value_fine regs value (λ f. (or_parts _ _ (terms f)).1) (λ r h e. assigned r h (or_left _ _ (or_right _ _ e))))
       (λ v h. with_key_sound table n (λ k. with_stored v (puts k v (run args rest regs answers))) is_table g
-      (with_stored_sound v (puts (table, n) v (run args rest regs answers)) h ((is_table, g), (h, run_sound rest regs answers behind l (λ r k e. assigned r k (or_right _ _ e)) m all)))))
+      (with_stored_sound v (puts (table, n) v (run args rest regs answers)) h
+      ((is_table, g), (h, run_sound rest regs answers behind l (λ r k e. assigned r k (or_right _ _ e)) m all)))))
   run_sound (way.save to value rest) regs answers c l assigned m all =
       let here = (λ (f : Flaw). (or_parts _ _ (c f)).0) in
       let behind = (λ (f : Flaw). (or_parts _ _ (c f)).1) in
       let register = allowed_number (length args) (Register to) (λ f. (or_parts _ _ (here f)).0) in
-      with_value_sound (value_of value args regs) _ (value_fine regs value (λ f. (or_parts _ _ (here f)).1) (λ r h e. assigned r h (or_left _ _ e)))
-      (λ v h. run_sound rest (slice_set regs to (Some v)) answers behind (length_next regs to v l) (assigned_next (λ r. uses_unset r rest) regs to v l register h (λ r k e. assigned r k (or_right _ _ e))) m all)
+      with_value_sound (value_of value args regs) _ (value_fine regs value (λ f. (or_parts _ _ (here f)).1)
+      (λ r h e. assigned r h (or_left _ _ e)))
+      (λ v h. run_sound rest (slice_set regs to (Some v)) answers behind (length_next regs to v l)
+      (assigned_next (λ r. uses_unset r rest) regs to v l register h (λ r k e. assigned r k (or_right _ _ e))) m all)
   run_sound (way.ask code) regs answers c l assigned m all =
       let asked = allowed_number (length args) (Code code) c in
       (asked.0, omega (arith, asked.1))
   run_sound (way.fork test ys ns) regs answers c l assigned m all =
       let branches = (λ (f : Flaw). (or_parts _ _ (c f)).1) in
-      with_test_sound (result_of test args regs) _ _ (test_known regs test (λ f. (or_parts _ _ (c f)).0) (λ r h e. assigned r h (or_left _ _ e)))
-      (run_sound ys regs answers (λ f. (or_parts _ _ (branches f)).0) l (λ r h e. assigned r h (or_right _ _ (or_left _ _ e))) (few_left (length answers) (most_answers ys) (most_answers ns) m) all)
-      (run_sound ns regs answers (λ f. (or_parts _ _ (branches f)).1) l (λ r h e. assigned r h (or_right _ _ (or_right _ _ e))) (few_right (length answers) (most_answers ys) (most_answers ns) m) all)
+      with_test_sound (result_of test args regs) _ _ (test_known regs test (λ f. (or_parts _ _ (c f)).0)
+      (λ r h e. assigned r h (or_left _ _ e)))
+      (run_sound ys regs answers (λ f. (or_parts _ _ (branches f)).0) l (λ r h e. assigned r h (or_right _ _ (or_left _ _ e)))
+      (few_left (length answers) (most_answers ys) (most_answers ns) m) all)
+      (run_sound ns regs answers (λ f. (or_parts _ _ (branches f)).1) l (λ r h e. assigned r h (or_right _ _ (or_right _ _ e)))
+      (few_right (length answers) (most_answers ys) (most_answers ns) m) all)
   run_sound (way.answer value rest) regs answers c l assigned m all =
-      with_value_sound (value_of value args regs) _ (value_fine regs value (λ f. (or_parts _ _ (c f)).0) (λ r h e. assigned r h (or_left _ _ e)))
-      (λ v h. with_room_sound answers (run args rest regs (answers ++ v ∷ [])) (omega (arith, m)) (run_sound rest regs (answers ++ v ∷ []) (λ f. (or_parts _ _ (c f)).1) l (λ r k e. assigned r k (or_right _ _ e)) (omega (arith, m, length-append answers (v ∷ []))) (All-append IsValue answers (v ∷ []) all (All-cons IsValue v [] h (All-nil IsValue)))))
+      with_value_sound (value_of value args regs) _ (value_fine regs value (λ f. (or_parts _ _ (c f)).0)
+      (λ r h e. assigned r h (or_left _ _ e)))
+      (λ v h. with_room_sound answers (run args rest regs (answers ++ v ∷ [])) (omega (arith, m))
+      (run_sound rest regs (answers ++ v ∷ []) (λ f. (or_parts _ _ (c f)).1) l (λ r k e. assigned r k (or_right _ _ e))
+      (omega (arith, m, length-append answers (v ∷ [])))
+      (All-append IsValue answers (v ∷ []) all (All-cons IsValue v [] h (All-nil IsValue)))))
 
 not_true : (b : Bool) → (IsTrue b → ⊥) → b ≡ false
 not_true true h = absurd (h refl)

@@ -14,11 +14,13 @@ or_first true b = refl
 or_first false b = refl
 
 in_before : (so : Number → Bool) (s : Statement) (b : Block) → in_block so (before s b) ≡ (in_block so (before s empty) || in_block so b)
-in_before so (Look to table id absent) b = or_first (so (Register to) || (so (Table table) || (in_term so (term_of id) || so (Code absent)))) (in_block so b)
+in_before so (Look to table id absent) b =
+    or_first (so (Register to) || (so (Table table) || (in_term so (term_of id) || so (Code absent)))) (in_block so b)
 in_before so (Put table id value) b = or_first (so (Table table) || (in_term so (term_of id) || in_term so (term_of value))) (in_block so b)
 in_before so (Let to value) b = or_first (so (Register to) || in_term so (term_of value)) (in_block so b)
 in_before so (Ask code) b = or_first (so (Code code)) (in_block so b)
-in_before so (If' cond p ys q ns) b = or_first (in_test so (test_of cond) || (in_block so (row_block ys) || in_block so (row_block ns))) (in_block so b)
+in_before so (If' cond p ys q ns) b =
+    or_first (in_test so (test_of cond) || (in_block so (row_block ys) || in_block so (row_block ns))) (in_block so b)
 in_before so (Answer value) b = or_first (in_term so (term_of value)) (in_block so b)
 
 size_before : (s : Statement) (b : Block) → size (before s b) ≡ size (before s empty) + size b
@@ -46,7 +48,8 @@ terms_before (If' cond p ys q ns) b = omega arith
 terms_before (Answer value) b = omega arith
 
 module _ (list : List Statement) (i : ℕ) (s : Statement) (h : i < length list) (e : s ≡ get_or list i s) where
-  pub in_drop : (so : Number → Bool) → in_block so (block_of (drop i list)) ≡ (in_block so (before s empty) || in_block so (block_of (drop (i + 1) list)))
+  pub in_drop : (so : Number → Bool) → in_block so (block_of (drop i list))
+      ≡ (in_block so (before s empty) || in_block so (block_of (drop (i + 1) list)))
   in_drop so = ap (in_block so) (block_drop list i s h e) ∙ in_before so s _
 
   pub size_drop : size (block_of (drop i list)) ≡ size (before s empty) + size (block_of (drop (i + 1) list))

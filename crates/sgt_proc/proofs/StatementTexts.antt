@@ -19,20 +19,25 @@ onto_before (If' cond s ys t ns) b rest = refl
 onto_before (Answer value) b rest = refl
 
 -- the text from place i of a list begins with the statement there
-pub block_drop : (list : List Statement) (i : ℕ) (s : Statement) → i < length list → s ≡ get_or list i s → block_of (drop i list) ≡ before s (block_of (drop (i + 1) list))
+pub block_drop : (list : List Statement) (i : ℕ) (s : Statement) → i < length list → s ≡ get_or list i s
+    → block_of (drop i list) ≡ before s (block_of (drop (i + 1) list))
 block_drop list i s h e =
     let d : drop i list ≡ s ∷ drop (i + 1) list = rw add-one (drop-cons list i s h ∙ ap (λ x. x ∷ drop (suc i) list) (sym e)) in
     ap block_of d
 
 -- the ways through a list go at last through its last statement
-pub onto_last : (list : List Statement) (s : Statement) (rest : Way) → onto (block_of (list ++ s ∷ [])) rest ≡ onto (block_of list) (onto (before s empty) rest)
+pub onto_last : (list : List Statement) (s : Statement) (rest : Way)
+    → onto (block_of (list ++ s ∷ [])) rest ≡ onto (block_of list) (onto (before s empty) rest)
 onto_last [] s rest = refl
-onto_last (x ∷ xs) s rest = onto_before x (block_of (xs ++ s ∷ [])) rest ∙ (ap (onto (before x empty)) (onto_last xs s rest) ∙ sym (onto_before x (block_of xs) (onto (before s empty) rest)))
+onto_last (x ∷ xs) s rest = onto_before x (block_of (xs ++ s ∷ [])) rest
+    ∙ (ap (onto (before x empty)) (onto_last xs s rest) ∙ sym (onto_before x (block_of xs) (onto (before s empty) rest)))
 
 -- the ways on from place i of a list begin with the statement there
-pub onto_drop : (list : List Statement) (i : ℕ) (s : Statement) (rest : Way) → i < length list → s ≡ get_or list i s → onto (block_of (drop i list)) rest ≡ onto (before s empty) (onto (block_of (drop (i + 1) list)) rest)
+pub onto_drop : (list : List Statement) (i : ℕ) (s : Statement) (rest : Way) → i < length list → s ≡ get_or list i s
+    → onto (block_of (drop i list)) rest ≡ onto (before s empty) (onto (block_of (drop (i + 1) list)) rest)
 onto_drop list i s rest h e = ap (λ b. onto b rest) (block_drop list i s h e) ∙ onto_before s (block_of (drop (i + 1) list)) rest
 
 -- an If is a fork, whose branches go on behind it
-pub onto_if : (c : Cond) (ys ns : Vec Statement Global) (rest : Way) → onto (before (If c ys ns) empty) rest ≡ fork (test_of c) (onto (block_of ys.items) rest) (onto (block_of ns.items) rest)
+pub onto_if : (c : Cond) (ys ns : Vec Statement Global) (rest : Way)
+    → onto (before (If c ys ns) empty) rest ≡ fork (test_of c) (onto (block_of ys.items) rest) (onto (block_of ns.items) rest)
 onto_if c ys ns rest = ap (λ b. onto b rest) (before_if c ys ns empty)

@@ -24,10 +24,14 @@ both_followed a a' b b' e f = ap (λ x. followed_by x b) e ∙ ap (followed_by a
 
 -- into a branch
 
-to_come_branch : (path : List Turn) (t : Turn) (b : Block) (test : Test) (ys ns rest : Block) → behind t.at (inner path b) ≡ choose test ys ns rest → to_come (path ++ t ∷ []) 0 b ≡ followed_by (cond t.held ys ns) (to_come path (t.at + 1) b)
+to_come_branch : (path : List Turn) (t : Turn) (b : Block) (test : Test) (ys ns rest : Block)
+    → behind t.at (inner path b) ≡ choose test ys ns rest
+    → to_come (path ++ t ∷ []) 0 b ≡ followed_by (cond t.held ys ns) (to_come path (t.at + 1) b)
 to_come_branch path t b test ys ns rest e = both_followed _ _ _ _ (inner_last path t b ∙ ap (branch t.held) e) (outer_last path t b)
 
-reach_branch : (held : Bool) (test : Test) (ys ns rest : Block) (args : List ℤ) (registers : Registers) (answers : List ℤ) → result_of test args registers ≡ holds held → reach (followed_by (cond held ys ns) rest) args registers answers ≡ reach (choose test ys ns rest) args registers answers
+reach_branch : (held : Bool) (test : Test) (ys ns rest : Block) (args : List ℤ) (registers : Registers) (answers : List ℤ)
+    → result_of test args registers ≡ holds held → reach (followed_by (cond held ys ns) rest) args registers answers ≡ reach
+    (choose test ys ns rest) args registers answers
 reach_branch true test ys ns rest args registers answers e = rw e (reach_followed ys rest args registers answers)
 reach_branch false test ys ns rest args registers answers e = rw e (reach_followed ns rest args registers answers)
 
@@ -35,14 +39,27 @@ branch_smaller : (held : Bool) (ys ns : Block) → size (cond held ys ns) ≤ si
 branch_smaller true ys ns = omega arith
 branch_smaller false ys ns = omega arith
 
-pub if_step : (b : Block) (m m' : Place) (s : Statement) (c : Cond) (ys ns : Vec Statement Global) (held : Bool) → IsIn b m → s ≡ If c ys ns → behind m.at (inner m.path.items b) ≡ before s (behind (m.at + 1) (inner m.path.items b)) → m.at < 64 → result_of (test_of c) m.args m.registers ≡ holds held → m'.args ≡ m.args → m'.registers ≡ m.registers → m'.answers ≡ m.answers → m'.path.items ≡ m.path.items ++ record { at = m.at; held = held } ∷ [] → m'.at ≡ 0 → Passes b m m'
+pub if_step : (b : Block) (m m' : Place) (s : Statement) (c : Cond) (ys ns : Vec Statement Global) (held : Bool) → IsIn b m → s ≡ If c ys ns
+    → behind m.at (inner m.path.items b) ≡ before s (behind (m.at + 1) (inner m.path.items b)) → m.at < 64
+    → result_of (test_of c) m.args m.registers ≡ holds held → m'.args ≡ m.args → m'.registers ≡ m.registers → m'.answers ≡ m.answers
+    → m'.path.items ≡ m.path.items ++ record { at = m.at; held = held } ∷ [] → m'.at ≡ 0 → Passes b m m'
 if_step b m m' s c ys ns held inside is here few choice args registers answers path at = record {
-  same = rw (args, registers, answers, at, path, come) (reach_branch held (test_of c) (block_of ys.items) (block_of ns.items) R m.args m.registers m.answers choice ∙ sym (ap (λ x. reach (followed_by x (outer m.path.items b)) m.args m.registers m.answers) here_is));
+  same = rw (args, registers, answers, at, path, come)
+      (reach_branch held (test_of c) (block_of ys.items) (block_of ns.items) R m.args m.registers m.answers choice
+      ∙ sym (ap (λ x. reach (followed_by x (outer m.path.items b)) m.args m.registers m.answers) here_is));
   inside = record {
     path = rw path (path_more m.path.items t b inside.path few (subst IsIf (sym here_is) tt));
     few = rw at (omega arith);
   };
-  nearer = rw (at, path, come) (omega (arith, followed_size (cond held (block_of ys.items) (block_of ns.items)) R, branch_smaller held (block_of ys.items) (block_of ns.items), length-append m.path.items (t ∷ []), whole_size));
+  nearer =
+      rw (at, path, come) (omega (
+        arith,
+        followed_size (cond held (block_of ys.items) (block_of ns.items)) R,
+        branch_smaller held
+            (block_of ys.items) (block_of ns.items),
+        length-append m.path.items (t ∷ []),
+        whole_size,
+      ));
 } where
   t : Turn
   t = record { at = m.at; held = held }
@@ -50,7 +67,8 @@ if_step b m m' s c ys ns held inside is here few choice args registers answers p
   R : Block
   R = to_come m.path.items (m.at + 1) b
 
-  here_is : behind m.at (inner m.path.items b) ≡ choose (test_of c) (block_of ys.items) (block_of ns.items) (behind (m.at + 1) (inner m.path.items b))
+  here_is : behind m.at (inner m.path.items b) ≡ choose (test_of c) (block_of ys.items) (block_of ns.items)
+      (behind (m.at + 1) (inner m.path.items b))
   here_is = here ∙ (ap (λ x. before x (behind (m.at + 1) (inner m.path.items b))) is ∙ before_if c ys ns _)
 
   come : to_come (m.path.items ++ t ∷ []) 0 b ≡ followed_by (cond held (block_of ys.items) (block_of ns.items)) R
@@ -65,7 +83,8 @@ module _ (list : List Statement) (b : Block) (m : Place) (is_list : block_of lis
   none_here : behind m.at (inner m.path.items b) ≡ empty
   none_here = ap (behind m.at) (sym is_list) ∙ behind_end list m.at ended
 
-  pub out_step : (m' : Place) (t : Turn) → IsIn b m → m'.args ≡ m.args → m'.registers ≡ m.registers → m'.answers ≡ m.answers → m.path.items ≡ m'.path.items ++ t ∷ [] → m'.at ≡ t.at + 1 → Passes b m m'
+  pub out_step : (m' : Place) (t : Turn) → IsIn b m → m'.args ≡ m.args → m'.registers ≡ m.registers → m'.answers ≡ m.answers
+      → m.path.items ≡ m'.path.items ++ t ∷ [] → m'.at ≡ t.at + 1 → Passes b m m'
   out_step m' t inside args registers answers path at = record {
     same = rw (args, registers, answers, at) (ap (λ x. reach x m.args m.registers m.answers) (sym come));
     inside = record { path = less.1; few = rw at (omega (arith, less.0)) };
@@ -83,7 +102,8 @@ module _ (list : List Statement) (b : Block) (m : Place) (is_list : block_of lis
 
 -- at a statement
 
-module _ (list : List Statement) (b : Block) (m : Place) (is_list : block_of list ≡ inner m.path.items b) (s : Statement) (within : m.at < length list) (is : s ≡ get_or list m.at s) where
+module _ (list : List Statement) (b : Block) (m : Place) (is_list : block_of list ≡ inner m.path.items b) (s : Statement)
+    (within : m.at < length list) (is : s ≡ get_or list m.at s) where
   pub at_statement : behind m.at (inner m.path.items b) ≡ before s (behind (m.at + 1) (inner m.path.items b))
   at_statement = subst (λ x. behind m.at x ≡ before s (behind (m.at + 1) x)) is_list (behind_at list m.at s within is)
 
@@ -92,7 +112,14 @@ module _ (list : List Statement) (b : Block) (m : Place) (is_list : block_of lis
 
   pub at_room : IsPath m.path.items b → depth b ≤ 16 → length m.path.items < 16
   at_room inside shallow =
-      omega (arith, inner_depth m.path.items b inside, behind_depth m.at (inner m.path.items b), ap depth at_statement, before_depth s (behind (m.at + 1) (inner m.path.items b)))
+      omega (
+        arith,
+        inner_depth m.path.items b inside,
+        behind_depth m.at (inner m.path.items b),
+        ap depth at_statement,
+        before_depth s
+            (behind (m.at + 1) (inner m.path.items b)),
+      )
 
 pub none_left : (path : List Turn) → (0 < length path → ⊥) → path ≡ []
 none_left [] h = refl

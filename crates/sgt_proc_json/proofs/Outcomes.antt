@@ -13,7 +13,8 @@ use Rattle.sgt_proc_json.proofs.SpelledIsRead.{read_spelled}
 use Rattle.sgt_proc_json.proofs.ReadIsSpelled.{spelled_read}
 
 -- a procedure that is read is spelled
-pub read_is_spelled : (d : Data) (r : Result Procedure ReadError) → IfOk r (λ p. reading d ≡ Ok (program_of p)) → IfOk r (λ p. Spells (program_of p) d)
+pub read_is_spelled : (d : Data) (r : Result Procedure ReadError) → IfOk r (λ p. reading d ≡ Ok (program_of p))
+    → IfOk r (λ p. Spells (program_of p) d)
 read_is_spelled d (Ok p) is = spelled_read (program_of p) d is
 read_is_spelled d (Err error) is = tt
 
@@ -22,6 +23,7 @@ none_spelled : (d : Data) (error : ReadError) → Tells (reading d) error → er
 none_spelled d (Shape place) told other p is = let both : Ok p ≡ Err place = sym (read_spelled p d is) ∙ told place refl in absurd (cc)
 none_spelled d NoMemory told other p is = absurd (other refl)
 
-pub refused_spells_none : (d : Data) (r : Result Procedure ReadError) → IfErr r (Tells (reading d)) → IfErr r (λ error. error ≢ NoMemory → SpellsNone d)
+pub refused_spells_none : (d : Data) (r : Result Procedure ReadError) → IfErr r (Tells (reading d))
+    → IfErr r (λ error. error ≢ NoMemory → SpellsNone d)
 refused_spells_none d (Ok p) told = tt
 refused_spells_none d (Err error) told = none_spelled d error told

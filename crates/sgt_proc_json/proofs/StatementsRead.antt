@@ -17,21 +17,26 @@ pub onto_last : (list : List Statement) (s : Statement) (rest : Block) → onto_
 onto_last [] s rest = refl
 onto_last (x ∷ list) s rest = ap (before x) (onto_last list s rest)
 
-one_last : (list : List Statement) (s : Statement) (r : Reading Block) → one (onto_block list) (one (before s) r) ≡ one (onto_block (list ++ s ∷ [])) r
+one_last : (list : List Statement) (s : Statement) (r : Reading Block)
+    → one (onto_block list) (one (before s) r) ≡ one (onto_block (list ++ s ∷ [])) r
 one_last list s (Ok b) = ap Ok (sym (onto_last list s b))
 one_last list s (Err place) = refl
 
 items_next : (items : List Value) (i : ℕ) (v : Value) → i < length items → v ≡ get_or items i v
-    → statements i (items_view (drop i items)) ≡ two (λ first rest. first rest) (at i (statement (view v))) (statements (i + 1) (items_view (drop (i + 1) items)))
+    → statements i (items_view (drop i items)) ≡ two (λ first rest. first rest) (at i (statement (view v)))
+    (statements (i + 1) (items_view (drop (i + 1) items)))
 items_next items i v h e =
     let d : drop i items ≡ v ∷ drop (i + 1) items = rw add-one (drop-cons items i v h ∙ ap (λ x. x ∷ drop (suc i) items) (sym e)) in
     ap (λ l. statements i (items_view l)) d
 
 -- one more statement is read
-pub one_more : (items : List Value) (i : ℕ) (v : Value) (list : List Statement) (s : Statement) (r : Reading Block) → r ≡ one (onto_block list) (statements i (items_view (drop i items))) → i < length items → v ≡ get_or items i v
-    → at i (statement (view v)) ≡ Ok (before s) → r ≡ one (onto_block (list ++ s ∷ [])) (statements (i + 1) (items_view (drop (i + 1) items)))
+pub one_more : (items : List Value) (i : ℕ) (v : Value) (list : List Statement) (s : Statement) (r : Reading Block)
+    → r ≡ one (onto_block list) (statements i (items_view (drop i items))) → i < length items → v ≡ get_or items i v
+    → at i (statement (view v)) ≡ Ok (before s) → r ≡ one (onto_block (list ++ s ∷ []))
+    (statements (i + 1) (items_view (drop (i + 1) items)))
 one_more items i v list s r so h e read =
-    so ∙ ap (one (onto_block list)) (items_next items i v h e ∙ ap (λ f. two (λ first rest. first rest) f (statements (i + 1) (items_view (drop (i + 1) items)))) read)
+    so ∙ ap (one (onto_block list)) (items_next items i v h e
+    ∙ ap (λ f. two (λ first rest. first rest) f (statements (i + 1) (items_view (drop (i + 1) items)))) read)
     ∙ one_last list s (statements (i + 1) (items_view (drop (i + 1) items)))
 
 -- in front of none
@@ -40,5 +45,6 @@ onto_all [] = refl
 onto_all (s ∷ list) = ap (before s) (onto_all list)
 
 -- all are read
-pub all_read : (items : List Value) (i : ℕ) (list : List Statement) (r : Reading Block) → r ≡ one (onto_block list) (statements i (items_view (drop i items))) → drop i items ≡ [] → r ≡ Ok (block_of list)
+pub all_read : (items : List Value) (i : ℕ) (list : List Statement) (r : Reading Block)
+    → r ≡ one (onto_block list) (statements i (items_view (drop i items))) → drop i items ≡ [] → r ≡ Ok (block_of list)
 all_read items i list r so none = so ∙ ap (λ l. one (onto_block list) (statements i (items_view l))) none ∙ ap Ok (onto_all list)

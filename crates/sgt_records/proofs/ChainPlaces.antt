@@ -12,7 +12,8 @@ pub left_whole : (t : ℕ) (c : List (ℕ × ℤ)) → writes_in t c ≡ false �
 left_whole t [] h = refl
 left_whole t (w ∷ c) h = go (nat_eq w.0 t) h (left_whole t c)
   where
-    go : (b : Bool) → (b || writes_in t c) ≡ false → (writes_in t c ≡ false → without t c ≡ c) → cond (not b) (w ∷ without t c) (without t c) ≡ w ∷ c
+    go : (b : Bool) → (b || writes_in t c) ≡ false → (writes_in t c ≡ false → without t c ≡ c)
+        → cond (not b) (w ∷ without t c) (without t c) ≡ w ∷ c
     go true h rest = absurd (true≢false h)
     go false h rest = ap (λ l. w ∷ l) (rest h)
 
@@ -45,7 +46,8 @@ pub not_found : (t i : ℕ) (c : List (ℕ × ℤ)) → position_from (λ w. nat
 not_found t i [] h = refl
 not_found t i (w ∷ c) h = go (nat_eq w.0 t) h (not_found t (i + 1) c)
   where
-    go : (b : Bool) → cond b (Some i) (position_from (λ w. nat_eq w.0 t) (i + 1) c) ≡ None → (position_from (λ w. nat_eq w.0 t) (i + 1) c ≡ None → writes_in t c ≡ false) → (b || writes_in t c) ≡ false
+    go : (b : Bool) → cond b (Some i) (position_from (λ w. nat_eq w.0 t) (i + 1) c) ≡ None
+        → (position_from (λ w. nat_eq w.0 t) (i + 1) c ≡ None → writes_in t c ≡ false) → (b || writes_in t c) ≡ false
     go true h rest = absurd (true≢false (ap is_some h))
     go false h rest = rest h
 
@@ -54,7 +56,9 @@ found_from : (t i : ℕ) (c : List (ℕ × ℤ)) (p : ℕ) → position_from (λ
 found_from t i [] p h = absurd (true≢false (sym (ap is_some h)))
 found_from t i (w ∷ c) p h = go (nat_eq w.0 t) refl h (found_from t (i + 1) c p)
   where
-    go : (b : Bool) → nat_eq w.0 t ≡ b → cond b (Some i) (position_from (λ w. nat_eq w.0 t) (i + 1) c) ≡ Some p → (position_from (λ w. nat_eq w.0 t) (i + 1) c ≡ Some p → (n : ℕ) × (p ≡ (i + 1) + n) × IsFirstAt t c n) → (n : ℕ) × (p ≡ i + n) × IsFirstAt t (w ∷ c) n
+    go : (b : Bool) → nat_eq w.0 t ≡ b → cond b (Some i) (position_from (λ w. nat_eq w.0 t) (i + 1) c) ≡ Some p
+        → (position_from (λ w. nat_eq w.0 t) (i + 1) c ≡ Some p → (n : ℕ) × (p ≡ (i + 1) + n) × IsFirstAt t c n)
+        → (n : ℕ) × (p ≡ i + n) × IsFirstAt t (w ∷ c) n
     go true e h rest = (0, grind (arith, h), e)
     go false e h rest = let next = rest h in (suc next.0, (let at = next.1 in omega (arith, at)), (e, next.2))
 
@@ -81,7 +85,8 @@ no_others : (t : ℕ) (c : List (ℕ × ℤ)) → length (filter (λ w. nat_eq w
 no_others t [] h = refl
 no_others t (w ∷ c) h = go (nat_eq w.0 t) h (no_others t c)
   where
-    go : (b : Bool) → length (cond b (w ∷ filter (λ w. nat_eq w.0 t) c) (filter (λ w. nat_eq w.0 t) c)) ≤ 0 → (length (filter (λ w. nat_eq w.0 t) c) ≤ 0 → writes_in t c ≡ false) → (b || writes_in t c) ≡ false
+    go : (b : Bool) → length (cond b (w ∷ filter (λ w. nat_eq w.0 t) c) (filter (λ w. nat_eq w.0 t) c)) ≤ 0
+        → (length (filter (λ w. nat_eq w.0 t) c) ≤ 0 → writes_in t c ≡ false) → (b || writes_in t c) ≡ false
     go true h rest = absurd (omega (arith, h))
     go false h rest = rest h
 
@@ -90,12 +95,14 @@ pub taken_out : (t : ℕ) (c : List (ℕ × ℤ)) (n : ℕ) → IsFirstAt t c n 
 taken_out t [] n h once = absurd h
 taken_out t (w ∷ c) zero h once = go (nat_eq w.0 t) h once
   where
-    go : (b : Bool) → b ≡ true → length (cond b (w ∷ filter (λ w. nat_eq w.0 t) c) (filter (λ w. nat_eq w.0 t) c)) ≤ 1 → c ≡ cond (not b) (w ∷ without t c) (without t c)
+    go : (b : Bool) → b ≡ true → length (cond b (w ∷ filter (λ w. nat_eq w.0 t) c) (filter (λ w. nat_eq w.0 t) c)) ≤ 1
+        → c ≡ cond (not b) (w ∷ without t c) (without t c)
     go true h once = sym (left_whole t c (no_others t c (omega (arith, once))))
     go false h once = absurd (true≢false (sym h))
 taken_out t (w ∷ c) (suc n) h once = go (nat_eq w.0 t) h.0 once (taken_out t c n h.1)
   where
-    go : (b : Bool) → b ≡ false → length (cond b (w ∷ filter (λ w. nat_eq w.0 t) c) (filter (λ w. nat_eq w.0 t) c)) ≤ 1 → (IsOnceIn t c → remove c n ≡ without t c) → w ∷ remove c n ≡ cond (not b) (w ∷ without t c) (without t c)
+    go : (b : Bool) → b ≡ false → length (cond b (w ∷ filter (λ w. nat_eq w.0 t) c) (filter (λ w. nat_eq w.0 t) c)) ≤ 1
+        → (IsOnceIn t c → remove c n ≡ without t c) → w ∷ remove c n ≡ cond (not b) (w ∷ without t c) (without t c)
     go true h once rest = absurd (true≢false h)
     go false h once rest = ap (λ l. w ∷ l) (rest once)
 

@@ -16,7 +16,8 @@ HasValue w = IsValue w.1
 pub chain_empty : IsChain []
 chain_empty = record { once = λ t. omega arith; few = omega arith; values = All-nil HasValue }
 
-pub chain_written : (t : ℕ) (v : ℤ) (c : List (ℕ × ℤ)) → IsChain c → IsValue v → (writes_in t c ≡ false → length c < 32) → IsChain (write_last t v c)
+pub chain_written : (t : ℕ) (v : ℤ) (c : List (ℕ × ℤ)) → IsChain c → IsValue v → (writes_in t c ≡ false → length c < 32)
+    → IsChain (write_last t v c)
 chain_written t v c chain value room = record {
   once = λ u. once_written t v u c (chain.once u);
   few = few_written t v c chain.few room;
@@ -40,7 +41,8 @@ value_left t (w ∷ c) all = go (nat_eq w.0 t) (All-head HasValue w c all) (valu
     go false here rest = rest
 
 -- what a commit makes of the committed value is one
-pub value_settled : (t : ℕ) (c : List (ℕ × ℤ)) (before : Option ℤ) → All HasValue c → IfSome before IsValue → IfSome (option_or (value_in t c) before) IsValue
+pub value_settled : (t : ℕ) (c : List (ℕ × ℤ)) (before : Option ℤ) → All HasValue c → IfSome before IsValue
+    → IfSome (option_or (value_in t c) before) IsValue
 value_settled t c before all value = go (value_in t c) (value_left t c all)
   where
     go : (o : Option ℤ) → IfSome o IsValue → IfSome (option_or o before) IsValue
@@ -53,10 +55,12 @@ last_value [] d all here = here
 last_value (w ∷ c) d all here = last_value c (Some w) (All-tail HasValue w c all) (All-head HasValue w c all)
 
 -- what a look finds is a value
-pub top_value : (c : List (ℕ × ℤ)) (committed : Option ℤ) → IsChain c → IfSome committed IsValue → IfSome (value_of (top_of c committed)) IsValue
+pub top_value : (c : List (ℕ × ℤ)) (committed : Option ℤ) → IsChain c → IfSome committed IsValue
+    → IfSome (value_of (top_of c committed)) IsValue
 top_value c committed chain value = go (last_or None c) committed (last_value c None chain.values tt) value
   where
-    go : (last : Option (ℕ × ℤ)) (below : Option ℤ) → IfSome last HasValue → IfSome below IsValue → IfSome (value_of (top_from last below)) IsValue
+    go : (last : Option (ℕ × ℤ)) (below : Option ℤ) → IfSome last HasValue → IfSome below IsValue
+        → IfSome (value_of (top_from last below)) IsValue
     go (Some w) below h v = h
     go None (Some x) h v = v
     go None None h v = tt

@@ -19,7 +19,9 @@ module _ {R : Type 0} (value : R → Option ℤ) where
 
   -- one entry more
   among_more : (k : Key) (entries : List (Key × R)) (e : Key × R) → is_among k (entries ++ e ∷ []) ≡ (is_among k entries || key_eq e.0 k)
-  among_more k entries e = ap (list_any (is_at (key_cmp k))) (map-append (λ (x : Key × R). x.0) entries (e ∷ [])) ∙ (list_any-append (is_at (key_cmp k)) (keys_of entries) (e.0 ∷ []) ∙ ap (λ b. is_among k entries || b) (one (is_at (key_cmp k) e.0) ∙ key_back k e.0))
+  among_more k entries e = ap (list_any (is_at (key_cmp k))) (map-append (λ (x : Key × R). x.0) entries (e ∷ []))
+      ∙ (list_any-append (is_at (key_cmp k)) (keys_of entries) (e.0 ∷ [])
+      ∙ ap (λ b. is_among k entries || b) (one (is_at (key_cmp k) e.0) ∙ key_back k e.0))
     where
       one : (b : Bool) → (b || false) ≡ b
       one true = refl
@@ -35,8 +37,11 @@ module _ {R : Type 0} (value : R → Option ℤ) where
     given_so_far entries k = cond (is_among k entries) (given k) None
 
     -- one entry more gives its key's value
-    entry_more : (entries : List (Key × R)) (e : Key × R) → get key_cmp m e.0 ≡ Some e.1 → (k : Key) → given_so_far (entries ++ e ∷ []) k ≡ cond (key_eq e.0 k) (value e.1) (given_so_far entries k)
-    entry_more entries e found k = ap (λ b. cond b (given k) None) (among_more k entries e) ∙ go (is_among k entries) (key_eq e.0 k) (λ same. ap (option_and_then value) (subst (λ j. get key_cmp m j ≡ Some e.1) (key_eq-true e.0 k same) found))
+    entry_more : (entries : List (Key × R)) (e : Key × R) → get key_cmp m e.0 ≡ Some e.1 → (k : Key)
+        → given_so_far (entries ++ e ∷ []) k ≡ cond (key_eq e.0 k) (value e.1) (given_so_far entries k)
+    entry_more entries e found k = ap (λ b. cond b (given k) None) (among_more k entries e)
+        ∙ go (is_among k entries) (key_eq e.0 k) (λ same. ap (option_and_then value)
+        (subst (λ j. get key_cmp m j ≡ Some e.1) (key_eq-true e.0 k same) found))
       where
         go : (a b : Bool) → (b ≡ true → given k ≡ value e.1) → cond (a || b) (given k) None ≡ cond b (value e.1) (cond a (given k) None)
         go true true is = is refl
@@ -45,12 +50,18 @@ module _ {R : Type 0} (value : R → Option ℤ) where
         go false false is = refl
 
     -- an entry with a value puts it
-    pub value_more : (entries : List (Key × R)) (key : Key) (r : R) (v : ℤ) → get key_cmp m key ≡ Some r → value r ≡ Some v → (k : Key) → given_so_far (entries ++ (key, r) ∷ []) k ≡ put_in (given_so_far entries) key v k
-    value_more entries key r v found is k = entry_more entries (key, r) found k ∙ ap (λ o. cond (key_eq key k) o (given_so_far entries k)) is
+    pub value_more : (entries : List (Key × R)) (key : Key) (r : R) (v : ℤ) → get key_cmp m key ≡ Some r → value r ≡ Some v → (k : Key)
+        → given_so_far (entries ++ (key, r) ∷ []) k ≡ put_in (given_so_far entries) key v k
+    value_more entries key r v found is k = entry_more entries (key, r) found k
+        ∙ ap (λ o. cond (key_eq key k) o (given_so_far entries k)) is
 
     -- one with none puts none
-    pub blank_more : (entries : List (Key × R)) (key : Key) (r : R) → get key_cmp m key ≡ Some r → value r ≡ None → (k : Key) → given_so_far (entries ++ (key, r) ∷ []) k ≡ given_so_far entries k
-    blank_more entries key r found none k = entry_more entries (key, r) found k ∙ (ap (λ o. cond (key_eq key k) o (given_so_far entries k)) none ∙ go (key_eq key k) (is_among k entries) (λ same. ap (option_and_then value) (subst (λ j. get key_cmp m j ≡ Some r) (key_eq-true key k same) found) ∙ none))
+    pub blank_more : (entries : List (Key × R)) (key : Key) (r : R) → get key_cmp m key ≡ Some r → value r ≡ None → (k : Key)
+        → given_so_far (entries ++ (key, r) ∷ []) k ≡ given_so_far entries k
+    blank_more entries key r found none k = entry_more entries (key, r) found k
+        ∙ (ap (λ o. cond (key_eq key k) o (given_so_far entries k)) none
+        ∙ go (key_eq key k) (is_among k entries) (λ same. ap (option_and_then value)
+        (subst (λ j. get key_cmp m j ≡ Some r) (key_eq-true key k same) found) ∙ none))
       where
         go : (b a : Bool) → (b ≡ true → given k ≡ None) → cond b None (cond a (given k) None) ≡ cond a (given k) None
         go true true is = sym (is refl)

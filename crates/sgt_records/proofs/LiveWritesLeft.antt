@@ -31,7 +31,9 @@ writers_left t u [] = go (nat_eq u t)
     go false = refl
 writers_left t u (w ∷ c) = go (nat_eq w.0 t) refl (nat_eq w.0 u) refl (nat_eq u t) refl (writers_left t u c)
   where
-    go : (a : Bool) → nat_eq w.0 t ≡ a → (b : Bool) → nat_eq w.0 u ≡ b → (d : Bool) → nat_eq u t ≡ d → writes_in u (without t c) ≡ (not d && writes_in u c) → writes_in u (cond (not a) (w ∷ without t c) (without t c)) ≡ (not d && (b || writes_in u c))
+    go : (a : Bool) → nat_eq w.0 t ≡ a → (b : Bool) → nat_eq w.0 u ≡ b → (d : Bool) → nat_eq u t ≡ d
+        → writes_in u (without t c) ≡ (not d && writes_in u c)
+        → writes_in u (cond (not a) (w ∷ without t c) (without t c)) ≡ (not d && (b || writes_in u c))
     go true e true f true g h = h
     go true e true f false g h = absurd (true≢false (sym (subst (λ x. nat_eq x t ≡ true) (eqb-true w.0 u f) e) ∙ g))
     go true e false f d g h = h
@@ -46,11 +48,13 @@ not_left t c = writers_left t t c ∙ ap (λ b. not b && writes_in t c) (eq-eqb 
 -- who writes in a chain of two parts
 writers_joined : (u : ℕ) (c d : List (ℕ × ℤ)) → writes_in u (c ++ d) ≡ (writes_in u c || writes_in u d)
 writers_joined u [] d = refl
-writers_joined u (w ∷ c) d = ap (λ b. nat_eq w.0 u || b) (writers_joined u c d) ∙ sym (or_assoc (nat_eq w.0 u) (writes_in u c) (writes_in u d))
+writers_joined u (w ∷ c) d = ap (λ b. nat_eq w.0 u || b) (writers_joined u c d)
+    ∙ sym (or_assoc (nat_eq w.0 u) (writes_in u c) (writes_in u d))
 
 -- who writes in a chain after a write
 pub writers_after : (t u : ℕ) (v : ℤ) (c : List (ℕ × ℤ)) → writes_in u (write_last t v c) ≡ (writes_in u c || nat_eq t u)
-writers_after t u v c = writers_joined u (without t c) ((t, v) ∷ []) ∙ (ap (λ b. b || (nat_eq t u || false)) (writers_left t u c) ∙ go (nat_eq t u) refl (nat_eq u t) refl (writes_in u c))
+writers_after t u v c = writers_joined u (without t c) ((t, v) ∷ [])
+    ∙ (ap (λ b. b || (nat_eq t u || false)) (writers_left t u c) ∙ go (nat_eq t u) refl (nat_eq u t) refl (writes_in u c))
   where
     go : (a : Bool) → nat_eq t u ≡ a → (b : Bool) → nat_eq u t ≡ b → (d : Bool) → ((not b && d) || (a || false)) ≡ (d || a)
     go true e true f true = refl
@@ -64,16 +68,19 @@ writers_after t u v c = writers_joined u (without t c) ((t, v) ∷ []) ∙ (ap (
 -- on the live writes
 
 -- with one more
-pub live_more : (t : ℕ) (k : Key) (writes : List LiveWrite) (w : LiveWrite) → is_live t k (writes ++ w ∷ []) ≡ (is_live t k writes || (nat_eq w.by t && key_eq w.key k))
+pub live_more : (t : ℕ) (k : Key) (writes : List LiveWrite) (w : LiveWrite)
+    → is_live t k (writes ++ w ∷ []) ≡ (is_live t k writes || (nat_eq w.by t && key_eq w.key k))
 live_more t k [] w = or_false (nat_eq w.by t && key_eq w.key k)
-live_more t k (x ∷ writes) w = ap (λ b. (nat_eq x.by t && key_eq x.key k) || b) (live_more t k writes w) ∙ sym (or_assoc (nat_eq x.by t && key_eq x.key k) (is_live t k writes) (nat_eq w.by t && key_eq w.key k))
+live_more t k (x ∷ writes) w = ap (λ b. (nat_eq x.by t && key_eq x.key k) || b) (live_more t k writes w)
+    ∙ sym (or_assoc (nat_eq x.by t && key_eq x.key k) (is_live t k writes) (nat_eq w.by t && key_eq w.key k))
 
 -- those of all but one
 abbrev pub not_by : ℕ → LiveWrite → Bool
 not_by t w = not (nat_eq w.by t)
 
 -- without t's
-pub live_left : (t u : ℕ) (k : Key) (writes : List LiveWrite) → is_live u k (filter (not_by t) writes) ≡ (not (nat_eq u t) && is_live u k writes)
+pub live_left : (t u : ℕ) (k : Key) (writes : List LiveWrite)
+    → is_live u k (filter (not_by t) writes) ≡ (not (nat_eq u t) && is_live u k writes)
 live_left t u k [] = go (nat_eq u t)
   where
     go : (b : Bool) → false ≡ (not b && false)
@@ -84,7 +91,9 @@ live_left t u k (w ∷ writes) = go (nat_eq w.by t) refl (nat_eq w.by u) refl (n
     rest : List LiveWrite
     rest = filter (not_by t) writes
 
-    go : (a : Bool) → nat_eq w.by t ≡ a → (b : Bool) → nat_eq w.by u ≡ b → (d : Bool) → nat_eq u t ≡ d → is_live u k rest ≡ (not d && is_live u k writes) → is_live u k (cond (not a) (w ∷ rest) rest) ≡ (not d && ((b && key_eq w.key k) || is_live u k writes))
+    go : (a : Bool) → nat_eq w.by t ≡ a → (b : Bool) → nat_eq w.by u ≡ b → (d : Bool) → nat_eq u t ≡ d
+        → is_live u k rest ≡ (not d && is_live u k writes)
+        → is_live u k (cond (not a) (w ∷ rest) rest) ≡ (not d && ((b && key_eq w.key k) || is_live u k writes))
     go true e true f true g h = h
     go true e true f false g h = absurd (true≢false (sym (subst (λ x. nat_eq x t ≡ true) (eqb-true w.by u f) e) ∙ g))
     go true e false f d g h = h
@@ -95,33 +104,51 @@ live_left t u k (w ∷ writes) = go (nat_eq w.by t) refl (nat_eq w.by u) refl (n
 module _ (t : ℕ) (writes : List LiveWrite) (i : ℕ) (w : LiveWrite) (short : i < length writes) (is : w ≡ get_or writes i w) where
   -- the first ones with one more
   live_next : (k : Key) → is_live t k (take (i + 1) writes) ≡ (is_live t k (take i writes) || (nat_eq w.by t && key_eq w.key k))
-  live_next k = ap (is_live t k) (ap (λ n. take n writes) (add-one i) ∙ (take-suc writes i w short ∙ ap (λ x. take i writes ++ x ∷ []) (sym is))) ∙ live_more t k (take i writes) w
+  live_next k =
+      ap (is_live t k) (ap (λ n. take n writes) (add-one i) ∙ (take-suc writes i w short ∙ ap (λ x. take i writes ++ x ∷ []) (sym is)))
+      ∙ live_more t k (take i writes) w
 
   -- another's is not t's
   pub live_other : w.by ≢ t → (k : Key) → is_live t k (take (i + 1) writes) ≡ is_live t k (take i writes)
-  live_other other k = live_next k ∙ (ap (λ b. is_live t k (take i writes) || (b && key_eq w.key k)) (ne_eqb w.by t other) ∙ or_false (is_live t k (take i writes)))
+  live_other other k =
+      live_next k ∙ (ap (λ b. is_live t k (take i writes) || (b && key_eq w.key k)) (ne_eqb w.by t other)
+      ∙ or_false (is_live t k (take i writes)))
 
   live_own : w.by ≡ t → (k : Key) → is_live t k (take (i + 1) writes) ≡ (is_live t k (take i writes) || key_eq w.key k)
   live_own own k = live_next k ∙ ap (λ b. is_live t k (take i writes) || (b && key_eq w.key k)) (eq-eqb w.by t own)
 
   -- t's own leaves its key's chain without it
-  pub undo_more : w.by ≡ t → (k : Key) (opening before after : List (ℕ × ℤ)) → after ≡ cond (key_eq w.key k) (without t before) before → before ≡ cond (is_live t k (take i writes)) (without t opening) opening → after ≡ cond (is_live t k (take (i + 1) writes)) (without t opening) opening
-  undo_more own k opening before after one so_far = one ∙ (ap (λ c. cond (key_eq w.key k) (without t c) c) so_far ∙ (go (key_eq w.key k) (is_live t k (take i writes)) ∙ sym (ap (λ b. cond b (without t opening) opening) (live_own own k))))
+  pub undo_more : w.by ≡ t → (k : Key) (opening before after : List (ℕ × ℤ)) → after ≡ cond (key_eq w.key k) (without t before) before
+      → before ≡ cond (is_live t k (take i writes)) (without t opening) opening
+      → after ≡ cond (is_live t k (take (i + 1) writes)) (without t opening) opening
+  undo_more own k opening before after one so_far = one
+      ∙ (ap (λ c. cond (key_eq w.key k) (without t c) c) so_far
+      ∙ (go (key_eq w.key k) (is_live t k (take i writes)) ∙ sym (ap (λ b. cond b (without t opening) opening) (live_own own k))))
     where
-      go : (e d : Bool) → cond e (without t (cond d (without t opening) opening)) (cond d (without t opening) opening) ≡ cond (d || e) (without t opening) opening
+      go : (e d : Bool) → cond e (without t (cond d (without t opening) opening)) (cond d (without t opening) opening) ≡ cond (d || e)
+          (without t opening) opening
       go true true = left_whole t (without t opening) (not_left t opening)
       go true false = refl
       go false true = refl
       go false false = refl
 
   -- and makes its value the committed one
-  pub settle_more : w.by ≡ t → (k : Key) (chain opening : List (ℕ × ℤ)) (committed before after : Option ℤ) → after ≡ cond (key_eq w.key k) (option_or (value_in t chain) before) before → chain ≡ cond (is_live t k (take i writes)) (without t opening) opening → before ≡ cond (is_live t k (take i writes)) (option_or (value_in t opening) committed) committed → after ≡ cond (is_live t k (take (i + 1) writes)) (option_or (value_in t opening) committed) committed
-  settle_more own k chain opening committed before after one left so_far = one ∙ (ap (λ c. cond (key_eq w.key k) (option_or (value_in t c) before) before) left ∙ (ap (λ s. cond (key_eq w.key k) (option_or (value_in t (cond (is_live t k (take i writes)) (without t opening) opening)) s) s) so_far ∙ (go (key_eq w.key k) (is_live t k (take i writes)) ∙ sym (ap (λ b. cond b (option_or (value_in t opening) committed) committed) (live_own own k)))))
+  pub settle_more : w.by ≡ t → (k : Key) (chain opening : List (ℕ × ℤ)) (committed before after : Option ℤ)
+      → after ≡ cond (key_eq w.key k) (option_or (value_in t chain) before) before
+      → chain ≡ cond (is_live t k (take i writes)) (without t opening) opening
+      → before ≡ cond (is_live t k (take i writes)) (option_or (value_in t opening) committed) committed
+      → after ≡ cond (is_live t k (take (i + 1) writes)) (option_or (value_in t opening) committed) committed
+  settle_more own k chain opening committed before after one left so_far = one
+      ∙ (ap (λ c. cond (key_eq w.key k) (option_or (value_in t c) before) before) left
+      ∙ (ap (λ s. cond (key_eq w.key k) (option_or (value_in t (cond (is_live t k (take i writes)) (without t opening) opening)) s) s)
+      so_far ∙ (go (key_eq w.key k) (is_live t k (take i writes))
+      ∙ sym (ap (λ b. cond b (option_or (value_in t opening) committed) committed) (live_own own k)))))
     where
       final : Option ℤ
       final = option_or (value_in t opening) committed
 
-      go : (e d : Bool) → cond e (option_or (value_in t (cond d (without t opening) opening)) (cond d final committed)) (cond d final committed) ≡ cond (d || e) final committed
+      go : (e d : Bool) → cond e (option_or (value_in t (cond d (without t opening) opening)) (cond d final committed))
+          (cond d final committed) ≡ cond (d || e) final committed
       go true true = ap (λ o. option_or o final) (no_value t (without t opening) (not_left t opening))
       go true false = refl
       go false true = refl
@@ -130,40 +157,58 @@ module _ (t : ℕ) (writes : List LiveWrite) (i : ℕ) (w : LiveWrite) (short : 
 -- on what an end leaves
 
 -- who doesn't write in the chain leaves it as it is
-pub undone : (t : ℕ) (b : Bool) (opening after : List (ℕ × ℤ)) → b ≡ writes_in t opening → after ≡ cond b (without t opening) opening → after ≡ without t opening
+pub undone : (t : ℕ) (b : Bool) (opening after : List (ℕ × ℤ)) → b ≡ writes_in t opening → after ≡ cond b (without t opening) opening
+    → after ≡ without t opening
 undone t true opening after is left = left
 undone t false opening after is left = left ∙ sym (left_whole t opening (sym is))
 
 -- and has no value to settle
-pub settled_once : (t : ℕ) (b : Bool) (opening : List (ℕ × ℤ)) (committed after : Option ℤ) → b ≡ writes_in t opening → after ≡ cond b (option_or (value_in t opening) committed) committed → after ≡ option_or (value_in t opening) committed
+pub settled_once : (t : ℕ) (b : Bool) (opening : List (ℕ × ℤ)) (committed after : Option ℤ) → b ≡ writes_in t opening
+    → after ≡ cond b (option_or (value_in t opening) committed) committed → after ≡ option_or (value_in t opening) committed
 settled_once t true opening committed after is left = left
 settled_once t false opening committed after is left = left ∙ sym (ap (λ o. option_or o committed) (no_value t opening (sym is)))
 
 -- on the whole list
 
 -- once t's are gone from the list and from the chain, they tell the same
-pub live_ended : (t u : ℕ) (k : Key) (writes left : List LiveWrite) (opening after : List (ℕ × ℤ)) → is_live u k writes ≡ writes_in u opening → left ≡ filter (not_by t) writes → after ≡ without t opening → is_live u k left ≡ writes_in u after
-live_ended t u k writes left opening after are gone out = ap (is_live u k) gone ∙ (live_left t u k writes ∙ (ap (λ b. not (nat_eq u t) && b) are ∙ (sym (writers_left t u opening) ∙ sym (ap (writes_in u) out))))
+pub live_ended : (t u : ℕ) (k : Key) (writes left : List LiveWrite) (opening after : List (ℕ × ℤ))
+    → is_live u k writes ≡ writes_in u opening → left ≡ filter (not_by t) writes → after ≡ without t opening
+    → is_live u k left ≡ writes_in u after
+live_ended t u k writes left opening after are gone out = ap (is_live u k) gone
+    ∙ (live_left t u k writes ∙ (ap (λ b. not (nat_eq u t) && b) are ∙ (sym (writers_left t u opening) ∙ sym (ap (writes_in u) out))))
 
 -- and so with a new writer
-pub live_added : (t u : ℕ) (key k : Key) (v : ℤ) (writes more : List LiveWrite) (opening after : List (ℕ × ℤ)) → is_live u k writes ≡ writes_in u opening → more ≡ writes ++ record { by = t; key = key } ∷ [] → after ≡ cond (key_eq key k) (write_last t v opening) opening → is_live u k more ≡ writes_in u after
-live_added t u key k v writes more opening after are added put = ap (is_live u k) added ∙ (live_more u k writes (record { by = t; key = key }) ∙ (ap (λ b. b || (nat_eq t u && key_eq key k)) are ∙ (go (key_eq key k) (nat_eq t u) (writers_after t u v opening) ∙ sym (ap (writes_in u) put))))
+pub live_added : (t u : ℕ) (key k : Key) (v : ℤ) (writes more : List LiveWrite) (opening after : List (ℕ × ℤ))
+    → is_live u k writes ≡ writes_in u opening → more ≡ writes ++ record { by = t; key = key } ∷ []
+    → after ≡ cond (key_eq key k) (write_last t v opening) opening → is_live u k more ≡ writes_in u after
+live_added t u key k v writes more opening after are added put = ap (is_live u k) added
+    ∙ (live_more u k writes (record { by = t; key = key })
+    ∙ (ap (λ b. b || (nat_eq t u && key_eq key k)) are
+    ∙ (go (key_eq key k) (nat_eq t u) (writers_after t u v opening) ∙ sym (ap (writes_in u) put))))
   where
-    go : (e b : Bool) → writes_in u (write_last t v opening) ≡ (writes_in u opening || b) → (writes_in u opening || (b && e)) ≡ writes_in u (cond e (write_last t v opening) opening)
+    go : (e b : Bool) → writes_in u (write_last t v opening) ≡ (writes_in u opening || b)
+        → (writes_in u opening || (b && e)) ≡ writes_in u (cond e (write_last t v opening) opening)
     go true true h = sym h
     go true false h = sym h
     go false true h = or_false (writes_in u opening)
     go false false h = or_false (writes_in u opening)
 
 -- and with one who had written the key
-pub live_again : (t u : ℕ) (key k : Key) (v : ℤ) (writes : List LiveWrite) (chains : Key → List (ℕ × ℤ)) (after : List (ℕ × ℤ)) → writes_in t (chains key) ≡ true → is_live u k writes ≡ writes_in u (chains k) → after ≡ cond (key_eq key k) (write_last t v (chains k)) (chains k) → is_live u k writes ≡ writes_in u after
-live_again t u key k v writes chains after again are put = are ∙ (go (key_eq key k) refl (nat_eq t u) refl (writers_after t u v (chains k)) ∙ sym (ap (writes_in u) put))
+pub live_again : (t u : ℕ) (key k : Key) (v : ℤ) (writes : List LiveWrite) (chains : Key → List (ℕ × ℤ)) (after : List (ℕ × ℤ))
+    → writes_in t (chains key) ≡ true → is_live u k writes ≡ writes_in u (chains k)
+    → after ≡ cond (key_eq key k) (write_last t v (chains k)) (chains k) → is_live u k writes ≡ writes_in u after
+live_again t u key k v writes chains after again are put = are
+    ∙ (go (key_eq key k) refl (nat_eq t u) refl (writers_after t u v (chains k)) ∙ sym (ap (writes_in u) put))
   where
     or_true : (b : Bool) → b ≡ true → b ≡ (b || true)
     or_true true h = refl
     or_true false h = h
 
-    go : (e : Bool) → key_eq key k ≡ e → (b : Bool) → nat_eq t u ≡ b → writes_in u (write_last t v (chains k)) ≡ (writes_in u (chains k) || b) → writes_in u (chains k) ≡ writes_in u (cond e (write_last t v (chains k)) (chains k))
-    go true e true f h = or_true (writes_in u (chains k)) (subst (λ x. writes_in x (chains k) ≡ true) (eqb-true t u f) (subst (λ j. writes_in t (chains j) ≡ true) (key_eq-true key k e) again)) ∙ sym h
+    go : (e : Bool) → key_eq key k ≡ e → (b : Bool) → nat_eq t u ≡ b
+        → writes_in u (write_last t v (chains k)) ≡ (writes_in u (chains k) || b)
+        → writes_in u (chains k) ≡ writes_in u (cond e (write_last t v (chains k)) (chains k))
+    go true e true f h = or_true (writes_in u (chains k))
+        (subst (λ x. writes_in x (chains k) ≡ true) (eqb-true t u f)
+        (subst (λ j. writes_in t (chains j) ≡ true) (key_eq-true key k e) again)) ∙ sym h
     go true e false f h = sym (h ∙ or_false (writes_in u (chains k)))
     go false e b f h = refl

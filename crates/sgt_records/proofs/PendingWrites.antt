@@ -3,9 +3,9 @@ use Rattle.std.proofs.Common.{◌≡◌, ◌≢◌, ℕ, suc, ◌+◌, ◌<◌, 
 use Rattle.std.proofs.lemmas.Bool.{true≢false, eq-eqb, ne_eqb, cases_eq}
 use Rattle.std.proofs.lemmas.List.{append-nil, take-append-drop}
 use Rattle.std.proofs.Math.Seq.{take-suc}
-use Rattle.std.proofs.lemmas.List.Elements.{All-nil, All-cons, All-head, All-tail, All-filter, All-push, filter-append}
+use Rattle.std.proofs.lemmas.List.Elements.{All-filter, All-push, filter-append}
 use Rattle.std.specs.BTreeMap.{BTreeMap}
-use Rattle.std.specs.List.{filter, All}
+use Rattle.std.specs.List.{filter}
 use Rattle.std.specs.Option.{option_or}
 use Rattle.sgt_model.specs.Numbers.{IsValue}
 use Rattle.sgt_model.specs.Contents.{Key, key_eq}
@@ -14,7 +14,7 @@ use Rattle.sgt_model.proofs.Stores.{key_eq-true}
 use Rattle.sgt_records.specs.declared.write.Write.{Write}
 use Rattle.sgt_records.specs.Settleds.{has_record}
 use Rattle.sgt_records.specs.Pendings.{chain_in, ArePending}
-use Rattle.sgt_records.specs.Validity.{IsOnceIn, IsChain}
+use Rattle.sgt_records.specs.Validity.{IsOnceIn}
 
 -- on one chain
 
@@ -23,7 +23,8 @@ fewer : (f g : ℕ × ℤ → Bool) (c : List (ℕ × ℤ)) → length (filter f
 fewer f g [] = omega arith
 fewer f g (w ∷ c) = go (g w) (f w) refl (fewer f g c)
   where
-    go : (a b : Bool) → f w ≡ b → length (filter f (filter g c)) ≤ length (filter f c) → length (filter f (cond a (w ∷ filter g c) (filter g c))) ≤ length (cond b (w ∷ filter f c) (filter f c))
+    go : (a b : Bool) → f w ≡ b → length (filter f (filter g c)) ≤ length (filter f c)
+        → length (filter f (cond a (w ∷ filter g c) (filter g c))) ≤ length (cond b (w ∷ filter f c) (filter f c))
     go true true e h = rw e (omega (arith, h))
     go true false e h = rw e h
     go false true e h = omega (arith, h)
@@ -38,7 +39,8 @@ none_left : (t : ℕ) (c : List (ℕ × ℤ)) → filter (λ w. nat_eq w.0 t) (w
 none_left t [] = refl
 none_left t (w ∷ c) = go (nat_eq w.0 t) refl (none_left t c)
   where
-    go : (b : Bool) → nat_eq w.0 t ≡ b → filter (λ w. nat_eq w.0 t) (without t c) ≡ [] → filter (λ w. nat_eq w.0 t) (cond (not b) (w ∷ without t c) (without t c)) ≡ []
+    go : (b : Bool) → nat_eq w.0 t ≡ b → filter (λ w. nat_eq w.0 t) (without t c) ≡ []
+        → filter (λ w. nat_eq w.0 t) (cond (not b) (w ∷ without t c) (without t c)) ≡ []
     go true e h = h
     go false e h = ap (λ b. cond b (w ∷ filter (λ w. nat_eq w.0 t) (without t c)) (filter (λ w. nat_eq w.0 t) (without t c))) e ∙ h
 
@@ -64,12 +66,14 @@ pub fewer_left : (t : ℕ) (c : List (ℕ × ℤ)) → writes_in t c ≡ true �
 fewer_left t [] h = absurd (true≢false (sym h))
 fewer_left t (w ∷ c) h = go (nat_eq w.0 t) (few_filtered (λ w. not (nat_eq w.0 t)) c) (fewer_left t c) h
   where
-    go : (b : Bool) → length (without t c) ≤ length c → (writes_in t c ≡ true → length (without t c) < length c) → (b || writes_in t c) ≡ true → length (cond (not b) (w ∷ without t c) (without t c)) < suc (length c)
+    go : (b : Bool) → length (without t c) ≤ length c → (writes_in t c ≡ true → length (without t c) < length c)
+        → (b || writes_in t c) ≡ true → length (cond (not b) (w ∷ without t c) (without t c)) < suc (length c)
     go true le less e = omega (arith, le)
     go false le less e = omega (arith, less e)
 
 -- so a write leaves at most 32
-pub few_written : (t : ℕ) (v : ℤ) (c : List (ℕ × ℤ)) → length c ≤ 32 → (writes_in t c ≡ false → length c < 32) → length (write_last t v c) ≤ 32
+pub few_written : (t : ℕ) (v : ℤ) (c : List (ℕ × ℤ)) → length c ≤ 32 → (writes_in t c ≡ false → length c < 32)
+    → length (write_last t v c) ≤ 32
 few_written t v c few room = go (writes_in t c) refl
   where
     longer : length (write_last t v c) ≡ length (without t c) + 1
@@ -94,7 +98,9 @@ pub chain_left : (t : ℕ) (writes : List Write) (k : Key) → chain_in (filter 
 chain_left t [] k = refl
 chain_left t (w ∷ writes) k = go (key_eq w.key k) (nat_eq w.by t) refl refl (chain_left t writes k)
   where
-    go : (a b : Bool) → key_eq w.key k ≡ a → nat_eq w.by t ≡ b → chain_in (filter (not_by t) writes) k ≡ without t (chain_in writes k) → chain_in (cond (not b) (w ∷ filter (not_by t) writes) (filter (not_by t) writes)) k ≡ without t (cond a ((w.by, w.value) ∷ chain_in writes k) (chain_in writes k))
+    go : (a b : Bool) → key_eq w.key k ≡ a → nat_eq w.by t ≡ b → chain_in (filter (not_by t) writes) k ≡ without t (chain_in writes k)
+        → chain_in (cond (not b) (w ∷ filter (not_by t) writes) (filter (not_by t) writes)) k ≡ without t
+        (cond a ((w.by, w.value) ∷ chain_in writes k) (chain_in writes k))
     go true true e f h = rw f h
     go true false e f h = rw (e, f) (ap (λ c. (w.by, w.value) ∷ c) h)
     go false true e f h = h
@@ -105,7 +111,9 @@ chain_joined : (xs ys : List Write) (k : Key) → chain_in (xs ++ ys) k ≡ chai
 chain_joined [] ys k = refl
 chain_joined (w ∷ xs) ys k = go (key_eq w.key k) (chain_joined xs ys k)
   where
-    go : (a : Bool) → chain_in (xs ++ ys) k ≡ chain_in xs k ++ chain_in ys k → cond a ((w.by, w.value) ∷ chain_in (xs ++ ys) k) (chain_in (xs ++ ys) k) ≡ cond a ((w.by, w.value) ∷ chain_in xs k) (chain_in xs k) ++ chain_in ys k
+    go : (a : Bool) → chain_in (xs ++ ys) k ≡ chain_in xs k ++ chain_in ys k
+        → cond a ((w.by, w.value) ∷ chain_in (xs ++ ys) k) (chain_in (xs ++ ys) k) ≡ cond a ((w.by, w.value) ∷ chain_in xs k)
+        (chain_in xs k) ++ chain_in ys k
     go true h = ap (λ c. (w.by, w.value) ∷ c) h
     go false h = h
 
@@ -117,21 +125,24 @@ own_chain t (w ∷ writes) k = go (key_eq w.key k) (nat_eq w.by t) refl refl (ow
     rest : List Write
     rest = filter (not_this t k) writes
 
-    go : (a b : Bool) → key_eq w.key k ≡ a → nat_eq w.by t ≡ b → chain_in rest k ≡ without t (chain_in writes k) → chain_in (cond (not b || not a) (w ∷ rest) rest) k ≡ without t (cond a ((w.by, w.value) ∷ chain_in writes k) (chain_in writes k))
+    go : (a b : Bool) → key_eq w.key k ≡ a → nat_eq w.by t ≡ b → chain_in rest k ≡ without t (chain_in writes k)
+        → chain_in (cond (not b || not a) (w ∷ rest) rest) k ≡ without t (cond a ((w.by, w.value) ∷ chain_in writes k) (chain_in writes k))
     go true true e f h = rw f h
     go true false e f h = rw (e, f) (ap (λ c. (w.by, w.value) ∷ c) h)
     go false true e f h = rw e h
     go false false e f h = rw e h
 
 -- the chain of another stays
-other_chain : (t : ℕ) (key : Key) (writes : List Write) (k : Key) → key_eq key k ≡ false → chain_in (filter (not_this t key) writes) k ≡ chain_in writes k
+other_chain : (t : ℕ) (key : Key) (writes : List Write) (k : Key) → key_eq key k ≡ false
+    → chain_in (filter (not_this t key) writes) k ≡ chain_in writes k
 other_chain t key [] k other = refl
 other_chain t key (w ∷ writes) k other = go (key_eq w.key k) (key_eq w.key key) (nat_eq w.by t) refl refl (other_chain t key writes k other)
   where
     rest : List Write
     rest = filter (not_this t key) writes
 
-    go : (a d b : Bool) → key_eq w.key k ≡ a → key_eq w.key key ≡ d → chain_in rest k ≡ chain_in writes k → chain_in (cond (not b || not d) (w ∷ rest) rest) k ≡ cond a ((w.by, w.value) ∷ chain_in writes k) (chain_in writes k)
+    go : (a d b : Bool) → key_eq w.key k ≡ a → key_eq w.key key ≡ d → chain_in rest k ≡ chain_in writes k
+        → chain_in (cond (not b || not d) (w ∷ rest) rest) k ≡ cond a ((w.by, w.value) ∷ chain_in writes k) (chain_in writes k)
     go true true b e f h = absurd (true≢false (sym (subst (λ j. key_eq j k ≡ true) (key_eq-true w.key key f) e) ∙ other))
     go true false true e f h = rw e (ap (λ c. (w.by, w.value) ∷ c) h)
     go true false false e f h = rw e (ap (λ c. (w.by, w.value) ∷ c) h)
@@ -145,15 +156,22 @@ abbrev pub written : ℕ → Key → ℤ → List Write → List Write
 written t key v writes = filter (not_this t key) writes ++ record { by = t; key = key; value = v } ∷ []
 
 -- what is left, with the write at the end
-pub after_write : (t : ℕ) (key : Key) (v : ℤ) (writes left new : List Write) (w : ℤ) → left ≡ filter (not_this t key) writes → w ≡ v → new ≡ left ++ record { by = t; key = key; value = w } ∷ [] → new ≡ written t key v writes
-after_write t key v writes left new w is same added = added ∙ ap₂ (λ (l : List Write) (x : ℤ). l ++ record { by = t; key = key; value = x } ∷ []) is same
+pub after_write : (t : ℕ) (key : Key) (v : ℤ) (writes left new : List Write) (w : ℤ) → left ≡ filter (not_this t key) writes → w ≡ v
+    → new ≡ left ++ record { by = t; key = key; value = w } ∷ [] → new ≡ written t key v writes
+after_write t key v writes left new w is same added = added
+    ∙ ap₂ (λ (l : List Write) (x : ℤ). l ++ record { by = t; key = key; value = x } ∷ []) is same
 
 -- a write goes above all others of its key
-pub chain_written : (t : ℕ) (key : Key) (v : ℤ) (writes : List Write) (k : Key) → chain_in (written t key v writes) k ≡ cond (key_eq key k) (write_last t v (chain_in writes k)) (chain_in writes k)
-chain_written t key v writes k = chain_joined (filter (not_this t key) writes) (record { by = t; key = key; value = v } ∷ []) k ∙ go (key_eq key k) refl
+pub chain_written : (t : ℕ) (key : Key) (v : ℤ) (writes : List Write) (k : Key)
+    → chain_in (written t key v writes) k ≡ cond (key_eq key k) (write_last t v (chain_in writes k)) (chain_in writes k)
+chain_written t key v writes k = chain_joined (filter (not_this t key) writes) (record { by = t; key = key; value = v } ∷ []) k
+    ∙ go (key_eq key k) refl
   where
-    go : (b : Bool) → key_eq key k ≡ b → chain_in (filter (not_this t key) writes) k ++ cond b ((t, v) ∷ []) [] ≡ cond b (write_last t v (chain_in writes k)) (chain_in writes k)
-    go true e = ap (λ c. c ++ (t, v) ∷ []) (subst (λ (j : Key). chain_in (filter (not_this t j) writes) k ≡ without t (chain_in writes k)) (sym (key_eq-true key k e)) (own_chain t writes k))
+    go : (b : Bool) → key_eq key k ≡ b → chain_in (filter (not_this t key) writes) k ++ cond b ((t, v) ∷ []) [] ≡ cond b
+        (write_last t v (chain_in writes k)) (chain_in writes k)
+    go true e =
+        ap (λ c. c ++ (t, v) ∷ []) (subst (λ (j : Key). chain_in (filter (not_this t j) writes) k ≡ without t (chain_in writes k))
+        (sym (key_eq-true key k e)) (own_chain t writes k))
     go false e = append-nil (chain_in (filter (not_this t key) writes) k) ∙ other_chain t key writes k e
 
 module _ (records : BTreeMap Key (Option ℤ)) (writes : List Write) (are : ArePending records writes) where
@@ -169,13 +187,15 @@ module _ (records : BTreeMap Key (Option ℤ)) (writes : List Write) (are : AreP
   pub pending_left : (t : ℕ) → ArePending records (filter (not_by t) writes)
   pending_left t = record {
     once = λ u k. subst (λ c. IsOnceIn u c) (sym (chain_left t writes k)) (once_without t u (chain_in writes k) (are.once u k));
-    few = λ k. let le = few_filtered (λ w. not (nat_eq w.0 t)) (chain_in writes k) in let few = are.few k in subst (λ c. length c ≤ 32) (sym (chain_left t writes k)) (omega arith);
+    few = λ k. let le = few_filtered (λ w. not (nat_eq w.0 t)) (chain_in writes k) in let few = are.few k in
+        subst (λ c. length c ≤ 32) (sym (chain_left t writes k)) (omega arith);
     recorded = All-filter (not_by t) IsRecorded writes are.recorded;
     in_range = All-filter (not_by t) HasValue writes are.in_range;
   }
 
   -- and so is what a write leaves
-  pub pending_written : (t : ℕ) (key : Key) (v : ℤ) → has_record records key ≡ true → IsValue v → (writes_in t (chain_in writes key) ≡ false → length (chain_in writes key) < 32) → ArePending records (written t key v writes)
+  pub pending_written : (t : ℕ) (key : Key) (v : ℤ) → has_record records key ≡ true → IsValue v
+      → (writes_in t (chain_in writes key) ≡ false → length (chain_in writes key) < 32) → ArePending records (written t key v writes)
   pending_written t key v there in_range room = record {
     once = λ u k. subst (λ c. IsOnceIn u c) (sym (chain_written t key v writes k)) (single (key_eq key k) u k);
     few = λ k. subst (λ c. length c ≤ 32) (sym (chain_written t key v writes k)) (short k (key_eq key k) refl);
@@ -188,21 +208,26 @@ module _ (records : BTreeMap Key (Option ℤ)) (writes : List Write) (are : AreP
       single false u k = are.once u k
 
       short : (k : Key) (b : Bool) → key_eq key k ≡ b → length (cond b (write_last t v (chain_in writes k)) (chain_in writes k)) ≤ 32
-      short k true e = few_written t v (chain_in writes k) (are.few k) (subst (λ (j : Key). writes_in t (chain_in writes j) ≡ false → length (chain_in writes j) < 32) (key_eq-true key k e) room)
+      short k true e = few_written t v (chain_in writes k) (are.few k)
+          (subst (λ (j : Key). writes_in t (chain_in writes j) ≡ false → length (chain_in writes j) < 32) (key_eq-true key k e) room)
       short k false e = are.few k
 
   -- records that are kept still wait for them
-  pub pending_kept : (new : BTreeMap Key (Option ℤ)) → ((k : Key) → has_record records k ≡ true → has_record new k ≡ true) → ArePending new writes
-  pending_kept new kept = record { once = are.once; few = are.few; recorded = λ i d short. kept _ (are.recorded i d short); in_range = are.in_range }
+  pub pending_kept : (new : BTreeMap Key (Option ℤ)) → ((k : Key) → has_record records k ≡ true → has_record new k ≡ true)
+      → ArePending new writes
+  pending_kept new kept =
+      record { once = are.once; few = are.few; recorded = λ i d short. kept _ (are.recorded i d short); in_range = are.in_range }
 
 -- on what a commit settles
 
 -- t's value in a chain with one more at the end
-value_added : (t u : ℕ) (v : ℤ) (c : List (ℕ × ℤ)) → value_in t (c ++ (u, v) ∷ []) ≡ option_or (value_in t c) (cond (nat_eq u t) (Some v) None)
+value_added : (t u : ℕ) (v : ℤ) (c : List (ℕ × ℤ))
+    → value_in t (c ++ (u, v) ∷ []) ≡ option_or (value_in t c) (cond (nat_eq u t) (Some v) None)
 value_added t u v [] = refl
 value_added t u v (w ∷ c) = go (nat_eq w.0 t) (value_added t u v c)
   where
-    go : (b : Bool) → value_in t (c ++ (u, v) ∷ []) ≡ option_or (value_in t c) (cond (nat_eq u t) (Some v) None) → cond b (Some w.1) (value_in t (c ++ (u, v) ∷ [])) ≡ option_or (cond b (Some w.1) (value_in t c)) (cond (nat_eq u t) (Some v) None)
+    go : (b : Bool) → value_in t (c ++ (u, v) ∷ []) ≡ option_or (value_in t c) (cond (nat_eq u t) (Some v) None)
+        → cond b (Some w.1) (value_in t (c ++ (u, v) ∷ [])) ≡ option_or (cond b (Some w.1) (value_in t c)) (cond (nat_eq u t) (Some v) None)
     go true h = refl
     go false h = h
 
@@ -215,11 +240,13 @@ none_before t (w ∷ c) d v once = go (nat_eq w.0 t) once (none_before t c d v)
     one [] = rw (eq-eqb t t refl) (omega arith)
     one (x ∷ c) = two (nat_eq x.0 t) (one c)
       where
-        two : (b : Bool) → 0 < length (filter (λ w. nat_eq w.0 t) (c ++ (t, v) ∷ d)) → 0 < length (cond b (x ∷ filter (λ w. nat_eq w.0 t) (c ++ (t, v) ∷ d)) (filter (λ w. nat_eq w.0 t) (c ++ (t, v) ∷ d)))
+        two : (b : Bool) → 0 < length (filter (λ w. nat_eq w.0 t) (c ++ (t, v) ∷ d))
+            → 0 < length (cond b (x ∷ filter (λ w. nat_eq w.0 t) (c ++ (t, v) ∷ d)) (filter (λ w. nat_eq w.0 t) (c ++ (t, v) ∷ d)))
         two true h = omega arith
         two false h = h
 
-    go : (b : Bool) → length (cond b (w ∷ filter (λ w. nat_eq w.0 t) (c ++ (t, v) ∷ d)) (filter (λ w. nat_eq w.0 t) (c ++ (t, v) ∷ d))) ≤ 1 → (IsOnceIn t (c ++ (t, v) ∷ d) → value_in t c ≡ None) → cond b (Some w.1) (value_in t c) ≡ None
+    go : (b : Bool) → length (cond b (w ∷ filter (λ w. nat_eq w.0 t) (c ++ (t, v) ∷ d)) (filter (λ w. nat_eq w.0 t) (c ++ (t, v) ∷ d))) ≤ 1
+        → (IsOnceIn t (c ++ (t, v) ∷ d) → value_in t c ≡ None) → cond b (Some w.1) (value_in t c) ≡ None
     go true short rest = absurd (let some = one c in omega arith)
     go false short rest = rest short
 
@@ -233,18 +260,28 @@ module _ (t : ℕ) (writes : List Write) (i : ℕ) (w : Write) (short : i < leng
   chain_more k = ap (λ l. chain_in l k) taken_more ∙ chain_joined (take i writes) (w ∷ []) k
 
   -- the chain of a write's key, from before it to the end
-  whole_chain : (k : Key) → chain_in writes k ≡ chain_in (take i writes) k ++ (cond (key_eq w.key k) ((w.by, w.value) ∷ []) [] ++ chain_in (drop (i + 1) writes) k)
-  whole_chain k = ap (λ l. chain_in l k) (sym (take-append-drop (i + 1) writes)) ∙ (chain_joined (take (i + 1) writes) (drop (i + 1) writes) k ∙ (ap (λ c. c ++ chain_in (drop (i + 1) writes) k) (chain_more k) ∙ append_assoc (chain_in (take i writes) k) _ _))
+  whole_chain : (k : Key) → chain_in writes k ≡ chain_in (take i writes)
+      k ++ (cond (key_eq w.key k) ((w.by, w.value) ∷ []) [] ++ chain_in (drop (i + 1) writes) k)
+  whole_chain k = ap (λ l. chain_in l k) (sym (take-append-drop (i + 1) writes))
+      ∙ (chain_joined (take (i + 1) writes) (drop (i + 1) writes) k
+      ∙ (ap (λ c. c ++ chain_in (drop (i + 1) writes) k) (chain_more k) ∙ append_assoc (chain_in (take i writes) k) _ _))
 
   -- a write by t settles its key
-  pub settle_more : ((k : Key) → IsOnceIn t (chain_in writes k)) → w.by ≡ t → (k : Key) (before after opening : Option ℤ) → after ≡ cond (key_eq w.key k) (Some w.value) before → before ≡ option_or (value_in t (chain_in (take i writes) k)) opening → after ≡ option_or (value_in t (chain_in (take (i + 1) writes) k)) opening
-  settle_more once own k before after opening put so_far = put ∙ (go (key_eq w.key k) refl ∙ ap (λ c. option_or (value_in t c) opening) (sym (chain_more k)))
+  pub settle_more : ((k : Key) → IsOnceIn t (chain_in writes k)) → w.by ≡ t → (k : Key) (before after opening : Option ℤ)
+      → after ≡ cond (key_eq w.key k) (Some w.value) before → before ≡ option_or (value_in t (chain_in (take i writes) k)) opening
+      → after ≡ option_or (value_in t (chain_in (take (i + 1) writes) k)) opening
+  settle_more once own k before after opening put so_far = put
+      ∙ (go (key_eq w.key k) refl ∙ ap (λ c. option_or (value_in t c) opening) (sym (chain_more k)))
     where
-      go : (b : Bool) → key_eq w.key k ≡ b → cond b (Some w.value) before ≡ option_or (value_in t (chain_in (take i writes) k ++ cond b ((w.by, w.value) ∷ []) [])) opening
+      go : (b : Bool) → key_eq w.key k ≡ b → cond b (Some w.value) before ≡ option_or
+          (value_in t (chain_in (take i writes) k ++ cond b ((w.by, w.value) ∷ []) [])) opening
       go true e =
-          let single : IsOnceIn t (chain_in (take i writes) k ++ (t, w.value) ∷ chain_in (drop (i + 1) writes) k) = subst (λ c. IsOnceIn t c) (whole_chain k ∙ ap₂ (λ (b : Bool) (u : ℕ). chain_in (take i writes) k ++ (cond b ((u, w.value) ∷ []) [] ++ chain_in (drop (i + 1) writes) k)) e own) (once k) in
+          let single : IsOnceIn t (chain_in (take i writes) k ++ (t, w.value) ∷ chain_in (drop (i + 1) writes) k) = subst
+          (λ c. IsOnceIn t c) (whole_chain k ∙ ap₂ (λ (b : Bool) (u : ℕ). chain_in (take i writes)
+          k ++ (cond b ((u, w.value) ∷ []) [] ++ chain_in (drop (i + 1) writes) k)) e own) (once k) in
           let nothing = none_before t (chain_in (take i writes) k) (chain_in (drop (i + 1) writes) k) w.value single in
-          sym (ap (λ o. option_or o opening) (value_added t w.by w.value (chain_in (take i writes) k) ∙ ap₂ (λ (o : Option ℤ) (b : Bool). option_or o (cond b (Some w.value) None)) nothing (eq-eqb w.by t own)))
+          sym (ap (λ o. option_or o opening) (value_added t w.by w.value (chain_in (take i writes) k)
+          ∙ ap₂ (λ (o : Option ℤ) (b : Bool). option_or o (cond b (Some w.value) None)) nothing (eq-eqb w.by t own)))
       go false e = so_far ∙ ap (λ c. option_or (value_in t c) opening) (sym (append-nil (chain_in (take i writes) k)))
 
   -- another's settles none
@@ -255,6 +292,9 @@ module _ (t : ℕ) (writes : List Write) (i : ℕ) (w : Write) (short : i < leng
       or_none None = refl
       or_none (Some v) = refl
 
-      go : (b : Bool) → value_in t (chain_in (take i writes) k ++ cond b ((w.by, w.value) ∷ []) []) ≡ value_in t (chain_in (take i writes) k)
-      go true = value_added t w.by w.value (chain_in (take i writes) k) ∙ (ap (λ b. option_or (value_in t (chain_in (take i writes) k)) (cond b (Some w.value) None)) (ne_eqb w.by t other) ∙ or_none (value_in t (chain_in (take i writes) k)))
+      go : (b : Bool) → value_in t (chain_in (take i writes) k ++ cond b ((w.by, w.value) ∷ []) []) ≡ value_in t
+          (chain_in (take i writes) k)
+      go true = value_added t w.by w.value (chain_in (take i writes) k)
+          ∙ (ap (λ b. option_or (value_in t (chain_in (take i writes) k)) (cond b (Some w.value) None)) (ne_eqb w.by t other)
+          ∙ or_none (value_in t (chain_in (take i writes) k)))
       go false = ap (value_in t) (append-nil (chain_in (take i writes) k))

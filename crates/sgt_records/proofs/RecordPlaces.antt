@@ -14,7 +14,7 @@ use Rattle.sgt_model.specs.StoredValues.{HoldValues}
 use Rattle.sgt_model.proofs.Stores.{key_eq-true, key_eq-refl}
 use Rattle.sgt_records.specs.declared.chain.Chain.{Chain}
 use Rattle.sgt_records.specs.declared.record.Record.{Record}
-use Rattle.sgt_records.specs.Places.{writes_of, chain_at, IsHeld, IsFilled, Moves, place_of, key_chain, committed_of, IsIndex}
+use Rattle.sgt_records.specs.Places.{writes_of, chain_at, IsHeld, Moves, place_of, key_chain, committed_of, IsIndex}
 use Rattle.sgt_records.specs.Validity.{IsChain}
 use Rattle.sgt_records.proofs.SettledValues.{same_key}
 use Rattle.sgt_records.proofs.ChainsKept.{chain_empty}
@@ -42,7 +42,8 @@ stays a b from to same was is = record {
   others = λ p _ _. same p;
 }
 
-module _ (m n : BTreeMap Key Record) (a b : Slab Chain) (records : (k : Key) → get key_cmp n k ≡ get key_cmp m k) (same : (p : ℕ) → slab.get b p ≡ slab.get a p) where
+module _ (m n : BTreeMap Key Record) (a b : Slab Chain) (records : (k : Key) → get key_cmp n k ≡ get key_cmp m k)
+    (same : (p : ℕ) → slab.get b p ≡ slab.get a p) where
   place_alike : (k : Key) → place_of n k ≡ place_of m k
   place_alike k = ap (option_and_then (λ (r : Record). r.place)) (records k)
 
@@ -112,7 +113,8 @@ module _ (m n : BTreeMap Key Record) (key : Key) (r : Record) (told : Updates ke
   pub committed_told : (k : Key) → committed_of n k ≡ cond (key_eq key k) r.committed (committed_of m k)
   committed_told k = ap (option_and_then (λ (r : Record). r.committed)) (record_told k) ∙ go (key_eq key k)
     where
-      go : (b : Bool) → option_and_then (λ (r : Record). r.committed) (cond b (Some r) (get key_cmp m k)) ≡ cond b r.committed (committed_of m k)
+      go : (b : Bool) → option_and_then (λ (r : Record). r.committed) (cond b (Some r) (get key_cmp m k)) ≡ cond b r.committed
+          (committed_of m k)
       go true = refl
       go false = refl
 
@@ -135,7 +137,8 @@ module _ (m n : BTreeMap Key Record) (key : Key) (r : Record) (told : Updates ke
   module _ (a b : Slab Chain) (index : IsIndex m a) (from : Option ℕ) (was : place_of m key ≡ from) (moves : Moves a b from r.place) where
     -- another key's place is not the one from before
     not_from : (k : Key) (p : ℕ) → key_eq key k ≡ false → place_of m k ≡ Some p → from ≢ Some p
-    not_from k p other at own = absurd (true≢false (sym (subst (λ j. key_eq key j ≡ true) (index.apart key k p (was ∙ own) at) (key_eq-refl key)) ∙ other))
+    not_from k p other at own =
+        absurd (true≢false (sym (subst (λ j. key_eq key j ≡ true) (index.apart key k p (was ∙ own) at) (key_eq-refl key)) ∙ other))
 
     -- and not the new one
     not_to : (k : Key) (p : ℕ) → key_eq key k ≡ false → place_of m k ≡ Some p → r.place ≢ Some p
@@ -154,12 +157,14 @@ module _ (m n : BTreeMap Key Record) (key : Key) (r : Record) (told : Updates ke
     pub chain_told : (k : Key) → key_chain n b k ≡ cond (key_eq key k) (chain_at b r.place) (key_chain m a k)
     chain_told k = go (key_eq key k) refl (place_told k)
       where
-        go : (e : Bool) → key_eq key k ≡ e → place_of n k ≡ cond e r.place (place_of m k) → chain_at b (place_of n k) ≡ cond e (chain_at b r.place) (key_chain m a k)
+        go : (e : Bool) → key_eq key k ≡ e → place_of n k ≡ cond e r.place (place_of m k)
+            → chain_at b (place_of n k) ≡ cond e (chain_at b r.place) (key_chain m a k)
         go true e at = ap (chain_at b) at
         go false e at = ap (chain_at b) at ∙ same_chain k e (place_of m k) refl
 
     -- a change of the chain is a change of the key's
-    pub chain_by : (f : List (ℕ × ℤ) → List (ℕ × ℤ)) → chain_at b r.place ≡ f (chain_at a from) → (k : Key) → key_chain n b k ≡ cond (key_eq key k) (f (key_chain m a k)) (key_chain m a k)
+    pub chain_by : (f : List (ℕ × ℤ) → List (ℕ × ℤ)) → chain_at b r.place ≡ f (chain_at a from) → (k : Key)
+        → key_chain n b k ≡ cond (key_eq key k) (f (key_chain m a k)) (key_chain m a k)
     chain_by f changed k = chain_told k ∙ go (key_eq key k) refl
       where
         go : (e : Bool) → key_eq key k ≡ e → cond e (chain_at b r.place) (key_chain m a k) ≡ cond e (f (key_chain m a k)) (key_chain m a k)
@@ -167,13 +172,18 @@ module _ (m n : BTreeMap Key Record) (key : Key) (r : Record) (told : Updates ke
         go false e = refl
 
     -- and so is one of its committed value
-    pub committed_by : (t : ℕ) (before : Option ℤ) → committed_of m key ≡ before → r.committed ≡ option_or (value_in t (chain_at a from)) before → (k : Key) → committed_of n k ≡ cond (key_eq key k) (option_or (value_in t (key_chain m a k)) (committed_of m k)) (committed_of m k)
+    pub committed_by : (t : ℕ) (before : Option ℤ) → committed_of m key ≡ before
+        → r.committed ≡ option_or (value_in t (chain_at a from)) before → (k : Key)
+        → committed_of n k ≡ cond (key_eq key k) (option_or (value_in t (key_chain m a k)) (committed_of m k)) (committed_of m k)
     committed_by t before old changed k = committed_told k ∙ go (key_eq key k) refl
       where
         here : r.committed ≡ option_or (value_in t (key_chain m a key)) (committed_of m key)
-        here = changed ∙ (ap (λ o. option_or (value_in t (chain_at a from)) o) (sym old) ∙ ap (λ o. option_or (value_in t (chain_at a o)) (committed_of m key)) (sym was))
+        here =
+            changed ∙ (ap (λ o. option_or (value_in t (chain_at a from)) o) (sym old)
+            ∙ ap (λ o. option_or (value_in t (chain_at a o)) (committed_of m key)) (sym was))
 
-        go : (e : Bool) → key_eq key k ≡ e → cond e r.committed (committed_of m k) ≡ cond e (option_or (value_in t (key_chain m a k)) (committed_of m k)) (committed_of m k)
+        go : (e : Bool) → key_eq key k ≡ e → cond e r.committed (committed_of m k) ≡ cond e
+            (option_or (value_in t (key_chain m a k)) (committed_of m k)) (committed_of m k)
         go true e = here ∙ ap (λ j. option_or (value_in t (key_chain m a j)) (committed_of m j)) (key_eq-true key k e)
         go false e = refl
 
@@ -192,7 +202,8 @@ module _ (m n : BTreeMap Key Record) (key : Key) (r : Record) (told : Updates ke
         here k p true e at = moves.held p at
         here k p false e at = ap is_some (moves.others p (not_from k p e at) (not_to k p e at)) ∙ index.held k p at
 
-        full : (k : Key) (p : ℕ) (e : Bool) → cond e r.place (place_of m k) ≡ Some p → 0 < length (cond e (chain_at b r.place) (key_chain m a k))
+        full : (k : Key) (p : ℕ) (e : Bool) → cond e r.place (place_of m k) ≡ Some p
+            → 0 < length (cond e (chain_at b r.place) (key_chain m a k))
         full k p true at = moves.filled p at
         full k p false at = index.filled k p at
 
@@ -221,7 +232,8 @@ module _ (m n : BTreeMap Key Record) (key : Key) (r : Record) (told : Updates ke
             go true e = moves.given_back p (at ∙ ap (λ i. Some i) (eqb-true q p e)) (not_here p none)
             go false e = stayed p none (other e)
 
-        one : (j k : Key) (p : ℕ) (d e : Bool) → key_eq key j ≡ d → key_eq key k ≡ e → cond d r.place (place_of m j) ≡ Some p → cond e r.place (place_of m k) ≡ Some p → j ≡ k
+        one : (j k : Key) (p : ℕ) (d e : Bool) → key_eq key j ≡ d → key_eq key k ≡ e → cond d r.place (place_of m j) ≡ Some p
+            → cond e r.place (place_of m k) ≡ Some p → j ≡ k
         one j k p true true d e at at' = sym (key_eq-true key j d) ∙ key_eq-true key k e
         one j k p true false d e at at' = absurd (not_to k p e at' at)
         one j k p false true d e at at' = absurd (not_to j p d at at')
@@ -236,14 +248,16 @@ module _ (m n : BTreeMap Key Record) (key : Key) (r : Record) (told : Updates ke
         valued k false = index.in_range k
 
 -- an empty record for a key that has none
-module _ (m n : BTreeMap Key Record) (a b : Slab Chain) (key : Key) (r : Record) (absent : get key_cmp m key ≡ None) (here : r.place ≡ None) (none : r.committed ≡ None) (same : (p : ℕ) → slab.get b p ≡ slab.get a p) (index : IsIndex m a) where
+module _ (m n : BTreeMap Key Record) (a b : Slab Chain) (key : Key) (r : Record) (absent : get key_cmp m key ≡ None) (here : r.place ≡ None)
+    (none : r.committed ≡ None) (same : (p : ℕ) → slab.get b p ≡ slab.get a p) (index : IsIndex m a) where
   no_place : place_of m key ≡ None
   no_place = ap (option_and_then (λ (r : Record). r.place)) absent
 
   module _ (told : Updates key_cmp m n key (Some r)) where
     -- no chain changes
     pub blank_chains : (k : Key) → key_chain n b k ≡ key_chain m a k
-    blank_chains k = chain_by m n key r told a b index None no_place (stays a b None r.place same refl here) (λ c. c) (ap (chain_at b) here) k ∙ go (key_eq key k)
+    blank_chains k = chain_by m n key r told a b index None no_place (stays a b None r.place same refl here) (λ c. c) (ap (chain_at b) here)
+        k ∙ go (key_eq key k)
       where
         go : (e : Bool) → cond e (key_chain m a k) (key_chain m a k) ≡ key_chain m a k
         go true = refl
@@ -254,6 +268,8 @@ module _ (m n : BTreeMap Key Record) (a b : Slab Chain) (key : Key) (r : Record)
     blank_committed = committed_same m n key r told (none ∙ sym (ap (option_and_then (λ (r : Record). r.committed)) absent))
 
   -- whatever came of it, the index stands
-  pub index_inserted : {T F : Type 0} (result : Result T F) → OnOk result (Updates key_cmp m n key (Some r)) → OnErr result (IsUnchanged m n) → IsIndex n b
-  index_inserted (Ok x) told unchanged = index_told m n key r told a b index None no_place (stays a b None r.place same refl here) (subst IsChain (sym (ap (chain_at b) here)) chain_empty) (subst (λ (o : Option ℤ). IfSome o IsValue) (sym none) tt)
+  pub index_inserted : {T F : Type 0} (result : Result T F) → OnOk result (Updates key_cmp m n key (Some r))
+      → OnErr result (IsUnchanged m n) → IsIndex n b
+  index_inserted (Ok x) told unchanged = index_told m n key r told a b index None no_place (stays a b None r.place same refl here)
+      (subst IsChain (sym (ap (chain_at b) here)) chain_empty) (subst (λ (o : Option ℤ). IfSome o IsValue) (sym none) tt)
   index_inserted (Err e) told unchanged = index_alike m n a b (λ k. ap (λ es. lookup (is_at (key_cmp k)) es) unchanged) same index

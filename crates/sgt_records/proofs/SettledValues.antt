@@ -22,8 +22,11 @@ same_key a b = go (is_eq (key_cmp a b)) refl (key_eq a b) refl
     go : (s : Bool) → is_eq (key_cmp a b) ≡ s → (t : Bool) → key_eq a b ≡ t → s ≡ t
     go true h true i = refl
     go false h false i = refl
-    go true h false i = absurd (true≢false (sym (subst (λ c. key_eq a c ≡ true) (key_cmp-equal a b ((Equal-is (key_cmp a b)).0 h)) (key_eq-refl a)) ∙ i))
-    go false h true i = absurd (true≢false (sym ((Equal-is (key_cmp a b)).1 (subst (λ c. key_cmp a c ≡ Equal) (key_eq-true a b i) (tied_itself key_order a))) ∙ h))
+    go true h false i =
+        absurd (true≢false (sym (subst (λ c. key_eq a c ≡ true) (key_cmp-equal a b ((Equal-is (key_cmp a b)).0 h)) (key_eq-refl a)) ∙ i))
+    go false h true i =
+        absurd (true≢false (sym ((Equal-is (key_cmp a b)).1
+        (subst (λ c. key_cmp a c ≡ Equal) (key_eq-true a b i) (tied_itself key_order a))) ∙ h))
 
 -- the same, told of the other key
 pub key_back : (a b : Key) → is_eq (key_cmp a b) ≡ key_eq b a
@@ -38,7 +41,9 @@ key_back a b = same_key a b ∙ go (key_eq a b) refl (key_eq b a) refl
 module _ (m n : BTreeMap Key (Option ℤ)) (key : Key) (content : Option ℤ) (told : Updates key_cmp m n key (Some content)) where
   -- what the key's record holds is the key's value, and every other value is as before
   value_told : (k : Key) → settled_in n k ≡ cond (key_eq key k) content (settled_in m k)
-  value_told k = ap option_flatten (told.0 k) ∙ (ap (λ b. option_flatten (cond b (Some content) (get key_cmp m k))) (same_key key k) ∙ go (key_eq key k))
+  value_told k =
+      ap option_flatten (told.0 k) ∙ (ap (λ b. option_flatten (cond b (Some content) (get key_cmp m k))) (same_key key k)
+      ∙ go (key_eq key k))
     where
       go : (b : Bool) → option_flatten (cond b (Some content) (get key_cmp m k)) ≡ cond b content (settled_in m k)
       go true = refl
@@ -53,11 +58,13 @@ module _ (m n : BTreeMap Key (Option ℤ)) (key : Key) (content : Option ℤ) (t
       go false = h
 
 -- a value that is put
-pub value_put : (m n : BTreeMap Key (Option ℤ)) (key : Key) (v : ℤ) → Updates key_cmp m n key (Some (Some v)) → (k : Key) → settled_in n k ≡ put_in (settled_in m) key v k
+pub value_put : (m n : BTreeMap Key (Option ℤ)) (key : Key) (v : ℤ) → Updates key_cmp m n key (Some (Some v)) → (k : Key)
+    → settled_in n k ≡ put_in (settled_in m) key v k
 value_put m n key v told = value_told m n key (Some v) told
 
 -- of values in range, if it is
-pub values_put : (m n : BTreeMap Key (Option ℤ)) (key : Key) (v : ℤ) → Updates key_cmp m n key (Some (Some v)) → IsValue v → HoldValues (settled_in m) → HoldValues (settled_in n)
+pub values_put : (m n : BTreeMap Key (Option ℤ)) (key : Key) (v : ℤ) → Updates key_cmp m n key (Some (Some v)) → IsValue v
+    → HoldValues (settled_in m) → HoldValues (settled_in n)
 values_put m n key v told in_range values k = rw (value_put m n key v told k) (go (key_eq key k) (values k))
   where
     go : (b : Bool) → IfSome (settled_in m k) IsValue → IfSome (cond b (Some v) (settled_in m k)) IsValue
@@ -65,7 +72,8 @@ values_put m n key v told in_range values k = rw (value_put m n key v told k) (g
     go false rest = rest
 
 -- an empty record for a key that has none
-pub value_same : (m n : BTreeMap Key (Option ℤ)) (key : Key) → get key_cmp m key ≡ None → Updates key_cmp m n key (Some None) → (k : Key) → settled_in n k ≡ settled_in m k
+pub value_same : (m n : BTreeMap Key (Option ℤ)) (key : Key) → get key_cmp m key ≡ None → Updates key_cmp m n key (Some None) → (k : Key)
+    → settled_in n k ≡ settled_in m k
 value_same m n key absent told k = value_told m n key None told k ∙ go (key_eq key k) refl
   where
     go : (b : Bool) → key_eq key k ≡ b → cond b None (settled_in m k) ≡ settled_in m k
@@ -73,10 +81,13 @@ value_same m n key absent told k = value_told m n key None told k ∙ go (key_eq
     go false e = refl
 
 -- whatever came of the empty record, the values are as before
-pub values_same : {T F : Type 0} (m n : BTreeMap Key (Option ℤ)) (key : Key) (r : Result T F) → get key_cmp m key ≡ None → OnOk r (Updates key_cmp m n key (Some None)) → OnErr r (IsUnchanged m n) → HoldValues (settled_in m) → HoldValues (settled_in n)
+pub values_same : {T F : Type 0} (m n : BTreeMap Key (Option ℤ)) (key : Key) (r : Result T F) → get key_cmp m key ≡ None
+    → OnOk r (Updates key_cmp m n key (Some None)) → OnErr r (IsUnchanged m n) → HoldValues (settled_in m) → HoldValues (settled_in n)
 values_same m n key (Ok x) absent told same values k = rw (value_same m n key absent told k) (values k)
-values_same m n key (Err e) absent told same values k = subst (λ (o : Option ℤ). IfSome o IsValue) (sym (ap (λ es. option_flatten (lookup (is_at (key_cmp k)) es)) same)) (values k)
+values_same m n key (Err e) absent told same values k =
+    subst (λ (o : Option ℤ). IfSome o IsValue) (sym (ap (λ es. option_flatten (lookup (is_at (key_cmp k)) es)) same)) (values k)
 
 -- the value of a record is in range
-pub value_in_range : (m : BTreeMap Key (Option ℤ)) (key : Key) (content : Option ℤ) → Some content ≡ get key_cmp m key → HoldValues (settled_in m) → IfSome content IsValue
+pub value_in_range : (m : BTreeMap Key (Option ℤ)) (key : Key) (content : Option ℤ) → Some content ≡ get key_cmp m key
+    → HoldValues (settled_in m) → IfSome content IsValue
 value_in_range m key content is values = subst (λ (o : Option ℤ). IfSome o IsValue) (sym (ap option_flatten is)) (values key)

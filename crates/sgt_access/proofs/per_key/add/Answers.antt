@@ -10,7 +10,8 @@ use Rattle.sgt_access.proofs.per_key.add.Goals as goal
 pub returns : goal.returns
 returns c list stands =
     let items : c.insert.new.self.items ≡ insert c.args.accesses.now.items c.args.place c.args.access = search rules in
-    rw items (stands_noted list c.args.accesses.now.items c.args.place c.args.access stands c.requires.within c.requires.through c.requires.after)
+    rw items (stands_noted list c.args.accesses.now.items c.args.place c.args.access stands c.requires.within c.requires.through
+    c.requires.after)
 
 pub returns-then-is_beside : goal.returns-then-is_beside
 returns-then-is_beside c list stands = at a.kind refl
@@ -40,5 +41,7 @@ returns-then-is_beside c list stands = at a.kind refl
     key = ap (λ (x : ListedAccess). x.key) is ∙ both.1
 
     at : (kind : Kind) → a.kind ≡ kind → StandsFor (list ++ a ∷ []) c.raise.new.accesses.items
-    at Look e = subst (StandsFor (list ++ a ∷ [])) (sym (c.raise.ensures.look e)) (stands_looked list items (c.args.place - 1) a last stands short by key e)
-    at Store e = subst (StandsFor (list ++ a ∷ [])) (sym (c.raise.ensures.store e)) (stands_stored list items (c.args.place - 1) a last stands short by key e)
+    at Look e = subst (StandsFor (list ++ a ∷ [])) (sym (c.raise.ensures.look e))
+        (stands_looked list items (c.args.place - 1) a last stands short by key e)
+    at Store e = subst (StandsFor (list ++ a ∷ [])) (sym (c.raise.ensures.store e))
+        (stands_stored list items (c.args.place - 1) a last stands short by key e)

@@ -6,12 +6,14 @@ use Rattle.sgt_access.proofs.places.count_along.Goals as goal
 pub returns-then-lt-clause-after : goal.returns-then-lt-clause-after
 returns-then-lt-clause-after c k d low high =
     let after : key_lt c.args.key c.access-item.result.key ≡ true = search (rules, derived_lt) in
-    after_from c.args.accesses.now c.args.key c.loop-access.access-index c.access-item.result c.requires c.loop-access-test.true c.access-item.is after k d (subst (λ n. n ≤ k) c.loop-access.invariant.count low) high
+    after_from c.args.accesses.now c.args.key c.loop-access.access-index c.access-item.result c.requires c.loop-access-test.true
+    c.access-item.is after k d (subst (λ n. n ≤ k) c.loop-access.invariant.count low) high
 
 pub loop-access-preserved : goal.loop-access-preserved
 loop-access-preserved c =
     let through : key_lt c.args.key c.access-item.result.key ≡ false = search (rules, derived_lt) in
     record {
       count = ap (λ n. n + 1) c.loop-access.invariant.count;
-      through = through_next c.args.accesses.now c.args.key c.loop-access.access-index c.access-item.result c.loop-access-test.true c.access-item.is through c.loop-access.invariant.through;
+      through = through_next c.args.accesses.now c.args.key c.loop-access.access-index c.access-item.result c.loop-access-test.true
+          c.access-item.is through c.loop-access.invariant.through;
     }

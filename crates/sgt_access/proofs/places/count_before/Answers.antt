@@ -6,7 +6,11 @@ use Rattle.sgt_access.proofs.KeyOrder.{derived_lt, parted_before}
 use Rattle.sgt_access.proofs.places.count_before.Goals as goal
 
 pub returns-clause-before : goal.returns-clause-before
-returns-clause-before c = (IsPartitionPoint-from_clause (λ (a : ListedAccess). key_lt a.key c.args.key) _ _ c.partition_point.ensures.partitioned (parted_before c.args.accesses.now c.args.key c.requires) (λ a r f call. search (rules, derived_lt))).0
+returns-clause-before c =
+    (IsPartitionPoint-from_clause (λ (a : ListedAccess). key_lt a.key c.args.key) _ _ c.partition_point.ensures.partitioned
+    (parted_before c.args.accesses.now c.args.key c.requires) (λ a r f call. search (rules, derived_lt))).0
 
 pub returns-clause-from : goal.returns-clause-from
-returns-clause-from c = (IsPartitionPoint-from_clause (λ (a : ListedAccess). key_lt a.key c.args.key) _ _ c.partition_point.ensures.partitioned (parted_before c.args.accesses.now c.args.key c.requires) (λ a r f call. search (rules, derived_lt))).1
+returns-clause-from c =
+    (IsPartitionPoint-from_clause (λ (a : ListedAccess). key_lt a.key c.args.key) _ _ c.partition_point.ensures.partitioned
+    (parted_before c.args.accesses.now c.args.key c.requires) (λ a r f call. search (rules, derived_lt))).1

@@ -7,7 +7,11 @@ use Rattle.sgt_access.proofs.KeyOrder.{derived_le, parted_through, not_after, is
 use Rattle.sgt_access.proofs.places.count_through.Goals as goal
 
 pub returns-clause-through : goal.returns-clause-through
-returns-clause-through c k d low high = not_after (get_or c.args.accesses.now k d).key c.args.key ((IsPartitionPoint-from_clause (λ (a : ListedAccess). is_le (key_cmp a.key c.args.key)) _ _ c.partition_point.ensures.partitioned (parted_through c.args.accesses.now c.args.key c.requires) (λ a r f call. search (rules, derived_le))).0 k d low high)
+returns-clause-through c k d low high = not_after (get_or c.args.accesses.now k d).key c.args.key
+    ((IsPartitionPoint-from_clause (λ (a : ListedAccess). is_le (key_cmp a.key c.args.key)) _ _ c.partition_point.ensures.partitioned
+    (parted_through c.args.accesses.now c.args.key c.requires) (λ a r f call. search (rules, derived_le))).0 k d low high)
 
 pub returns-clause-after : goal.returns-clause-after
-returns-clause-after c k d low high = is_after (get_or c.args.accesses.now k d).key c.args.key ((IsPartitionPoint-from_clause (λ (a : ListedAccess). is_le (key_cmp a.key c.args.key)) _ _ c.partition_point.ensures.partitioned (parted_through c.args.accesses.now c.args.key c.requires) (λ a r f call. search (rules, derived_le))).1 k d low high)
+returns-clause-after c k d low high = is_after (get_or c.args.accesses.now k d).key c.args.key
+    ((IsPartitionPoint-from_clause (λ (a : ListedAccess). is_le (key_cmp a.key c.args.key)) _ _ c.partition_point.ensures.partitioned
+    (parted_through c.args.accesses.now c.args.key c.requires) (λ a r f call. search (rules, derived_le))).1 k d low high)

@@ -5,16 +5,20 @@ use Rattle.sgt_access.proofs.rising.add_rising.Goals as goal
 
 pub insert-requires : goal.insert-requires
 insert-requires c =
-    let place : IsPlace c.args.tids.now.items c.args.t c.in-Err.place = search_finds _ _ _ (Err c.in-Err.place) c.deref.ensures.0 c.requires.rising c.in-Err.ensures.position in
+    let place : IsPlace c.args.tids.now.items c.args.t c.in-Err.place =
+    search_finds _ _ _ (Err c.in-Err.place) c.deref.ensures.0 c.requires.rising c.in-Err.ensures.position in
     (omega arith, (place.within, c.requires.room (place_absent _ _ _ place)))
 
 pub returns-in-Err-clause-members : goal.returns-in-Err-clause-members
 returns-in-Err-clause-members c = rw c.insert.ensures.items (member_inserted c.args.tids.now.items c.in-Err.place c.args.t)
 
 pub returns-in-Err-clause-rising : goal.returns-in-Err-clause-rising
-returns-in-Err-clause-rising c = rw c.insert.ensures.items (place_rises _ _ _ c.requires.rising (search_finds _ _ _ (Err c.in-Err.place) c.deref.ensures.0 c.requires.rising c.in-Err.ensures.position))
+returns-in-Err-clause-rising c = rw c.insert.ensures.items
+    (place_rises _ _ _ c.requires.rising (search_finds _ _ _ (Err c.in-Err.place) c.deref.ensures.0 c.requires.rising
+    c.in-Err.ensures.position))
 
 pub returns-in_default-clause-members : goal.returns-in_default-clause-members
 returns-in_default-clause-members c =
-    let there : Member c.args.t c.args.tids.now.items = search_finds _ _ _ (Ok c.in_default.field-0) c.deref.ensures.0 c.requires.rising c.in_default.ensures.ok in
+    let there : Member c.args.t c.args.tids.now.items =
+    search_finds _ _ _ (Ok c.in_default.field-0) c.deref.ensures.0 c.requires.rising c.in_default.ensures.ok in
     λ u. (λ m. inr m, λ m. elim m [ inl e ↦ subst (λ z. Member z c.args.tids.now.items) (sym e) there | inr old ↦ old ])

@@ -3,7 +3,8 @@ use Rattle.sgt_model.specs.Walks.{Member}
 use Rattle.sgt_cycle.proofs.Members.{at_member}
 use Rattle.sgt_cycle.proofs.list.has.Goals as goal
 
-decides : (found : Option ℕ) (list : List ℕ) (t : ℕ) → IfSome found (λ i. (i < length list) × (slice_index list i ≡ t)) → (IsNone found → Member t list → ⊥)
+decides : (found : Option ℕ) (list : List ℕ) (t : ℕ) → IfSome found (λ i. (i < length list) × (slice_index list i ≡ t))
+    → (IsNone found → Member t list → ⊥)
     → IsTrue (is_some found) ↔ Member t list
 decides None list t some none = ((λ e. cc), λ m. absurd (none refl m))
 decides (Some i) list t some none = ((λ e. subst (λ x. Member x list) some.1 (at_member list i 0 some.0)), λ m. refl)

@@ -8,7 +8,8 @@ use Rattle.sgt_cycle.proofs.RowWalks.{Searching, search_starts, search_fits, sea
 use Rattle.sgt_cycle.proofs.rows.walk_rows.Goals as goal
 
 -- the answer of a copy, where it is given
-found : (result : Option (List ℕ)) (items : List ℕ) (good : List ℕ → Type 0) → IfSome result (λ list. list ≡ items) → good items → IfSome result good
+found : (result : Option (List ℕ)) (items : List ℕ) (good : List ℕ → Type 0) → IfSome result (λ list. list ≡ items) → good items
+    → IfSome result good
 found None items good is h = tt
 found (Some list) items good is h = subst good (sym is) h
 
@@ -20,22 +21,28 @@ pub loop-here-init : goal.loop-here-init
 loop-here-init c = rw (c.push.ensures.items, c.new-path.ensures)
     (search_starts c.args.rows.now c.args.source c.args.targets c.complement-fresh.result c.requires.place
     (λ i low. c.complement-fresh.ensures i low ∙ ap not (c.only.ensures i))
-    (λ i high. none_above c.args.targets i c.ranges.targets.fits high) (λ i j high. no_row c.args.rows.now i j (omega (arith, c.told-rows)) high))
+    (λ i high. none_above c.args.targets i c.ranges.targets.fits high)
+    (λ i j high. no_row c.args.rows.now i j (omega (arith, c.told-rows)) high))
 
 pub has-requires : goal.has-requires
-has-requires c = (search_here c.args.rows.now c.args.source c.args.targets c.loop-here.fresh c.pop.new.self.items c.in-Some.here (rw c.in-Some.ensures.items at c.loop-here.invariant))
+has-requires c =
+    (search_here c.args.rows.now c.args.source c.args.targets c.loop-here.fresh c.pop.new.self.items c.in-Some.here
+    (rw c.in-Some.ensures.items at c.loop-here.invariant))
 
 pub push-requires-then-has : goal.push-requires-then-has
 push-requires-then-has c =
-    let fits : length c.loop-here.path.items ≤ 32 = search_fits c.args.rows.now c.args.source c.args.targets c.loop-here.fresh c.loop-here.path.items c.loop-here.invariant in
-    let more : length c.loop-here.path.items ≡ length c.pop.new.self.items + 1 = ap length c.in-Some.ensures.items ∙ length-append c.pop.new.self.items (c.in-Some.here ∷ []) in
+    let fits : length c.loop-here.path.items ≤ 32 =
+    search_fits c.args.rows.now c.args.source c.args.targets c.loop-here.fresh c.loop-here.path.items c.loop-here.invariant in
+    let more : length c.loop-here.path.items ≡ length c.pop.new.self.items + 1 = ap length c.in-Some.ensures.items
+    ∙ length-append c.pop.new.self.items (c.in-Some.here ∷ []) in
     (omega arith, omega arith)
 
 pub returns-then-has-clause-some : goal.returns-then-has-clause-some
 returns-then-has-clause-some c =
     let path : List ℕ = c.pop.new.self.items in
     let here : ℕ = c.in-Some.here in
-    let s : Searching c.args.rows.now c.args.source c.args.targets c.loop-here.fresh (path ++ here ∷ []) = rw c.in-Some.ensures.items at c.loop-here.invariant in
+    let s : Searching c.args.rows.now c.args.source c.args.targets c.loop-here.fresh (path ++ here ∷ []) =
+    rw c.in-Some.ensures.items at c.loop-here.invariant in
     let target : is_set c.args.targets here ≡ true = sym (c.if-has.ensures) in
     found c.from_slice.result (path ++ here ∷ []) (IsWalk (is_bit c.args.rows.now) c.args.source (places c.args.targets))
     (rw (c.as_slice.ensures.value, c.push-then-has.ensures.items) at c.from_slice.ensures.items)
@@ -43,13 +50,16 @@ returns-then-has-clause-some c =
 
 pub bounds-rows-from : goal.bounds-rows-from
 bounds-rows-from c =
-    let low : c.in-Some.here < 32 = search_here c.args.rows.now c.args.source c.args.targets c.loop-here.fresh c.pop.new.self.items c.in-Some.here (rw c.in-Some.ensures.items at c.loop-here.invariant) in
+    let low : c.in-Some.here < 32 = search_here c.args.rows.now c.args.source c.args.targets c.loop-here.fresh c.pop.new.self.items
+    c.in-Some.here (rw c.in-Some.ensures.items at c.loop-here.invariant) in
     omega (arith, c.from.ensures)
 
 pub push-requires-in-Some-least : goal.push-requires-in-Some-least
 push-requires-in-Some-least c =
-    let fits : length c.loop-here.path.items ≤ 32 = search_fits c.args.rows.now c.args.source c.args.targets c.loop-here.fresh c.loop-here.path.items c.loop-here.invariant in
-    let more : length c.loop-here.path.items ≡ length c.pop.new.self.items + 1 = ap length c.in-Some.ensures.items ∙ length-append c.pop.new.self.items (c.in-Some.here ∷ []) in
+    let fits : length c.loop-here.path.items ≤ 32 =
+    search_fits c.args.rows.now c.args.source c.args.targets c.loop-here.fresh c.loop-here.path.items c.loop-here.invariant in
+    let more : length c.loop-here.path.items ≡ length c.pop.new.self.items + 1 = ap length c.in-Some.ensures.items
+    ∙ length-append c.pop.new.self.items (c.in-Some.here ∷ []) in
     (omega arith, omega arith)
 
 pub push-requires-in-Some-least-2 : goal.push-requires-in-Some-least-2
@@ -57,10 +67,13 @@ push-requires-in-Some-least-2 c =
     let path : List ℕ = c.pop.new.self.items in
     let here : ℕ = c.in-Some.here in
     let next : ℕ = c.in-Some-least.next in
-    let s : Searching c.args.rows.now c.args.source c.args.targets c.loop-here.fresh (path ++ here ∷ []) = rw c.in-Some.ensures.items at c.loop-here.invariant in
-    let both = and_parts (is_set (slice_index c.args.rows.now c.from.result) next) (is_set c.loop-here.fresh next) (sym (c.common.ensures next) ∙ c.in-Some-least.ensures.some.1) in
+    let s : Searching c.args.rows.now c.args.source c.args.targets c.loop-here.fresh (path ++ here ∷ []) =
+    rw c.in-Some.ensures.items at c.loop-here.invariant in
+    let both = and_parts (is_set (slice_index c.args.rows.now c.from.result) next) (is_set c.loop-here.fresh next)
+    (sym (c.common.ensures next) ∙ c.in-Some-least.ensures.some.1) in
     let step : is_bit c.args.rows.now here next ≡ true = subst (λ i. is_bit c.args.rows.now i next ≡ true) c.from.ensures both.0 in
-    let fits : length ((path ++ here ∷ []) ++ next ∷ []) ≤ 32 = search_room c.args.rows.now c.args.source c.args.targets c.loop-here.fresh path here s next c.in-Some-least.ensures.some.0 both.1 in
+    let fits : length ((path ++ here ∷ []) ++ next ∷ []) ≤ 32 =
+    search_room c.args.rows.now c.args.source c.args.targets c.loop-here.fresh path here s next c.in-Some-least.ensures.some.0 both.1 in
     let long : length c.push-in-Some-least.new.self.items ≡ length (path ++ here ∷ []) = ap length c.push-in-Some-least.ensures.items in
     (omega arith, omega (arith, length-append (path ++ here ∷ []) (next ∷ [])))
 
@@ -69,23 +82,29 @@ loop-here-preserved-in-Some-least c =
     let path : List ℕ = c.pop.new.self.items in
     let here : ℕ = c.in-Some.here in
     let next : ℕ = c.in-Some-least.next in
-    let s : Searching c.args.rows.now c.args.source c.args.targets c.loop-here.fresh (path ++ here ∷ []) = rw c.in-Some.ensures.items at c.loop-here.invariant in
-    let both = and_parts (is_set (slice_index c.args.rows.now c.from.result) next) (is_set c.loop-here.fresh next) (sym (c.common.ensures next) ∙ c.in-Some-least.ensures.some.1) in
+    let s : Searching c.args.rows.now c.args.source c.args.targets c.loop-here.fresh (path ++ here ∷ []) =
+    rw c.in-Some.ensures.items at c.loop-here.invariant in
+    let both = and_parts (is_set (slice_index c.args.rows.now c.from.result) next) (is_set c.loop-here.fresh next)
+    (sym (c.common.ensures next) ∙ c.in-Some-least.ensures.some.1) in
     let step : is_bit c.args.rows.now here next ≡ true = subst (λ i. is_bit c.args.rows.now i next ≡ true) c.from.ensures both.0 in
     rw (c.push-in-Some-least-2.ensures.items, c.push-in-Some-least.ensures.items)
-    (search_push c.args.rows.now c.args.source c.args.targets c.loop-here.fresh path here s next c.minus-fresh.result c.in-Some-least.ensures.some.0 step both.1
+    (search_push c.args.rows.now c.args.source c.args.targets c.loop-here.fresh path here s next c.minus-fresh.result
+    c.in-Some-least.ensures.some.0 step both.1
     (λ i. c.minus-fresh.ensures.places i ∙ ap (λ x. is_set c.loop-here.fresh i && not x) (c.only-in-Some-least.ensures i)))
 
 pub loop-here-preserved : goal.loop-here-preserved
 loop-here-preserved c =
     let path : List ℕ = c.pop.new.self.items in
     let here : ℕ = c.in-Some.here in
-    let s : Searching c.args.rows.now c.args.source c.args.targets c.loop-here.fresh (path ++ here ∷ []) = rw c.in-Some.ensures.items at c.loop-here.invariant in
+    let s : Searching c.args.rows.now c.args.source c.args.targets c.loop-here.fresh (path ++ here ∷ []) =
+    rw c.in-Some.ensures.items at c.loop-here.invariant in
     search_pop c.args.rows.now c.args.source c.args.targets c.loop-here.fresh path here s (sym c.if-has.ensures)
     (λ b link. false_from_ne_true (is_set c.loop-here.fresh b) (λ new. both_ways _ (c.in_default-least.ensures.none refl b)
     (c.common.ensures b ∙ and_from _ _ (subst (λ i. is_bit c.args.rows.now i b ≡ true) (sym c.from.ensures) link) new)))
 
 pub returns-clause-none : goal.returns-clause-none
 returns-clause-none c none =
-    let empty : c.loop-here.path.items ≡ [] = no_items c.loop-here.path.items (λ some. true≢false (sym (c.in_default.ensures.variant.1 some))) in
-    search_none c.args.rows.now c.args.source c.args.targets c.loop-here.fresh (subst (λ path. Searching c.args.rows.now c.args.source c.args.targets c.loop-here.fresh path) empty c.loop-here.invariant)
+    let empty : c.loop-here.path.items ≡ [] =
+    no_items c.loop-here.path.items (λ some. true≢false (sym (c.in_default.ensures.variant.1 some))) in
+    search_none c.args.rows.now c.args.source c.args.targets c.loop-here.fresh
+    (subst (λ path. Searching c.args.rows.now c.args.source c.args.targets c.loop-here.fresh path) empty c.loop-here.invariant)

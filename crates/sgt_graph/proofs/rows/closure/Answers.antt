@@ -11,7 +11,8 @@ loop-place-preserved c =
     let old : List ℕ = c.loop-place.reached in
     let new : List ℕ = c.add.new.rows in
     let from_iff : (i : ℕ) → (is_set c.meeting-from.result i ≡ true) ↔ (is_bit old i k ≡ true) = λ i. (
-      (λ h. let (j, link, alone) = (c.meeting-from.ensures i).0 h in subst (λ x. is_bit old i x ≡ true) (eqb-true j k (sym (c.only.ensures j) ∙ alone)) link),
+      (λ h. let (j, link, alone) = (c.meeting-from.ensures i).0 h in
+          subst (λ x. is_bit old i x ≡ true) (eqb-true j k (sym (c.only.ensures j) ∙ alone)) link),
       (λ link. (c.meeting-from.ensures i).1 (k, link, c.only.ensures k ∙ eq-eqb k k refl)),
     ) in
     record {
@@ -19,14 +20,17 @@ loop-place-preserved c =
       closed = closed_next c.args.rows.now k old new c.loop-place.invariant.closed (λ i j. (
         (λ h. elim (or_cases (is_bit old i j) _ (sym (c.add.ensures i j) ∙ h)) [
           | inl o ↦ inl o
-          | inr n ↦ let both = and_parts (is_set c.meeting-from.result i) _ n in inr ((from_iff i).0 both.0, subst (λ x. is_bit old x j ≡ true) c.from.ensures both.1)
+          | inr n ↦ let both = and_parts (is_set c.meeting-from.result i) _ n in
+              inr ((from_iff i).0 both.0, subst (λ x. is_bit old x j ≡ true) c.from.ensures both.1)
         ]),
         (λ h. elim h [
           | inl o ↦ c.add.ensures i j ∙ or_left (is_bit old i j) _ o
-          | inr n ↦ c.add.ensures i j ∙ or_right (is_bit old i j) _ (and_from _ _ ((from_iff i).1 n.0) (subst (λ x. is_bit old x j ≡ true) (sym c.from.ensures) n.1))
+          | inr n ↦ c.add.ensures i j ∙ or_right (is_bit old i j) _
+              (and_from _ _ ((from_iff i).1 n.0) (subst (λ x. is_bit old x j ≡ true) (sym c.from.ensures) n.1))
         ]),
       ));
     }
 
 pub returns : goal.returns
-returns c = closed_all c.args.rows.now c.loop-place.place c.loop-place.reached (omega arith) c.loop-place.invariant.size c.loop-place.invariant.closed
+returns c = closed_all c.args.rows.now c.loop-place.place c.loop-place.reached (omega arith) c.loop-place.invariant.size
+    c.loop-place.invariant.closed

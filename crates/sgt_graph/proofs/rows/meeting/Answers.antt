@@ -13,10 +13,12 @@ loop-place-init c = found_none (Meets c.args.rows.now c.args.set)
 
 pub loop-place-preserved : goal.loop-place-preserved
 loop-place-preserved c = elim c.if-meets.branch [
-  | then-meets w ↦ subst (λ f. Found (Meets c.args.rows.now c.args.set) (c.loop-place.place + 1) f) (sym w.found-is) (found_more (Meets c.args.rows.now c.args.set) c.loop-place.place c.loop-place.found w.joined-found.result c.loop-place.invariant
+  | then-meets w ↦ subst (λ f. Found (Meets c.args.rows.now c.args.set) (c.loop-place.place + 1) f) (sym w.found-is)
+      (found_more (Meets c.args.rows.now c.args.set) c.loop-place.place c.loop-place.found w.joined-found.result c.loop-place.invariant
       (subst (Meets c.args.rows.now c.args.set) c.from.ensures (w.if-meets.ensures.0 refl))
       (λ i. w.joined-found.ensures i ∙ ap (λ x. is_set c.loop-place.found i || x) (w.only.ensures i)))
-  | else-meets w ↦ subst (λ f. Found (Meets c.args.rows.now c.args.set) (c.loop-place.place + 1) f) (sym w.found-is) (found_skip (Meets c.args.rows.now c.args.set) c.loop-place.place c.loop-place.found c.loop-place.invariant
+  | else-meets w ↦ subst (λ f. Found (Meets c.args.rows.now c.args.set) (c.loop-place.place + 1) f) (sym w.found-is)
+      (found_skip (Meets c.args.rows.now c.args.set) c.loop-place.place c.loop-place.found c.loop-place.invariant
       (λ m. true≢false (sym (w.if-meets.ensures.1 (subst (Meets c.args.rows.now c.args.set) (sym c.from.ensures) m)))))
 ]
 

@@ -17,4 +17,5 @@ pub returns-clause-yes : goal.returns-clause-yes
 returns-clause-yes c found = rw c.as_slice.ensures at (any_member c.args.t c.as_slice.result.now (sym c.contains.ensures.value ∙ found))
 
 pub returns-clause-no : goal.returns-clause-no
-returns-clause-no c none m = both_ways _ none (c.contains.ensures.value ∙ member_any c.args.t c.as_slice.result.now (rw c.as_slice.ensures m))
+returns-clause-no c none m =
+    both_ways _ none (c.contains.ensures.value ∙ member_any c.args.t c.as_slice.result.now (rw c.as_slice.ensures m))

@@ -6,12 +6,14 @@ use Rattle.sgt_graph.proofs.tids.tids_at.Goals as goal
 
 pub listed : goal.listed
 listed c =
-    let low : slice_index_or c.args.walk.now c.loop-place.place-index 0 < 32 = c.requires.low _ (at_member c.args.walk.now c.loop-place.place-index 0 c.loop-place-test.true) in
+    let low : slice_index_or c.args.walk.now c.loop-place.place-index 0 < 32 =
+    c.requires.low _ (at_member c.args.walk.now c.loop-place.place-index 0 c.loop-place-test.true) in
     omega (arith, c.from.ensures, c.type_inv.tids)
 
 pub bounds-tids-from : goal.bounds-tids-from
 bounds-tids-from c =
-    let low : slice_index_or c.args.walk.now c.loop-place.place-index 0 < 32 = c.requires.low _ (at_member c.args.walk.now c.loop-place.place-index 0 c.loop-place-test.true) in
+    let low : slice_index_or c.args.walk.now c.loop-place.place-index 0 < 32 =
+    c.requires.low _ (at_member c.args.walk.now c.loop-place.place-index 0 c.loop-place-test.true) in
     omega (arith, c.from.ensures)
 
 pub loop-place-preserved : goal.loop-place-preserved
@@ -24,10 +26,12 @@ loop-place-preserved c =
     let pushed : ℕ = slice_index_or tids c.from.result c.index-tids-from.result in
     let item : pushed ≡ slice_index tids (slice_index_or walk at 0) =
     sym (any_default tids c.from.result c.index-tids-from.result there) ∙ ap (λ i. slice_index tids i) c.from.ensures in
-    let grown : length c.push.new.self ≡ length c.loop-place.named + 1 = ap length c.push.ensures ∙ length-append c.loop-place.named (pushed ∷ []) in
+    let grown : length c.push.new.self ≡ length c.loop-place.named + 1 = ap length c.push.ensures
+    ∙ length-append c.loop-place.named (pushed ∷ []) in
     let few : length c.loop-place.named ≤ at = c.loop-place.invariant.few in
     record {
-      named = c.push.ensures ∙ ap (λ l. l ++ pushed ∷ []) c.loop-place.invariant.named ∙ ap (λ x. map (λ i. slice_index tids i) (take at walk) ++ x ∷ []) item
+      named = c.push.ensures ∙ ap (λ l. l ++ pushed ∷ []) c.loop-place.invariant.named
+          ∙ ap (λ x. map (λ i. slice_index tids i) (take at walk) ++ x ∷ []) item
           ∙ sym (map_more (λ i. slice_index tids i) walk at 0 c.loop-place-test.true);
       few = omega arith;
     }

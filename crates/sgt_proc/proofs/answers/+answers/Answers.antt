@@ -12,8 +12,15 @@ most_answers-loop-statement-preserved t c = let (_, _, so_far) = c.loop-statemen
   tt,
   tt,
   λ rest e.
-      let h = so_far rest e in
-      (onto (before c.in-Some.statement.now empty) h.0, (h.1.0 ∙ (ap (λ l. onto (block_of l) h.0) c.in-Some.ensures.steps ∙ onto_last c.next.new.self.iter.rest.now c.in-Some.statement.now h.0), c.most_answers_from-most.ensures h.0 h.1.1)),
+      let h = so_far rest e in (
+        onto (before c.in-Some.statement.now empty) h.0,
+        (
+          h.1.0
+              ∙ (ap (λ l. onto (block_of l) h.0) c.in-Some.ensures.steps
+              ∙ onto_last c.next.new.self.iter.rest.now c.in-Some.statement.now h.0),
+          c.most_answers_from-most.ensures h.0 h.1.1,
+        ),
+      ),
 )
 
 pub most_answers_from-returns-in-If : goal.most_answers_from-returns-in-If

@@ -7,9 +7,13 @@ use Rattle.sgt_proc.proofs.place.branch_of.Goals as goal
 pub returns-then-held : goal.returns-then-held
 returns-then-held c = λ rest.
     ap block_of c.as_slice.ensures.value
-    ∙ sym (ap (λ s. branch c.args.held (before s rest)) c.in-If.is ∙ (if_branch c.in-If.cond c.in-If.yes c.in-If.no c.args.held rest ∙ ap (λ b. cond b (block_of c.in-If.yes.items) (block_of c.in-If.no.items)) c.if-held.true))
+    ∙ sym (ap (λ s. branch c.args.held (before s rest)) c.in-If.is
+    ∙ (if_branch c.in-If.cond c.in-If.yes c.in-If.no c.args.held rest
+    ∙ ap (λ b. cond b (block_of c.in-If.yes.items) (block_of c.in-If.no.items)) c.if-held.true))
 
 pub returns-else-held : goal.returns-else-held
 returns-else-held c = λ rest.
     ap block_of c.as_slice-else-held.ensures.value
-    ∙ sym (ap (λ s. branch c.args.held (before s rest)) c.in-If.is ∙ (if_branch c.in-If.cond c.in-If.yes c.in-If.no c.args.held rest ∙ ap (λ b. cond b (block_of c.in-If.yes.items) (block_of c.in-If.no.items)) c.if-held.false))
+    ∙ sym (ap (λ s. branch c.args.held (before s rest)) c.in-If.is
+    ∙ (if_branch c.in-If.cond c.in-If.yes c.in-If.no c.args.held rest
+    ∙ ap (λ b. cond b (block_of c.in-If.yes.items) (block_of c.in-If.no.items)) c.if-held.false))

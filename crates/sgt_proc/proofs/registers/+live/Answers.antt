@@ -11,8 +11,15 @@ is_live-loop-statement-preserved t c = let (_, _, so_far) = c.loop-statement.inv
   tt,
   tt,
   λ rest e.
-      let h = so_far rest e in
-      (onto (before c.in-Some.statement.now empty) h.0, (h.1.0 ∙ (ap (λ l. onto (block_of l) h.0) c.in-Some.ensures.steps ∙ onto_last c.next.new.self.iter.rest.now c.in-Some.statement.now h.0), c.is_live_before-live.ensures h.0 h.1.1)),
+      let h = so_far rest e in (
+        onto (before c.in-Some.statement.now empty) h.0,
+        (
+          h.1.0
+              ∙ (ap (λ l. onto (block_of l) h.0) c.in-Some.ensures.steps
+              ∙ onto_last c.next.new.self.iter.rest.now c.in-Some.statement.now h.0),
+          c.is_live_before-live.ensures h.0 h.1.1,
+        ),
+      ),
 )
 
 pub is_live_before-returns-then-is_live : goal.is_live_before-returns-then-is_live

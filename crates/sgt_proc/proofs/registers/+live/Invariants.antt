@@ -8,4 +8,6 @@ abbrev pub invariant-is_live-loop-statement : goal.invariant-is_live-loop-statem
 invariant-is_live-loop-statement l =
     (goal.iterator-is_live-loop-statement).can_next l.statement-iterator ×
     (goal.iterator-is_live-loop-statement).is_finite l.statement-iterator ×
-    ((rest : Way) → l.behind ≡ uses_unset l.register rest → (after : Way) × ((onto (block_of l.statements) rest ≡ onto (block_of l.statement-iterator.iter.rest.now) after) × (l.live ≡ uses_unset l.register after)))
+    ((rest : Way) → l.behind ≡ uses_unset l.register rest
+    → (after : Way) × ((onto (block_of l.statements) rest ≡ onto (block_of l.statement-iterator.iter.rest.now) after)
+    × (l.live ≡ uses_unset l.register after)))

@@ -6,6 +6,8 @@ use Rattle.sgt_proc_json.proofs.Lengths.{told_here, no_expression}
 pub read_row-returns-in_default-clause-err : goal.read_row-returns-in_default-clause-err
 read_row-returns-in_default-clause-err t c =
     elim c.in_default.branch [
-      | read_row-in_default-via-then-items-lt2 w ↦ told_here _ _ c.here-in_default.ensures (no_expression c.args.items.now (search rules) (search rules))
-      | read_row-in_default-via-else-items-lt2+else-items-lt3+else-items-lt4 w ↦ told_here _ _ c.here-in_default.ensures (no_expression c.args.items.now (search rules) (search rules))
+      | read_row-in_default-via-then-items-lt2 w ↦ told_here _ _ c.here-in_default.ensures
+          (no_expression c.args.items.now (search rules) (search rules))
+      | read_row-in_default-via-else-items-lt2+else-items-lt3+else-items-lt4 w ↦
+          told_here _ _ c.here-in_default.ensures (no_expression c.args.items.now (search rules) (search rules))
     ]

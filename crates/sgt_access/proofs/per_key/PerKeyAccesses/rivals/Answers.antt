@@ -2,7 +2,15 @@ use Rattle.std.proofs.Common.{sym, ◌∙◌}
 use Rattle.sgt_access.proofs.per_key.PerKeyAccesses.rivals.Goals as goal
 
 pub rivals_among-requires : goal.rivals_among-requires
-rivals_among-requires c = record { few = record { among = c.requires.few.among; few = c.requires.few.few; all = λ t h. c.requires.few.all t (c.of_key.ensures.listed t h) } }
+rivals_among-requires c =
+    record {
+      few = record {
+        among = c.requires.few.among;
+        few =
+            c.requires.few.few;
+        all = λ t h. c.requires.few.all t (c.of_key.ensures.listed t h);
+      };
+    }
 
 pub returns-clause-exact : goal.returns-clause-exact
 returns-clause-exact c = λ u. (

@@ -11,7 +11,8 @@ invariant_of-self c =
     let p : ℕ = c.args.place in
     let pairs : List ℕ = c.self.inside.pairs in
     let reached : List ℕ = c.self.inside.reached in
-    let new_is : (i j : ℕ) → (is_bit c.add.new.rows i j ≡ true) ↔ ((is_bit pairs i j ≡ true) ⊎ ((is_set from i ≡ true) × (j ≡ p))) = λ i j. (
+    let new_is : (i j : ℕ) → (is_bit c.add.new.rows i j ≡ true) ↔ ((is_bit pairs i j ≡ true) ⊎ ((is_set from i ≡ true) × (j ≡ p))) =
+    λ i j. (
       (λ h. elim (or_cases (is_bit pairs i j) _ (sym (c.add.ensures i j) ∙ h)) [
         | inl o ↦ inl o
         | inr n ↦ let both = and_parts (is_set from i) _ n in inr (both.0, eqb-true j p (sym (c.only-to.ensures j) ∙ both.1))
@@ -21,9 +22,15 @@ invariant_of-self c =
         | inr n ↦ c.add.ensures i j ∙ or_right (is_bit pairs i j) _ (and_from _ _ n.0 (c.only-to.ensures j ∙ eq-eqb j p n.1))
       ]),
     ) in
-    let before_is : (i : ℕ) → (is_set c.joined-before.result i ≡ true) ↔ ((is_set from i ≡ true) ⊎ ((k : ℕ) × (is_bit reached i k ≡ true) × (is_set from k ≡ true))) = λ i. (
-      (λ h. elim (or_cases (is_set from i) _ (sym (c.joined-before.ensures i) ∙ h)) [ inl o ↦ inl o | inr n ↦ inr ((c.meeting.ensures i).0 n) ]),
-      (λ h. elim h [ inl o ↦ c.joined-before.ensures i ∙ or_left (is_set from i) _ o | inr n ↦ c.joined-before.ensures i ∙ or_right (is_set from i) _ ((c.meeting.ensures i).1 n) ]),
+    let before_is : (i : ℕ) → (is_set c.joined-before.result i ≡ true)
+    ↔ ((is_set from i ≡ true) ⊎ ((k : ℕ) × (is_bit reached i k ≡ true) × (is_set from k ≡ true))) = λ i. (
+      (λ h. elim (or_cases (is_set from i) _ (sym (c.joined-before.ensures i) ∙ h))
+          [ inl o ↦ inl o | inr n ↦ inr ((c.meeting.ensures i).0 n) ]),
+      (λ h. elim h [
+        | inl o ↦ c.joined-before.ensures i ∙ or_left (is_set from i) _ o
+        | inr n ↦ c.joined-before.ensures i
+            ∙ or_right (is_set from i) _ ((c.meeting.ensures i).1 n)
+      ]),
     ) in
     let after_is : (j : ℕ) → (is_set c.joined-after.result j ≡ true) ↔ ((j ≡ p) ⊎ (is_bit reached p j ≡ true)) = λ j. (
       (λ h. elim (or_cases (is_set c.only-to.result j) _ (sym (c.joined-after.ensures j) ∙ h)) [
@@ -32,7 +39,8 @@ invariant_of-self c =
       ]),
       (λ h. elim h [
         | inl o ↦ c.joined-after.ensures j ∙ or_left (is_set c.only-to.result j) _ (c.only-to.ensures j ∙ eq-eqb j p o)
-        | inr n ↦ c.joined-after.ensures j ∙ or_right (is_set c.only-to.result j) _ (subst (λ x. is_bit reached x j ≡ true) (sym c.from.ensures) n)
+        | inr n ↦ c.joined-after.ensures j ∙ or_right (is_set c.only-to.result j) _
+            (subst (λ x. is_bit reached x j ≡ true) (sym c.from.ensures) n)
       ]),
     ) in
     joined_graph c.self.inside.taken c.self.inside.tids pairs reached c.self.invariant from p c.add.new.rows c.add-2.new.rows

@@ -7,7 +7,8 @@ use Rattle.sgt_graph.proofs.BitSteps.{alone_left, alone_freed, freed, first_free
 use Rattle.sgt_graph.proofs.bit_graph.BitGraph.free.Goals as goal
 
 pub invariant_of-self : goal.invariant_of-self
-invariant_of-self c = alone_freed c.self.inside.taken c.self.inside.tids c.self.inside.pairs c.self.inside.reached c.self.invariant c.args.place
+invariant_of-self c =
+    alone_freed c.self.inside.taken c.self.inside.tids c.self.inside.pairs c.self.inside.reached c.self.invariant c.args.place
     (λ i. ap (λ (v : ℕ × List ℕ × List ℕ × List ℕ). is_set v.0 i) c.self.view_is ∙ c.if-is_alone.ensures refl i)
 
 pub returns-then-is_alone-clause-taken : goal.returns-then-is_alone-clause-taken
@@ -20,18 +21,25 @@ pub invariant_of-self-then-is_first : goal.invariant_of-self-then-is_first
 invariant_of-self-then-is_first c =
     let p : ℕ = c.args.place in
     let pairs : List ℕ = c.self.inside.pairs in
-    let left : (i : ℕ) → is_set c.minus-self-inside.result i ≡ (is_set c.self.inside.taken i && not (nat_eq i p)) = λ i. c.minus-self-inside.ensures.places i ∙ ap (λ x. is_set c.self.inside.taken i && not x) (c.only-alone.ensures i) in
-    let none : (i : ℕ) → is_bit pairs i p ≡ true → ⊥ = λ i step. both_ways _ (c.least.ensures.none c.if-is_first.ensures i) ((c.meeting.ensures i).1 (p, step, c.only-alone.ensures p ∙ eq-eqb p p refl)) in
-    freed c.self.inside.taken c.self.inside.tids pairs c.self.inside.reached c.self.invariant p c.minus-self-inside.result c.take_out.new.rows left c.take_out.ensures
+    let left : (i : ℕ) → is_set c.minus-self-inside.result i ≡ (is_set c.self.inside.taken i && not (nat_eq i p)) =
+    λ i. c.minus-self-inside.ensures.places i ∙ ap (λ x. is_set c.self.inside.taken i && not x) (c.only-alone.ensures i) in
+    let none : (i : ℕ) → is_bit pairs i p ≡ true → ⊥ = λ i step. both_ways _ (c.least.ensures.none c.if-is_first.ensures i)
+    ((c.meeting.ensures i).1 (p, step, c.only-alone.ensures p ∙ eq-eqb p p refl)) in
+    freed c.self.inside.taken c.self.inside.tids pairs c.self.inside.reached c.self.invariant p c.minus-self-inside.result
+    c.take_out.new.rows left c.take_out.ensures
     c.take_out-then-is_first.new.rows
-    (first_freed c.self.inside.taken c.self.inside.tids pairs c.self.inside.reached c.self.invariant p c.minus-self-inside.result c.take_out.new.rows left c.take_out.ensures c.take_out-then-is_first.new.rows none c.take_out-then-is_first.ensures)
+    (first_freed c.self.inside.taken c.self.inside.tids pairs c.self.inside.reached c.self.invariant p c.minus-self-inside.result
+    c.take_out.new.rows left c.take_out.ensures c.take_out-then-is_first.new.rows none c.take_out-then-is_first.ensures)
     (leads_reached c.self.inside.taken c.self.inside.tids pairs c.self.inside.reached c.self.invariant)
 
 pub invariant_of-self-else-is_first : goal.invariant_of-self-else-is_first
 invariant_of-self-else-is_first c =
-    let left : (i : ℕ) → is_set c.minus-self-inside.result i ≡ (is_set c.self.inside.taken i && not (nat_eq i c.args.place)) = λ i. c.minus-self-inside.ensures.places i ∙ ap (λ x. is_set c.self.inside.taken i && not x) (c.only-alone.ensures i) in
-    freed c.self.inside.taken c.self.inside.tids c.self.inside.pairs c.self.inside.reached c.self.invariant c.args.place c.minus-self-inside.result c.take_out.new.rows left c.take_out.ensures
-    c.closure-self-inside.result c.closure-self-inside.ensures (leads_reached c.self.inside.taken c.self.inside.tids c.self.inside.pairs c.self.inside.reached c.self.invariant)
+    let left : (i : ℕ) → is_set c.minus-self-inside.result i ≡ (is_set c.self.inside.taken i && not (nat_eq i c.args.place)) =
+    λ i. c.minus-self-inside.ensures.places i ∙ ap (λ x. is_set c.self.inside.taken i && not x) (c.only-alone.ensures i) in
+    freed c.self.inside.taken c.self.inside.tids c.self.inside.pairs c.self.inside.reached c.self.invariant c.args.place
+    c.minus-self-inside.result c.take_out.new.rows left c.take_out.ensures
+    c.closure-self-inside.result c.closure-self-inside.ensures
+    (leads_reached c.self.inside.taken c.self.inside.tids c.self.inside.pairs c.self.inside.reached c.self.invariant)
 
 pub returns-then-is_first-clause-graph : goal.returns-then-is_first-clause-graph
 returns-then-is_first-clause-graph c = invariant_of-self-then-is_first c

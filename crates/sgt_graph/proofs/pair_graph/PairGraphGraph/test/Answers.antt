@@ -5,5 +5,6 @@ use Rattle.sgt_graph.proofs.pair_graph.PairGraphGraph.test.Goals as goal
 
 pub walk-requires : goal.walk-requires
 walk-requires c =
-    let node : is_node c.self.inside.nodes c.args.t ≡ true = subst (λ (v : List ℕ × List (ℕ × ℕ)). is_node v.0 c.args.t ≡ true) (sym c.self.view_is) c.requires.node in
+    let node : is_node c.self.inside.nodes c.args.t ≡ true =
+    subst (λ (v : List ℕ × List (ℕ × ℕ)). is_node v.0 c.args.t ≡ true) (sym c.self.view_is) c.requires.node in
     record { few = rw c.as_slice.ensures (numbers_few c.self.inside.nodes c.self.inside.pairs c.self.invariant c.args.t node) }

@@ -7,4 +7,6 @@ use Rattle.sgt_proc.proofs.flaw.Flaw.is_in.Goals as goal
 
 pub returns-in-HighRegister : goal.returns-in-HighRegister
 returns-in-HighRegister c =
-    number_flaw c.args.self.now (program_of c.args.procedure.now) c.is_broken_in_text.result c.in-HighRegister.is (c.is_broken_in_text.ensures ∙ ap (λ l. in_block (is_bad c.args.self.now c.args.procedure.now.args) (block_of l)) c.as_slice-body.ensures.value)
+    number_flaw c.args.self.now (program_of c.args.procedure.now) c.is_broken_in_text.result c.in-HighRegister.is
+    (c.is_broken_in_text.ensures ∙ ap (λ l. in_block (is_bad c.args.self.now c.args.procedure.now.args) (block_of l))
+    c.as_slice-body.ensures.value)

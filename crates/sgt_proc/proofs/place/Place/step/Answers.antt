@@ -5,4 +5,5 @@ use Rattle.sgt_proc.proofs.place.Place.step.Goals as goal
 
 pub returns-in_ok-held-in-If-clause-steps : goal.returns-in_ok-held-in-If-clause-steps
 returns-in_ok-held-in-If-clause-steps c = λ b inside here.
-    if_step b c.args.self.now _ c.args.statement.now c.in-If.cond c.in-If.yes c.in-If.no c.in_ok-held-in-If.held inside c.in-If.is here c.requires.few (test_is _ _ (search rules)) refl refl refl c.push.ensures.items refl
+    if_step b c.args.self.now _ c.args.statement.now c.in-If.cond c.in-If.yes c.in-If.no c.in_ok-held-in-If.held inside c.in-If.is here
+    c.requires.few (test_is _ _ (search rules)) refl refl refl c.push.ensures.items refl

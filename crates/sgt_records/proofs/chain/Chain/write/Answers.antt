@@ -4,7 +4,11 @@ use Rattle.sgt_records.proofs.ChainPlaces.{has_value, room_left}
 use Rattle.sgt_records.proofs.chain.Chain.write.Goals as goal
 
 pub push-requires : goal.push-requires
-push-requires c = (omega arith, subst (λ l. length l < 32) (sym c.take_out-earlier.ensures.left) (room_left c.args.t c.args.self.now.writes.items c.requires.chain.few c.requires.room))
+push-requires c = (
+  omega arith,
+  subst (λ l. length l < 32) (sym c.take_out-earlier.ensures.left)
+      (room_left c.args.t c.args.self.now.writes.items c.requires.chain.few c.requires.room),
+)
 
 pub returns-clause-again : goal.returns-clause-again
 returns-clause-again c = c.is_some.ensures ∙ (ap is_some c.take_out-earlier.ensures.value ∙ has_value c.args.t c.args.self.now.writes.items)

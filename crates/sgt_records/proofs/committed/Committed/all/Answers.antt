@@ -15,21 +15,29 @@ use Rattle.sgt_records.proofs.committed.Committed.all.Goals as goal
 pub put-requires : goal.put-requires
 put-requires c =
     let start = c.into_iter-key-iterator.ensures.into_iter_gives in
-    let found : get key_cmp c.args.self.now.records c.in-Some.key.now ≡ Some c.in-Some.record.now = (btree_map_turn deref_pair c.loop-key.yielded c.into_iter-key-iterator.result c.loop-key.key-iterator c.next.new.self c.next.result (c.in-Some.key, c.in-Some.record) c.loop-key.yielded_by c.in-Some.is c.next.ensures.steps key_order c.args.self.now.records start.0 start.5).1 in
-    subst IsValue (sym (to_z-of_z w64 c.in-Some-record.value (search rules))) (subst (λ (o : Option ℤ). IfSome o IsValue) (ap option_flatten found ∙ c.in-Some-record.is) (c.args.self.now.in_range c.in-Some.key.now))
+    let found : get key_cmp c.args.self.now.records c.in-Some.key.now ≡ Some c.in-Some.record.now =
+    (btree_map_turn deref_pair c.loop-key.yielded c.into_iter-key-iterator.result c.loop-key.key-iterator c.next.new.self c.next.result
+    (c.in-Some.key, c.in-Some.record) c.loop-key.yielded_by c.in-Some.is c.next.ensures.steps key_order c.args.self.now.records start.0
+    start.5).1 in
+    subst IsValue (sym (to_z-of_z w64 c.in-Some-record.value (search rules)))
+    (subst (λ (o : Option ℤ). IfSome o IsValue) (ap option_flatten found ∙ c.in-Some-record.is)
+    (c.args.self.now.in_range c.in-Some.key.now))
 
 pub loop-key-preserved-in-Continue-1 : goal.loop-key-preserved-in-Continue-1
 loop-key-preserved-in-Continue-1 c =
     let records = c.args.self.now.records in
     let key = c.in-Some.key.now in
     let start = c.into_iter-key-iterator.ensures.into_iter_gives in
-    let found : get key_cmp records key ≡ Some c.in-Some.record.now = (btree_map_turn deref_pair c.loop-key.yielded c.into_iter-key-iterator.result c.loop-key.key-iterator c.next.new.self c.next.result (c.in-Some.key, c.in-Some.record) c.loop-key.yielded_by c.in-Some.is c.next.ensures.steps key_order records start.0 start.5).1 in
+    let found : get key_cmp records key ≡ Some c.in-Some.record.now =
+    (btree_map_turn deref_pair c.loop-key.yielded c.into_iter-key-iterator.result c.loop-key.key-iterator c.next.new.self c.next.result
+    (c.in-Some.key, c.in-Some.record) c.loop-key.yielded_by c.in-Some.is c.next.ensures.steps key_order records start.0 start.5).1 in
     record {
       by_key = c.in_ok-put.ensures.by_key;
       values = λ k. c.in_ok-put.ensures.put k
           ∙ (ap (λ v. cond (key_eq key k) (Some v) (contents_of c.loop-key.values k)) (to_z-of_z w64 c.in-Some-record.value (search rules))
           ∙ (ap (λ o. cond (key_eq key k) (Some c.in-Some-record.value) o) (c.loop-key.invariant.values k)
-          ∙ (sym (value_more records (map deref_pair c.loop-key.yielded) key c.in-Some-record.value (found ∙ ap (λ o. Some o) c.in-Some-record.is) k)
+          ∙ (sym (value_more records (map deref_pair c.loop-key.yielded) key c.in-Some-record.value
+          (found ∙ ap (λ o. Some o) c.in-Some-record.is) k)
           ∙ (ap (λ (o : Option ℤ). read_so_far records (map deref_pair c.loop-key.yielded ++ (key, o) ∷ []) k) (sym c.in-Some-record.is)
           ∙ ap (λ l. read_so_far records l k) (sym (map-append deref_pair c.loop-key.yielded ((c.in-Some.key, c.in-Some.record) ∷ [])))))));
     }
@@ -39,7 +47,9 @@ loop-key-preserved c =
     let records = c.args.self.now.records in
     let key = c.in-Some.key.now in
     let start = c.into_iter-key-iterator.ensures.into_iter_gives in
-    let found : get key_cmp records key ≡ Some c.in-Some.record.now = (btree_map_turn deref_pair c.loop-key.yielded c.into_iter-key-iterator.result c.loop-key.key-iterator c.next.new.self c.next.result (c.in-Some.key, c.in-Some.record) c.loop-key.yielded_by c.in-Some.is c.next.ensures.steps key_order records start.0 start.5).1 in
+    let found : get key_cmp records key ≡ Some c.in-Some.record.now =
+    (btree_map_turn deref_pair c.loop-key.yielded c.into_iter-key-iterator.result c.loop-key.key-iterator c.next.new.self c.next.result
+    (c.in-Some.key, c.in-Some.record) c.loop-key.yielded_by c.in-Some.is c.next.ensures.steps key_order records start.0 start.5).1 in
     record {
       by_key = c.loop-key.invariant.by_key;
       values = λ k. c.loop-key.invariant.values k

@@ -7,7 +7,10 @@ use Rattle.sgt_records.proofs.committed.Committed.reserve.Goals as goal
 pub invariant_of-self : goal.invariant_of-self
 invariant_of-self c =
     let absent : get key_cmp c.args.self.now.records c.args.key ≡ None = search rules in
-    record { in_range = values_same c.args.self.now.records c.insert.new.self c.args.key c.insert.result absent c.insert.ensures.updates c.insert.ensures.err c.args.self.now.in_range }
+    record {
+      in_range = values_same c.args.self.now.records c.insert.new.self c.args.key c.insert.result absent c.insert.ensures.updates
+          c.insert.ensures.err c.args.self.now.in_range;
+    }
 
 pub returns-in_ok-insert-clause-same : goal.returns-in_ok-insert-clause-same
 returns-in_ok-insert-clause-same c =

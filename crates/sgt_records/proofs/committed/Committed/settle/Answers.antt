@@ -18,13 +18,17 @@ loop-write-preserved c =
       | then-eq b ↦
           let own : w.by ≡ c.args.t = eqb-true w.by c.args.t (sym c.eq.ensures ∙ b.if-eq.true) in
           rw b.self-is record {
-            settled = λ k. settle_more c.args.t writes at w c.loop-write-test.true c.write-item.is (λ j. c.requires.pending.once c.args.t j) own k (settled_in c.loop-write.self.records k) (settled_in b.put.new.self.records k) (opening k) (b.put.ensures.put k ∙ ap (λ v. cond (key_eq w.key k) (Some v) (settled_in c.loop-write.self.records k)) (to_z-of_z w64 w.value (search rules))) (c.loop-write.invariant.settled k);
+            settled = λ k. settle_more c.args.t writes at w c.loop-write-test.true c.write-item.is (λ j. c.requires.pending.once c.args.t j)
+                own k (settled_in c.loop-write.self.records k) (settled_in b.put.new.self.records k) (opening k)
+                (b.put.ensures.put k ∙ ap (λ v. cond (key_eq w.key k) (Some v) (settled_in c.loop-write.self.records k))
+                (to_z-of_z w64 w.value (search rules))) (c.loop-write.invariant.settled k);
             kept = λ k h. b.put.ensures.kept k (c.loop-write.invariant.kept k h);
           }
       | else-eq b ↦
           let other : w.by ≢ c.args.t = eqb-false w.by c.args.t (sym c.eq.ensures ∙ b.if-eq.false) in
           rw b.self-is record {
-            settled = λ k. c.loop-write.invariant.settled k ∙ ap (λ o. option_or o (opening k)) (settle_other c.args.t writes at w c.loop-write-test.true c.write-item.is other k);
+            settled = λ k. c.loop-write.invariant.settled k ∙ ap (λ o. option_or o (opening k))
+                (settle_other c.args.t writes at w c.loop-write-test.true c.write-item.is other k);
             kept = c.loop-write.invariant.kept;
           }
     ]

@@ -20,22 +20,31 @@ pub put-requires : goal.put-requires
 put-requires c =
     let records = c.args.self.now.records in
     let start = c.into_iter-key-iterator.ensures.into_iter_gives in
-    let found : get key_cmp records c.in-Some.key.now ≡ Some c.in-Some.record.now = (btree_map_turn deref_pair c.loop-key.yielded c.into_iter-key-iterator.result c.loop-key.key-iterator c.next.new.self c.next.result (c.in-Some.key, c.in-Some.record) c.loop-key.yielded_by c.in-Some.is c.next.ensures.steps key_order records start.0 start.5).1 in
-    subst IsValue (sym (to_z-of_z w64 c.in-Some-committed.value (search rules))) (subst (λ (o : Option ℤ). IfSome o IsValue) c.in-Some-committed.is (value_there records c.args.self.now.chains c.in-Some.key.now c.in-Some.record.now found c.args.self.now.is_index))
+    let found : get key_cmp records c.in-Some.key.now ≡ Some c.in-Some.record.now =
+    (btree_map_turn deref_pair c.loop-key.yielded c.into_iter-key-iterator.result c.loop-key.key-iterator c.next.new.self c.next.result
+    (c.in-Some.key, c.in-Some.record) c.loop-key.yielded_by c.in-Some.is c.next.ensures.steps key_order records start.0 start.5).1 in
+    subst IsValue (sym (to_z-of_z w64 c.in-Some-committed.value (search rules)))
+    (subst (λ (o : Option ℤ). IfSome o IsValue) c.in-Some-committed.is
+    (value_there records c.args.self.now.chains c.in-Some.key.now c.in-Some.record.now found c.args.self.now.is_index))
 
 pub loop-key-preserved-in-Continue-1 : goal.loop-key-preserved-in-Continue-1
 loop-key-preserved-in-Continue-1 c =
     let records = c.args.self.now.records in
     let key = c.in-Some.key.now in
     let start = c.into_iter-key-iterator.ensures.into_iter_gives in
-    let found : get key_cmp records key ≡ Some c.in-Some.record.now = (btree_map_turn deref_pair c.loop-key.yielded c.into_iter-key-iterator.result c.loop-key.key-iterator c.next.new.self c.next.result (c.in-Some.key, c.in-Some.record) c.loop-key.yielded_by c.in-Some.is c.next.ensures.steps key_order records start.0 start.5).1 in
+    let found : get key_cmp records key ≡ Some c.in-Some.record.now =
+    (btree_map_turn deref_pair c.loop-key.yielded c.into_iter-key-iterator.result c.loop-key.key-iterator c.next.new.self c.next.result
+    (c.in-Some.key, c.in-Some.record) c.loop-key.yielded_by c.in-Some.is c.next.ensures.steps key_order records start.0 start.5).1 in
     record {
       by_key = c.in_ok-put.ensures.by_key;
       values = λ k. c.in_ok-put.ensures.put k
-          ∙ (ap (λ v. cond (key_eq key k) (Some v) (contents_of c.loop-key.values k)) (to_z-of_z w64 c.in-Some-committed.value (search rules))
+          ∙ (ap (λ v. cond (key_eq key k) (Some v) (contents_of c.loop-key.values k))
+          (to_z-of_z w64 c.in-Some-committed.value (search rules))
           ∙ (ap (λ o. cond (key_eq key k) (Some c.in-Some-committed.value) o) (c.loop-key.invariant.values k)
-          ∙ (sym (value_more value records (map deref_pair c.loop-key.yielded) key c.in-Some.record.now c.in-Some-committed.value found c.in-Some-committed.is k)
-          ∙ ap (λ l. given_so_far value records l k) (sym (map-append deref_pair c.loop-key.yielded ((c.in-Some.key, c.in-Some.record) ∷ []))))));
+          ∙ (sym (value_more value records (map deref_pair c.loop-key.yielded) key c.in-Some.record.now c.in-Some-committed.value found
+          c.in-Some-committed.is k)
+          ∙ ap (λ l. given_so_far value records l k) (sym (map-append deref_pair c.loop-key.yielded
+          ((c.in-Some.key, c.in-Some.record) ∷ []))))));
     }
 
 pub loop-key-preserved : goal.loop-key-preserved
@@ -43,12 +52,15 @@ loop-key-preserved c =
     let records = c.args.self.now.records in
     let key = c.in-Some.key.now in
     let start = c.into_iter-key-iterator.ensures.into_iter_gives in
-    let found : get key_cmp records key ≡ Some c.in-Some.record.now = (btree_map_turn deref_pair c.loop-key.yielded c.into_iter-key-iterator.result c.loop-key.key-iterator c.next.new.self c.next.result (c.in-Some.key, c.in-Some.record) c.loop-key.yielded_by c.in-Some.is c.next.ensures.steps key_order records start.0 start.5).1 in
+    let found : get key_cmp records key ≡ Some c.in-Some.record.now =
+    (btree_map_turn deref_pair c.loop-key.yielded c.into_iter-key-iterator.result c.loop-key.key-iterator c.next.new.self c.next.result
+    (c.in-Some.key, c.in-Some.record) c.loop-key.yielded_by c.in-Some.is c.next.ensures.steps key_order records start.0 start.5).1 in
     record {
       by_key = c.loop-key.invariant.by_key;
       values = λ k. c.loop-key.invariant.values k
           ∙ (sym (blank_more value records (map deref_pair c.loop-key.yielded) key c.in-Some.record.now found c.in_default.is k)
-          ∙ ap (λ l. given_so_far value records l k) (sym (map-append deref_pair c.loop-key.yielded ((c.in-Some.key, c.in-Some.record) ∷ []))));
+          ∙ ap (λ l. given_so_far value records l k) (sym (map-append deref_pair c.loop-key.yielded
+          ((c.in-Some.key, c.in-Some.record) ∷ []))));
     }
 
 pub returns-clause-values : goal.returns-clause-values

@@ -3,4 +3,5 @@ use Rattle.sgt_records.proofs.RecordPlaces.{value_there}
 use Rattle.sgt_records.proofs.index.Index.committed.Goals as goal
 
 pub returns-in-Some-clause-in_range : goal.returns-in-Some-clause-in_range
-returns-in-Some-clause-in_range c = value_there c.args.self.now.records c.args.self.now.chains c.args.key c.in-Some.record.now (search rules) c.args.self.now.is_index
+returns-in-Some-clause-in_range c =
+    value_there c.args.self.now.records c.args.self.now.chains c.args.key c.in-Some.record.now (search rules) c.args.self.now.is_index

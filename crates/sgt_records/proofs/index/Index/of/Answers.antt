@@ -16,14 +16,18 @@ loop-key-preserved c =
     let row : Row = c.loop-key-item.result in
     let rows = c.args.opening.now in
     let records = c.loop-key.records in
-    let at : slice_get rows c.loop-key.key-index ≡ Some row = rw (← c.rows-key-items.ensures.rows) (slice_get_read c.rows-key-items.result.now _ c.loop-key.key-index row refl c.loop-key-test.true c.loop-key-item.is) in
-    let value : c.settled.result.committed ≡ Some row.1 = c.settled.ensures.committed ∙ ap (λ (v : ℤ). Some v) (to_z-of_z w64 row.1 (search rules)) in
+    let at : slice_get rows c.loop-key.key-index ≡ Some row = rw (← c.rows-key-items.ensures.rows)
+    (slice_get_read c.rows-key-items.result.now _ c.loop-key.key-index row refl c.loop-key-test.true c.loop-key-item.is) in
+    let value : c.settled.result.committed ≡ Some row.1 = c.settled.ensures.committed
+    ∙ ap (λ (v : ℤ). Some v) (to_z-of_z w64 row.1 (search rules)) in
     record {
       values = λ k. committed_told records c.insert.new.self row.0 c.settled.result c.in_ok-insert.ensures.updates k
           ∙ (ap (λ o. cond (key_eq row.0 k) o (committed_of records k)) value
           ∙ (ap (λ o. cond (key_eq row.0 k) (Some row.1) o) (c.loop-key.invariant.values k)
-          ∙ sym (row_more rows c.loop-key.key-index row (subst IsByKey c.rows-key-items.ensures.rows c.rows-key-items.ensures.by_key) at k)));
-      none = still_none records c.insert.new.self row.0 c.settled.result c.in_ok-insert.ensures.updates c.settled.ensures.place c.loop-key.invariant.none;
+          ∙ sym (row_more rows c.loop-key.key-index row (subst IsByKey c.rows-key-items.ensures.rows c.rows-key-items.ensures.by_key) at
+          k)));
+      none = still_none records c.insert.new.self row.0 c.settled.result c.in_ok-insert.ensures.updates c.settled.ensures.place
+          c.loop-key.invariant.none;
     }
 
 pub invariant_of-result : goal.invariant_of-result
@@ -32,7 +36,8 @@ invariant_of-result c =
     let whole = take_all c.loop-key.key-index rows (rw (← c.rows-key-items.ensures.rows) c.loop-key-test.false) in
     record {
       is_index = index_none c.loop-key.records c.new.result c.loop-key.invariant.none
-          (λ k. subst (λ (o : Option ℤ). IfSome o IsValue) (ap (λ l. contents_of l k) (sym whole) ∙ sym (c.loop-key.invariant.values k)) (rows_values rows (subst HasValues c.rows-key-items.ensures.rows c.rows-key-items.ensures.values) k))
+          (λ k. subst (λ (o : Option ℤ). IfSome o IsValue) (ap (λ l. contents_of l k) (sym whole) ∙ sym (c.loop-key.invariant.values k))
+          (rows_values rows (subst HasValues c.rows-key-items.ensures.rows c.rows-key-items.ensures.values) k))
           (λ k. chain_empty)
           (λ p. rw c.new.ensures.empty refl);
     }

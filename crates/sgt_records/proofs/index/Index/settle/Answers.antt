@@ -9,10 +9,12 @@ use Rattle.sgt_records.proofs.ChainsKept.{chain_left, value_settled}
 use Rattle.sgt_records.proofs.index.Index.settle.Goals as goal
 
 pub settle-requires-clause-held : goal.settle-requires-clause-held
-settle-requires-clause-held c = held_there c.args.self.now.records c.args.self.now.chains c.args.key c.in-Some.record.now (search rules) c.args.self.now.is_index
+settle-requires-clause-held c =
+    held_there c.args.self.now.records c.args.self.now.chains c.args.key c.in-Some.record.now (search rules) c.args.self.now.is_index
 
 pub settle-requires-clause-chain : goal.settle-requires-clause-chain
-settle-requires-clause-chain c = chain_there c.args.self.now.records c.args.self.now.chains c.args.key c.in-Some.record.now (search rules) c.args.self.now.is_index
+settle-requires-clause-chain c =
+    chain_there c.args.self.now.records c.args.self.now.chains c.args.key c.in-Some.record.now (search rules) c.args.self.now.is_index
 
 pub invariant_of-self : goal.invariant_of-self
 invariant_of-self c =
@@ -21,11 +23,13 @@ invariant_of-self c =
     let old = c.in-Some.record.now in
     let new = c.settle.new.self in
     let is : get key_cmp records c.args.key ≡ Some old = search rules in
-    let told : Updates key_cmp records (c.get_mut.follows.lender new) c.args.key (Some new) = (c.get_mut.follows.holds new).3 (search rules) in
+    let told : Updates key_cmp records (c.get_mut.follows.lender new) c.args.key (Some new) =
+    (c.get_mut.follows.holds new).3 (search rules) in
     let chain = chain_there records chains c.args.key old is c.args.self.now.is_index in
     let value = value_there records chains c.args.key old is c.args.self.now.is_index in
     record {
-      is_index = index_told records (c.get_mut.follows.lender new) c.args.key new told chains c.settle.new.chains c.args.self.now.is_index old.place (place_is records chains c.args.key old is c.args.self.now.is_index) c.settle.ensures.moves
+      is_index = index_told records (c.get_mut.follows.lender new) c.args.key new told chains c.settle.new.chains c.args.self.now.is_index
+          old.place (place_is records chains c.args.key old is c.args.self.now.is_index) c.settle.ensures.moves
           (subst IsChain (sym c.settle.ensures.left) (chain_left c.args.t _ chain))
           (subst (λ (o : Option ℤ). IfSome o IsValue) (sym c.settle.ensures.committed) (value_settled c.args.t _ _ chain.values value));
     }
@@ -37,8 +41,10 @@ returns-in-Some-clause-chain c =
     let old = c.in-Some.record.now in
     let new = c.settle.new.self in
     let is : get key_cmp records c.args.key ≡ Some old = search rules in
-    let told : Updates key_cmp records (c.get_mut.follows.lender new) c.args.key (Some new) = (c.get_mut.follows.holds new).3 (search rules) in
-    chain_by records (c.get_mut.follows.lender new) c.args.key new told chains c.settle.new.chains c.args.self.now.is_index old.place (place_is records chains c.args.key old is c.args.self.now.is_index) c.settle.ensures.moves (without c.args.t) c.settle.ensures.left
+    let told : Updates key_cmp records (c.get_mut.follows.lender new) c.args.key (Some new) =
+    (c.get_mut.follows.holds new).3 (search rules) in
+    chain_by records (c.get_mut.follows.lender new) c.args.key new told chains c.settle.new.chains c.args.self.now.is_index old.place
+    (place_is records chains c.args.key old is c.args.self.now.is_index) c.settle.ensures.moves (without c.args.t) c.settle.ensures.left
 
 pub returns-in-Some-clause-settled : goal.returns-in-Some-clause-settled
 returns-in-Some-clause-settled c =
@@ -47,5 +53,8 @@ returns-in-Some-clause-settled c =
     let old = c.in-Some.record.now in
     let new = c.settle.new.self in
     let is : get key_cmp records c.args.key ≡ Some old = search rules in
-    let told : Updates key_cmp records (c.get_mut.follows.lender new) c.args.key (Some new) = (c.get_mut.follows.holds new).3 (search rules) in
-    committed_by records (c.get_mut.follows.lender new) c.args.key new told chains c.settle.new.chains c.args.self.now.is_index old.place (place_is records chains c.args.key old is c.args.self.now.is_index) c.settle.ensures.moves c.args.t old.committed (committed_is records chains c.args.key old is c.args.self.now.is_index) c.settle.ensures.committed
+    let told : Updates key_cmp records (c.get_mut.follows.lender new) c.args.key (Some new) =
+    (c.get_mut.follows.holds new).3 (search rules) in
+    committed_by records (c.get_mut.follows.lender new) c.args.key new told chains c.settle.new.chains c.args.self.now.is_index old.place
+    (place_is records chains c.args.key old is c.args.self.now.is_index) c.settle.ensures.moves c.args.t old.committed
+    (committed_is records chains c.args.key old is c.args.self.now.is_index) c.settle.ensures.committed

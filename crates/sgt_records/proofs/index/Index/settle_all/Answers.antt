@@ -16,13 +16,24 @@ loop-write-preserved c =
       | then-eq b ↦
           let own : w.by ≡ c.args.t = eqb-true w.by c.args.t (sym c.eq.ensures ∙ b.if-eq.true) in
           rw b.self-is record {
-            chain = λ k. undo_more c.args.t writes at w c.loop-write-test.true c.write-item.is own k (key_chain c.args.self.now.records c.args.self.now.chains k) _ _ (b.settle.ensures.chain k) (c.loop-write.invariant.chain k);
-            settled = λ k. settle_more c.args.t writes at w c.loop-write-test.true c.write-item.is own k _ (key_chain c.args.self.now.records c.args.self.now.chains k) (committed_of c.args.self.now.records k) _ _ (b.settle.ensures.settled k) (c.loop-write.invariant.chain k) (c.loop-write.invariant.settled k);
+            chain = λ k. undo_more c.args.t writes at w c.loop-write-test.true c.write-item.is own k
+                (key_chain c.args.self.now.records c.args.self.now.chains k) _ _ (b.settle.ensures.chain k)
+                (c.loop-write.invariant.chain k);
+            settled = λ k. settle_more c.args.t writes at w c.loop-write-test.true c.write-item.is own k _
+                (key_chain c.args.self.now.records c.args.self.now.chains k) (committed_of c.args.self.now.records k) _ _
+                (b.settle.ensures.settled k) (c.loop-write.invariant.chain k) (c.loop-write.invariant.settled k);
           }
       | else-eq b ↦
           let other : w.by ≢ c.args.t = eqb-false w.by c.args.t (sym c.eq.ensures ∙ b.if-eq.false) in
           rw b.self-is record {
-            chain = λ k. c.loop-write.invariant.chain k ∙ ap (λ d. cond d (without c.args.t (key_chain c.args.self.now.records c.args.self.now.chains k)) (key_chain c.args.self.now.records c.args.self.now.chains k)) (sym (live_other c.args.t writes at w c.loop-write-test.true c.write-item.is other k));
-            settled = λ k. c.loop-write.invariant.settled k ∙ ap (λ d. cond d (option_or (value_in c.args.t (key_chain c.args.self.now.records c.args.self.now.chains k)) (committed_of c.args.self.now.records k)) (committed_of c.args.self.now.records k)) (sym (live_other c.args.t writes at w c.loop-write-test.true c.write-item.is other k));
+            chain =
+                λ k. c.loop-write.invariant.chain k ∙ ap (λ d. cond d
+                (without c.args.t (key_chain c.args.self.now.records c.args.self.now.chains k))
+                (key_chain c.args.self.now.records c.args.self.now.chains k))
+                (sym (live_other c.args.t writes at w c.loop-write-test.true c.write-item.is other k));
+            settled = λ k. c.loop-write.invariant.settled k ∙ ap
+                (λ d. cond d (option_or (value_in c.args.t (key_chain c.args.self.now.records c.args.self.now.chains k))
+                (committed_of c.args.self.now.records k)) (committed_of c.args.self.now.records k))
+                (sym (live_other c.args.t writes at w c.loop-write-test.true c.write-item.is other k));
           }
     ]

@@ -9,6 +9,9 @@ use Rattle.sgt_records.proofs.index.Index.settle_all.Given as goal
 -- t's writes so far are settled
 abbrev pub invariant-loop-write : goal.invariant-loop-write
 invariant-loop-write l = record {
-  chain : (k : Key) → key_chain l.self.records l.self.chains k ≡ cond (is_live l.t k (take l.write-index l.writes)) (without l.t (key_chain l.fn.self.records l.fn.self.chains k)) (key_chain l.fn.self.records l.fn.self.chains k);
-  settled : (k : Key) → committed_of l.self.records k ≡ cond (is_live l.t k (take l.write-index l.writes)) (option_or (value_in l.t (key_chain l.fn.self.records l.fn.self.chains k)) (committed_of l.fn.self.records k)) (committed_of l.fn.self.records k);
+  chain : (k : Key) → key_chain l.self.records l.self.chains k ≡ cond (is_live l.t k (take l.write-index l.writes))
+      (without l.t (key_chain l.fn.self.records l.fn.self.chains k)) (key_chain l.fn.self.records l.fn.self.chains k);
+  settled : (k : Key) → committed_of l.self.records k ≡ cond (is_live l.t k (take l.write-index l.writes))
+      (option_or (value_in l.t (key_chain l.fn.self.records l.fn.self.chains k)) (committed_of l.fn.self.records k))
+      (committed_of l.fn.self.records k);
 }

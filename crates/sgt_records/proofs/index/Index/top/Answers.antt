@@ -13,4 +13,6 @@ returns-in-Some-clause-in_range c =
     let records = c.args.self.now.records in
     let chains = c.args.self.now.chains in
     let record_is : get key_cmp records c.args.key ≡ Some c.in-Some.record.now = search rules in
-    subst (λ (found : Top). IfSome (value_of found) IsValue) (sym c.top.ensures) (top_value _ _ (chain_there records chains c.args.key c.in-Some.record.now record_is c.args.self.now.is_index) (value_there records chains c.args.key c.in-Some.record.now record_is c.args.self.now.is_index))
+    subst (λ (found : Top). IfSome (value_of found) IsValue) (sym c.top.ensures)
+    (top_value _ _ (chain_there records chains c.args.key c.in-Some.record.now record_is c.args.self.now.is_index)
+    (value_there records chains c.args.key c.in-Some.record.now record_is c.args.self.now.is_index))

@@ -9,10 +9,12 @@ use Rattle.sgt_records.proofs.ChainsKept.{chain_left}
 use Rattle.sgt_records.proofs.index.Index.undo.Goals as goal
 
 pub take_out-requires-clause-held : goal.take_out-requires-clause-held
-take_out-requires-clause-held c = held_there c.args.self.now.records c.args.self.now.chains c.args.key c.in-Some.record.now (search rules) c.args.self.now.is_index
+take_out-requires-clause-held c =
+    held_there c.args.self.now.records c.args.self.now.chains c.args.key c.in-Some.record.now (search rules) c.args.self.now.is_index
 
 pub take_out-requires-clause-chain : goal.take_out-requires-clause-chain
-take_out-requires-clause-chain c = chain_there c.args.self.now.records c.args.self.now.chains c.args.key c.in-Some.record.now (search rules) c.args.self.now.is_index
+take_out-requires-clause-chain c =
+    chain_there c.args.self.now.records c.args.self.now.chains c.args.key c.in-Some.record.now (search rules) c.args.self.now.is_index
 
 pub invariant_of-self : goal.invariant_of-self
 invariant_of-self c =
@@ -21,11 +23,13 @@ invariant_of-self c =
     let old = c.in-Some.record.now in
     let new = c.take_out.new.self in
     let is : get key_cmp records c.args.key ≡ Some old = search rules in
-    let told : Updates key_cmp records (c.get_mut.follows.lender new) c.args.key (Some new) = (c.get_mut.follows.holds new).3 (search rules) in
+    let told : Updates key_cmp records (c.get_mut.follows.lender new) c.args.key (Some new) =
+    (c.get_mut.follows.holds new).3 (search rules) in
     let chain = chain_there records chains c.args.key old is c.args.self.now.is_index in
     let value = value_there records chains c.args.key old is c.args.self.now.is_index in
     record {
-      is_index = index_told records (c.get_mut.follows.lender new) c.args.key new told chains c.take_out.new.chains c.args.self.now.is_index old.place (place_is records chains c.args.key old is c.args.self.now.is_index) c.take_out.ensures.moves
+      is_index = index_told records (c.get_mut.follows.lender new) c.args.key new told chains c.take_out.new.chains c.args.self.now.is_index
+          old.place (place_is records chains c.args.key old is c.args.self.now.is_index) c.take_out.ensures.moves
           (subst IsChain (sym c.take_out.ensures.left) (chain_left c.args.t _ chain))
           (subst (λ (o : Option ℤ). IfSome o IsValue) (sym c.take_out.ensures.committed) value);
     }
@@ -37,8 +41,11 @@ returns-in-Some-clause-chain c =
     let old = c.in-Some.record.now in
     let new = c.take_out.new.self in
     let is : get key_cmp records c.args.key ≡ Some old = search rules in
-    let told : Updates key_cmp records (c.get_mut.follows.lender new) c.args.key (Some new) = (c.get_mut.follows.holds new).3 (search rules) in
-    chain_by records (c.get_mut.follows.lender new) c.args.key new told chains c.take_out.new.chains c.args.self.now.is_index old.place (place_is records chains c.args.key old is c.args.self.now.is_index) c.take_out.ensures.moves (without c.args.t) c.take_out.ensures.left
+    let told : Updates key_cmp records (c.get_mut.follows.lender new) c.args.key (Some new) =
+    (c.get_mut.follows.holds new).3 (search rules) in
+    chain_by records (c.get_mut.follows.lender new) c.args.key new told chains c.take_out.new.chains c.args.self.now.is_index old.place
+    (place_is records chains c.args.key old is c.args.self.now.is_index) c.take_out.ensures.moves (without c.args.t)
+    c.take_out.ensures.left
 
 pub returns-in-Some-clause-settled : goal.returns-in-Some-clause-settled
 returns-in-Some-clause-settled c =
@@ -47,5 +54,7 @@ returns-in-Some-clause-settled c =
     let old = c.in-Some.record.now in
     let new = c.take_out.new.self in
     let is : get key_cmp records c.args.key ≡ Some old = search rules in
-    let told : Updates key_cmp records (c.get_mut.follows.lender new) c.args.key (Some new) = (c.get_mut.follows.holds new).3 (search rules) in
-    committed_same records (c.get_mut.follows.lender new) c.args.key new told (c.take_out.ensures.committed ∙ sym (committed_is records chains c.args.key old is c.args.self.now.is_index))
+    let told : Updates key_cmp records (c.get_mut.follows.lender new) c.args.key (Some new) =
+    (c.get_mut.follows.holds new).3 (search rules) in
+    committed_same records (c.get_mut.follows.lender new) c.args.key new told
+    (c.take_out.ensures.committed ∙ sym (committed_is records chains c.args.key old is c.args.self.now.is_index))

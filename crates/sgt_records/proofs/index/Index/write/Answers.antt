@@ -17,13 +17,18 @@ invariant_of-self c =
     let old = c.in-Some.record.now in
     let new = c.write.new.self in
     let is : get key_cmp records c.args.key ≡ Some old = search rules in
-    let last : chain_at c.write.new.chains new.place ≡ write_last c.args.t c.args.value (chain_at chains old.place) = c.write.ensures.last ∙ ap (λ v. write_last c.args.t v (chain_at chains old.place)) (to_z-of_z w64 c.args.value c.ranges.value) in
-    let told : Updates key_cmp records (c.get_mut.follows.lender new) c.args.key (Some new) = (c.get_mut.follows.holds new).3 (search rules) in
+    let last : chain_at c.write.new.chains new.place ≡ write_last c.args.t c.args.value (chain_at chains old.place) = c.write.ensures.last
+    ∙ ap (λ v. write_last c.args.t v (chain_at chains old.place)) (to_z-of_z w64 c.args.value c.ranges.value) in
+    let told : Updates key_cmp records (c.get_mut.follows.lender new) c.args.key (Some new) =
+    (c.get_mut.follows.holds new).3 (search rules) in
     let chain = chain_there records chains c.args.key old is c.args.self.now.is_index in
     let value = value_there records chains c.args.key old is c.args.self.now.is_index in
     record {
-      is_index = index_told records (c.get_mut.follows.lender new) c.args.key new told chains c.write.new.chains c.args.self.now.is_index old.place (place_is records chains c.args.key old is c.args.self.now.is_index) c.write.ensures.moves
-          (subst IsChain (sym last) (chain_written c.args.t c.args.value _ chain c.requires.in_range (subst (λ l. writes_in c.args.t l ≡ false → length l < 32) (ap (chain_at chains) (place_is records chains c.args.key old is c.args.self.now.is_index)) c.requires.room)))
+      is_index = index_told records (c.get_mut.follows.lender new) c.args.key new told chains c.write.new.chains c.args.self.now.is_index
+          old.place (place_is records chains c.args.key old is c.args.self.now.is_index) c.write.ensures.moves
+          (subst IsChain (sym last) (chain_written c.args.t c.args.value _ chain c.requires.in_range
+          (subst (λ l. writes_in c.args.t l ≡ false → length l < 32)
+          (ap (chain_at chains) (place_is records chains c.args.key old is c.args.self.now.is_index)) c.requires.room)))
           (subst (λ (o : Option ℤ). IfSome o IsValue) (sym c.write.ensures.committed) value);
     }
 
@@ -34,9 +39,12 @@ returns-clause-chain c =
     let old = c.in-Some.record.now in
     let new = c.write.new.self in
     let is : get key_cmp records c.args.key ≡ Some old = search rules in
-    let last : chain_at c.write.new.chains new.place ≡ write_last c.args.t c.args.value (chain_at chains old.place) = c.write.ensures.last ∙ ap (λ v. write_last c.args.t v (chain_at chains old.place)) (to_z-of_z w64 c.args.value c.ranges.value) in
-    let told : Updates key_cmp records (c.get_mut.follows.lender new) c.args.key (Some new) = (c.get_mut.follows.holds new).3 (search rules) in
-    chain_by records (c.get_mut.follows.lender new) c.args.key new told chains c.write.new.chains c.args.self.now.is_index old.place (place_is records chains c.args.key old is c.args.self.now.is_index) c.write.ensures.moves (write_last c.args.t c.args.value) last
+    let last : chain_at c.write.new.chains new.place ≡ write_last c.args.t c.args.value (chain_at chains old.place) = c.write.ensures.last
+    ∙ ap (λ v. write_last c.args.t v (chain_at chains old.place)) (to_z-of_z w64 c.args.value c.ranges.value) in
+    let told : Updates key_cmp records (c.get_mut.follows.lender new) c.args.key (Some new) =
+    (c.get_mut.follows.holds new).3 (search rules) in
+    chain_by records (c.get_mut.follows.lender new) c.args.key new told chains c.write.new.chains c.args.self.now.is_index old.place
+    (place_is records chains c.args.key old is c.args.self.now.is_index) c.write.ensures.moves (write_last c.args.t c.args.value) last
 
 pub returns-clause-settled : goal.returns-clause-settled
 returns-clause-settled c =
@@ -45,6 +53,9 @@ returns-clause-settled c =
     let old = c.in-Some.record.now in
     let new = c.write.new.self in
     let is : get key_cmp records c.args.key ≡ Some old = search rules in
-    let last : chain_at c.write.new.chains new.place ≡ write_last c.args.t c.args.value (chain_at chains old.place) = c.write.ensures.last ∙ ap (λ v. write_last c.args.t v (chain_at chains old.place)) (to_z-of_z w64 c.args.value c.ranges.value) in
-    let told : Updates key_cmp records (c.get_mut.follows.lender new) c.args.key (Some new) = (c.get_mut.follows.holds new).3 (search rules) in
-    committed_same records (c.get_mut.follows.lender new) c.args.key new told (c.write.ensures.committed ∙ sym (committed_is records chains c.args.key old is c.args.self.now.is_index))
+    let last : chain_at c.write.new.chains new.place ≡ write_last c.args.t c.args.value (chain_at chains old.place) = c.write.ensures.last
+    ∙ ap (λ v. write_last c.args.t v (chain_at chains old.place)) (to_z-of_z w64 c.args.value c.ranges.value) in
+    let told : Updates key_cmp records (c.get_mut.follows.lender new) c.args.key (Some new) =
+    (c.get_mut.follows.holds new).3 (search rules) in
+    committed_same records (c.get_mut.follows.lender new) c.args.key new told
+    (c.write.ensures.committed ∙ sym (committed_is records chains c.args.key old is c.args.self.now.is_index))

@@ -10,13 +10,17 @@ use Rattle.sgt_records.proofs.list_records.ListRecords.last_write.Goals as goal
 pub returns-clause-last : goal.returns-clause-last
 returns-clause-last c =
     let writes = c.args.self.now.pending.items in
-    let found = find_from_yields_List (is_of c.args.key) _ _ c.find.result c.find.ensures.ran (YieldsList-from_rev_slice writes (search rules)) (λ x b q call. search rules) in
-    let last : last_or None (chain_in writes c.args.key) ≡ Some (c.in_ok-write.write.now.by, c.in_ok-write.write.now.value) = last_found writes c.args.key _ (ap (λ o. option_map (λ x. x.now) o) (sym c.in_ok-write.was) ∙ found) in
+    let found = find_from_yields_List (is_of c.args.key) _ _ c.find.result c.find.ensures.ran
+    (YieldsList-from_rev_slice writes (search rules)) (λ x b q call. search rules) in
+    let last : last_or None (chain_in writes c.args.key) ≡ Some (c.in_ok-write.write.now.by, c.in_ok-write.write.now.value) =
+    last_found writes c.args.key _ (ap (λ o. option_map (λ x. x.now) o) (sym c.in_ok-write.was) ∙ found) in
     sym (last ∙ ap (λ (v : ℤ). Some (c.in_ok-write.write.now.by, v)) (sym (to_z-of_z w64 c.in_ok-write.write.now.value (search rules))))
 
 pub returns-in_err-write-clause-last : goal.returns-in_err-write-clause-last
 returns-in_err-write-clause-last c =
     let writes = c.args.self.now.pending.items in
-    let found = find_from_yields_List (is_of c.args.key) _ _ c.find.result c.find.ensures.ran (YieldsList-from_rev_slice writes (search rules)) (λ x b q call. search rules) in
-    let last : last_or None (chain_in writes c.args.key) ≡ None = last_found writes c.args.key _ (ap (λ o. option_map (λ x. x.now) o) (sym c.in_err-write.was) ∙ found) in
+    let found = find_from_yields_List (is_of c.args.key) _ _ c.find.result c.find.ensures.ran
+    (YieldsList-from_rev_slice writes (search rules)) (λ x b q call. search rules) in
+    let last : last_or None (chain_in writes c.args.key) ≡ None =
+    last_found writes c.args.key _ (ap (λ o. option_map (λ x. x.now) o) (sym c.in_err-write.was) ∙ found) in
     c.from_residual.ensures ∙ sym last
