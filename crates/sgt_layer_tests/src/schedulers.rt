@@ -3,9 +3,7 @@
 use crate::spelled::spelled;
 use sgt_access::{Accesses, OneList};
 use sgt_graph::{Graph, PairGraph};
-use sgt_model::{
-    Answers, Args, Cause, Database, Event, Fate, Key, Kind, Limits, NoMemory, Reply, Tid, Tids,
-};
+use sgt_model::{Answers, Args, Cause, Database, Event, Fate, Key, Kind, Limits, Reply, Tid, Tids};
 use sgt_records::{ListRecords, Records};
 use sgt_sched::{Brief, Sched};
 use std::alloc::AllocGlobal;
@@ -44,7 +42,13 @@ fn steps_are_answered(rt: HostRuntime) -> Result<(), Fail> {
     let mut sched = scheduler(&rt)?;
     assert_eq!(rt; sched.step(Tid(0))?, Reply::Unknown);
     sched.start(0, &one_arg(&rt, SEVEN))?;
-    assert_eq!(rt; sched.step(Tid(0))?, Reply::Looked { key, value: Some(1) });
+    assert_eq!(rt;
+        sched.step(Tid(0))?,
+        Reply::Looked {
+            key,
+            value: Some(1)
+        }
+    );
     assert_eq!(rt; sched.step(Tid(0))?, Reply::Wrote { key, value: 5 });
     assert_eq!(rt; sched.step(Tid(0))?, Reply::Ended);
     sched.commit(Tid(0));
@@ -119,15 +123,27 @@ fn only_lists_are_placed(rt: HostRuntime) -> Result<(), Fail> {
     };
     assert_eq!(rt; sched.answer(&start, &mut place)?, Brief::Started(Tid(0)));
     let step = Event::Step(Tid(0));
-    assert_eq!(rt; sched.answer(&step, &mut place)?, Brief::Looked { key, value: Some(1) });
-    assert_eq!(rt; sched.answer(&step, &mut place)?, Brief::Wrote { key, value: 5 });
+    assert_eq!(rt;
+        sched.answer(&step, &mut place)?,
+        Brief::Looked {
+            key,
+            value: Some(1)
+        }
+    );
+    assert_eq!(rt;
+        sched.answer(&step, &mut place)?,
+        Brief::Wrote { key, value: 5 }
+    );
     assert_eq!(rt; place, Reply::Full);
     let commit = Event::Commit(Tid(0));
     assert!(rt; sched.ends(&commit));
     assert_eq!(rt; sched.answer(&commit, &mut place)?, Brief::Placed);
     assert_eq!(rt; place, committed(&rt, 1));
     assert!(rt; !sched.ends(&commit));
-    assert_eq!(rt; sched.answer(&Event::Quit(Tid(0)), &mut place)?, Brief::Placed);
+    assert_eq!(rt;
+        sched.answer(&Event::Quit(Tid(0)), &mut place)?,
+        Brief::Placed
+    );
     assert_eq!(rt; place, Reply::Over(Fate::Committed));
     Ok(())
 }

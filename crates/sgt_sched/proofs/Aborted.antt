@@ -26,18 +26,21 @@ use Rattle.sgt_sched.specs.Endings.{EndsAborted}
 use Rattle.sgt_sched.proofs.Lists.{rising-distinct}
 
 -- those that are reached along the reads fall
-pub falls_in : (most : ℕ) (c : State) (t : ℕ) (fell : List ℕ) → Sound most c → Rising fell → ((u : ℕ) → Member u fell ↔ (Member u c.live × (u ≢ t) × Reaches (Has c.read_from) t u)) → FallsIn c t fell
+pub falls_in : (most : ℕ) (c : State) (t : ℕ) (fell : List ℕ) → Sound most c → Rising fell
+    → ((u : ℕ) → Member u fell ↔ (Member u c.live × (u ≢ t) × Reaches (Has c.read_from) t u)) → FallsIn c t fell
 falls_in most c t fell sound rising exact = record {
   rising = rising;
   each = λ u m. (let r = (exact u).0 m in ((sound.listed u).1 r.0, r.1, r.2));
   all = λ u node apart reached. (exact u).1 ((sound.listed u).0 node, apart, reached);
 }
 
--- the same of a state that was seen as another's
-pub falls_seen : {P : Type 0} (held : P → State) (before now : P) → before ≡ now → (most t : ℕ) (fell live : List ℕ) (read_from : List (ℕ × ℕ)) → Sound most (held before) → live ≡ (held before).live → read_from ≡ (held before).read_from → Rising fell → ((u : ℕ) → Member u fell ↔ (Member u live × (u ≢ t) × Reaches (Has read_from) t u)) → FallsIn (held now) t fell
-falls_seen held before now seen most t fell live read_from sound lives reads rising exact =
-    subst (λ p. FallsIn (held p) t fell) seen
-    (falls_in most (held before) t fell sound rising (subst₂ (λ (l : List ℕ) (r : List (ℕ × ℕ)). (u : ℕ) → Member u fell ↔ (Member u l × (u ≢ t) × Reaches (Has r) t u)) lives reads exact))
+-- the same, by lists of the live ones and the reads
+pub falls_listed : (most : ℕ) (c : State) (t : ℕ) (fell live : List ℕ) (read_from : List (ℕ × ℕ)) → Sound most c → live ≡ c.live
+    → read_from ≡ c.read_from → Rising fell → ((u : ℕ) → Member u fell ↔ (Member u live × (u ≢ t) × Reaches (Has read_from) t u))
+    → FallsIn c t fell
+falls_listed most c t fell live read_from sound lives reads rising exact =
+    falls_in most c t fell sound rising (subst₂ (λ (l : List ℕ) (r : List (ℕ × ℕ)). (u : ℕ)
+    → Member u fell ↔ (Member u l × (u ≢ t) × Reaches (Has r) t u)) lives reads exact)
 
 -- the end of t alone is an abort with nobody that falls yet
 or_false : (b : Bool) → b ≡ (b || false)
@@ -58,7 +61,8 @@ group false true c = refl
 group false false true = refl
 group false false false = refl
 
-later : {X : Type 0} (first falls old : X) (a b c : Bool) → (c ≡ true → a ≡ true → ⊥) → cond c falls (cond a first (cond b falls old)) ≡ cond a first (cond (b || (c || false)) falls old)
+later : {X : Type 0} (first falls old : X) (a b c : Bool) → (c ≡ true → a ≡ true → ⊥)
+    → cond c falls (cond a first (cond b falls old)) ≡ cond a first (cond (b || (c || false)) falls old)
 later first falls old true b true apart = absurd (apart refl refl)
 later first falls old true b false apart = refl
 later first falls old false true true apart = refl
@@ -66,19 +70,28 @@ later first falls old false true false apart = refl
 later first falls old false false true apart = refl
 later first falls old false false false apart = refl
 
-pub drops_more : (t : ℕ) (why : Cause) (fell : List ℕ) (u : ℕ) (before now after : State) → u ≢ t → Drops t why fell before now → EndsAborted u (fate.Fell t) now after → Drops t why (fell ++ u ∷ []) before after
+pub drops_more : (t : ℕ) (why : Cause) (fell : List ℕ) (u : ℕ) (before now after : State) → u ≢ t → Drops t why fell before now
+    → EndsAborted u (fate.Fell t) now after → Drops t why (fell ++ u ∷ []) before after
 drops_more t why fell u before now after apart d e = record {
   removes = subst (λ gone. Removes gone before after) (fun_ext same) (removes_then _ _ before now after d.removes e.removes);
   settled = λ k. e.settled k ∙ d.settled k;
-  fates = λ w. e.fates w ∙ (ap (cond (nat_eq u w) (Some (fate.Fell t))) (d.fates w) ∙ (later (Some (fate.Aborted why)) (Some (fate.Fell t)) (before.fates w) (nat_eq t w) (list_any (λ v. nat_eq v w) fell) (nat_eq u w) (λ is_u is_t. apart (eqb-true u w is_u ∙ sym (eqb-true t w is_t))) ∙ ap (λ b. cond (nat_eq t w) (Some (fate.Aborted why)) (cond b (Some (fate.Fell t)) (before.fates w))) (sym (list_any-append (λ v. nat_eq v w) fell (u ∷ [])))));
+  fates = λ w. e.fates w ∙ (ap (cond (nat_eq u w) (Some (fate.Fell t))) (d.fates w)
+      ∙ (later (Some (fate.Aborted why)) (Some (fate.Fell t)) (before.fates w) (nat_eq t w) (list_any (λ v. nat_eq v w) fell) (nat_eq u w)
+      (λ is_u is_t. apart (eqb-true u w is_u ∙ sym (eqb-true t w is_t)))
+      ∙ ap (λ b. cond (nat_eq t w) (Some (fate.Aborted why)) (cond b (Some (fate.Fell t)) (before.fates w)))
+      (sym (list_any-append (λ v. nat_eq v w) fell (u ∷ [])))));
 } where
-  same : (w : ℕ) → ((nat_eq t w || list_any (λ v. nat_eq v w) fell) || nat_eq u w) ≡ (nat_eq t w || list_any (λ v. nat_eq v w) (fell ++ u ∷ []))
-  same w = group (nat_eq t w) (list_any (λ v. nat_eq v w) fell) (nat_eq u w) ∙ ap (λ b. nat_eq t w || b) (sym (list_any-append (λ v. nat_eq v w) fell (u ∷ [])))
+  same : (w : ℕ) → ((nat_eq t w || list_any (λ v. nat_eq v w) fell) || nat_eq u w)
+      ≡ (nat_eq t w || list_any (λ v. nat_eq v w) (fell ++ u ∷ []))
+  same w = group (nat_eq t w) (list_any (λ v. nat_eq v w) fell) (nat_eq u w)
+      ∙ ap (λ b. nat_eq t w || b) (sym (list_any-append (λ v. nat_eq v w) fell (u ∷ [])))
 
 -- who has not left yet is a node still
-pub still_node : (t : ℕ) (why : Cause) (fell : List ℕ) (u : ℕ) (before now : State) → Drops t why fell before now → before.nodes u ≡ true → u ≢ t → (Member u fell → ⊥) → now.nodes u ≡ true
+pub still_node : (t : ℕ) (why : Cause) (fell : List ℕ) (u : ℕ) (before now : State) → Drops t why fell before now → before.nodes u ≡ true
+    → u ≢ t → (Member u fell → ⊥) → now.nodes u ≡ true
 still_node t why fell u before now d node apart stays =
-    d.removes.nodes u ∙ both (before.nodes u) (nat_eq t u) (list_any (λ v. nat_eq v u) fell) node (λ e. apart (sym (eqb-true t u e))) (λ e. stays (member_from u fell e)) where
+    d.removes.nodes u ∙ both (before.nodes u) (nat_eq t u) (list_any (λ v. nat_eq v u) fell) node (λ e. apart (sym (eqb-true t u e)))
+    (λ e. stays (member_from u fell e)) where
       both : (n a b : Bool) → n ≡ true → (a ≡ true → ⊥) → (b ≡ true → ⊥) → (n && not (a || b)) ≡ true
       both false a b h f g = h
       both true true b h f g = absurd (f refl)
@@ -97,10 +110,12 @@ not_before (x ∷ l) zero u d within at m = m
 not_before (x ∷ l) (suc i) u d within at (inl e) = d.0 (subst (λ y. Member y l) e (got l i u (omega (arith, within)) at))
 not_before (x ∷ l) (suc i) u d within at (inr m) = not_before l i u d.1 (omega (arith, within)) at m
 
-module _ (t : ℕ) (why : Cause) (fell : List ℕ) (before now : State) (falls : FallsIn before t fell) (i u : ℕ) (within : i < length fell) (at : u ≡ get_or fell i u) (drops : Drops t why (take i fell) before now) where
+module _ (t : ℕ) (why : Cause) (fell : List ℕ) (before now : State) (falls : FallsIn before t fell) (i u : ℕ) (within : i < length fell)
+    (at : u ≡ get_or fell i u) (drops : Drops t why (take i fell) before now) where
   -- the next that falls is a node still
   pub next_node : now.nodes u ≡ true
-  next_node = let e = falls.each u (got fell i u within at) in still_node t why (take i fell) u before now drops e.0 e.1 (not_before fell i u (rising-distinct fell falls.rising) within at)
+  next_node = let e = falls.each u (got fell i u within at) in still_node t why (take i fell) u before now drops e.0 e.1
+      (not_before fell i u (rising-distinct fell falls.rising) within at)
 
   -- and falls
   pub next_falls : (after : State) → EndsAborted u (fate.Fell t) now after → Drops t why (take (i + 1) fell) before after
@@ -109,7 +124,8 @@ module _ (t : ℕ) (why : Cause) (fell : List ℕ) (before now : State) (falls :
       (drops_more t why (take i fell) u before now after (falls.each u (got fell i u within at)).1 drops e)
 
 -- when all have left, t is aborted
-pub aborts : (t : ℕ) (why : Cause) (fell items : List ℕ) (i : ℕ) (before after : State) → items ≡ fell → length items ≤ i → FallsIn before t fell → Drops t why (take i items) before after → AbortsIn t why before (reply.Aborted why fell) after
+pub aborts : (t : ℕ) (why : Cause) (fell items : List ℕ) (i : ℕ) (before after : State) → items ≡ fell → length items ≤ i
+    → FallsIn before t fell → Drops t why (take i items) before after → AbortsIn t why before (reply.Aborted why fell) after
 aborts t why fell items i before after same all falls drops = record {
   fell = fell;
   falls = falls;
@@ -118,9 +134,10 @@ aborts t why fell items i before after same all falls drops = record {
 }
 
 -- an access that is blocked is refused, by an abort with that walk
-pub refuses_seen : {P : Type 0} (held : P → State) (before now : P) → before ≡ now → (t : ℕ) (k : Key) (kind : Kind) (rest walk : List ℕ) (r : Reply) (after : State) → walk ≡ t ∷ rest → Blocks (held before) t k kind rest → AbortsIn t (cause.Cycle walk) (held now) r after → RefusesIn t k kind (held now) r after
-refuses_seen held before now same t k kind rest walk r after is blocks aborts = record {
+pub refuses : (t : ℕ) (k : Key) (kind : Kind) (rest walk : List ℕ) (before : State) (r : Reply) (after : State) → walk ≡ t ∷ rest
+    → Blocks before t k kind rest → AbortsIn t (cause.Cycle walk) before r after → RefusesIn t k kind before r after
+refuses t k kind rest walk before r after is blocks aborts = record {
   rest = rest;
-  blocks = subst (λ p. Blocks (held p) t k kind rest) same blocks;
-  aborts = subst (λ w. AbortsIn t (cause.Cycle w) (held now) r after) is aborts;
+  blocks = blocks;
+  aborts = subst (λ w. AbortsIn t (cause.Cycle w) before r after) is aborts;
 }

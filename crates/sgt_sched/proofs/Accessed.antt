@@ -30,10 +30,20 @@ store_conflicts Store = refl
 
 listed_conflicting : (list : List ListedAccess) (t : ℕ) → is_listed list t ≡ true → (k : Key) × (lists_conflicting list t k Store ≡ true)
 listed_conflicting [] t h = absurd (cc)
-listed_conflicting (a ∷ rest) t h = elim (or_cases (nat_eq a.by t) (is_listed rest t) h) [ inl here ↦ (a.key, or_left (is_conflicting t a.key Store a) _ (and_from (nat_eq a.by t) (key_eq a.key a.key && one_stores a.kind Store) here (and_from (key_eq a.key a.key) (one_stores a.kind Store) (key_eq-refl a.key) (store_conflicts a.kind)))) | inr there ↦ (let r = listed_conflicting rest t there in (r.0, or_right (is_conflicting t r.0 Store a) _ r.1)) ]
+listed_conflicting (a ∷ rest) t h = elim (or_cases (nat_eq a.by t) (is_listed rest t) h) [
+  | inl here ↦ (
+    a.key,
+    or_left (is_conflicting t a.key Store a) _
+        (and_from (nat_eq a.by t) (key_eq a.key a.key && one_stores a.kind Store) here
+        (and_from (key_eq a.key a.key) (one_stores a.kind Store) (key_eq-refl a.key) (store_conflicts a.kind))),
+  )
+  | inr there
+      ↦ (let r = listed_conflicting rest t there in (r.0, or_right (is_conflicting t r.0 Store a) _ r.1))
+]
 
 -- a look's source, as the state tells it
-pub read_added : (o : Option (ℕ × ℤ)) (s : Option ℤ) (t : ℕ) (reads : List (ℕ × ℕ)) (u v : ℕ) → Has (with_source (top_from o s) t reads) u v ↔ (Has reads u v ⊎ ((v ≡ t) × (u ≢ t) × SourceIs o u))
+pub read_added : (o : Option (ℕ × ℤ)) (s : Option ℤ) (t : ℕ) (reads : List (ℕ × ℕ)) (u v : ℕ)
+    → Has (with_source (top_from o s) t reads) u v ↔ (Has reads u v ⊎ ((v ≡ t) × (u ≢ t) × SourceIs o u))
 read_added None None t reads u v = ((λ h. inl h), (λ h. elim h [ inl old ↦ old | inr new ↦ absurd new.2 ]))
 read_added None (Some x) t reads u v = ((λ h. inl h), (λ h. elim h [ inl old ↦ old | inr new ↦ absurd new.2 ]))
 read_added (Some w) s t reads u v = both (nat_eq w.0 t) refl where
@@ -52,9 +62,14 @@ read_added (Some w) s t reads u v = both (nat_eq w.0 t) refl where
   new_there [] h i = inl (h, i)
   new_there (p ∷ l) h i = inr (new_there l h i)
 
-  both : (b : Bool) → nat_eq w.0 t ≡ b → Has (cond (nat_eq w.0 t) reads (reads ++ (w.0, t) ∷ [])) u v ↔ (Has reads u v ⊎ ((v ≡ t) × (u ≢ t) × (w.0 ≡ u)))
-  both true e = subst (λ c. Has (cond c reads (reads ++ (w.0, t) ∷ [])) u v ↔ (Has reads u v ⊎ ((v ≡ t) × (u ≢ t) × (w.0 ≡ u)))) (sym e) ((λ h. inl h), (λ h. elim h [ inl old ↦ old | inr new ↦ absurd (new.1 (sym new.2 ∙ eqb-true w.0 t e)) ]))
-  both false e = subst (λ c. Has (cond c reads (reads ++ (w.0, t) ∷ [])) u v ↔ (Has reads u v ⊎ ((v ≡ t) × (u ≢ t) × (w.0 ≡ u)))) (sym e) ((λ h. elim (added reads h) [ inl old ↦ inl old | inr new ↦ inr (sym new.1, (λ i. eqb-false w.0 t e (new.0 ∙ i)), new.0) ]), (λ h. elim h [ inl old ↦ old_stays reads old | inr new ↦ new_there reads new.2 (sym new.0) ]))
+  both : (b : Bool) → nat_eq w.0 t ≡ b → Has (cond (nat_eq w.0 t) reads (reads ++ (w.0, t) ∷ [])) u v
+      ↔ (Has reads u v ⊎ ((v ≡ t) × (u ≢ t) × (w.0 ≡ u)))
+  both true e = subst (λ c. Has (cond c reads (reads ++ (w.0, t) ∷ [])) u v ↔ (Has reads u v ⊎ ((v ≡ t) × (u ≢ t) × (w.0 ≡ u)))) (sym e)
+      ((λ h. inl h), (λ h. elim h [ inl old ↦ old | inr new ↦ absurd (new.1 (sym new.2 ∙ eqb-true w.0 t e)) ]))
+  both false e = subst (λ c. Has (cond c reads (reads ++ (w.0, t) ∷ [])) u v ↔ (Has reads u v ⊎ ((v ≡ t) × (u ≢ t) × (w.0 ≡ u)))) (sym e) (
+    (λ h. elim (added reads h) [ inl old ↦ inl old | inr new ↦ inr (sym new.1, (λ i. eqb-false w.0 t e (new.0 ∙ i)), new.0) ]),
+    (λ h. elim h [ inl old ↦ old_stays reads old | inr new ↦ new_there reads new.2 (sym new.0) ]),
+  )
 
 -- what a look finds, as the state tells it
 pub value_of-from : (o : Option (ℕ × ℤ)) (s : Option ℤ) → value_of (top_from o s) ≡ top_value o s
@@ -63,20 +78,21 @@ value_of-from None (Some v) = refl
 value_of-from (Some w) s = refl
 
 -- of the same parts that are seen as others the rivals are the same
-pub rivals_seen : {R A G : Type 0} (list : A → List ListedAccess) (before now : SchedulerView R A G) → before ≡ now → (t : ℕ) (k : Key) (kind : Kind) (rivals : List ℕ) → ((u : ℕ) → Member u rivals ↔ ((u ≢ t) × (lists_conflicting (list before.accesses) u k kind ≡ true))) → (u : ℕ) → Member u rivals ↔ ((u ≢ t) × (lists_conflicting (list now.accesses) u k kind ≡ true))
-rivals_seen list before now seen t k kind rivals exact = subst (λ p. (u : ℕ) → Member u rivals ↔ ((u ≢ t) × (lists_conflicting (list p.accesses) u k kind ≡ true))) seen exact
-
-pub others_seen : {R A G : Type 0} (nodes : G → ℕ → Bool) (before now : SchedulerView R A G) → before ≡ now → (t : ℕ) (rivals : List ℕ) → ((u : ℕ) → Member u rivals → (nodes before.graph u ≡ true) × (u ≢ t)) → (u : ℕ) → Member u rivals → (nodes now.graph u ≡ true) × (u ≢ t)
-others_seen nodes before now seen t rivals others = subst (λ p. (u : ℕ) → Member u rivals → (nodes p.graph u ≡ true) × (u ≢ t)) seen others
+pub rivals_seen : {R A G : Type 0} (list : A → List ListedAccess) (before now : SchedulerView R A G) → before ≡ now
+    → (t : ℕ) (k : Key) (kind : Kind) (rivals : List ℕ)
+    → ((u : ℕ) → Member u rivals ↔ ((u ≢ t) × (lists_conflicting (list before.accesses) u k kind ≡ true))) → (u : ℕ)
+    → Member u rivals ↔ ((u ≢ t) × (lists_conflicting (list now.accesses) u k kind ≡ true))
+rivals_seen list before now seen t k kind rivals exact = subst
+    (λ p. (u : ℕ) → Member u rivals ↔ ((u ≢ t) × (lists_conflicting (list p.accesses) u k kind ≡ true))) seen exact
 
 -- and so are the walks to them
-pub walk_seen : {R A G : Type 0} (pairs : G → ℕ → ℕ → Bool) (before now : SchedulerView R A G) → before ≡ now → (t : ℕ) (rivals rest : List ℕ) → Walk (pairs now.graph) t rivals rest → Walk (pairs before.graph) t rivals rest
-walk_seen pairs before now seen t rivals rest walk = subst (λ p. Walk (pairs p.graph) t rivals rest) (sym seen) walk
-
-pub free_walk_seen : {R A G : Type 0} (pairs : G → ℕ → ℕ → Bool) (before now : SchedulerView R A G) → before ≡ now → (t : ℕ) (rivals : List ℕ) → NoWalk (pairs now.graph) t rivals → NoWalk (pairs before.graph) t rivals
+pub free_walk_seen : {R A G : Type 0} (pairs : G → ℕ → ℕ → Bool) (before now : SchedulerView R A G) → before ≡ now
+    → (t : ℕ) (rivals : List ℕ) → NoWalk (pairs now.graph) t rivals → NoWalk (pairs before.graph) t rivals
 free_walk_seen pairs before now seen t rivals free = subst (λ p. NoWalk (pairs p.graph) t rivals) (sym seen) free
 
-module _ {R A G : Type 0} {chain : R → Key → List (ℕ × ℤ)} {settled : R → Key → Option ℤ} {list : A → List ListedAccess} {nodes : G → ℕ → Bool} {pairs : G → ℕ → ℕ → Bool} {before : SchedulerView R A G} (kept : IsKept chain settled list nodes pairs before) where
+module _ {R A G : Type 0} {chain : R → Key → List (ℕ × ℤ)} {settled : R → Key → Option ℤ} {list : A → List ListedAccess}
+    {nodes : G → ℕ → Bool} {pairs : G → ℕ → ℕ → Bool} {before : SchedulerView R A G}
+    (kept : IsKept chain settled list nodes pairs before) where
   -- few have accesses
   pub rivals_few : AtMost 32 (is_listed (list before.accesses))
   rivals_few = record {
@@ -85,28 +101,40 @@ module _ {R A G : Type 0} {chain : R → Key → List (ℕ × ℤ)} {settled : R
     all = λ u h. (kept.sound.listed u).0 (let r = listed_conflicting (list before.accesses) u h in kept.sound.access_nodes u r.0 Store r.1);
   }
 
-  module _ (t : ℕ) (live_t : nodes before.graph t ≡ true) (k : Key) (kind : Kind) (rivals : List ℕ) (exact : (u : ℕ) → Member u rivals ↔ ((u ≢ t) × (lists_conflicting (list before.accesses) u k kind ≡ true))) where
+  module _ (t : ℕ) (live_t : nodes before.graph t ≡ true) (k : Key) (kind : Kind) (rivals : List ℕ)
+      (exact : (u : ℕ) → Member u rivals ↔ ((u ≢ t) × (lists_conflicting (list before.accesses) u k kind ≡ true))) where
     -- the rivals are nodes, and others
     pub rivals_are_nodes : (u : ℕ) → Member u rivals → (nodes before.graph u ≡ true) × (u ≢ t)
     rivals_are_nodes u m = let r = (exact u).0 m in (kept.sound.access_nodes u k kind r.1, r.0)
 
     -- a walk to a rival blocks the access, and nothing else does
-    pub blocks_from_walk : (rest : List ℕ) → Walk (pairs before.graph) t rivals rest → Blocks (state_of chain settled list nodes pairs before) t k kind rest
-    blocks_from_walk rest w = let r = (exact (last_of t rest)).0 w.ends in record { distinct = w.distinct; pairs = w.goes; rival = record { apart = r.0; has_conflicting = r.1 } }
+    pub blocks_from_walk : (rest : List ℕ) → Walk (pairs before.graph) t rivals rest
+        → Blocks (state_of chain settled list nodes pairs before) t k kind rest
+    blocks_from_walk rest w = let r = (exact (last_of t rest)).0 w.ends in record
+        { distinct = w.distinct; pairs = w.goes; rival = record { apart = r.0; has_conflicting = r.1 } }
 
     -- without a walk to a rival nothing blocks
-    pub not_blocked : NoWalk (pairs before.graph) t rivals → (rest : List ℕ) → Blocks (state_of chain settled list nodes pairs before) t k kind rest → ⊥
-    not_blocked free rest b = free rest (record { distinct = b.distinct; goes = b.pairs; ends = (exact (last_of t rest)).1 (b.rival.apart, b.rival.has_conflicting) })
+    pub not_blocked : NoWalk (pairs before.graph) t rivals → (rest : List ℕ)
+        → Blocks (state_of chain settled list nodes pairs before) t k kind rest → ⊥
+    not_blocked free rest b = free rest (record {
+      distinct = b.distinct;
+      goes = b.pairs;
+      ends = (exact (last_of t rest)).1
+          (b.rival.apart, b.rival.has_conflicting);
+    })
 
-    -- the same of parts that were seen as others: it is blocked, or not
-    pub blocked_seen : (now : SchedulerView R A G) → before ≡ now → (rest : List ℕ) → Walk (pairs before.graph) t rivals rest → IsBlocked (state_of chain settled list nodes pairs now) t k kind
-    blocked_seen now seen rest w = subst (λ (p : SchedulerView R A G). IsBlocked (state_of chain settled list nodes pairs p) t k kind) seen (rest, blocks_from_walk rest w)
-
-    pub free_seen : (now : SchedulerView R A G) → before ≡ now → NoWalk (pairs before.graph) t rivals → IsBlocked (state_of chain settled list nodes pairs now) t k kind → ⊥
-    free_seen now seen free b = let q = subst (λ (p : SchedulerView R A G). IsBlocked (state_of chain settled list nodes pairs p) t k kind) (sym seen) b in not_blocked free q.0 q.1
+    -- the same of parts that were seen as others
+    pub free_seen : (now : SchedulerView R A G) → before ≡ now → NoWalk (pairs before.graph) t rivals
+        → IsBlocked (state_of chain settled list nodes pairs now) t k kind → ⊥
+    free_seen now seen free b = let q = subst (λ (p : SchedulerView R A G). IsBlocked
+        (state_of chain settled list nodes pairs p) t k kind) (sym seen) b in not_blocked free q.0 q.1
 
     -- the parts after an access that was noted
-    module _ (records : R) (accesses : A) (graph : G) (change : Progress → Progress) (read_from : List (ℕ × ℕ)) (settled_is : (j : Key) → settled records j ≡ settled before.records j) (list_is : list accesses ≡ list before.accesses ++ record { by = t; key = k; kind = kind } ∷ []) (nodes_are : (u : ℕ) → nodes graph u ≡ nodes before.graph u) (pairs_are : (u v : ℕ) → (pairs graph u v ≡ true) ↔ ((pairs before.graph u v ≡ true) ⊎ ((v ≡ t) × Member u rivals))) where
+    module _ (records : R) (accesses : A) (graph : G) (change : Progress → Progress) (read_from : List (ℕ × ℕ))
+        (settled_is : (j : Key) → settled records j ≡ settled before.records j)
+        (list_is : list accesses ≡ list before.accesses ++ record { by = t; key = k; kind = kind } ∷ [])
+        (nodes_are : (u : ℕ) → nodes graph u ≡ nodes before.graph u)
+        (pairs_are : (u v : ℕ) → (pairs graph u v ≡ true) ↔ ((pairs before.graph u v ≡ true) ⊎ ((v ≡ t) × Member u rivals))) where
       -- the parts after the access
       abbrev pub after_access : SchedulerView R A G
       after_access = record {
@@ -125,7 +153,18 @@ module _ {R A G : Type 0} {chain : R → Key → List (ℕ × ℤ)} {settled : R
       notes = record {
         live = numbers-changed t change before.live;
         nodes = nodes_are;
-        pairs = λ u v. ((λ q. elim ((pairs_are u v).0 q) [ inl old ↦ inl old | inr new ↦ (let r = (exact u).0 new.1 in inr (new.0, record { apart = r.0; has_conflicting = r.1 })) ]), (λ q. (pairs_are u v).1 (elim q [ inl old ↦ inl old | inr new ↦ inr (new.0, (exact u).1 (new.1.apart, new.1.has_conflicting)) ])));
+        pairs = λ u v. (
+          (λ q. elim ((pairs_are u v).0 q) [
+            | inl old ↦ inl old
+            | inr new
+                ↦ (let r = (exact u).0 new.1 in inr (new.0, record { apart = r.0; has_conflicting = r.1 }))
+          ]),
+          (λ q. (pairs_are u v).1 (elim q [
+            | inl old ↦ inl old
+            | inr new ↦ inr
+                (new.0, (exact u).1 (new.1.apart, new.1.has_conflicting))
+          ])),
+        );
         accesses = list_is;
         settled = settled_is;
         fates = λ u. refl;
@@ -138,7 +177,9 @@ module _ {R A G : Type 0} {chain : R → Key → List (ℕ × ℤ)} {settled : R
       own_progress_is = progress_at-own t change before.live ((kept.sound.listed t).0 live_t)
 
       -- what holds at every moment holds afterwards, where it does of the state and of t's progress
-      pub kept_access : IsAlong before.procedures (change (progress_at before.live t)) → Sound before.limits.live (state_of chain settled list nodes pairs after_access) → IsKept chain settled list nodes pairs after_access
+      pub kept_access : IsAlong before.procedures (change (progress_at before.live t))
+          → Sound before.limits.live (state_of chain settled list nodes pairs after_access)
+          → IsKept chain settled list nodes pairs after_access
       kept_access own sound = record {
         in_range = kept.in_range;
         begun = kept.begun;
@@ -147,6 +188,9 @@ module _ {R A G : Type 0} {chain : R → Key → List (ℕ × ℤ)} {settled : R
         unended = λ u. ((λ h. (kept.unended u).0 (sym (nodes_are u) ∙ h)), (λ h. nodes_are u ∙ (kept.unended u).1 h));
         along = λ u h. both u (nat_eq u t) refl (sym (nodes_are u) ∙ h);
       } where
-        both : (u : ℕ) (b : Bool) → nat_eq u t ≡ b → nodes before.graph u ≡ true → IsAlong before.procedures (progress_at (changed t change before.live) u)
-        both u true e h = subst (IsAlong before.procedures) (sym (ap (progress_at (changed t change before.live)) (eqb-true u t e) ∙ own_progress_is)) own
-        both u false e h = subst (IsAlong before.procedures) (sym (progress_at-changed t u change before.live (eqb-false u t e))) (kept.along u h)
+        both : (u : ℕ) (b : Bool) → nat_eq u t ≡ b → nodes before.graph u ≡ true
+            → IsAlong before.procedures (progress_at (changed t change before.live) u)
+        both u true e h = subst (IsAlong before.procedures)
+            (sym (ap (progress_at (changed t change before.live)) (eqb-true u t e) ∙ own_progress_is)) own
+        both u false e h = subst (IsAlong before.procedures) (sym (progress_at-changed t u change before.live (eqb-false u t e)))
+            (kept.along u h)

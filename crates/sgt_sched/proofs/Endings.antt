@@ -43,12 +43,18 @@ commit_agrees t (Puts k v) c r after x = quiet r _ _ x.reply refl (λ e. e)
 commit_agrees t (Asks code) c r after x = quiet r _ _ x.reply refl (λ e. e)
 
 -- of one that was started and has not ended, by what is done to it; else nothing ends
-open_agrees : (t : ℕ) (c : State) (r : Reply) (after : State) (X E : Type 0) → (X → EndsWhere r E) → (b : Bool) (o : Option Fate) → nat_lt t c.starts ≡ b → c.fates t ≡ o → IfOpen b o c r after X → EndsWhere r (IsUnended c t × E)
+open_agrees : (t : ℕ) (c : State) (r : Reply) (after : State) (X E : Type 0) → (X → EndsWhere r E) → (b : Bool) (o : Option Fate)
+    → nat_lt t c.starts ≡ b → c.fates t ≡ o → IfOpen b o c r after X → EndsWhere r (IsUnended c t × E)
 open_agrees t c r after X E agree false o e f x = quiet r _ _ x.reply refl (λ u. true≢false (sym u.0.begun ∙ e))
-open_agrees t c r after X E agree true (Some fate) e f x = quiet r _ _ x.reply refl (λ u. let q : Some fate ≡ None = sym f ∙ u.0.unended in cc)
-open_agrees t c r after X E agree true None e f x = ((λ u. (agree x).0 u.1), (λ none. (agree x).1 (λ end. none (record { begun = e; unended = f }, end))))
+open_agrees t c r after X E agree true (Some fate) e f x = quiet r _ _ x.reply refl
+    (λ u. let q : Some fate ≡ None = sym f ∙ u.0.unended in cc)
+open_agrees t c r after X E agree true None e f x = (
+  (λ u. (agree x).0 u.1),
+  (λ none. (agree x).1 (λ end. none (record { begun = e; unended = f }, end))),
+)
 
-start_quiet : (limits : Limits) (begun living : ℕ) (taken : Option ℕ) (args : List _) → is_ending (taken_reply limits begun living taken args) ≡ false
+start_quiet : (limits : Limits) (begun living : ℕ) (taken : Option ℕ) (args : List _)
+    → is_ending (taken_reply limits begun living taken args) ≡ false
 start_quiet limits begun living None args = refl
 start_quiet limits begun living (Some count) args = fits (args_fit count args) where
   full : (b : Bool) → is_ending (cond b reply.Full (reply.Started begun)) ≡ false
@@ -64,15 +70,20 @@ start_quiet limits begun living (Some count) args = fits (args_fit count args) w
   fits false = refl
 
 -- the replies to an event that ends a live transaction end one, and to the others none does
-pub replies_agree : (rules : Rules) (event : Event) (c : State) (r : Reply) (after : State) → CallEffect rules event c r after → EndsWhere r (EndsOne event c)
-replies_agree rules (Start p args) c r after x = quiet r _ _ x.reply (start_quiet rules.limits c.starts (length c.live) (takes rules p) args) (λ e. e)
-replies_agree rules (Step t) c r after x = open_agrees t c r after _ (StepEnds t (next_left (c.left t)) c) (step_agrees t (next_left (c.left t)) c r after) (nat_lt t c.starts) (c.fates t) refl refl x
-replies_agree rules (Commit t) c r after x = open_agrees t c r after _ (CommitEnds t (next_left (c.left t)) c) (commit_agrees t (next_left (c.left t)) c r after) (nat_lt t c.starts) (c.fates t) refl refl x
+pub replies_agree : (rules : Rules) (event : Event) (c : State) (r : Reply) (after : State) → CallEffect rules event c r after
+    → EndsWhere r (EndsOne event c)
+replies_agree rules (Start p args) c r after x = quiet r _ _ x.reply
+    (start_quiet rules.limits c.starts (length c.live) (takes rules p) args) (λ e. e)
+replies_agree rules (Step t) c r after x = open_agrees t c r after _ (StepEnds t (next_left (c.left t)) c)
+    (step_agrees t (next_left (c.left t)) c r after) (nat_lt t c.starts) (c.fates t) refl refl x
+replies_agree rules (Commit t) c r after x = open_agrees t c r after _ (CommitEnds t (next_left (c.left t)) c)
+    (commit_agrees t (next_left (c.left t)) c r after) (nat_lt t c.starts) (c.fates t) refl refl x
 replies_agree rules (Quit t) c r after x =
     let a = open_agrees t c r after _ (Unit {0}) (λ y. loud r _ _ (y.reply) refl tt) (nat_lt t c.starts) (c.fates t) refl refl x in
     ((λ u. a.0 (u, tt)), (λ none. a.1 (λ u. none u.0)))
 
-same_count : (r answer : Reply) (before after : State) → r ≡ answer → is_ending answer ≡ false → after.live ≡ before.live → Counts r before after
+same_count : (r answer : Reply) (before after : State) → r ≡ answer → is_ending answer ≡ false → after.live ≡ before.live
+    → Counts r before after
 same_count r answer before after is isnt same = record {
   most = subst (λ l. length l ≤ length before.live + 1) (sym same) (omega arith);
   fewer = λ e. absurd (true≢false (sym e ∙ (ap is_ending is ∙ isnt)));
@@ -90,21 +101,28 @@ filter_few f (u ∷ l) = both (f u) (filter_few f l) where
 
 filter_fewer : (gone : ℕ → Bool) (t : ℕ) (l : List ℕ) → Member t l → gone t ≡ true → length (filter (λ u. not (gone u)) l) + 1 ≤ length l
 filter_fewer gone t [] m g = absurd m
-filter_fewer gone t (u ∷ l) (inl e) g = subst (λ b. length (cond (not b) (u ∷ filter (λ w. not (gone w)) l) (filter (λ w. not (gone w)) l)) + 1 ≤ length (u ∷ l)) (sym (ap gone (sym e) ∙ g)) (omega (arith, filter_few (λ w. not (gone w)) l))
+filter_fewer gone t (u ∷ l) (inl e) g = subst (λ b. length
+    (cond (not b) (u ∷ filter (λ w. not (gone w)) l) (filter (λ w. not (gone w)) l)) + 1 ≤ length (u ∷ l)) (sym (ap gone (sym e) ∙ g))
+    (omega (arith, filter_few (λ w. not (gone w)) l))
 filter_fewer gone t (u ∷ l) (inr m) g = both (gone u) (filter_fewer gone t l m g) where
-  both : (b : Bool) → length (filter (λ w. not (gone w)) l) + 1 ≤ length l → length (cond (not b) (u ∷ filter (λ w. not (gone w)) l) (filter (λ w. not (gone w)) l)) + 1 ≤ length (u ∷ l)
+  both : (b : Bool) → length (filter (λ w. not (gone w)) l) + 1 ≤ length l
+      → length (cond (not b) (u ∷ filter (λ w. not (gone w)) l) (filter (λ w. not (gone w)) l)) + 1 ≤ length (u ∷ l)
   both true h = omega (arith, h)
   both false h = omega (arith, h)
 
-removed_count : (gone : ℕ → Bool) (t : ℕ) (r : Reply) (before after : State) → Member t before.live → gone t ≡ true → Removes gone before after → Counts r before after
+removed_count : (gone : ℕ → Bool) (t : ℕ) (r : Reply) (before after : State) → Member t before.live → gone t ≡ true
+    → Removes gone before after → Counts r before after
 removed_count gone t r before after m g x =
     let fewer = subst (λ l. length l + 1 ≤ length before.live) (sym x.live) (filter_fewer gone t before.live m g) in
     record { most = omega (arith, fewer); fewer = λ _. fewer }
 
-abort_count : (t : ℕ) (why : _) (r : Reply) (before after : State) → Member t before.live → AbortsIn t why before r after → Counts r before after
-abort_count t why r before after m x = removed_count _ t r before after m (ap (λ b. b || list_any (λ v. nat_eq v t) x.fell) (eq-eqb t t refl)) x.drops.removes
+abort_count : (t : ℕ) (why : _) (r : Reply) (before after : State) → Member t before.live → AbortsIn t why before r after
+    → Counts r before after
+abort_count t why r before after m x = removed_count _ t r before after m
+    (ap (λ b. b || list_any (λ v. nat_eq v t) x.fell) (eq-eqb t t refl)) x.drops.removes
 
-step_count : (t : ℕ) (n : Next) (before : State) (r : Reply) (after : State) → Member t before.live → StepOn t n before r after → Counts r before after
+step_count : (t : ℕ) (n : Next) (before : State) (r : Reply) (after : State) → Member t before.live → StepOn t n before r after
+    → Counts r before after
 step_count t (Looks k) before r after m (inl x) = abort_count t _ r before after m x.aborts
 step_count t (Looks k) before r after m (inr x) = same_count r _ before after x.reply refl x.looks.notes.live
 step_count t (Puts k v) before r after m (inl x) = abort_count t _ r before after m x.aborts
@@ -112,25 +130,37 @@ step_count t (Puts k v) before r after m (inr x) = same_count r _ before after x
 step_count t (Ends answers) before r after m x = stays_count _ r before after refl x
 step_count t (Asks code) before r after m x = abort_count t _ r before after m x
 
-commit_count : (t : ℕ) (n : Next) (before : State) (r : Reply) (after : State) → Member t before.live → CommitOn t n before r after → Counts r before after
+commit_count : (t : ℕ) (n : Next) (before : State) (r : Reply) (after : State) → Member t before.live → CommitOn t n before r after
+    → Counts r before after
 commit_count t (Ends answers) before r after m (inl x) = stays_count _ r before after refl x.stays
 commit_count t (Ends answers) before r after m (inr x) = removed_count _ t r before after m (eq-eqb t t refl) x.settles.removes
 commit_count t (Looks k) before r after m x = stays_count _ r before after refl x
 commit_count t (Puts k v) before r after m x = stays_count _ r before after refl x
 commit_count t (Asks code) before r after m x = stays_count _ r before after refl x
 
-open_count : (t : ℕ) (before : State) (r : Reply) (after : State) (X : Type 0) → (IsUnended before t → X → Counts r before after) → (b : Bool) (o : Option Fate) → nat_lt t before.starts ≡ b → before.fates t ≡ o → IfOpen b o before r after X → Counts r before after
+open_count : (t : ℕ) (before : State) (r : Reply) (after : State) (X : Type 0) → (IsUnended before t → X → Counts r before after)
+    → (b : Bool) (o : Option Fate) → nat_lt t before.starts ≡ b → before.fates t ≡ o → IfOpen b o before r after X → Counts r before after
 open_count t before r after X count false o e f x = stays_count _ r before after refl x
 open_count t before r after X count true (Some fate) e f x = stays_count _ r before after refl x
 open_count t before r after X count true None e f x = count (record { begun = e; unended = f }) x
 
-start_count : (p : Option Program) (args : List _) (before : State) (r : Reply) (after : State) → is_ending r ≡ false → StartOn p args before r after → Counts r before after
-start_count p args before (reply.Started t) after isnt x = record { most = subst (λ l. length l ≤ length before.live + 1) (sym x.live) (omega (arith, length-append before.live (before.starts ∷ []))); fewer = λ e. absurd (true≢false (sym e)) }
+start_count : (p : Option Program) (args : List _) (before : State) (r : Reply) (after : State) → is_ending r ≡ false
+    → StartOn p args before r after → Counts r before after
+start_count p args before (reply.Started t) after isnt x = record {
+  most = subst (λ l. length l ≤ length before.live + 1) (sym x.live)
+      (omega (arith, length-append before.live (before.starts ∷ [])));
+  fewer = λ e. absurd (true≢false (sym e));
+}
 start_count p args before r after isnt x = same_count r r before after refl isnt (ap (λ (c : State). c.live) x)
 
 -- of every call, where those that were started and have not ended are the live ones
-pub call_counts : (rules : Rules) (event : Event) (before : State) (r : Reply) (after : State) → ((t : ℕ) → IsUnended before t → Member t before.live) → CallEffect rules event before r after → Counts r before after
-call_counts rules (Start p args) before r after live x = start_count (rules.procedures p) args before r after (ap is_ending x.reply ∙ start_quiet rules.limits before.starts (length before.live) (takes rules p) args) x.does
-call_counts rules (Step t) before r after live x = open_count t before r after _ (λ u. step_count t (next_left (before.left t)) before r after (live t u)) (nat_lt t before.starts) (before.fates t) refl refl x
-call_counts rules (Commit t) before r after live x = open_count t before r after _ (λ u. commit_count t (next_left (before.left t)) before r after (live t u)) (nat_lt t before.starts) (before.fates t) refl refl x
-call_counts rules (Quit t) before r after live x = open_count t before r after _ (λ u. abort_count t _ r before after (live t u)) (nat_lt t before.starts) (before.fates t) refl refl x
+pub call_counts : (rules : Rules) (event : Event) (before : State) (r : Reply) (after : State)
+    → ((t : ℕ) → IsUnended before t → Member t before.live) → CallEffect rules event before r after → Counts r before after
+call_counts rules (Start p args) before r after live x = start_count (rules.procedures p) args before r after
+    (ap is_ending x.reply ∙ start_quiet rules.limits before.starts (length before.live) (takes rules p) args) x.does
+call_counts rules (Step t) before r after live x = open_count t before r after _
+    (λ u. step_count t (next_left (before.left t)) before r after (live t u)) (nat_lt t before.starts) (before.fates t) refl refl x
+call_counts rules (Commit t) before r after live x = open_count t before r after _
+    (λ u. commit_count t (next_left (before.left t)) before r after (live t u)) (nat_lt t before.starts) (before.fates t) refl refl x
+call_counts rules (Quit t) before r after live x = open_count t before r after _ (λ u. abort_count t _ r before after (live t u))
+    (nat_lt t before.starts) (before.fates t) refl refl x

@@ -49,7 +49,8 @@ live-added [] = refl
 live-added (e ∷ ends) = omega (arith, live-added ends)
 
 -- and an end one less
-pub live-set : (walks : List (List ℕ)) (ends : List End) (t : ℕ) (e : End) → slice_get (fates_of walks ends) t ≡ Some None → live_in e ≡ 0 → live_among (slice_set ends t e) + 1 ≡ live_among ends
+pub live-set : (walks : List (List ℕ)) (ends : List End) (t : ℕ) (e : End) → slice_get (fates_of walks ends) t ≡ Some None → live_in e ≡ 0
+    → live_among (slice_set ends t e) + 1 ≡ live_among ends
 live-set walks [] t e h z = absurd (cc)
 live-set walks (end.Live ∷ ends) zero e h z = omega (arith, z)
 live-set walks (end.Committed ∷ ends) zero e h z = absurd (cc)
@@ -65,7 +66,8 @@ started walks [] t h = absurd (cc)
 started walks (e ∷ ends) zero h = omega arith
 started walks (e ∷ ends) (suc t) h = let rest = started walks ends t h in omega (arith, rest)
 
-fate-kept : (before after : List (List ℕ)) → AreKept before after → (e : End) → HasWalk (length before) e → fate_of after e ≡ fate_of before e
+fate-kept : (before after : List (List ℕ)) → AreKept before after → (e : End) → HasWalk (length before) e
+    → fate_of after e ≡ fate_of before e
 fate-kept before after k end.Live h = refl
 fate-kept before after k end.Committed h = refl
 fate-kept before after k end.Quit h = refl
@@ -74,16 +76,19 @@ fate-kept before after k (end.Fell first) h = refl
 fate-kept before after k (end.Cycle place) h = ap (λ w. Some (fate.Aborted (cause.Cycle w))) (k.same place h)
 
 -- an end sets the fate of one, and keeps those of the others
-pub fates-set : (before after : List (List ℕ)) (ends : List End) (t : ℕ) (e : End) → AreKept before after → HaveWalks (length before) ends → fates_of after (slice_set ends t e) ≡ slice_set (fates_of before ends) t (fate_of after e)
+pub fates-set : (before after : List (List ℕ)) (ends : List End) (t : ℕ) (e : End) → AreKept before after → HaveWalks (length before) ends
+    → fates_of after (slice_set ends t e) ≡ slice_set (fates_of before ends) t (fate_of after e)
 fates-set before after [] t e k h = refl
 fates-set before after (x ∷ ends) zero e k h = ap (λ l. fate_of after e ∷ l) (kept ends h.1) where
   kept : (ends : List End) → HaveWalks (length before) ends → fates_of after ends ≡ fates_of before ends
   kept [] h = refl
   kept (x ∷ ends) h = ap (λ f. f ∷ fates_of after ends) (fate-kept before after k x h.0) ∙ ap (λ l. fate_of before x ∷ l) (kept ends h.1)
-fates-set before after (x ∷ ends) (suc t) e k h = ap (λ f. f ∷ fates_of after (slice_set ends t e)) (fate-kept before after k x h.0) ∙ ap (λ l. fate_of before x ∷ l) (fates-set before after ends t e k h.1)
+fates-set before after (x ∷ ends) (suc t) e k h = ap (λ f. f ∷ fates_of after (slice_set ends t e)) (fate-kept before after k x h.0)
+    ∙ ap (λ l. fate_of before x ∷ l) (fates-set before after ends t e k h.1)
 
 -- the fate of one that an end was found of
-pub fate_at-found : (walks : List (List ℕ)) (ends : List End) (t : ℕ) (e : End) → slice_get ends t ≡ Some e → fate_at (fates_of walks ends) t ≡ fate_of walks e
+pub fate_at-found : (walks : List (List ℕ)) (ends : List End) (t : ℕ) (e : End) → slice_get ends t ≡ Some e
+    → fate_at (fates_of walks ends) t ≡ fate_of walks e
 fate_at-found walks [] t e is = absurd (cc)
 fate_at-found walks (x ∷ ends) zero e is = let same : x ≡ e = cc in ap (fate_of walks) same
 fate_at-found walks (x ∷ ends) (suc t) e is = fate_at-found walks ends t e is
@@ -106,7 +111,8 @@ last-added [] walk = refl
 last-added (w ∷ walks) walk = last-added walks walk
 
 -- what stands at a place, whatever were read past the end
-pub read-any : (walks : List (List ℕ)) (place : ℕ) (d e : List ℕ) → place < length walks → slice_index_or walks place d ≡ slice_index_or walks place e
+pub read-any : (walks : List (List ℕ)) (place : ℕ) (d e : List ℕ) → place < length walks
+    → slice_index_or walks place d ≡ slice_index_or walks place e
 read-any [] place d e h = absurd (omega (arith, h))
 read-any (w ∷ walks) zero d e h = refl
 read-any (w ∷ walks) (suc place) d e h = read-any walks place d e (omega (arith, h))

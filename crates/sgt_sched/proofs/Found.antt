@@ -1,5 +1,5 @@
 -- Whether a transaction is live, by the list of the live ones.
-use Rattle.std.proofs.Common.{◌≡◌, ℕ, ℤ, Bool, true, false, nat_eq, cond, ◌⊎◌, inl, inr, List, [], ◌∷◌, length, Option, Some, None, refl, sym, ap, ◌∙◌, subst, subst₂, find}
+use Rattle.std.proofs.Common.{◌≡◌, ℕ, ℤ, Bool, true, false, nat_eq, cond, ◌⊎◌, inl, inr, List, [], ◌∷◌, length, Option, Some, None, refl, sym, ap, ◌∙◌, subst₂, find}
 use Rattle.std.proofs.lemmas.Bool.{eqb-true, eqb-false, lt-ltb, ltb-true}
 use Rattle.std.proofs.lemmas.Option.{same_Some}
 use Rattle.sgt_model.specs.Contents.{Key}
@@ -12,10 +12,12 @@ use Rattle.sgt_sched.specs.SchedulerView.{SchedulerView, IsAlong, IsKept, state_
 use Rattle.sgt_sched.specs.Steps.{IsUnended}
 
 -- one that is found has that number, and its progress
-pub found_member : (live : List (ℕ × Progress)) (t : ℕ) (r : ℕ × Progress) → find (has_number t) live ≡ Some r → Member t (numbers live) × (r ≡ (t, progress_at live t))
+pub found_member : (live : List (ℕ × Progress)) (t : ℕ) (r : ℕ × Progress) → find (has_number t) live ≡ Some r
+    → Member t (numbers live) × (r ≡ (t, progress_at live t))
 found_member [] t r e = absurd (cc)
 found_member (q ∷ rest) t r e = both (nat_eq q.0 t) refl (found_member rest t r) where
-  both : (b : Bool) → nat_eq q.0 t ≡ b → (find (has_number t) rest ≡ Some r → Member t (numbers rest) × (r ≡ (t, progress_at rest t))) → Member t (numbers (q ∷ rest)) × (r ≡ (t, progress_at (q ∷ rest) t))
+  both : (b : Bool) → nat_eq q.0 t ≡ b → (find (has_number t) rest ≡ Some r → Member t (numbers rest) × (r ≡ (t, progress_at rest t)))
+      → Member t (numbers (q ∷ rest)) × (r ≡ (t, progress_at (q ∷ rest) t))
   both true h rec =
       let same : q ≡ r = same_Some _ _ (sym (ap (λ b. cond b (Some q) (find (has_number t) rest)) h) ∙ e) in
       let number : q.0 ≡ t = eqb-true q.0 t h in
@@ -28,12 +30,15 @@ found_member (q ∷ rest) t r e = both (nat_eq q.0 t) refl (found_member rest t 
 pub none_member : (live : List (ℕ × Progress)) (t : ℕ) → find (has_number t) live ≡ None → Member t (numbers live) → ⊥
 none_member [] t e m = m
 none_member (q ∷ rest) t e m = both (nat_eq q.0 t) refl (none_member rest t) m where
-  both : (b : Bool) → nat_eq q.0 t ≡ b → (find (has_number t) rest ≡ None → Member t (numbers rest) → ⊥) → (t ≡ q.0) ⊎ Member t (numbers rest) → ⊥
+  both : (b : Bool) → nat_eq q.0 t ≡ b → (find (has_number t) rest ≡ None → Member t (numbers rest) → ⊥)
+      → (t ≡ q.0) ⊎ Member t (numbers rest) → ⊥
   both true h rec m = let f : Some q ≡ None = sym (ap (λ b. cond b (Some q) (find (has_number t) rest)) h) ∙ e in cc
   both false h rec (inl i) = eqb-false q.0 t h (sym i)
   both false h rec (inr i) = rec (sym (ap (λ b. cond b (Some q) (find (has_number t) rest)) h) ∙ e) i
 
-module _ {R A G : Type 0} {chain : R → Key → List (ℕ × ℤ)} {settled : R → Key → Option ℤ} {list : A → List ListedAccess} {nodes : G → ℕ → Bool} {pairs : G → ℕ → ℕ → Bool} {p : SchedulerView R A G} (kept : IsKept chain settled list nodes pairs p) (t : ℕ) where
+module _ {R A G : Type 0} {chain : R → Key → List (ℕ × ℤ)} {settled : R → Key → Option ℤ} {list : A → List ListedAccess}
+    {nodes : G → ℕ → Bool} {pairs : G → ℕ → ℕ → Bool} {p : SchedulerView R A G} (kept : IsKept chain settled list nodes pairs p)
+    (t : ℕ) where
   -- who is found among the live ones is a node
   pub found_node : (r : ℕ × Progress) → find (has_number t) p.live ≡ Some r → nodes p.graph t ≡ true
   found_node r e = (kept.sound.listed t).1 (found_member p.live t r e).0
@@ -46,8 +51,7 @@ module _ {R A G : Type 0} {chain : R → Key → List (ℕ × ℤ)} {settled : R
   pub unended : nodes p.graph t ≡ true → IsUnended (state_of chain settled list nodes pairs p) t
   unended node = let u = (kept.unended t).0 node in record { begun = lt-ltb t (length p.fates) u.0; unended = u.1 }
 
--- a node goes along its procedure, as callers see it
-pub along_seen : {R A G : Type 0} {chain : R → Key → List (ℕ × ℤ)} {settled : R → Key → Option ℤ} {list : A → List ListedAccess} {nodes : G → ℕ → Bool} {pairs : G → ℕ → ℕ → Bool} {before now : SchedulerView R A G} → IsKept chain settled list nodes pairs before → before ≡ now → (t : ℕ) (programs : List Program) (r : ℕ × Progress) → nodes now.graph t ≡ true → programs ≡ before.procedures → r ≡ (t, progress_at now.live t) → IsAlong programs r.1
-along_seen {R} {A} {G} {chain} {settled} {list} {nodes} {pairs} {before} {now} kept seen t programs r node same is =
-    let along = (subst (IsKept chain settled list nodes pairs) seen kept).along t node in
-    subst₂ IsAlong (ap (λ (p : SchedulerView R A G). p.procedures) (sym seen) ∙ sym same) (ap (λ (x : ℕ × Progress). x.1) (sym is)) along
+  -- and goes along its procedure
+  pub goes_along : (programs : List Program) (r : ℕ × Progress) → nodes p.graph t ≡ true → programs ≡ p.procedures
+      → r ≡ (t, progress_at p.live t) → IsAlong programs r.1
+  goes_along programs r node same is = subst₂ IsAlong (sym same) (ap (λ (x : ℕ × Progress). x.1) (sym is)) (kept.along t node)

@@ -28,14 +28,17 @@ numbers-added [] t c = refl
 numbers-added (r ∷ rest) t c = ap (λ l. r.0 ∷ l) (numbers-added rest t c)
 
 -- the others keep their progress
-pub progress_at-added : (live : List (ℕ × Progress)) (t u : ℕ) (c : Progress) → u ≢ t → progress_at (live ++ (t, c) ∷ []) u ≡ progress_at live u
+pub progress_at-added : (live : List (ℕ × Progress)) (t u : ℕ) (c : Progress) → u ≢ t
+    → progress_at (live ++ (t, c) ∷ []) u ≡ progress_at live u
 progress_at-added [] t u c h = ap (λ b. cond b c (progress_at [] u)) (other t u (λ e. h (sym e)))
 progress_at-added (r ∷ rest) t u c h = ap (λ d. cond (nat_eq r.0 u) r.1 d) (progress_at-added rest t u c h)
 
 -- the added one has its own
-pub progress_at-new : (live : List (ℕ × Progress)) (t : ℕ) (c : Progress) → (Member t (numbers live) → ⊥) → progress_at (live ++ (t, c) ∷ []) t ≡ c
+pub progress_at-new : (live : List (ℕ × Progress)) (t : ℕ) (c : Progress) → (Member t (numbers live) → ⊥)
+    → progress_at (live ++ (t, c) ∷ []) t ≡ c
 progress_at-new [] t c h = ap (λ b. cond b c (progress_at [] t)) (eq-eqb t t refl)
-progress_at-new (r ∷ rest) t c h = ap (λ b. cond b r.1 (progress_at (rest ++ (t, c) ∷ []) t)) (other r.0 t (λ e. h (inl (sym e)))) ∙ progress_at-new rest t c (λ m. h (inr m))
+progress_at-new (r ∷ rest) t c h = ap (λ b. cond b r.1 (progress_at (rest ++ (t, c) ∷ []) t)) (other r.0 t (λ e. h (inl (sym e))))
+    ∙ progress_at-new rest t c (λ m. h (inr m))
 
 -- progress that is changed
 
@@ -48,45 +51,59 @@ numbers-changed t f (r ∷ rest) = both (nat_eq r.0 t) refl (numbers-changed t f
   both false e h = rw e (ap (λ l. r.0 ∷ l) h)
 
 -- and the progress of the others
-pub progress_at-changed : (t u : ℕ) (f : Progress → Progress) (live : List (ℕ × Progress)) → u ≢ t → progress_at (changed t f live) u ≡ progress_at live u
+pub progress_at-changed : (t u : ℕ) (f : Progress → Progress) (live : List (ℕ × Progress)) → u ≢ t
+    → progress_at (changed t f live) u ≡ progress_at live u
 progress_at-changed t u f [] h = refl
 progress_at-changed t u f (r ∷ rest) h = both (nat_eq r.0 t) refl (progress_at-changed t u f rest h) where
-  both : (b : Bool) → nat_eq r.0 t ≡ b → progress_at (changed t f rest) u ≡ progress_at rest u → progress_at (changed t f (r ∷ rest)) u ≡ progress_at (r ∷ rest) u
+  both : (b : Bool) → nat_eq r.0 t ≡ b → progress_at (changed t f rest) u ≡ progress_at rest u
+      → progress_at (changed t f (r ∷ rest)) u ≡ progress_at (r ∷ rest) u
   both true e rec =
       let no : nat_eq r.0 u ≡ false = other r.0 u (λ i. h (sym i ∙ eqb-true r.0 t e)) in
-      ap (λ b. progress_at (cond b ((r.0, f r.1) ∷ rest) (r ∷ changed t f rest)) u) e ∙ (ap (λ b. cond b (f r.1) (progress_at rest u)) no ∙ sym (ap (λ b. cond b r.1 (progress_at rest u)) no))
-  both false e rec = ap (λ b. progress_at (cond b ((r.0, f r.1) ∷ rest) (r ∷ changed t f rest)) u) e ∙ ap (λ c. cond (nat_eq r.0 u) r.1 c) rec
+      ap (λ b. progress_at (cond b ((r.0, f r.1) ∷ rest) (r ∷ changed t f rest)) u) e
+      ∙ (ap (λ b. cond b (f r.1) (progress_at rest u)) no ∙ sym (ap (λ b. cond b r.1 (progress_at rest u)) no))
+  both false e rec = ap (λ b. progress_at (cond b ((r.0, f r.1) ∷ rest) (r ∷ changed t f rest)) u) e
+      ∙ ap (λ c. cond (nat_eq r.0 u) r.1 c) rec
 
 -- the changed one has the changed progress
-pub progress_at-own : (t : ℕ) (f : Progress → Progress) (live : List (ℕ × Progress)) → Member t (numbers live) → progress_at (changed t f live) t ≡ f (progress_at live t)
+pub progress_at-own : (t : ℕ) (f : Progress → Progress) (live : List (ℕ × Progress)) → Member t (numbers live)
+    → progress_at (changed t f live) t ≡ f (progress_at live t)
 progress_at-own t f [] m = absurd m
 progress_at-own t f (r ∷ rest) m = both (nat_eq r.0 t) refl (progress_at-own t f rest) where
-  both : (b : Bool) → nat_eq r.0 t ≡ b → (Member t (numbers rest) → progress_at (changed t f rest) t ≡ f (progress_at rest t)) → progress_at (changed t f (r ∷ rest)) t ≡ f (progress_at (r ∷ rest) t)
+  both : (b : Bool) → nat_eq r.0 t ≡ b → (Member t (numbers rest) → progress_at (changed t f rest) t ≡ f (progress_at rest t))
+      → progress_at (changed t f (r ∷ rest)) t ≡ f (progress_at (r ∷ rest) t)
   both true e rec = rw (e, e) refl
-  both false e rec = ap (λ b. progress_at (cond b ((r.0, f r.1) ∷ rest) (r ∷ changed t f rest)) t) e ∙ (ap (λ b. cond b r.1 (progress_at (changed t f rest) t)) e ∙ (rec (later m) ∙ sym (ap (λ b. f (cond b r.1 (progress_at rest t))) e))) where
-    later : (t ≡ r.0) ⊎ Member t (numbers rest) → Member t (numbers rest)
-    later (inl h) = absurd (eqb-false r.0 t e (sym h))
-    later (inr h) = h
+  both false e rec = ap (λ b. progress_at (cond b ((r.0, f r.1) ∷ rest) (r ∷ changed t f rest)) t) e
+      ∙ (ap (λ b. cond b r.1 (progress_at (changed t f rest) t)) e
+      ∙ (rec (later m) ∙ sym (ap (λ b. f (cond b r.1 (progress_at rest t))) e))) where
+        later : (t ≡ r.0) ⊎ Member t (numbers rest) → Member t (numbers rest)
+        later (inl h) = absurd (eqb-false r.0 t e (sym h))
+        later (inr h) = h
 
 -- progress that is dropped
 
 -- dropping one drops its number
 pub numbers-without : (t : ℕ) (live : List (ℕ × Progress)) → numbers (without t live) ≡ filter (λ u. not (nat_eq t u)) (numbers live)
 numbers-without t [] = refl
-numbers-without t (r ∷ rest) = ap (λ b. numbers (cond (not b) (r ∷ without t rest) (without t rest))) (nat_eq-swap r.0 t) ∙ both (nat_eq t r.0) (numbers-without t rest) where
-  both : (b : Bool) → numbers (without t rest) ≡ filter (λ u. not (nat_eq t u)) (numbers rest) → numbers (cond (not b) (r ∷ without t rest) (without t rest)) ≡ cond (not b) (r.0 ∷ filter (λ u. not (nat_eq t u)) (numbers rest)) (filter (λ u. not (nat_eq t u)) (numbers rest))
-  both true h = h
-  both false h = ap (λ l. r.0 ∷ l) h
+numbers-without t (r ∷ rest) = ap (λ b. numbers (cond (not b) (r ∷ without t rest) (without t rest))) (nat_eq-swap r.0 t)
+    ∙ both (nat_eq t r.0) (numbers-without t rest) where
+      both : (b : Bool) → numbers (without t rest) ≡ filter (λ u. not (nat_eq t u)) (numbers rest)
+          → numbers (cond (not b) (r ∷ without t rest) (without t rest)) ≡ cond (not b) (r.0 ∷ filter (λ u. not (nat_eq t u)) (numbers rest))
+          (filter (λ u. not (nat_eq t u)) (numbers rest))
+      both true h = h
+      both false h = ap (λ l. r.0 ∷ l) h
 
 -- and keeps the progress of the others
 pub progress_at-without : (t u : ℕ) (live : List (ℕ × Progress)) → nat_eq t u ≡ false → progress_at (without t live) u ≡ progress_at live u
 progress_at-without t u [] h = refl
 progress_at-without t u (r ∷ rest) h = both (nat_eq r.0 t) refl (progress_at-without t u rest h) where
-  both : (b : Bool) → nat_eq r.0 t ≡ b → progress_at (without t rest) u ≡ progress_at rest u → progress_at (without t (r ∷ rest)) u ≡ progress_at (r ∷ rest) u
+  both : (b : Bool) → nat_eq r.0 t ≡ b → progress_at (without t rest) u ≡ progress_at rest u
+      → progress_at (without t (r ∷ rest)) u ≡ progress_at (r ∷ rest) u
   both true e rec =
       let no : nat_eq r.0 u ≡ false = ap (λ x. nat_eq x u) (eqb-true r.0 t e) ∙ h in
-      ap (λ b. progress_at (cond (not b) (r ∷ without t rest) (without t rest)) u) e ∙ (rec ∙ sym (ap (λ b. cond b r.1 (progress_at rest u)) no))
-  both false e rec = ap (λ b. progress_at (cond (not b) (r ∷ without t rest) (without t rest)) u) e ∙ ap (λ c. cond (nat_eq r.0 u) r.1 c) rec
+      ap (λ b. progress_at (cond (not b) (r ∷ without t rest) (without t rest)) u) e
+      ∙ (rec ∙ sym (ap (λ b. cond b r.1 (progress_at rest u)) no))
+  both false e rec = ap (λ b. progress_at (cond (not b) (r ∷ without t rest) (without t rest)) u) e
+      ∙ ap (λ c. cond (nat_eq r.0 u) r.1 c) rec
 
 -- fates
 
@@ -112,10 +129,12 @@ fate_at-other (g ∷ fates) (suc t) zero f h = refl
 fate_at-other (g ∷ fates) (suc t) (suc u) f h = fate_at-other fates t u f (λ e. h (ap suc e))
 
 -- both in one
-pub fate_at-set : (fates : List (Option Fate)) (t u : ℕ) (f : Fate) → t < length fates → fate_at (slice_set fates t (Some f)) u ≡ cond (nat_eq t u) (Some f) (fate_at fates u)
+pub fate_at-set : (fates : List (Option Fate)) (t u : ℕ) (f : Fate) → t < length fates
+    → fate_at (slice_set fates t (Some f)) u ≡ cond (nat_eq t u) (Some f) (fate_at fates u)
 fate_at-set fates t u f h = both (nat_eq t u) refl where
   both : (b : Bool) → nat_eq t u ≡ b → fate_at (slice_set fates t (Some f)) u ≡ cond (nat_eq t u) (Some f) (fate_at fates u)
-  both true e = ap (fate_at (slice_set fates t (Some f))) (sym (eqb-true t u e)) ∙ (fate_at-own fates t (Some f) h ∙ sym (ap (λ b. cond b (Some f) (fate_at fates u)) e))
+  both true e = ap (fate_at (slice_set fates t (Some f))) (sym (eqb-true t u e))
+      ∙ (fate_at-own fates t (Some f) h ∙ sym (ap (λ b. cond b (Some f) (fate_at fates u)) e))
   both false e = fate_at-other fates t u (Some f) (eqb-false t u e) ∙ sym (ap (λ b. cond b (Some f) (fate_at fates u)) e)
 
 -- who was never started has none

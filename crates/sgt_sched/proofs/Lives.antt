@@ -21,14 +21,16 @@ pub record IsFirst (t : ℕ) (live : List (ℕ × Progress)) (i : ℕ) (r : ℕ 
   pub change : (f : Progress → Progress) → slice_set live i (r.0, f r.1) ≡ changed t f live
 
 -- what stands at the first place of t
-pub first_at : (t : ℕ) (live : List (ℕ × Progress)) (i : ℕ) (r : ℕ × Progress) → position_or_len (has_number t) live ≡ i → slice_get live i ≡ Some r → IsFirst t live i r
+pub first_at : (t : ℕ) (live : List (ℕ × Progress)) (i : ℕ) (r : ℕ × Progress) → position_or_len (has_number t) live ≡ i
+    → slice_get live i ≡ Some r → IsFirst t live i r
 first_at t [] i r e at = absurd (cc)
 first_at t (q ∷ rest) zero r e at =
     let b = first_true (nat_eq q.0 t) (position_or_len (has_number t) rest) e in
     let same : q ≡ r = same_Some _ _ at in
     record {
       own_progress = ap (λ c. cond c q.1 (progress_at rest t)) b ∙ ap (λ (x : ℕ × Progress). x.1) same;
-      change = λ f. ap (λ (x : ℕ × Progress). (x.0, f x.1) ∷ rest) (sym same) ∙ sym (ap (λ c. cond c ((q.0, f q.1) ∷ rest) (q ∷ changed t f rest)) b);
+      change = λ f. ap (λ (x : ℕ × Progress). (x.0, f x.1) ∷ rest) (sym same)
+          ∙ sym (ap (λ c. cond c ((q.0, f q.1) ∷ rest) (q ∷ changed t f rest)) b);
     }
 first_at t (q ∷ rest) (suc i) r e at =
     let b = later_false (nat_eq q.0 t) (position_or_len (has_number t) rest) i e in
@@ -52,10 +54,12 @@ within n len i e = both (nat_lt n len) refl where
   both false h = absurd (let f : None ≡ Some i = sym (ap (λ c. cond c (Some n) None) h) ∙ e in cc)
 
 -- the same of a list that was seen as another
-pub found_at : (t : ℕ) (rows seen : List (ℕ × Progress)) (i : ℕ) (r : ℕ × Progress) → rows ≡ seen → Some i ≡ position (has_number t) seen → r ≡ get_or rows i r → IsFirst t seen i r
+pub found_at : (t : ℕ) (rows seen : List (ℕ × Progress)) (i : ℕ) (r : ℕ × Progress) → rows ≡ seen → Some i ≡ position (has_number t) seen
+    → r ≡ get_or rows i r → IsFirst t seen i r
 found_at t rows seen i r same found read =
     let at : position_or_len (has_number t) seen ≡ i = placed _ (length seen) i (sym found) in
-    first_at t seen i r at (slice_get_read seen (length seen) i r refl (within (position_or_len (has_number t) seen) (length seen) i (sym found)) (subst (λ l. r ≡ get_or l i r) same read))
+    first_at t seen i r at (slice_get_read seen (length seen) i r refl
+    (within (position_or_len (has_number t) seen) (length seen) i (sym found)) (subst (λ l. r ≡ get_or l i r) same read))
 
 -- a live one has a place
 pub has_place : (t : ℕ) (live : List (ℕ × Progress)) → Member t (numbers live) → position (has_number t) live ≡ None → ⊥
@@ -63,10 +67,12 @@ has_place t live m missing = absurd (omega (arith, before_end t live m, missed _
   before_end : (t : ℕ) (live : List (ℕ × Progress)) → Member t (numbers live) → position_or_len (has_number t) live < length live
   before_end t [] m = absurd m
   before_end t (q ∷ rest) m = both (nat_eq q.0 t) refl (before_end t rest) m where
-    both : (b : Bool) → nat_eq q.0 t ≡ b → (Member t (numbers rest) → position_or_len (has_number t) rest < length rest) → (t ≡ q.0) ⊎ Member t (numbers rest) → cond (not (nat_eq q.0 t)) (1 + position_or_len (has_number t) rest) 0 < suc (length rest)
+    both : (b : Bool) → nat_eq q.0 t ≡ b → (Member t (numbers rest) → position_or_len (has_number t) rest < length rest)
+        → (t ≡ q.0) ⊎ Member t (numbers rest) → cond (not (nat_eq q.0 t)) (1 + position_or_len (has_number t) rest) 0 < suc (length rest)
     both true h rec m = subst (λ b. cond (not b) (1 + position_or_len (has_number t) rest) 0 < suc (length rest)) (sym h) (omega arith)
     both false h rec (inl e) = absurd (eqb-false q.0 t h (sym e))
-    both false h rec (inr i) = let r = rec i in subst (λ b. cond (not b) (1 + position_or_len (has_number t) rest) 0 < suc (length rest)) (sym h) (omega (arith, r))
+    both false h rec (inr i) = let r = rec i in subst (λ b. cond (not b) (1 + position_or_len (has_number t) rest) 0 < suc (length rest))
+        (sym h) (omega (arith, r))
 
   missed : (n len : ℕ) → cond (nat_lt n len) (Some n) None ≡ None → len ≤ n
   missed n len e = both (nat_lt n len) refl where
@@ -75,5 +81,6 @@ has_place t live m missing = absurd (omega (arith, before_end t live m, missed _
     both false h = ltb-false n len h
 
 -- the change at that place, of a list that was seen as another
-pub changed_at : (t : ℕ) (rows seen : List (ℕ × Progress)) (i : ℕ) (r s : ℕ × Progress) (f : Progress → Progress) → rows ≡ seen → s ≡ (r.0, f r.1) → IsFirst t seen i r → slice_set rows i s ≡ changed t f seen
+pub changed_at : (t : ℕ) (rows seen : List (ℕ × Progress)) (i : ℕ) (r s : ℕ × Progress) (f : Progress → Progress) → rows ≡ seen
+    → s ≡ (r.0, f r.1) → IsFirst t seen i r → slice_set rows i s ≡ changed t f seen
 changed_at t rows seen i r s f same is first = ap (λ l. slice_set l i s) same ∙ (ap (slice_set seen i) is ∙ first.change f)

@@ -8,10 +8,22 @@ use Rattle.sgt_model.specs.ChainOrder.{InOrder}
 use Rattle.sgt_model.specs.State.{PairIn}
 use Rattle.sgt_sched.specs.SchedulerView.{SchedulerView, state_of, IsKept}
 
-module _ {R A G : Type 0} {chain : R → Key → List (ℕ × ℤ)} {settled : R → Key → Option ℤ} {list : A → List ListedAccess} {nodes : G → ℕ → Bool} {pairs : G → ℕ → ℕ → Bool} {before : SchedulerView R A G} (kept : IsKept chain settled list nodes pairs before) (records : R) (accesses : A) (same_chain : (k : Key) → chain records k ≡ chain before.records k) (same_list : list accesses ≡ list before.accesses) where
+module _ {R A G : Type 0} {chain : R → Key → List (ℕ × ℤ)} {settled : R → Key → Option ℤ} {list : A → List ListedAccess}
+    {nodes : G → ℕ → Bool} {pairs : G → ℕ → ℕ → Bool} {before : SchedulerView R A G} (kept : IsKept chain settled list nodes pairs before)
+    (records : R) (accesses : A) (same_chain : (k : Key) → chain records k ≡ chain before.records k)
+    (same_list : list accesses ≡ list before.accesses) where
   -- the parts with the layers that made room
   abbrev pub with_room : SchedulerView R A G
-  with_room = record { procedures = before.procedures; limits = before.limits; records = records; accesses = accesses; graph = before.graph; live = before.live; read_from = before.read_from; fates = before.fates }
+  with_room = record {
+    procedures = before.procedures;
+    limits = before.limits;
+    records = records;
+    accesses = accesses;
+    graph = before.graph;
+    live = before.live;
+    read_from = before.read_from;
+    fates = before.fates;
+  }
 
   pub kept_reserved : IsKept chain settled list nodes pairs with_room
   kept_reserved = record {
@@ -25,7 +37,8 @@ module _ {R A G : Type 0} {chain : R → Key → List (ℕ × ℤ)} {settled : R
       pair_apart = kept.sound.pair_apart;
       access_nodes = λ t k kind h. kept.sound.access_nodes t k kind (ap (λ l. lists_conflicting l t k kind) (sym same_list) ∙ h);
       read_nodes = kept.sound.read_nodes;
-      writers = λ k t h. ap (λ l. lists_conflicting l t k Store) same_list ∙ kept.sound.writers k t (ap (writes_in t) (sym (same_chain k)) ∙ h);
+      writers = λ k t h. ap (λ l. lists_conflicting l t k Store) same_list
+          ∙ kept.sound.writers k t (ap (writes_in t) (sym (same_chain k)) ∙ h);
       order = λ k. subst (InOrder (PairIn (state_of chain settled list nodes pairs before))) (sym (same_chain k)) (kept.sound.order k);
     };
     rising = kept.rising;

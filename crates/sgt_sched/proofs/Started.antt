@@ -10,12 +10,11 @@ use Rattle.sgt_model.specs.AccessList.{ListedAccess}
 use Rattle.sgt_sched.specs.LiveProgress.{Progress, left_kept}
 use Rattle.sgt_model.specs.declared.limits.Limits.{Limits}
 use Rattle.sgt_model.specs.Syntax.{Program}
-use Rattle.sgt_model.specs.Settings.{Rules, rules_from, takes}
+use Rattle.sgt_model.specs.Settings.{rules_from, takes}
 use Rattle.sgt_model.specs.LiveLeft.{left_if}
-use Rattle.sgt_model.specs.declared.reply.Reply.{Reply}
 use Rattle.sgt_model.specs.declared.reply.Reply.TheVariants as reply
 use Rattle.sgt_model.specs.StartReply.{taken_reply}
-use Rattle.sgt_model.specs.CallEffects.{start_answer, StartOn, StartEffect}
+use Rattle.sgt_model.specs.CallEffects.{start_answer}
 use Rattle.sgt_model.specs.State.{State}
 use Rattle.sgt_model.specs.Changes.{Starts}
 use Rattle.sgt_model.proofs.Conditions.{next_no_node}
@@ -25,19 +24,23 @@ use Rattle.sgt_sched.specs.SchedulerView.{SchedulerView, fate_at, rules_of, stat
 use Rattle.sgt_sched.proofs.Lists.{numbers-added, progress_at-added, progress_at-new, fate_at-added, fate_at-past, rising-added}
 
 -- a start that is let in names a procedure
-named : (programs : List Program) (procedure : ℕ) (limits : Limits) (begun living t : ℕ) (args : List ℤ) → reply.Started t ≡ taken_reply limits begun living (takes (rules_from programs limits) procedure) args → procedure < length programs
+named : (programs : List Program) (procedure : ℕ) (limits : Limits) (begun living t : ℕ) (args : List ℤ)
+    → reply.Started t ≡ taken_reply limits begun living (takes (rules_from programs limits) procedure) args → procedure < length programs
 named [] zero limits begun living t args e = absurd (cc)
 named [] (suc n) limits begun living t args e = absurd (cc)
 named (p ∷ rest) zero limits begun living t args e = omega arith
 named (p ∷ rest) (suc n) limits begun living t args e = let r = named rest n limits begun living t args e in omega (arith, r)
 
--- the same, as callers see it
-pub named_seen : {R A G : Type 0} (held : SchedulerView R A G → State) (before now : SchedulerView R A G) → before ≡ now → (procedure t : ℕ) (args : List ℤ) → reply.Started t ≡ start_answer (rules_of now) (held now) procedure args → procedure < length before.procedures
-named_seen {R} {A} {G} held before now seen procedure t args is =
-    subst (λ (p : SchedulerView R A G). procedure < length p.procedures) (sym seen)
-    (named now.procedures procedure now.limits (held now).starts (length (held now).live) t args is)
+-- the same, by the parts and their state
+pub is_named : {R A G : Type 0} (p : SchedulerView R A G) (c : State) (procedure t : ℕ) (args : List ℤ)
+    → reply.Started t ≡ start_answer (rules_of p) c procedure args → procedure < length p.procedures
+is_named p c procedure t args is = named p.procedures procedure p.limits c.starts (length c.live) t args is
 
-module _ {R A G : Type 0} {chain : R → Key → List (ℕ × ℤ)} {settled : R → Key → Option ℤ} {list : A → List ListedAccess} {nodes : G → ℕ → Bool} {pairs : G → ℕ → ℕ → Bool} {before : SchedulerView R A G} (kept : IsKept chain settled list nodes pairs before) (procedure : ℕ) (program : Program) (args : List ℤ) (named : slice_get before.procedures procedure ≡ Some program) (graph : G) (nodes_are : (u : ℕ) → nodes graph u ≡ (nodes before.graph u || nat_eq u (length before.fates))) (pairs_are : (u v : ℕ) → pairs graph u v ≡ pairs before.graph u v) where
+module _ {R A G : Type 0} {chain : R → Key → List (ℕ × ℤ)} {settled : R → Key → Option ℤ} {list : A → List ListedAccess}
+    {nodes : G → ℕ → Bool} {pairs : G → ℕ → ℕ → Bool} {before : SchedulerView R A G} (kept : IsKept chain settled list nodes pairs before)
+    (procedure : ℕ) (program : Program) (args : List ℤ) (named : slice_get before.procedures procedure ≡ Some program) (graph : G)
+    (nodes_are : (u : ℕ) → nodes graph u ≡ (nodes before.graph u || nat_eq u (length before.fates)))
+    (pairs_are : (u v : ℕ) → pairs graph u v ≡ pairs before.graph u v) where
   -- the parts afterwards
   abbrev pub after_start : SchedulerView R A G
   after_start = record {
@@ -53,10 +56,12 @@ module _ {R A G : Type 0} {chain : R → Key → List (ℕ × ℤ)} {settled : R
 
   -- the next number is no live one's
   not_live : Member (length before.fates) (numbers before.live) → ⊥
-  not_live m = next_no_node before.limits.live (state_of chain settled list nodes pairs before) kept.sound ((kept.sound.listed (length before.fates)).1 m)
+  not_live m = next_no_node before.limits.live (state_of chain settled list nodes pairs before) kept.sound
+      ((kept.sound.listed (length before.fates)).1 m)
 
   -- the state starts it
-  pub starts : Starts (left_if (slice_get before.procedures procedure) args) (state_of chain settled list nodes pairs before) (state_of chain settled list nodes pairs after_start)
+  pub starts : Starts (left_if (slice_get before.procedures procedure) args) (state_of chain settled list nodes pairs before)
+      (state_of chain settled list nodes pairs after_start)
   starts = record {
     live = numbers-added before.live (length before.fates) (started procedure program args);
     nodes = nodes_are;
@@ -68,18 +73,27 @@ module _ {R A G : Type 0} {chain : R → Key → List (ℕ × ℤ)} {settled : R
     fates = fate_at-added before.fates;
     starts = length-append before.fates (None ∷ []);
     left = λ u h. ap left_kept (progress_at-added before.live (length before.fates) u (started procedure program args) h);
-    own_left = ap left_kept (progress_at-new before.live (length before.fates) (started procedure program args) not_live) ∙ sym (ap (λ p. left_if p args) named);
+    own_left = ap left_kept (progress_at-new before.live (length before.fates) (started procedure program args) not_live)
+        ∙ sym (ap (λ p. left_if p args) named);
   }
 
   -- what holds at every moment holds afterwards
-  pub kept_start : length before.live < before.limits.live → length before.fates < before.limits.begins → IsKept chain settled list nodes pairs after_start
+  pub kept_start : length before.live < before.limits.live → length before.fates < before.limits.begins
+      → IsKept chain settled list nodes pairs after_start
   kept_start room more = record {
     in_range = kept.in_range;
     begun = omega (arith, length-append before.fates (None ∷ []));
-    sound = sound_starts before.limits.live _ _ kept.sound (left_if (slice_get before.procedures procedure) args) (few before.live room) starts;
-    rising = subst Rising (sym starts.live) (rising-added (length before.fates) (numbers before.live) kept.rising (λ u m. kept.sound.begun u ((kept.sound.listed u).1 m)));
-    unended = λ u. ((λ h. elim (or_cases (nodes before.graph u) (nat_eq u (length before.fates)) (sym (nodes_are u) ∙ h)) [ inl old ↦ was u old | inr new ↦ is_new u (eqb-true u (length before.fates) new) ]), (λ h. nodes_are u ∙ back u h.0 h.1));
-    along = λ u h. elim (or_cases (nodes before.graph u) (nat_eq u (length before.fates)) (sym (nodes_are u) ∙ h)) [ inl old ↦ used_before u old | inr new ↦ used_now u (eqb-true u (length before.fates) new) ];
+    sound = sound_starts before.limits.live _ _ kept.sound (left_if (slice_get before.procedures procedure) args)
+        (few before.live room) starts;
+    rising = subst Rising (sym starts.live) (rising-added (length before.fates) (numbers before.live) kept.rising
+        (λ u m. kept.sound.begun u ((kept.sound.listed u).1 m)));
+    unended = λ u. (
+      (λ h. elim (or_cases (nodes before.graph u) (nat_eq u (length before.fates)) (sym (nodes_are u) ∙ h))
+          [ inl old ↦ was u old | inr new ↦ is_new u (eqb-true u (length before.fates) new) ]),
+      (λ h. nodes_are u ∙ back u h.0 h.1),
+    );
+    along = λ u h. elim (or_cases (nodes before.graph u) (nat_eq u (length before.fates)) (sym (nodes_are u) ∙ h))
+        [ inl old ↦ used_before u old | inr new ↦ used_now u (eqb-true u (length before.fates) new) ];
   } where
     Open : ℕ → Type 0
     Open u = (u < length (before.fates ++ None ∷ [])) × (fate_at (before.fates ++ None ∷ []) u ≡ None)
@@ -88,27 +102,52 @@ module _ {R A G : Type 0} {chain : R → Key → List (ℕ × ℤ)} {settled : R
     few l h = subst (λ n. n < before.limits.live) (sym (length-map l _)) h
 
     was : (u : ℕ) → nodes before.graph u ≡ true → Open u
-    was u h = let o = (kept.unended u).0 h in (omega (arith, o.0, length-append before.fates (None ∷ [])), fate_at-added before.fates u ∙ o.1)
+    was u h = let o = (kept.unended u).0 h in (
+      omega (arith, o.0, length-append before.fates (None ∷ [])),
+      fate_at-added before.fates u
+          ∙ o.1,
+    )
 
     is_new : (u : ℕ) → u ≡ length before.fates → Open u
-    is_new u e = (omega (arith, e, length-append before.fates (None ∷ [])), fate_at-added before.fates u ∙ fate_at-past before.fates u (omega (arith, e)))
+    is_new u e = (
+      omega (arith, e, length-append before.fates (None ∷ [])),
+      fate_at-added before.fates u
+          ∙ fate_at-past before.fates u (omega (arith, e)),
+    )
 
-    back : (u : ℕ) → u < length (before.fates ++ None ∷ []) → fate_at (before.fates ++ None ∷ []) u ≡ None → (nodes before.graph u || nat_eq u (length before.fates)) ≡ true
+    back : (u : ℕ) → u < length (before.fates ++ None ∷ []) → fate_at (before.fates ++ None ∷ []) u ≡ None
+        → (nodes before.graph u || nat_eq u (length before.fates)) ≡ true
     back u h f = both (nat_eq u (length before.fates)) refl where
       both : (b : Bool) → nat_eq u (length before.fates) ≡ b → (nodes before.graph u || nat_eq u (length before.fates)) ≡ true
       both true e = or_right (nodes before.graph u) _ e
-      both false e = or_left _ (nat_eq u (length before.fates)) ((kept.unended u).1 (omega (arith, h, length-append before.fates (None ∷ []), eqb-false u (length before.fates) e), sym (fate_at-added before.fates u) ∙ f))
+      both false e = or_left _ (nat_eq u (length before.fates))
+          ((kept.unended u).1 (
+            omega (arith, h, length-append before.fates (None ∷ []), eqb-false u (length before.fates) e),
+            sym
+                (fate_at-added before.fates u) ∙ f,
+          ))
 
-    used_before : (u : ℕ) → nodes before.graph u ≡ true → IsAlong before.procedures (progress_at (before.live ++ (length before.fates, started procedure program args) ∷ []) u)
-    used_before u h = subst (IsAlong before.procedures) (sym (progress_at-added before.live (length before.fates) u (started procedure program args) (λ e. next_no_node before.limits.live (state_of chain settled list nodes pairs before) kept.sound (subst (λ x. nodes before.graph x ≡ true) e h)))) (kept.along u h)
+    used_before : (u : ℕ) → nodes before.graph u ≡ true
+        → IsAlong before.procedures (progress_at (before.live ++ (length before.fates, started procedure program args) ∷ []) u)
+    used_before u h = subst (IsAlong before.procedures)
+        (sym (progress_at-added before.live (length before.fates) u (started procedure program args)
+        (λ e. next_no_node before.limits.live (state_of chain settled list nodes pairs before) kept.sound
+        (subst (λ x. nodes before.graph x ≡ true) e h)))) (kept.along u h)
 
-    used_now : (u : ℕ) → u ≡ length before.fates → IsAlong before.procedures (progress_at (before.live ++ (length before.fates, started procedure program args) ∷ []) u)
-    used_now u e = subst (IsAlong before.procedures) (sym (ap (progress_at after_start.live) e ∙ progress_at-new before.live (length before.fates) (started procedure program args) not_live)) named
+    used_now : (u : ℕ) → u ≡ length before.fates → IsAlong before.procedures
+        (progress_at (before.live ++ (length before.fates, started procedure program args) ∷ []) u)
+    used_now u e = subst (IsAlong before.procedures) (sym
+        (ap (progress_at after_start.live) e ∙ progress_at-new before.live (length before.fates)
+        (started procedure program args) not_live)) named
 
-module _ {R A G : Type 0} {chain : R → Key → List (ℕ × ℤ)} {settled : R → Key → Option ℤ} {list : A → List ListedAccess} {nodes : G → ℕ → Bool} {pairs : G → ℕ → ℕ → Bool} {before : SchedulerView R A G} (kept : IsKept chain settled list nodes pairs before) (procedure : ℕ) (program : Program) (args : List ℤ) (t : ℕ) (next : t ≡ length before.fates) where
+module _ {R A G : Type 0} {chain : R → Key → List (ℕ × ℤ)} {settled : R → Key → Option ℤ} {list : A → List ListedAccess}
+    {nodes : G → ℕ → Bool} {pairs : G → ℕ → ℕ → Bool} {before : SchedulerView R A G} (kept : IsKept chain settled list nodes pairs before)
+    (procedure : ℕ) (program : Program) (args : List ℤ) (t : ℕ) (next : t ≡ length before.fates) where
   -- the next number is no node
   pub start_new : nodes before.graph t ≡ false
-  start_new = false_from_ne_true (nodes before.graph t) (λ h. next_no_node before.limits.live (state_of chain settled list nodes pairs before) kept.sound (subst (λ n. nodes before.graph n ≡ true) next h))
+  start_new = false_from_ne_true (nodes before.graph t)
+      (λ h. next_no_node before.limits.live (state_of chain settled list nodes pairs before) kept.sound
+      (subst (λ n. nodes before.graph n ≡ true) next h))
 
   -- there is room for one more node
   pub start_room : length (numbers before.live) < before.limits.live → AtMost 31 (nodes before.graph)
@@ -119,10 +158,41 @@ module _ {R A G : Type 0} {chain : R → Key → List (ℕ × ℤ)} {settled : R
   }
 
   -- the parts after a start, with its effect
-  pub start_done : (graph : G) (live : List (ℕ × Progress)) (fates : List (Option Fate)) → ((u : ℕ) → nodes graph u ≡ (nodes before.graph u || nat_eq u t)) → ((u v : ℕ) → pairs graph u v ≡ pairs before.graph u v) → live ≡ before.live ++ (t, started procedure program args) ∷ [] → fates ≡ before.fates ++ None ∷ [] → slice_get before.procedures procedure ≡ Some program → length (numbers before.live) < before.limits.live → length before.fates < before.limits.begins → IsKept chain settled list nodes pairs (record { procedures = before.procedures; limits = before.limits; records = before.records; accesses = before.accesses; graph = graph; live = live; read_from = before.read_from; fates = fates }) × Starts (left_if (slice_get before.procedures procedure) args) (state_of chain settled list nodes pairs before) (state_of chain settled list nodes pairs (record { procedures = before.procedures; limits = before.limits; records = before.records; accesses = before.accesses; graph = graph; live = live; read_from = before.read_from; fates = fates }))
+  pub start_done : (graph : G) (live : List (ℕ × Progress)) (fates : List (Option Fate))
+      → ((u : ℕ) → nodes graph u ≡ (nodes before.graph u || nat_eq u t)) → ((u v : ℕ) → pairs graph u v ≡ pairs before.graph u v)
+      → live ≡ before.live ++ (t, started procedure program args) ∷ [] → fates ≡ before.fates ++ None ∷ []
+      → slice_get before.procedures procedure ≡ Some program → length (numbers before.live) < before.limits.live
+      → length before.fates < before.limits.begins → IsKept chain settled list nodes pairs
+      (record {
+        procedures = before.procedures;
+        limits = before.limits;
+        records = before.records;
+        accesses = before.accesses;
+        graph = graph;
+        live = live;
+        read_from = before.read_from;
+        fates = fates;
+      }) × Starts
+      (left_if (slice_get before.procedures procedure) args) (state_of chain settled list nodes pairs before)
+      (state_of chain settled list nodes pairs (record {
+        procedures = before.procedures;
+        limits = before.limits;
+        records = before.records;
+        accesses = before.accesses;
+        graph = graph;
+        live = live;
+        read_from = before.read_from;
+        fates = fates;
+      }))
   start_done graph live fates nodes_are pairs_are live_is fates_is named room more =
-      subst (λ (p : SchedulerView R A G). IsKept chain settled list nodes pairs p × Starts (left_if (slice_get before.procedures procedure) args) (state_of chain settled list nodes pairs before) (state_of chain settled list nodes pairs p)) same
-      (kept_start kept procedure program args named graph nodes_now pairs_are (subst (λ n. n < before.limits.live) (length-map before.live _) room) more, starts kept procedure program args named graph nodes_now pairs_are) where
+      subst (λ (p : SchedulerView R A G). IsKept chain settled list nodes pairs p × Starts
+      (left_if (slice_get before.procedures procedure) args) (state_of chain settled list nodes pairs before)
+      (state_of chain settled list nodes pairs p)) same (
+        kept_start kept procedure program args named graph nodes_now pairs_are
+            (subst (λ n. n < before.limits.live) (length-map before.live _) room) more,
+        starts kept procedure program args named graph
+            nodes_now pairs_are,
+      ) where
         nodes_now : (u : ℕ) → nodes graph u ≡ (nodes before.graph u || nat_eq u (length before.fates))
         nodes_now u = nodes_are u ∙ ap (λ n. nodes before.graph u || nat_eq u n) next
 
@@ -132,12 +202,23 @@ module _ {R A G : Type 0} {chain : R → Key → List (ℕ × ℤ)} {settled : R
         fates_now : before.fates ++ None ∷ [] ≡ fates
         fates_now = sym fates_is
 
-        same : after_start kept procedure program args named graph nodes_now pairs_are ≡ record { procedures = before.procedures; limits = before.limits; records = before.records; accesses = before.accesses; graph = graph; live = live; read_from = before.read_from; fates = fates }
-        same = λ i. record { procedures = before.procedures; limits = before.limits; records = before.records; accesses = before.accesses; graph = graph; live = live_now i; read_from = before.read_from; fates = fates_now i }
-
--- the effect of a start, where the parts before it were seen as others
-pub start_effect : {P : Type 0} (held : P → State) (rules : P → Rules) (procedure : ℕ) (args : List ℤ) (before now after : P) (r : Reply) → before ≡ now → r ≡ start_answer (rules now) (held now) procedure args → StartOn ((rules before).procedures procedure) args (held before) r (held after) → StartEffect (rules now) procedure args (held now) r (held after)
-start_effect held rules procedure args before now after r same reply does = record {
-  reply = reply;
-  does = subst (λ p. StartOn ((rules p).procedures procedure) args (held p) r (held after)) same does;
-}
+        same : after_start kept procedure program args named graph nodes_now pairs_are ≡ record {
+          procedures = before.procedures;
+          limits = before.limits;
+          records = before.records;
+          accesses = before.accesses;
+          graph = graph;
+          live = live;
+          read_from = before.read_from;
+          fates = fates;
+        }
+        same = λ i. record {
+          procedures = before.procedures;
+          limits = before.limits;
+          records = before.records;
+          accesses = before.accesses;
+          graph = graph;
+          live = live_now i;
+          read_from = before.read_from;
+          fates = fates_now i;
+        }

@@ -12,18 +12,24 @@ use Rattle.sgt_sched.specs.declared.brief.Brief.{Brief}
 use Rattle.sgt_sched.specs.Briefs.{told, InBrief}
 
 -- what is done to one that was started and has not ended
-pub if_unended : (b : Bool) (ended : Option Fate) (before : State) (r : Reply) (after : State) (X : Type 0) → b ≡ true → ended ≡ None → X → IfOpen b ended before r after X
+pub if_unended : (b : Bool) (ended : Option Fate) (before : State) (r : Reply) (after : State) (X : Type 0) → b ≡ true → ended ≡ None → X
+    → IfOpen b ended before r after X
 if_unended b ended before r after X begun none x =
     subst (λ c. IfOpen c ended before r after X) (sym begun) (subst (λ o. IfOpen true o before r after X) (sym none) x)
 
 -- a step, by what comes next
-pub steps_on : (t : ℕ) (before : State) (r : Reply) (after : State) (n : Next) → nat_lt t before.starts ≡ true → before.fates t ≡ None → n ≡ next_left (before.left t) → StepOn t n before r after → StepEffect t before r after
-steps_on t before r after n begun none next done = if_unended _ _ before r after _ begun none (subst (λ m. StepOn t m before r after) next done)
+pub steps_on : (t : ℕ) (before : State) (r : Reply) (after : State) (n : Next) → nat_lt t before.starts ≡ true → before.fates t ≡ None
+    → n ≡ next_left (before.left t) → StepOn t n before r after → StepEffect t before r after
+steps_on t before r after n begun none next done = if_unended _ _ before r after _ begun none
+    (subst (λ m. StepOn t m before r after) next done)
 
 -- what is told in short, of a call that does more
-pub in_brief : {effect more : State → Reply → State → Type 0} {place : Reply} {before after : State} {b : Brief} → (effect before (told b place) after → more before (told b place) after) → InBrief effect place before b after → InBrief more place before b after
+pub in_brief : {effect more : State → Reply → State → Type 0} {place : Reply} {before after : State} {b : Brief}
+    → (effect before (told b place) after → more before (told b place) after) → InBrief effect place before b after
+    → InBrief more place before b after
 in_brief also done = record { does = also done.does; short = done.short }
 
 -- a call on an event, which is this one
-pub called : (rules : Rules) (before : State) (r : Reply) (after : State) (event is : Event) → event ≡ is → CallEffect rules is before r after → CallEffect rules event before r after
+pub called : (rules : Rules) (before : State) (r : Reply) (after : State) (event is : Event) → event ≡ is
+    → CallEffect rules is before r after → CallEffect rules event before r after
 called rules before r after event is same done = subst (λ e. CallEffect rules e before r after) (sym same) done

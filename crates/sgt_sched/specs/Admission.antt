@@ -1,13 +1,12 @@
 -- Whether a transaction may start.
 use Rattle.std.specs.Prelude.{◌≡◌, ◌<◌, ℕ, ℤ, List, length, Result, Ok, Err}
 use Rattle.sgt_model.specs.declared.limits.Limits.{Limits}
-use Rattle.sgt_model.specs.declared.reply.Reply.{Reply}
 use Rattle.sgt_model.specs.declared.reply.Reply.TheVariants as reply
 use Rattle.sgt_model.specs.State.{State}
 use Rattle.sgt_model.specs.Settings.{Rules}
-use Rattle.sgt_model.specs.CallEffects.{start_answer, StartOn}
+use Rattle.sgt_model.specs.CallEffects.{start_answer, StartEffect}
 use Rattle.sgt_sched.specs.declared.brief.Brief.{Brief}
-use Rattle.sgt_sched.specs.Briefs.{told, IsShort}
+use Rattle.sgt_sched.specs.Briefs.{Unplaced}
 
 -- t is the next number, and the limits have room for it
 pub record HasRoom (limits : Limits) (c : State) (t : ℕ) : Type 0 where
@@ -18,4 +17,4 @@ pub record HasRoom (limits : Limits) (c : State) (t : ℕ) : Type 0 where
 -- with this number, for which there is room; or the start is answered so, and does nothing
 abbrev pub Admits : Rules → State → ℕ → List ℤ → Result ℕ Brief → Type 0
 Admits rules c procedure args (Ok t) = (reply.Started t ≡ start_answer rules c procedure args) × HasRoom rules.limits c t
-Admits rules c procedure args (Err b) = (place : Reply) → (told b place ≡ start_answer rules c procedure args) × StartOn (rules.procedures procedure) args c (told b place) c × IsShort b place
+Admits rules c procedure args (Err b) = Unplaced (StartEffect rules procedure args) c b c

@@ -70,8 +70,10 @@ pub record Counts (r : Reply) (before after : State) : Type 0 where
 
 -- of every call: its reply ends a live transaction exactly where its event does
 abbrev pub RepliesEndWhere : Type 0
-RepliesEndWhere = (rules : Rules) (event : Event) (before : State) (r : Reply) (after : State) → CallEffect rules event before r after → EndsWhere r (EndsOne event before)
+RepliesEndWhere = (rules : Rules) (event : Event) (before : State) (r : Reply) (after : State) → CallEffect rules event before r after
+    → EndsWhere r (EndsOne event before)
 
 -- and where those that were started and have not ended are the live ones, so many are live afterwards
 abbrev pub CallsCount : Type 0
-CallsCount = (rules : Rules) (event : Event) (before : State) (r : Reply) (after : State) → ((t : ℕ) → IsUnended before t → Member t before.live) → CallEffect rules event before r after → Counts r before after
+CallsCount = (rules : Rules) (event : Event) (before : State) (r : Reply) (after : State)
+    → ((t : ℕ) → IsUnended before t → Member t before.live) → CallEffect rules event before r after → Counts r before after

@@ -65,7 +65,10 @@ Member-prop (u ∷ rest) r t (inr m) (inr n) = ap inr (Member-prop rest (rising_
 Sound-prop : (most : ℕ) (c : State) → Rising c.live → IsProp (Sound most c)
 Sound-prop most c rising a b i = record {
   begun = λ t h. lt_prop _ _ (a.begun t h) (b.begun t h) i;
-  listed = λ t. ((λ h. Member-prop c.live rising t ((a.listed t).0 h) ((b.listed t).0 h) i), (λ m. bool_prop _ _ ((a.listed t).1 m) ((b.listed t).1 m) i));
+  listed = λ t. (
+    (λ h. Member-prop c.live rising t ((a.listed t).0 h) ((b.listed t).0 h) i),
+    (λ m. bool_prop _ _ ((a.listed t).1 m) ((b.listed t).1 m) i),
+  );
   few = leq_prop _ _ a.few b.few i;
   pair_nodes = λ t u h. ×_prop (bool_prop _ _) (bool_prop _ _) (a.pair_nodes t u h) (b.pair_nodes t u h) i;
   pair_apart = λ t u h. not_prop (a.pair_apart t u h) (b.pair_apart t u h) i;
@@ -75,13 +78,17 @@ Sound-prop most c rising a b i = record {
   order = λ k. InOrder-prop c (c.chain k) (a.order k) (b.order k) i;
 }
 
-module _ {R A G : Type 0} {chain : R → Key → List (ℕ × ℤ)} {settled : R → Key → Option ℤ} {list : A → List ListedAccess} {nodes : G → ℕ → Bool} {pairs : G → ℕ → ℕ → Bool} where
+module _ {R A G : Type 0} {chain : R → Key → List (ℕ × ℤ)} {settled : R → Key → Option ℤ} {list : A → List ListedAccess}
+    {nodes : G → ℕ → Bool} {pairs : G → ℕ → ℕ → Bool} where
   pub IsKept-prop : (p : SchedulerView R A G) → IsProp (IsKept chain settled list nodes pairs p)
   IsKept-prop p a b i = record {
     in_range = range_prop p.limits a.in_range b.in_range i;
     begun = leq_prop _ _ a.begun b.begun i;
     sound = Sound-prop p.limits.live (state_of chain settled list nodes pairs p) a.rising a.sound b.sound i;
     rising = Rising-prop _ a.rising b.rising i;
-    unended = λ t. ((λ h. ×_prop (lt_prop _ _) (Coded-set fate_code _ _) ((a.unended t).0 h) ((b.unended t).0 h) i), (λ h. bool_prop _ _ ((a.unended t).1 h) ((b.unended t).1 h) i));
+    unended = λ t. (
+      (λ h. ×_prop (lt_prop _ _) (Coded-set fate_code _ _) ((a.unended t).0 h) ((b.unended t).0 h) i),
+      (λ h. bool_prop _ _ ((a.unended t).1 h) ((b.unended t).1 h) i),
+    );
     along = λ t h. Coded-set program_code _ _ (a.along t h) (b.along t h) i;
   }

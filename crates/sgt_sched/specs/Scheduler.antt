@@ -31,18 +31,21 @@ module _ {R A G : Type 0} {r : RecordsGhosts R} {a : AccessesGhosts A} {g : Grap
   Keeps old new = (new.procedures.items ≡ old.procedures.items) × (new.limits ≡ old.limits)
 
   -- its state turns so, with this reply; nothing else changes
-  pub record Turns {X : Type 0} (effect : State → X → State → Type 0) (old : Sched R A G r a g) (x : X) (new : Sched R A G r a g) : Type 0 where
+  pub record Turns {X : Type 0} (effect : State → X → State → Type 0) (old : Sched R A G r a g) (x : X)
+      (new : Sched R A G r a g) : Type 0 where
     pub turn : effect (state old) x (state new)
     pub kept : Keeps old new
 
   -- the same, or it was refused memory, and nothing has changed
-  pub record Tries {X : Type 0} (effect : State → X → State → Type 0) (old : Sched R A G r a g) (result : Result X NoMemory) (new : Sched R A G r a g) : Type 0 where
+  pub record Tries {X : Type 0} (effect : State → X → State → Type 0) (old : Sched R A G r a g) (result : Result X NoMemory)
+      (new : Sched R A G r a g) : Type 0 where
     pub done : IfOk result (λ x. effect (state old) x (state new))
     pub refused : OnErr result (Same (state old) (state new))
     pub kept : Keeps old new
 
   -- t was aborted, as a walk leads from it to one of these, and the reply placed; or none does, and nothing has changed
-  pub record AbortsInCycle (t : ℕ) (rivals : List ℕ) (old : Sched R A G r a g) (place : Reply) (aborted : Bool) (placed : Reply) (new : Sched R A G r a g) : Type 0 where
+  pub record AbortsInCycle (t : ℕ) (rivals : List ℕ) (old : Sched R A G r a g) (place : Reply) (aborted : Bool) (placed : Reply)
+      (new : Sched R A G r a g) : Type 0 where
     pub closes : IsTrue aborted → AbortsByWalk t rivals (state old) placed (state new)
     pub free : aborted ≡ false → (new ≡ old) × (placed ≡ place) × NoWalk (state old).pairs t rivals
     pub kept : Keeps old new

@@ -26,7 +26,8 @@ pub record SchedulerView (R A G : Type 0) : Type 0 where
   pub fates : List (Option Fate)
 
 -- of these parts
-abbrev pub view : {R A G : Type 0} → List Program → Limits → R → A → G → List (ℕ × Progress) → List (ℕ × ℕ) → List (Option Fate) → SchedulerView R A G
+abbrev pub view : {R A G : Type 0} → List Program → Limits → R → A → G → List (ℕ × Progress) → List (ℕ × ℕ) → List (Option Fate)
+    → SchedulerView R A G
 view procedures limits records accesses graph live read_from fates = record {
   procedures = procedures;
   limits = limits;
@@ -52,7 +53,8 @@ IsAlong programs c = slice_get programs c.procedure ≡ Some c.cursor.0
 
 -- by what the layers tell: of records the chain and the committed value of each key, of accesses their list, of a graph its
 -- nodes and pairs
-module _ {R A G : Type 0} (chain : R → Key → List (ℕ × ℤ)) (settled : R → Key → Option ℤ) (list : A → List ListedAccess) (nodes : G → ℕ → Bool) (pairs : G → ℕ → ℕ → Bool) where
+module _ {R A G : Type 0} (chain : R → Key → List (ℕ × ℤ)) (settled : R → Key → Option ℤ) (list : A → List ListedAccess)
+    (nodes : G → ℕ → Bool) (pairs : G → ℕ → ℕ → Bool) where
   -- the state
   abbrev pub state_of : SchedulerView R A G → State
   state_of p = record {

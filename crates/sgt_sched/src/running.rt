@@ -9,7 +9,8 @@ use sgt_model::Tid;
 use sgt_proc::{Checked, Cursor, Next};
 use std::marker::Model;
 
-/// A live transaction: the number of its procedure, and how far that has come. Each call is given the procedures.
+/// A live transaction: its number, that of its procedure, and how far that has come. It holds no procedure: whoever asks it or
+/// lets it go on hands in the list that the number counts in.
 #[derive(Drop)]
 pub struct Running {
     pub tid: Tid,

@@ -1,13 +1,14 @@
 ghost use Rattle.std.specs.Prelude.{◌≡◌, true, length, Result, Ok, Err, IfOk, OnErr, IfSome, IsSome, IsTrue, ◌↔◌};
 ghost use Rattle.std.specs.Result.{IsOk};
 ghost use Rattle.sgt_model.specs.declared.reply.Reply.{Reply as Answer};
+ghost use Rattle.sgt_model.specs.AccessList.{is_listed};
 ghost use Rattle.sgt_model.specs.Bounds.{AreInRange};
 ghost use Rattle.sgt_model.specs.CallEffects.{CallEffect};
 ghost use Rattle.sgt_model.specs.Databases.{contents_of};
 ghost use Rattle.sgt_model.specs.Left.{next_left};
 ghost use Rattle.sgt_model.specs.NewState.{IsNew};
 ghost use Rattle.sgt_model.specs.State.{State};
-ghost use Rattle.sgt_model.specs.Walks.{Rising};
+ghost use Rattle.sgt_model.specs.Walks.{AtMost, Rising};
 ghost use Rattle.sgt_proc.specs.Nexts.{seen, StoresValue};
 ghost use Rattle.sgt_sched.specs.Briefs.{told, InBrief, IsShort};
 ghost use Rattle.sgt_sched.specs.Endings.{EndsOne, is_ending};
@@ -145,9 +146,10 @@ impl<R: Records, A: Accesses, G: Graph> Sched<R, A, G> {
         &self.records
     }
 
-    /// The accesses of the live transactions.
+    /// The accesses of the live transactions: few enough to be asked for rivals.
     pub fn accesses(&self) -> &A
-        ensures { result.now ≡ (parts self.now).accesses }
+        ensures same { result.now ≡ (parts self.now).accesses }
+        ensures few { AtMost 32 (is_listed (A.list result.now)) }
     {
         &self.accesses
     }

@@ -5,4 +5,5 @@ use Rattle.sgt_sched.specs.LiveList.{without}
 use Rattle.sgt_sched.proofs.live.Live.remove.Goals as goal
 
 pub returns : goal.returns
-returns c = filter_same _ (λ (r : ℕ × Progress). not (nat_eq r.0 c.args.t)) _ (λ x b f call. search rules) _ _ c.retain.ensures.filtered ∙ ap (without c.args.t) c.self.view_is
+returns c = filter_same _ (λ (r : ℕ × Progress). not (nat_eq r.0 c.args.t)) _ (λ x b f call. search rules) _ _ c.retain.ensures.filtered
+    ∙ ap (without c.args.t) c.self.view_is

@@ -9,8 +9,11 @@ unreachable-requires c = has_place c.args.t c.args.self.now c.requires.live (sym
 
 pub store-requires : goal.store-requires
 store-requires c = record {
-  along = subst (IsAlong c.args.procedures.now) (found_at c.args.t c.self.inside.running.items c.args.self.now c.in-Some.place c.index_mut.result.now c.self.view_is c.in-Some.ensures c.index_mut.ensures.value).own_progress c.requires.along;
+  along = subst (IsAlong c.args.procedures.now) (found_at c.args.t c.self.inside.running.items c.args.self.now c.in-Some.place
+      c.index_mut.result.now c.self.view_is c.in-Some.ensures c.index_mut.ensures.value).own_progress c.requires.along;
 }
 
 pub returns : goal.returns
-returns c = changed_at c.args.t c.self.inside.running.items c.args.self.now c.in-Some.place c.index_mut.result.now _ stored c.self.view_is c.store.ensures (found_at c.args.t c.self.inside.running.items c.args.self.now c.in-Some.place c.index_mut.result.now c.self.view_is c.in-Some.ensures c.index_mut.ensures.value)
+returns c = changed_at c.args.t c.self.inside.running.items c.args.self.now c.in-Some.place c.index_mut.result.now _ stored c.self.view_is
+    c.store.ensures (found_at c.args.t c.self.inside.running.items c.args.self.now c.in-Some.place c.index_mut.result.now c.self.view_is
+    c.in-Some.ensures c.index_mut.ensures.value)

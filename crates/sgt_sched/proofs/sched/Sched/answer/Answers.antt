@@ -6,10 +6,28 @@ use Rattle.sgt_sched.specs.Scheduler.{state, rules_of}
 use Rattle.sgt_sched.proofs.sched.Sched.answer.Goals as goal
 
 pub returns-in-Start-clause-done : goal.returns-in-Start-clause-done
-returns-in-Start-clause-done g c = record { done = IfOk-weaker c.answer_start.result _ _ (λ b done. in_brief (called (rules_of c.args.self.now) (state c.args.self.now) _ (state c.answer_start.new.self) c.args.event.now _ c.in-Start.is) (done _)) c.answer_start.ensures.done; refused = search rules; kept = search rules }
+returns-in-Start-clause-done g c = record {
+  done = IfOk-weaker c.answer_start.result _ _
+      (λ b done. in_brief (called (rules_of c.args.self.now) (state c.args.self.now) _
+      (state c.answer_start.new.self) c.args.event.now _ c.in-Start.is) (done _)) c.answer_start.ensures.done;
+  refused = search rules;
+  kept = search rules;
+}
 
 pub returns-in-Step-clause-done : goal.returns-in-Step-clause-done
-returns-in-Step-clause-done g c = record { done = IfOk-weaker c.answer_step.result _ _ (λ b done. in_brief (called (rules_of c.args.self.now) (state c.args.self.now) (told b c.answer_step.new.place) (state c.answer_step.new.self) c.args.event.now _ c.in-Step.is) done) c.answer_step.ensures.done.done; refused = search rules; kept = search rules }
+returns-in-Step-clause-done g c = record {
+  done = IfOk-weaker c.answer_step.result _ _
+      (λ b done. in_brief (called (rules_of c.args.self.now) (state c.args.self.now) (told b c.answer_step.new.place)
+      (state c.answer_step.new.self) c.args.event.now _ c.in-Step.is) done) c.answer_step.ensures.done.done;
+  refused = search rules;
+  kept = search rules;
+}
 
 pub returns-in-Commit-clause-done : goal.returns-in-Commit-clause-done
-returns-in-Commit-clause-done g c = record { done = in_brief (called (rules_of c.args.self.now) (state c.args.self.now) (told c.answer_commit.result c.answer_commit.new.place) (state c.answer_commit.new.self) c.args.event.now _ c.in-Commit.is) c.answer_commit.ensures.turn; refused = search rules; kept = search rules }
+returns-in-Commit-clause-done g c = record {
+  done = in_brief
+      (called (rules_of c.args.self.now) (state c.args.self.now) (told c.answer_commit.result c.answer_commit.new.place)
+      (state c.answer_commit.new.self) c.args.event.now _ c.in-Commit.is) c.answer_commit.ensures.turn;
+  refused = search rules;
+  kept = search rules;
+}

@@ -10,16 +10,44 @@ use Rattle.sgt_sched.specs.Scheduler.{state}
 use Rattle.sgt_sched.proofs.sched.Sched.answer_step.Goals as goal
 
 pub returns-in-Look-clause-done : goal.returns-in-Look-clause-done
-returns-in-Look-clause-done g c = record { done = IfOk-weaker c.look.result _ _ (λ b done. in_brief (steps_on c.args.t _ (told b c.look.new.place) _ _ (c.in-Some.ensures.unended.0 refl).begun (c.in-Some.ensures.unended.0 refl).unended (ap seen (sym c.in-Look.is) ∙ c.in-Some.ensures.next)) done) c.look.ensures.done.done; refused = search rules; kept = search rules }
+returns-in-Look-clause-done g c = record {
+  done = IfOk-weaker c.look.result _ _
+      (λ b done. in_brief (steps_on c.args.t _ (told b c.look.new.place) _ _ (c.in-Some.ensures.unended.0 refl).begun
+      (c.in-Some.ensures.unended.0 refl).unended (ap seen (sym c.in-Look.is) ∙ c.in-Some.ensures.next)) done) c.look.ensures.done.done;
+  refused = search rules;
+  kept = search rules;
+}
 
 pub returns-in-Put-clause-done : goal.returns-in-Put-clause-done
 returns-in-Put-clause-done g c =
     let fits : SFits w64 c.in-Put.value = search rules in
     let next = ap (Puts c.in-Put.key) (to_z-of_z w64 c.in-Put.value fits) ∙ (ap seen (sym c.in-Put.is) ∙ c.in-Some.ensures.next) in
-    record { done = IfOk-weaker c.store.result _ _ (λ b done. in_brief (steps_on c.args.t (state c.args.self.now) (told b c.store.new.place) _ (Puts c.in-Put.key (to_z w64 (of_z w64 c.in-Put.value))) (c.in-Some.ensures.unended.0 refl).begun (c.in-Some.ensures.unended.0 refl).unended next) done) c.store.ensures.done.done; refused = search rules; kept = search rules }
+    record {
+      done = IfOk-weaker c.store.result _ _ (λ b done. in_brief
+          (steps_on c.args.t (state c.args.self.now) (told b c.store.new.place) _ (Puts c.in-Put.key (to_z w64 (of_z w64 c.in-Put.value)))
+          (c.in-Some.ensures.unended.0 refl).begun (c.in-Some.ensures.unended.0 refl).unended next) done) c.store.ensures.done.done;
+      refused = search rules;
+      kept = search rules;
+    }
 
 pub returns-in-Ends-clause-done : goal.returns-in-Ends-clause-done
-returns-in-Ends-clause-done g c = record { done = record { does = steps_on c.args.t (state c.args.self.now) reply.Ended (state c.args.self.now) (Ends c.in-Ends.field-0) (c.in-Some.ensures.unended.0 refl).begun (c.in-Some.ensures.unended.0 refl).unended (ap seen (sym c.in-Ends.is) ∙ c.in-Some.ensures.next) (record { reply = refl; same = refl }); short = tt }; refused = search rules; kept = search rules }
+returns-in-Ends-clause-done g c = record {
+  done = record {
+    does = steps_on c.args.t (state c.args.self.now) reply.Ended (state c.args.self.now) (Ends c.in-Ends.field-0)
+        (c.in-Some.ensures.unended.0 refl).begun (c.in-Some.ensures.unended.0 refl).unended
+        (ap seen (sym c.in-Ends.is) ∙ c.in-Some.ensures.next) (record { reply = refl; same = refl });
+    short = tt;
+  };
+  refused = search rules;
+  kept = search rules;
+}
 
 pub returns-in-Asks-clause-done : goal.returns-in-Asks-clause-done
-returns-in-Asks-clause-done g c = record { done = in_brief (steps_on c.args.t (state c.args.self.now) (told c.abort_asked.result c.abort_asked.new.place) _ (Asks c.in-Asks.code) (c.in-Some.ensures.unended.0 refl).begun (c.in-Some.ensures.unended.0 refl).unended (ap seen (sym c.in-Asks.is) ∙ c.in-Some.ensures.next)) c.abort_asked.ensures.turn; refused = search rules; kept = search rules }
+returns-in-Asks-clause-done g c = record {
+  done = in_brief
+      (steps_on c.args.t (state c.args.self.now) (told c.abort_asked.result c.abort_asked.new.place) _ (Asks c.in-Asks.code)
+      (c.in-Some.ensures.unended.0 refl).begun (c.in-Some.ensures.unended.0 refl).unended
+      (ap seen (sym c.in-Asks.is) ∙ c.in-Some.ensures.next)) c.abort_asked.ensures.turn;
+  refused = search rules;
+  kept = search rules;
+}

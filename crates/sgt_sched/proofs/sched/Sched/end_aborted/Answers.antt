@@ -1,13 +1,12 @@
-use Rattle.std.proofs.Common.{refl}
-use Rattle.sgt_sched.proofs.Ended.{kept_after, removes_seen, fates_seen}
-use Rattle.sgt_sched.specs.Scheduler.{parts}
+use Rattle.sgt_sched.proofs.Ended.{kept_after, removes_after, fates_after}
 use Rattle.sgt_sched.proofs.sched.Sched.end_aborted.Goals as goal
 
 pub invariant_of-self : goal.invariant_of-self
 invariant_of-self g c =
     record {
-      kept = kept_after c.args.self.now.kept c.args.t c.requires.live c.args.fate c.unwind.new.records c.unwind.new.accesses c.unwind.new.graph c.unwind.ensures.chain c.unwind.ensures.accesses c.unwind.ensures.nodes c.unwind.ensures.pairs
-          (parts c.args.self.now) refl c.leave.new.live c.leave.new.read_from.items _ c.leave.ensures.live c.leave.ensures.read_from c.end.ensures;
+      kept = kept_after c.args.self.now.kept c.args.t c.requires.live c.args.fate c.unwind.new.records c.unwind.new.accesses
+          c.unwind.new.graph c.unwind.ensures.chain c.unwind.ensures.accesses c.unwind.ensures.nodes c.unwind.ensures.pairs
+          c.leave.new.live c.leave.new.read_from.items _ c.leave.ensures.live c.leave.ensures.read_from c.end.ensures;
     }
 
 pub returns-clause-ends : goal.returns-clause-ends
@@ -15,7 +14,11 @@ returns-clause-ends g c =
     let node = c.requires.live in
     let fates_are = c.end.ensures in
     record {
-      removes = removes_seen c.args.self.now.kept c.args.t node c.args.fate c.unwind.new.records c.unwind.new.accesses c.unwind.new.graph c.unwind.ensures.chain c.unwind.ensures.accesses c.unwind.ensures.nodes c.unwind.ensures.pairs (parts c.args.self.now) refl c.leave.new.live c.leave.new.read_from.items _ c.leave.ensures.live c.leave.ensures.read_from fates_are;
+      removes = removes_after c.args.self.now.kept c.args.t node c.args.fate c.unwind.new.records c.unwind.new.accesses c.unwind.new.graph
+          c.unwind.ensures.chain c.unwind.ensures.accesses c.unwind.ensures.nodes c.unwind.ensures.pairs c.leave.new.live
+          c.leave.new.read_from.items _ c.leave.ensures.live c.leave.ensures.read_from fates_are;
       settled = λ k. c.unwind.ensures.settled k;
-      fates = fates_seen c.args.self.now.kept c.args.t node c.args.fate c.unwind.new.records c.unwind.new.accesses c.unwind.new.graph c.unwind.ensures.chain c.unwind.ensures.accesses c.unwind.ensures.nodes c.unwind.ensures.pairs (parts c.args.self.now) refl c.leave.new.live c.leave.new.read_from.items _ c.leave.ensures.live c.leave.ensures.read_from fates_are;
+      fates = fates_after c.args.self.now.kept c.args.t node c.args.fate c.unwind.new.records c.unwind.new.accesses c.unwind.new.graph
+          c.unwind.ensures.chain c.unwind.ensures.accesses c.unwind.ensures.nodes c.unwind.ensures.pairs c.leave.new.live
+          c.leave.new.read_from.items _ c.leave.ensures.live c.leave.ensures.read_from fates_are;
     }

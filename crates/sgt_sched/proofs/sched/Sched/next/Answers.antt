@@ -1,14 +1,17 @@
 use Rattle.std.proofs.Common.{ℕ, sym, ap, ◌∙◌, refl}
 use Rattle.sgt_model.specs.Left.{next_left}
 use Rattle.sgt_sched.specs.LiveProgress.{Progress, left_kept}
-use Rattle.sgt_sched.proofs.Found.{along_seen, found_member, found_node, unended, not_unended}
+use Rattle.sgt_sched.proofs.Found.{goes_along, found_member, found_node, unended, not_unended}
 use Rattle.sgt_sched.proofs.sched.Sched.next.Goals as goal
 
 pub next-requires : goal.next-requires
 next-requires g c =
     let node = found_node c.args.self.now.kept c.args.t c.in-Some.running.now (sym c.in-Some.ensures) in
     let progress = (found_member c.args.self.now.live c.args.t c.in-Some.running.now (sym c.in-Some.ensures)).1 in
-    record { along = along_seen c.args.self.now.kept refl c.args.t c.as_slice.result.now c.in-Some.running.now node c.as_slice.ensures.value progress }
+    record {
+      along = goes_along c.args.self.now.kept c.args.t c.as_slice.result.now c.in-Some.running.now node c.as_slice.ensures.value
+          progress;
+    }
 
 pub returns-in-Some-clause-live : goal.returns-in-Some-clause-live
 returns-in-Some-clause-live g c _ = found_node c.args.self.now.kept c.args.t c.in-Some.running.now (sym c.in-Some.ensures)
