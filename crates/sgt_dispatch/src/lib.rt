@@ -9,13 +9,16 @@
 //! share.
 //!
 //! ```
-//! let (mut putter, mut takers) = Feed::make(alloc, 8, 1)?;
-//! putter.put(rt, job)?;               // waits while there are 8 in it
-//! putter.stop(rt);
-//! let mut taker = takers.pop()?;      // often in a thread of its own
-//! taker.take(rt);                     // the job
-//! taker.take(rt);                     // Stop
-//! let putter = putter.join(taker.leave());
+//! fn one_job<W: Wait>(rt: &W, alloc: Global, args: Args) -> Option<Putter> {
+//!     let (mut putter, mut takers) = Feed::make(alloc, 8, 1).ok()?;
+//!     let job = Job { number: 0, procedure: 1, args };
+//!     putter.put(rt, job).ok()?;         // waits while there are 8 in it
+//!     putter.stop(rt);
+//!     let mut taker = takers.pop()?;     // often in a thread of its own
+//!     taker.take(rt);                    // the job
+//!     taker.take(rt);                    // Stop
+//!     Some(putter.join(taker.leave()))
+//! }
 //! ```
 #![tactic(auto)]
 

@@ -1,4 +1,5 @@
--- Which transactions of its own a session has to hold for live, by its receipts alone.
+-- Which transactions of its own a session has to hold for live, by its receipts alone. One that fell with another is among them
+-- until a call that names it is told so.
 use Rattle.std.specs.Prelude.{ℕ, ◌+◌, Bool, true, false, not, cond, nat_eq, List, [], ◌∷◌, ◌++◌, length, Option, Some, None}
 use Rattle.std.specs.List.{filter, list_any}
 use Rattle.sgt_model.specs.declared.event.Event.{Event}
@@ -53,7 +54,7 @@ abbrev pub open_from : List ℕ → List Receipt → List ℕ
 open_from own [] = own
 open_from own (r ∷ rs) = open_from (open_by own r.event r.reply) rs
 
--- those that the session started and does not know to have ended
+-- those that the session started, and of whose end none of its receipts of calls that name them tells
 abbrev pub open_of : List Receipt → List ℕ
 open_of rs = open_from [] rs
 

@@ -31,21 +31,40 @@
 //!     Some(shared.close(sessions).ok()?.engine)
 //! }
 //!
+//! /// A deposit of 1.00. Where a call was refused memory the transaction is quit, so that nobody waits for it.
 //! fn deposit<N: Named, W: Wait>(
 //!     rt: &W,
 //!     shared: &Shared<N, ListRecords, OneList, PairGraph>,
 //!     mut session: Session<N>,
 //! ) -> Session<N> {
-//!     let _ = session.call(rt, shared, Event::Start { procedure: 1, args }); // the receipt has Started(t)
-//!     ..                                                                     // steps, until Ended
-//!     let _ = session.commit(rt, shared, t);                                 // waits where it has to
+//!     let args = Args::from_slice(&[1, 100]).unwrap_or(Args::new());
+//!     let Ok(receipt) = session.call(rt, shared, Event::Start { procedure: 1, args }) else {
+//!         return session;
+//!     };
+//!     if let Reply::Started(t) = receipt.reply {
+//!         if finish(rt, shared, &mut session, t).is_err() {
+//!             let _ = session.call(rt, shared, Event::Quit(t));
+//!         }
+//!     }
 //!     session
 //! }
 //!
-//! two_threads::<Brand, _>(&rt, alloc, engine, Blank::new(2))
+//! /// Two reads and a write, and the commit, which waits where it has to.
+//! fn finish<N: Named, W: Wait>(
+//!     rt: &W,
+//!     shared: &Shared<N, ListRecords, OneList, PairGraph>,
+//!     session: &mut Session<N>,
+//!     t: Tid,
+//! ) -> Result<(), NoMemory> {
+//!     for _ in 0..3 {
+//!         session.call(rt, shared, Event::Step(t))?;
+//!     }
+//!     session.commit(rt, shared, t)?;
+//!     Ok(())
+//! }
 //! ```
 //!
-//! The caller's `Invariants.antt` has the picks:
+//! A program calls `two_threads::<Brand, _>(&rt, alloc, engine, Blank::new(2))`. The caller's `Invariants.antt` has the picks:
 //!
 //! ```
 //! ghosts-two_threads-N-Ledger g a = record { name = a.blank.name; parts = a.blank.parts }

@@ -22,7 +22,7 @@ use std::sync::ledger::{Book, Share};
 /// One caller's way to the engine. Contracts see it as its receipts, in the order of its calls.
 ///
 /// It holds one part of the ledger of all calls, and has counted there as many calls as it has receipts. It keeps room for
-/// the receipt of one end of each transaction that it started and does not know to have ended.
+/// the receipt of one end of each transaction that it started and of whose end no call of its own that named it was told.
 #[derive(Drop)]
 pub struct Session<N: Named> {
     share: Share<N>,
@@ -91,8 +91,11 @@ impl<N: Named> Session<N> {
     /// ends a live transaction wakes the commits that wait.
     ///
     /// `NoMemory` where a growth was refused; then there is no receipt, and the engine has not changed. What the session
-    /// needs is taken before the lock. For a quit of a transaction that this session started and does not know to have ended
-    /// it needs nothing, and the engine needs nothing where that transaction is live: so such a quit is not refused.
+    /// needs is taken before the lock. For a quit of a transaction that this session started, and of whose end none of its calls
+    /// that named it was told, it needs nothing; and the engine needs nothing where that transaction is live: so such a quit is
+    /// not refused.
+    ///
+    /// A commit that has to wait is answered `Waits` at once, as any other call.
     pub fn call<R: Records, A: Accesses, G: Graph, W: Wait>(
         &mut self,
         rt: &W,
@@ -129,7 +132,8 @@ impl<N: Named> Session<N> {
     /// begins to do so in the hold of the call that was answered so, so no end of a transaction is missed in between.
     ///
     /// `NoMemory` where a growth was refused; the receipts so far stay. Nothing says that it returns: the transaction that it
-    /// waits for has to end, and its thread has to be given its turn.
+    /// waits for has to end, and its thread has to be given its turn. So it may wait for ever, and it does where it waits for an
+    /// older transaction of its own session which no other session ends.
     pub fn commit<R: Records, A: Accesses, G: Graph, W: Wait>(
         &mut self,
         rt: &W,

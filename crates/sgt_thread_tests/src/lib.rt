@@ -7,6 +7,8 @@
 #[cfg(test)]
 mod bank;
 #[cfg(test)]
+mod commits;
+#[cfg(test)]
 mod feed;
 #[cfg(test)]
 mod outcomes;

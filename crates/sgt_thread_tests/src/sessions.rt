@@ -3,6 +3,7 @@ ghost use Rattle.std.specs.Prelude.{◌≡◌, ◌≤◌, []};
 ghost use Rattle.sgt_engine.specs.EngineView.{setting_of};
 
 use crate::bank::{BALANCE, Bank, DEPOSIT_CHECKING, SharedBank, new_bank, start};
+use crate::commits::{asks_at_once, puts_and_asks};
 use crate::stress::all_work;
 use sgt_model::{Entry, Event, Reply, Tid};
 use sgt_session::{CloseError, Named, Session, Shared};
@@ -28,6 +29,10 @@ pub enum Play {
     Meet,
     /// Each runs 200 transactions.
     Press,
+    /// One makes a call of a commit that has to wait.
+    AskAtOnce,
+    /// The first puts in twice, and two others ask for the balance meanwhile.
+    AskBehindTwo,
 }
 
 /// What two threads tell each other beside their calls.
@@ -38,7 +43,7 @@ struct Flags {
 }
 
 /// Waits for a flag, and tells whether it was raised in time.
-fn is_raised(flag: &AtomicBool) -> bool {
+pub fn is_raised(flag: &AtomicBool) -> bool {
     for _ in 0..TURNS {
         if flag.load(Ordering::SeqCst) {
             return true;
@@ -63,7 +68,7 @@ pub fn starts<N: Named, W: Wait>(
 }
 
 /// Makes a call, and answers its number.
-fn calls<N: Named, W: Wait>(
+pub fn calls<N: Named, W: Wait>(
     rt: &W,
     shared: &SharedBank<N>,
     session: &mut Session<N>,
@@ -76,7 +81,7 @@ fn calls<N: Named, W: Wait>(
 }
 
 /// Starts a transaction, and makes three steps.
-fn makes_three_steps<N: Named, W: Wait>(
+pub fn makes_three_steps<N: Named, W: Wait>(
     rt: &W,
     shared: &SharedBank<N>,
     session: &mut Session<N>,
@@ -89,17 +94,18 @@ fn makes_three_steps<N: Named, W: Wait>(
     Some(t)
 }
 
-/// Makes steps at the procedure's end, which change nothing, until the other session has made five calls.
-fn lets_other_call<N: Named, W: Wait>(
+/// Makes steps at the procedure's end, which change nothing, until the other sessions have made so many calls.
+pub fn lets_others_call<N: Named, W: Wait>(
     rt: &W,
     shared: &SharedBank<N>,
     session: &mut Session<N>,
     t: Tid,
+    others: u64,
 ) {
     for _ in 0..CALLS {
         let number = calls(rt, shared, session, Event::Step(t)).unwrap_or(u64::MAX);
         let own = session.receipts().len() as u64;
-        if number >= own.saturating_add(4) {
+        if number >= own.saturating_add(others) - 1 {
             break;
         }
         thread::yield_now();
@@ -116,7 +122,7 @@ fn deposits<N: Named, W: Wait>(
     if let Some(t) = makes_three_steps(rt, shared, session, start(DEPOSIT_CHECKING, &[1, 100])) {
         flags.has_stored.store(true, Ordering::SeqCst);
         if is_raised(&flags.has_looked) {
-            lets_other_call(rt, shared, session, t);
+            lets_others_call(rt, shared, session, t, 5);
         }
         let _ = session.commit(rt, shared, t);
     }
@@ -170,6 +176,8 @@ fn play_all<N: Named + Send + Sync, R: Threads + Wait + Sync>(
     match play {
         Play::Meet => both_play(rt, shared, sessions),
         Play::Press => all_work(rt, shared, sessions),
+        Play::AskAtOnce => asks_at_once(rt, shared, sessions),
+        Play::AskBehindTwo => puts_and_asks(rt, shared, sessions),
     }
 }
 
@@ -239,7 +247,7 @@ pub fn run<N: Named + Send + Sync, R: Threads + Wait + Sync>(
 
 /// What is compared of a reply.
 #[derive(Clone, Copy, PartialEq, Eq)]
-enum Told {
+pub enum Told {
     Started,
     Looked(Option<i64>),
     Wrote(i64),
@@ -261,16 +269,27 @@ fn compared(entry: &Entry, t: Tid) -> Option<Told> {
     }
 }
 
-/// Whether the transaction was told just this.
-fn is_told(history: &[Entry], t: Tid, all: &[Told]) -> bool {
+/// Whether this tells once more to wait for the same one. So it is after a wake without cause, which a commit may have.
+fn waits_again(last: Option<Told>, one: Told) -> bool {
+    matches!(one, Told::Waits(_)) && last == Some(one)
+}
+
+/// Whether the transaction was told just this, each wait once or more often.
+pub fn is_told(history: &[Entry], t: Tid, all: &[Told]) -> bool {
     let mut rest = all;
+    let mut last = None;
     for entry in history {
-        if let Some(one) = compared(entry, t) {
-            match rest.split_first() {
-                Some((first, others)) if *first == one => rest = others,
-                _ => return false,
-            }
+        let Some(one) = compared(entry, t) else {
+            continue;
+        };
+        if waits_again(last, one) {
+            continue;
         }
+        match rest.split_first() {
+            Some((first, others)) if *first == one => rest = others,
+            _ => return false,
+        }
+        last = Some(one);
     }
     rest.is_empty()
 }

@@ -1,6 +1,6 @@
 -- How the number of live transactions changes with an entry.
-use Rattle.std.proofs.Common.{◌≡◌, ℕ, ◌+◌, ◌<◌, ◌≤◌, Bool, true, false, cond, not, ◌&&◌, ◌||◌, ◌⊎◌, nat_eq, nat_lt, List, [], ◌∷◌, ◌++◌, length, length-append, Option, Some, None, is_none, refl, sym, ap, ap₂, subst, inl, inr, ◌∙◌, arith}
-use Rattle.std.proofs.lemmas.Bool.{true≢false, lt-ltb}
+use Rattle.std.proofs.Common.{◌≡◌, ◌↔◌, ℕ, zero, suc, ◌+◌, ◌<◌, ◌≤◌, Bool, true, false, cond, not, ◌&&◌, ◌||◌, ◌⊎◌, nat_eq, nat_lt, List, [], ◌∷◌, ◌++◌, length, length-append, reverse, take, Option, Some, None, is_none, refl, sym, ap, ap₂, subst, inl, inr, ◌∙◌, arith}
+use Rattle.std.proofs.lemmas.Bool.{true≢false, lt-ltb, cases_lt, eqb-true, eq-eqb}
 use Rattle.std.proofs.lemmas.List.Elements.{filter-append}
 use Rattle.std.specs.List.{filter}
 use Rattle.std.specs.Option.{is_some, option_or}
@@ -21,6 +21,7 @@ use Rattle.sgt_model.proofs.Rises.{live_ones-rise}
 use Rattle.sgt_model.proofs.Room.{begun_below}
 use Rattle.sgt_model.proofs.SomeReply.{begun_has}
 use Rattle.sgt_workers.specs.LiveCount.{started_by, ended_by}
+use Rattle.sgt_workers.specs.Reports.{FewLive, NoneLive}
 use Rattle.sgt_workers.proofs.Numbers.{is_among, rising_distinct, some_less}
 
 starts_none : (r : Reply) → is_start r ≡ false → started_by r ≡ 0
@@ -150,3 +151,44 @@ live_count s past e legal = by_effect past e s legal.0 (effect s past e.event e.
 -- an entry ends no more than were live
 pub ends_live : (s : Setting) (past : List Entry) (e : Entry) → Legal s (e ∷ past) → ended_by e.reply ≤ length (live_ones past)
 ends_live s past e legal = let n = live_count s past e legal in elim (started_or_ended e.reply) [ inl none ↦ omega arith | inr none ↦ omega arith ]
+
+kept_none : (p : ℕ → Bool) → ((t : ℕ) → p t ≡ false) → (ts : List ℕ) → length (filter p ts) ≡ 0
+kept_none p none [] = refl
+kept_none p none (t ∷ ts) = ap (λ b. length (cond b (t ∷ filter p ts) (filter p ts))) (none t) ∙ kept_none p none ts
+
+-- none is counted among the live ones where nobody is live, and only there
+pub none_counted : (past : List Entry) → (length (live_ones past) ≡ 0) ↔ ((t : ℕ) → live past t ≡ false)
+none_counted past = (λ no_one t. not_live no_one t (live past t) refl, λ none. kept_none (live past) none (begun past))
+  where
+    empty : (ts : List ℕ) (t : ℕ) → length ts ≡ 0 → Member t ts → ⊥
+    empty [] t no_one m = m
+    empty (u ∷ ts) t no_one m = absurd (omega arith)
+
+    not_live : length (live_ones past) ≡ 0 → (t : ℕ) (b : Bool) → live past t ≡ b → live past t ≡ false
+    not_live no_one t true is = absurd (empty (live_ones past) t no_one (kept_member (live past) t (begun past) is (begun_has past t (live-started past t is))))
+    not_live no_one t false is = is
+
+take_whole : (n : ℕ) (h : List Entry) → length h ≤ n → take n h ≡ h
+take_whole zero [] le = refl
+take_whole (suc n) [] le = refl
+take_whole zero (e ∷ h) le = absurd (omega arith)
+take_whole (suc n) (e ∷ h) le = ap (λ l. e ∷ l) (take_whole n h (omega arith))
+
+-- at the end of the history the count of the live ones tells whether nobody is live
+pub at_end : (h : List Entry) (i workers count : ℕ) → length h ≤ i → count ≡ length (live_ones (reverse (take i h)))
+    → ((n : ℕ) → n ≤ i → length (live_ones (reverse (take n h))) ≤ workers) → ((nat_eq count 0 ≡ true) ↔ (FewLive h workers × NoneLive h))
+at_end h i workers count whole is before = (
+  (λ t. (few, (none_counted (reverse h)).0 (sym all ∙ eqb-true count 0 t))),
+  λ both. eq-eqb count 0 (all ∙ (none_counted (reverse h)).1 both.1),
+)
+  where
+    all : count ≡ length (live_ones (reverse h))
+    all = is ∙ ap (λ l. length (live_ones (reverse l))) (take_whole i h whole)
+
+    few : FewLive h workers
+    few n = elim (cases_lt n (i + 1)) [
+      | inl less ↦ before n (omega arith)
+      | inr later ↦
+          let same : take i h ≡ take n h = take_whole i h whole ∙ sym (take_whole n h (omega arith)) in
+          subst (λ l. length (live_ones (reverse l)) ≤ workers) same (before i (omega arith))
+    ]

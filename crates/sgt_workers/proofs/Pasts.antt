@@ -1,14 +1,8 @@
--- What is said of an engine, said of the report that has its history.
-use Rattle.std.proofs.Common.{◌≡◌, ◌↔◌, ◌∙◌, List, Result, Ok, Err, IfOk, IfErr, sym, subst, ap}
-use Rattle.sgt_model.specs.declared.entry.Entry.{Entry}
-use Rattle.sgt_model.specs.Settings.{Setting}
+-- The faults of what a run is given, and those of the run itself.
+use Rattle.std.proofs.Common.{◌≡◌, ◌↔◌, ◌∙◌, Result, Ok, Err, IfErr, sym, subst, ap}
 use Rattle.sgt_workers.specs.declared.errors.PoolError.{PoolError}
 use Rattle.sgt_workers.specs.declared.errors.PoolError.TheVariants as error
 use Rattle.sgt_workers.specs.Crews.{IsRunError}
-
-pub with_past : {X E : Type 0} (past : X → List Entry) (Q : X → Setting → List Entry → Type 0) (r : Result X E) (s s' : Setting) (h : List Entry) → s ≡ s' → IfOk r (λ x. past x ≡ h) → IfOk r (λ x. Q x s h) → IfOk r (λ x. Q x s' (past x))
-with_past past Q (Ok x) s s' h same is q = subst (λ t. Q x t (past x)) same (subst (λ l. Q x s l) (sym is) q)
-with_past past Q (Err e) s s' h same is q = tt
 
 error_of : {A : Type 0} → Result A PoolError → PoolError
 error_of (Ok x) = error.NoMemory

@@ -3,10 +3,20 @@ use Rattle.std.specs.Prelude.{◌≡◌, ℕ, ◌+◌, ◌≤◌, ◌<◌, Bool,
 use Rattle.std.specs.List.{AllZip, count_by, flat_map}
 use Rattle.std.specs.Option.{option_and_then, option_to_list}
 use Rattle.sgt_model.specs.declared.entry.Entry.{Entry}
-use Rattle.sgt_model.specs.Walks.{Distinct}
-use Rattle.sgt_model.specs.Fates.{live_ones}
+use Rattle.sgt_model.specs.Aborts.{AbortsHaveCause}
+use Rattle.sgt_model.specs.CommitOrder.{CommitsInOrder}
+use Rattle.sgt_model.specs.Contents.{Key}
+use Rattle.sgt_model.specs.Databases.{contents_of, IsByKey}
+use Rattle.sgt_model.specs.Legality.{Legal}
+use Rattle.sgt_model.specs.Pairs.{Pair}
+use Rattle.sgt_model.specs.Replay.{folded, IsSerializable}
+use Rattle.sgt_model.specs.Settings.{Setting}
+use Rattle.sgt_model.specs.Values.{settled}
+use Rattle.sgt_model.specs.Walks.{Acyclic, Distinct}
+use Rattle.sgt_model.specs.Fates.{live, live_ones}
 use Rattle.sgt_dispatch.specs.declared.job.Job.{Job}
 use Rattle.sgt_workers.specs.declared.outcome.Outcome.{Outcome}
+use Rattle.sgt_workers.specs.declared.report.Report.{Report}
 use Rattle.sgt_workers.specs.declared.outcome.Outcome.TheVariants as outcome
 use Rattle.sgt_workers.specs.Outcomes.{named_by, is_commit, is_quit, Stands}
 
@@ -70,11 +80,33 @@ pub record CountsAgree {N : Type 0} (history : List Entry) (outcomes : List (Out
 abbrev pub FewLive : List Entry → ℕ → Type 0
 FewLive history workers = (n : ℕ) → length (live_ones (reverse (take n history))) ≤ workers
 
+-- after the last entry no transaction is live
+abbrev pub NoneLive : List Entry → Type 0
+NoneLive history = (t : ℕ) → live (reverse history) t ≡ false
+
 -- one outcome for each job, which says of the history and the job what is so; no transaction and no entry is named twice, by
--- one outcome or by two; the counts agree; and never are more transactions live than there are workers
+-- one outcome or by two; the counts agree; never are more transactions live than there are workers, and at the end none is
 pub record OutcomesStand {N : Type 0} (history : List Entry) (jobs : List Job) (outcomes : List (Outcome N)) (workers tries : ℕ) : Type 0 where
   pub each : AllZip (Stands history tries) jobs outcomes
   pub transactions_once : Distinct (flat_map (transactions_of history) outcomes)
   pub entries_once : Distinct (flat_map entries_of outcomes)
   pub counts : CountsAgree history outcomes workers
   pub few_live : FewLive history workers
+  pub none_live : NoneLive history
+
+-- what holds of the report of a run of these jobs, where the engine was made of this setting: the history is legal, each outcome
+-- says of it what is so, and none is for want of memory; and each part of what every legal history has, with the database that
+-- it leaves
+pub record IsReportOf {N : Type 0} (s : Setting) (jobs : List Job) (workers tries : ℕ) (r : Report N) : Type 0 where
+  pub opening : (k : Key) → contents_of r.opening k ≡ s.opening k
+  pub legal : Legal s (reverse r.history.items)
+  pub outcomes : OutcomesStand r.history.items jobs r.outcomes.items workers tries
+  pub none_live : NoneLive r.history.items
+  pub memory : count_by is_no_memory r.outcomes.items ≡ 0
+  pub values : (k : Key) → contents_of r.database k ≡ settled s.opening (reverse r.history.items) k
+  pub replayed : (k : Key) → contents_of r.database k ≡ (folded s (reverse r.history.items)).last k
+  pub by_key : IsByKey r.database
+  pub replay : IsSerializable s (reverse r.history.items)
+  pub no_cycle : Acyclic (Pair (reverse r.history.items))
+  pub causes : AbortsHaveCause s (reverse r.history.items)
+  pub order : CommitsInOrder (reverse r.history.items)

@@ -26,7 +26,7 @@ enum Halt<X> {
     Leave(X),
     /// A call was refused memory.
     NoMemory,
-    /// No history allows this reply.
+    /// The entry of this number answers the call with what no legal history answers there.
     Astray(u64),
 }
 
@@ -37,7 +37,7 @@ impl<X> From<NoMemory> for Halt<X> {
 }
 
 impl<X> Halt<X> {
-    /// What becomes of the job. The audit finds that a reply which no history allows is no refusal.
+    /// What becomes of the job. An entry that is astray is no refusal of a start, so the audit finds it.
     fn into_outcome(self) -> Outcome<X> {
         match self {
             Halt::Leave(note) => Outcome::Left(note),
@@ -141,8 +141,8 @@ impl<'a, N: Named, R: Records, A: Accesses, G: Graph, T: Gate, W: Wait> Caller<
         }
     }
 
-    /// Quits a transaction, so that nobody waits for it. Where it is live this takes no memory and succeeds; where it is not,
-    /// it does nothing.
+    /// Quits a transaction, so that nobody waits for it. Where it is live this takes no memory and succeeds. Where it has fallen
+    /// or ended, the call is answered so, which is one entry more, or is refused memory.
     fn quit(&mut self, t: Tid) {
         let _ = self.session.make(self.rt, self.shared, Event::Quit(t));
     }
@@ -156,7 +156,7 @@ fn started(reply: &Reply) -> Option<Tid> {
     }
 }
 
-/// What the reply that ended a transaction makes of the attempt.
+/// What the last reply to a transaction makes of the attempt.
 fn attempt_of<X>(t: Tid, receipt: &Receipt) -> Result<Attempt<X>, Halt<X>> {
     match &receipt.reply {
         Reply::Committed(_) => Ok(Attempt::Final(Outcome::Done(receipt.number))),

@@ -10,13 +10,31 @@
 //! that a run comes to its end, nor which worker takes which job.
 //!
 //! ```
-//! // Four workers, each job tried up to 100 times. `Open` is a gate that lets everybody go.
-//! let bank = Bank { opening, procedures, limits };
-//! let report = run::<ListRecords, OneList, PairGraph, Open, _>(&rt, alloc, bank, &jobs, 4, 100, &Open)?;
+//! /// Lets everybody go.
+//! #[derive(Drop)]
+//! struct Open;
 //!
-//! // Entry 4 commits the transaction of the first job; the second job's start was refused by entry 5.
-//! let outcomes = vec![in alloc; Outcome::Done(4), Outcome::Refused(5)]?;
-//! let stands = audit(alloc, engine.history(), &jobs, &outcomes, 1, 100)?;
+//! impl Gate for Open {
+//!     type Note = Infallible;
+//!
+//!     fn pass(&self, _worker: u8, _calls: u64) -> Pass<Infallible> {
+//!         Pass::Go
+//!     }
+//!
+//!     fn finished(&self, _worker: u8, _job: u32, _outcome: &Outcome<Infallible>) {}
+//! }
+//!
+//! /// One job, on four workers, tried up to 100 times. Its outcome is `Done(4)` where entry 4 of the history commits its
+//! /// transaction.
+//! fn run_one<W: Threads + Wait + Sync>(
+//!     rt: &W,
+//!     alloc: Global,
+//!     bank: Bank,
+//!     args: Args,
+//! ) -> Result<Report<Infallible>, PoolError> {
+//!     let jobs = [Job { number: 0, procedure: 1, args }];
+//!     run::<ListRecords, OneList, PairGraph, Open, _>(rt, alloc, bank, &jobs, 4, 100, &Open)
+//! }
 //! ```
 #![tactic(auto)]
 

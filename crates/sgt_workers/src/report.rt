@@ -1,17 +1,8 @@
 ghost use Rattle.std.specs.Prelude.{◌≡◌, ◌↔◌, IsTrue, IfOk, IfErr, reverse};
 ghost use Rattle.std.specs.List.{count_by};
-ghost use Rattle.sgt_model.specs.Aborts.{AbortsHaveCause};
-ghost use Rattle.sgt_model.specs.CommitOrder.{CommitsInOrder};
-ghost use Rattle.sgt_model.specs.Contents.{Key as K};
-ghost use Rattle.sgt_model.specs.Databases.{contents_of, IsByKey};
-ghost use Rattle.sgt_model.specs.Legality.{Legal};
-ghost use Rattle.sgt_model.specs.Pairs.{Pair};
-ghost use Rattle.sgt_model.specs.Replay.{folded, IsSerializable};
-ghost use Rattle.sgt_model.specs.Values.{settled};
-ghost use Rattle.sgt_model.specs.Walks.{Acyclic};
 ghost use Rattle.sgt_engine.specs.EngineView.{setting_of};
 ghost use Rattle.sgt_workers.specs.Crews.{IsRunError};
-ghost use Rattle.sgt_workers.specs.Reports.{is_no_memory, OutcomesStand};
+ghost use Rattle.sgt_workers.specs.Reports.{is_no_memory, IsReportOf};
 
 use crate::errors::PoolError;
 use crate::outcome::Outcome;
@@ -48,20 +39,8 @@ pub fn report_of<R: Records, A: Accesses, G: Graph, X: Drop>(
     workers: u32,
     tries: u32,
 ) -> Result<Report<X>, PoolError>
-    ensures opening { IfOk result (λ r. (k : K) → contents_of r.opening k ≡ contents_of engine.opening k) }
+    ensures report { IfOk result (λ r. IsReportOf (setting_of engine) jobs.now workers tries r) }
     ensures history { IfOk result (λ r. reverse r.history.items ≡ engine.past) }
-    ensures legal { IfOk result (λ _. Legal (setting_of engine) engine.past) }
-    ensures values { IfOk result (λ r. (k : K) →
-        contents_of r.database k ≡ settled (contents_of engine.opening) engine.past k) }
-    ensures replayed { IfOk result (λ r. (k : K) →
-        contents_of r.database k ≡ (folded (setting_of engine) engine.past).last k) }
-    ensures by_key { IfOk result (λ r. IsByKey r.database) }
-    ensures outcomes { IfOk result (λ r. OutcomesStand r.history.items jobs.now r.outcomes.items workers tries) }
-    ensures memory { IfOk result (λ r. count_by is_no_memory r.outcomes.items ≡ 0) }
-    ensures replay { IfOk result (λ _. IsSerializable (setting_of engine) engine.past) }
-    ensures no_cycle { IfOk result (λ _. Acyclic (Pair engine.past)) }
-    ensures causes { IfOk result (λ _. AbortsHaveCause (setting_of engine) engine.past) }
-    ensures order { IfOk result (λ _. CommitsInOrder engine.past) }
     ensures error { IfErr result IsRunError }
 {
     let Ok(database) = engine.database(alloc) else {

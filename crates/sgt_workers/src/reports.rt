@@ -4,7 +4,7 @@ ghost use Rattle.sgt_model.specs.Legality.{Legal};
 ghost use Rattle.sgt_workers.specs.Reports.{OutcomesStand};
 
 use crate::counts::counts_agree;
-use crate::live_count::few_live;
+use crate::live_count::live_counts_stand;
 use crate::lives::lives_of;
 use crate::names::{entries_named, none_twice, transactions_named};
 use crate::outcome::Outcome;
@@ -44,5 +44,5 @@ pub fn audit<N>(
     if !counts_agree(history, outcomes, workers) {
         return Ok(false);
     }
-    Ok(few_live(history, workers))
+    Ok(live_counts_stand(history, workers))
 }

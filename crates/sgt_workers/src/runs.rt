@@ -1,19 +1,9 @@
-ghost use Rattle.std.specs.Prelude.{◌≡◌, ◌↔◌, ◌<◌, [], Result, Ok, Err, IfOk, IfErr, reverse};
-ghost use Rattle.std.specs.List.{count_by};
-ghost use Rattle.sgt_model.specs.Aborts.{AbortsHaveCause};
-ghost use Rattle.sgt_model.specs.CommitOrder.{CommitsInOrder};
-ghost use Rattle.sgt_model.specs.Contents.{Key as K};
-ghost use Rattle.sgt_model.specs.Databases.{contents_of, IsByKey};
-ghost use Rattle.sgt_model.specs.Legality.{Legal};
-ghost use Rattle.sgt_model.specs.Pairs.{Pair};
-ghost use Rattle.sgt_model.specs.Replay.{folded, IsSerializable};
-ghost use Rattle.sgt_model.specs.Values.{settled};
-ghost use Rattle.sgt_model.specs.Walks.{Acyclic};
+ghost use Rattle.std.specs.Prelude.{◌≡◌, ◌↔◌, [], Err, IfOk, IfErr};
 ghost use Rattle.sgt_engine.specs.EngineView.{setting_of as made_with};
 ghost use Rattle.sgt_workers.specs.declared.errors.PoolError.TheVariants as PoolError;
 ghost use Rattle.sgt_workers.specs.Banks.{setting_of, AreWorkers, AreTries, AreLimitsFor, AreJobs};
 ghost use Rattle.sgt_workers.specs.Crews.{IsRunError};
-ghost use Rattle.sgt_workers.specs.Reports.{is_no_memory, OutcomesStand};
+ghost use Rattle.sgt_workers.specs.Reports.{IsReportOf};
 
 use crate::bank::{Bank, check};
 use crate::crew::{run_crew, settle, team_of};
@@ -55,19 +45,7 @@ pub fn run<R: Records, A: Accesses, G: Graph, T: Gate + Sync, W: Threads + Wait 
     tries: u32,
     gate: &T,
 ) -> Result<Report<T::Note>, PoolError>
-    ensures opening { IfOk result (λ r. (k : K) → contents_of r.opening k ≡ contents_of bank.opening k) }
-    ensures legal { IfOk result (λ r. Legal (setting_of bank) (reverse r.history.items)) }
-    ensures values { IfOk result (λ r. (k : K) →
-        contents_of r.database k ≡ settled (contents_of bank.opening) (reverse r.history.items) k) }
-    ensures replayed { IfOk result (λ r. (k : K) →
-        contents_of r.database k ≡ (folded (setting_of bank) (reverse r.history.items)).last k) }
-    ensures by_key { IfOk result (λ r. IsByKey r.database) }
-    ensures outcomes { IfOk result (λ r. OutcomesStand r.history.items jobs.now r.outcomes.items workers tries) }
-    ensures memory { IfOk result (λ r. count_by is_no_memory r.outcomes.items ≡ 0) }
-    ensures replay { IfOk result (λ r. IsSerializable (setting_of bank) (reverse r.history.items)) }
-    ensures no_cycle { IfOk result (λ r. Acyclic (Pair (reverse r.history.items))) }
-    ensures causes { IfOk result (λ r. AbortsHaveCause (setting_of bank) (reverse r.history.items)) }
-    ensures order { IfOk result (λ r. CommitsInOrder (reverse r.history.items)) }
+    ensures report { IfOk result (λ r. IsReportOf (setting_of bank) jobs.now workers tries r) }
     ensures bad_workers { (result ≡ Err PoolError.BadWorkers) ↔ (¬ AreWorkers workers) }
     ensures bad_tries { (result ≡ Err PoolError.BadTries) ↔ (AreWorkers workers × (¬ AreTries tries)) }
     ensures bad_limits { (result ≡ Err PoolError.BadLimits)

@@ -9,7 +9,7 @@ use Rattle.sgt_bank.proofs.run.run_opened.Goals as goal
 
 pub returns-in-Ok-clause-report : goal.returns-in-Ok-clause-report
 returns-in-Ok-clause-report g c =
-    let ran = c.in-Ok.ensures in
+    let ran = c.in-Ok.ensures.report in
     let past = reverse c.in-Ok.report.history.items in
     let same = setting-same c.in_ok-bank.bank c.args.opening c.in_ok-bank.ensures.database c.in_ok-bank.ensures.procedures c.in_ok-bank.ensures.limits in
     record {

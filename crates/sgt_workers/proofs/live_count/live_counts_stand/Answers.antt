@@ -2,8 +2,8 @@ use Rattle.std.proofs.Common.{◌≡◌, ◌+◌, ◌≤◌, length, reverse, ta
 use Rattle.std.proofs.lemmas.Bool.{false≢true, cases_lt}
 use Rattle.sgt_model.specs.Fates.{live_ones}
 use Rattle.sgt_workers.proofs.Histories.{one_more, legal_next}
-use Rattle.sgt_workers.proofs.LiveCount.{live_count, ends_live}
-use Rattle.sgt_workers.proofs.live_count.few_live.Goals as goal
+use Rattle.sgt_workers.proofs.LiveCount.{live_count, ends_live, at_end}
+use Rattle.sgt_workers.proofs.live_count.live_counts_stand.Goals as goal
 
 pub live_after-live-requires-clause-enough : goal.live_after-live-requires-clause-enough
 live_after-live-requires-clause-enough c =
@@ -19,7 +19,7 @@ returns-then-live-workers c =
     let e = c.entry-item.result in
     let n = live_count c.requires.0 (reverse (take i h)) e (legal_next c.requires.0 h i e c.loop-entry-test.true c.entry-item.is c.requires.1) in
     let longer = ap (λ past. length (live_ones past)) (one_more h i e c.loop-entry-test.true c.entry-item.is) in
-    ((λ t. absurd (false≢true t)), λ few. let f = few (i + 1) in absurd (omega arith))
+    ((λ t. absurd (false≢true t)), λ both. let f = both.0 (i + 1) in absurd (omega arith))
 
 pub loop-entry-preserved : goal.loop-entry-preserved
 loop-entry-preserved c =
@@ -39,3 +39,8 @@ loop-entry-preserved c =
             subst (λ m. length (live_ones (reverse (take m h))) ≤ c.args.workers) same (subst (λ m. m ≤ c.args.workers) now c.if-live-workers.false)
       ];
     }
+
+pub returns : goal.returns
+returns c =
+    let i = c.loop-entry.invariant in
+    at_end c.args.history.now c.loop-entry.entry-index c.args.workers c.loop-entry.live (omega (arith, c.loop-entry-test.false)) i.live i.before

@@ -1,6 +1,6 @@
 use Rattle.std.proofs.Common.{◌≡◌, ℕ, ◌≤◌, length, reverse, take}
 use Rattle.sgt_model.specs.Fates.{live_ones}
-use Rattle.sgt_workers.proofs.live_count.few_live.Given as goal
+use Rattle.sgt_workers.proofs.live_count.live_counts_stand.Given as goal
 
 abbrev pub invariant-loop-entry : goal.invariant-loop-entry
 invariant-loop-entry l = record {
