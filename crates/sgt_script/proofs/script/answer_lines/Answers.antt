@@ -1,7 +1,6 @@
 use Rattle.std.proofs.Common.{rules, ◌+◌, sym, ◌∙◌, subst, List}
 use Rattle.sgt_model.specs.declared.entry.Entry.{Entry}
 use Rattle.sgt_stream.specs.Intake.{cut_left}
-use Rattle.sgt_engine.specs.EngineView.{setting_of}
 use Rattle.sgt_script.specs.Answering.{Answered}
 use Rattle.sgt_script.proofs.Answers.{answered-next, written-next}
 use Rattle.sgt_script.proofs.script.answer_lines.Goals as goal
