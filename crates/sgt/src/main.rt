@@ -11,7 +11,7 @@ ghost use Rattle.std.specs.Prelude.{◌≤◌};
 use clap::builder::ValueParser;
 use clap::error::ErrorKind;
 use clap::{Arg, ArgMatches, Command};
-use sgt_bank::run_jobs;
+use sgt_bank::{MOST_TRIES, MOST_WORKERS, run_jobs};
 use sgt_script::run_script;
 use sgt_stream::{Fault, Reader, Writer};
 use std::alloc::{AllocError, Global};
@@ -24,6 +24,23 @@ use std::thread::Threads;
 
 const VERSION: &str = "0.1.0";
 
+/// What `sgt --help` tells behind the options.
+const HELP: &str =
+    r#"Both read lines of JSON, of which the first opens, from standard input, and write to standard output. Their own help shows a
+first input. A fault of the input is told by one line on standard error, with status 2.
+
+Limits:
+
+  values, keys  whole numbers of at most fifteen digits; 8 tables
+  live          1 to 32 transactions at a time, as the opening says
+  starts        1 to 4000000000, as the opening says
+  procedures    64 statements, 16 deep; 4 arguments, 16 registers, 8 answers; no loops, no deletes, no scans
+  a line        65536 bytes, the opening too
+  an input      16777216 bytes
+  a bank        1000000 jobs, 16 workers, 1000 tries for each job
+
+All is kept in memory, and nothing on disk: what was committed is gone when the program ends."#;
+
 /// What `sgt script --help` tells behind the options.
 const SCRIPT_HELP: &str =
     r#"Line 1 opens, each later line is an event and is answered by a line, and at the end comes the committed database:
@@ -34,7 +51,7 @@ const SCRIPT_HELP: &str =
   ["commit",0]
   ["quit",0]
 
-  limits      the most live transactions, and the most starts
+  limits      the most live transactions, from 1 to 32, and the most starts, from 1 to 4000000000
   accounts    of each the name, the customer, the saving and the checking
   procedures  of your own, numbered from 5
   start       a procedure's number and its arguments: 0 Balance (name), 1 DepositChecking (name, amount),
@@ -51,6 +68,9 @@ These four events are answered
   aborted quit fell none
 
 where 0/1 is record 1 of table 0. A transaction is named by the number that its start was answered with.
+
+The first bad line ends the script: the replies to the lines before it are written, and the fault on standard error. A line has
+at most 65536 bytes, the input 16777216, and a value or a key is a whole number of at most fifteen digits.
 docs/FORMATS.md of the repository has every line and reply, docs/LANGUAGE.md the procedures, examples/ whole scripts."#;
 
 /// What `sgt bank --help` tells behind the options.
@@ -79,21 +99,17 @@ gives
   gave        all its tries were aborted: how many they were
   refused     it was not started: 1 no such procedure, 2 bad arguments, 3 no start is left, 4 no place is left
 
-All jobs are read before the first one runs. The first number of the limits has to be at least the number of workers. Which of
-two jobs comes first is not said, but run one after another in the order of their commits they give the same answers and the
-same database. docs/FORMATS.md of the repository has every line, examples/ whole banks."#;
+All jobs are read before the first one runs, at most 1000000. A bad line is told on standard error, and no job runs then. A line
+has at most 65536 bytes, the input 16777216, and a value or a key is a whole number of at most fifteen digits. The first number
+of the limits, from 1 to 32, has to be at least the number of workers. Which of two jobs comes first is not said, but run one
+after another in the order of their commits they give the same answers and the same database.
+docs/FORMATS.md of the repository has every line, examples/ whole banks."#;
 
 /// How many workers there are where the words name no number.
 const WORKERS: u32 = 4;
 
-/// How many workers there may be.
-const MOST_WORKERS: u32 = 16;
-
 /// How many tries a job has where the words name no number.
 const TRIES: u32 = 100;
-
-/// How many tries a job may have.
-const MOST_TRIES: u32 = 1000;
 
 /// What is told of words that are no text, as `clap` would.
 const NO_TEXT: &str = "error: invalid UTF-8 was detected in one or more arguments
@@ -110,12 +126,12 @@ fn command<'a>(alloc: Global) -> Result<Command<'a>, AllocError> {
     let workers = Arg::new(alloc, "workers")
         .long("workers")
         .help("How many jobs run at the same time, from 1 to 16")
-        .value_parser(ValueParser::unsigned(1, 16))
+        .value_parser(ValueParser::unsigned(1, u64::from(MOST_WORKERS)))
         .default_value("4");
     let tries = Arg::new(alloc, "tries")
         .long("tries")
         .help("How often a job is tried before it is given up, from 1 to 1000")
-        .value_parser(ValueParser::unsigned(1, 1000))
+        .value_parser(ValueParser::unsigned(1, u64::from(MOST_TRIES)))
         .default_value("100");
     let bank = Command::new(alloc, "bank")
         .about(
@@ -127,6 +143,7 @@ fn command<'a>(alloc: Global) -> Result<Command<'a>, AllocError> {
     Command::new(alloc, "sgt")
         .about("An in-memory transaction engine that schedules by serialization graph testing")
         .version(VERSION)
+        .after_help(HELP)
         .subcommand_required(true)
         .arg_required_else_help(true)
         .subcommand(script)?

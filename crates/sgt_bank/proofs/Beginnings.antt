@@ -11,7 +11,8 @@ use Rattle.sgt_stream.specs.declared.fault.Fault.TheVariants as fault
 use Rattle.sgt_stream.specs.Lines.{Ending, AtLongLine, AtLimit, Cut, cut}
 use Rattle.sgt_stream.specs.Intake.{Intake, before_input, cut_left, Gives, EndsAs, Explains}
 use Rattle.sgt_stream.specs.Ends.{IsOfInput, no_opening, fault_of_opening}
-use Rattle.sgt_bank.specs.Jobs.{calls, numbered, end_of}
+use Rattle.sgt_stream.specs.Spelled.{spelled, end_of}
+use Rattle.sgt_bank.specs.Jobs.{job_at, numbered}
 use Rattle.sgt_bank.specs.Taking.{EndsWith}
 use Rattle.sgt_bank.specs.Inputs.{InputAsks, InputFails, LinesAsk, LinesFail}
 
@@ -41,16 +42,16 @@ fails-behind workers i (Some bytes) line None o f start gives opens ends = absur
 fails-behind workers i (Some bytes) line (Some c) o f start gives opens ends =
     let gives' : Gives (cut_left before_input (Some bytes)) line (Some c) = subst (λ (j : Intake). Gives (cut_left j (Some bytes)) line (Some c)) start gives in
     subst (λ (ls : List (List ℕ)). LinesFail workers ls (cut bytes).ending f) (sym gives'.0)
-    (inr (record { opening = o; opens = opens; ends = ap (λ (e : Ending). end_of 2 c.given e) gives'.1 ∙ ends }))
+    (inr (record { opening = o; opens = opens; ends = ap (λ (e : Ending). end_of job_at 2 c.given e) gives'.1 ∙ ends }))
 
 -- line 1 opens, and the later ones ask for jobs
-pub asks-all : (workers : ℕ) (i : Intake) (rest : Option (List ℕ)) (line : List ℕ) (new : Option Cut) (o : Opening) (jobs : List Job) → i ≡ before_input → Gives (cut_left i rest) line new → Opens workers line o → IfSome new (λ c. (jobs ≡ numbered 0 (calls c.given)) × (end_of 2 c.given c.ending ≡ Ok tt)) → IfSome rest (λ bytes. InputAsks workers bytes o jobs)
+pub asks-all : (workers : ℕ) (i : Intake) (rest : Option (List ℕ)) (line : List ℕ) (new : Option Cut) (o : Opening) (jobs : List Job) → i ≡ before_input → Gives (cut_left i rest) line new → Opens workers line o → IfSome new (λ c. (jobs ≡ numbered 0 (spelled job_at 2 c.given)) × (end_of job_at 2 c.given c.ending ≡ Ok tt)) → IfSome rest (λ bytes. InputAsks workers bytes o jobs)
 asks-all workers i None line new o jobs start gives opens asks = tt
 asks-all workers i (Some bytes) line None o jobs start gives opens asks = absurd (subst (λ (j : Intake). Gives (cut_left j (Some bytes)) line None) start gives)
 asks-all workers i (Some bytes) line (Some c) o jobs start gives opens asks =
     let gives' : Gives (cut_left before_input (Some bytes)) line (Some c) = subst (λ (j : Intake). Gives (cut_left j (Some bytes)) line (Some c)) start gives in
     subst (λ (ls : List (List ℕ)). LinesAsk workers ls (cut bytes).ending o jobs) (sym gives'.0)
-    (record { opens = opens; jobs_are = asks.0; no_fault = ap (λ (e : Ending). end_of 2 c.given e) gives'.1 ∙ asks.1 })
+    (record { opens = opens; jobs_are = asks.0; no_fault = ap (λ (e : Ending). end_of job_at 2 c.given e) gives'.1 ∙ asks.1 })
 
 -- line 1 is too long, or the input is
 pub fails-long : (workers : ℕ) (i : Intake) (rest : Option (List ℕ)) (f : Fault) → i ≡ before_input → Explains f i.number (cut_left i rest) → IsOfInput f → Fails workers rest f

@@ -1,3 +1,4 @@
 pub mod Takings
 pub mod Beginnings
 pub mod Reported
+pub mod SerialTexts

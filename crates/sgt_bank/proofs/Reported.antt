@@ -1,5 +1,5 @@
 -- Laws of a bank's report.
-use Rattle.std.proofs.Common.{◌≡◌, ℕ, zero, suc, ◌+◌, ◌<◌, ◌≤◌, List, [], ◌∷◌, ◌++◌, refl, sym, ◌∙◌, ap, subst, arith}
+use Rattle.std.proofs.Common.{◌≡◌, ℕ, zero, suc, ◌+◌, ◌<◌, ◌≤◌, List, [], ◌∷◌, ◌++◌, refl, sym, ◌∙◌, arith}
 use Rattle.std.specs.Prelude.{cond, Option, None, Some, IfSome, reverse}
 use Rattle.std.specs.List.{All, count_by}
 use Rattle.std.proofs.lemmas.List.Sums.{sum_by-cons}
@@ -7,21 +7,16 @@ use Rattle.std.specs.declared.convert.Infallible.{Infallible}
 use Rattle.sgt_workers.specs.declared.outcome.Outcome.{Outcome}
 use Rattle.sgt_workers.specs.declared.outcome.Outcome.TheVariants as outcome
 use Rattle.sgt_workers.specs.Reports.{is_left, is_untaken, is_no_memory}
-use Rattle.sgt_workers.specs.Banks.{setting_of}
-use Rattle.sgt_workers.specs.declared.bank.Bank.{Bank}
 use Rattle.sgt_model.specs.declared.entry.Entry.{Entry}
-use Rattle.sgt_model.specs.Numbers.{IsValue}
-use Rattle.sgt_model.specs.Databases.{Row, contents_of}
-use Rattle.sgt_model.specs.Settings.{setting}
-use Rattle.sgt_model.specs.StoredValues.{HoldValues}
-use Rattle.sgt_smallbank.specs.Texts.{procedures}
-use Rattle.sgt_smallbank.specs.Replays.{ReplayIsBank, OpeningsHoldValues}
+use Rattle.sgt_model.specs.Databases.{Row}
 use Rattle.sgt_format.specs.Openings.{Opens}
 use Rattle.sgt_format.specs.declared.opening.Opening.{Opening}
 use Rattle.sgt_dispatch.specs.declared.job.Job.{Job}
 use Rattle.sgt_stream.specs.Lines.{Ending, cut}
 use Rattle.sgt_bank.specs.Inputs.{InputAsks, LinesAsk}
-use Rattle.sgt_bank.specs.Banks.{opened_setting, HasRun, AreRun, IsReport}
+use Rattle.sgt_program.specs.Openings.{opened_setting, OpenedIsBank}
+use Rattle.sgt_bank.specs.Banks.{HasRun, AreRun, IsReport}
+use Rattle.sgt_bank.proofs.SerialTexts.{text-same}
 use Rattle.sgt_bank.specs.Reports.{report_text}
 
 -- no note can be made
@@ -64,35 +59,25 @@ all-taken workers left (suc untaken) some none full = absurd (omega (arith, some
 pub each-run : (os : List (Outcome Infallible)) (workers : ℕ) → 1 ≤ workers → count_by is_no_memory os ≡ 0 → (0 < count_by is_untaken os → count_by is_left os ≡ workers) → All HasRun os
 each-run os workers some memory full = all-run os (all-taken workers _ _ some (none-left os) full) memory
 
--- a bank made of an opening has the opening's setting
-pub setting-same : (b : Bank) (o : Opening) → b.opening ≡ o.database → b.procedures.items ≡ procedures ++ o.procedures.items → b.limits ≡ o.limits → setting_of b ≡ opened_setting o
-setting-same b o database programs limits =
-    ap (λ rows. setting (contents_of rows) b.procedures.items b.limits) database
-    ∙ ap (λ ps. setting (contents_of o.database) ps b.limits) programs
-    ∙ ap (λ ls. setting (contents_of o.database) (procedures ++ o.procedures.items) ls) limits
-
 -- the first line of an input of jobs opens
 opens-first : (workers : ℕ) (ls : List (List ℕ)) (ending : Ending) (o : Opening) (jobs : List Job) → LinesAsk workers ls ending o jobs → (line : List ℕ) × Opens workers line o
 opens-first workers [] ending o jobs asks = absurd asks
 opens-first workers (line ∷ later) ending o jobs asks = (line, asks.opens)
 
 -- the text of jobs that were run is a report
-module _ (accounts : OpeningsHoldValues) (bank : ReplayIsBank) where
-  holds-values : (workers : ℕ) (line : List ℕ) (o : Opening) → Opens workers line o → HoldValues (contents_of o.database)
-  holds-values workers line o opens k = subst (λ v. IfSome v IsValue) (sym (opens.opens.contents k)) (accounts opens.sheet.accounts opens.opens.no_fault k)
-
-  pub is-report : (workers tries : ℕ) (rest : Option (List ℕ)) (o : Opening) (jobs : List Job) (history : List Entry) (outcomes : List (Outcome Infallible)) (rows : List Row) (out : List ℕ) → IfSome rest (λ bytes. InputAsks workers bytes o jobs) → AreRun o jobs workers tries history outcomes rows → out ≡ report_text history outcomes rows → IfSome rest (λ bytes. IsReport workers tries bytes out)
-  is-report workers tries None o jobs history outcomes rows out asks run text = tt
-  is-report workers tries (Some bytes) o jobs history outcomes rows out asks run text =
-      let opens = opens-first workers (cut bytes).given (cut bytes).ending o jobs asks in
-      record {
-        opening = o;
-        jobs = jobs;
-        asks = asks;
-        history = history;
-        outcomes = outcomes;
-        rows = rows;
-        are_run = run;
-        bank = bank (contents_of o.database) o.procedures.items o.limits (reverse history) (holds-values workers opens.0 o opens.1) run.legal;
-        text = text;
-      }
+pub is-report : OpenedIsBank → (workers tries : ℕ) (rest : Option (List ℕ)) (o : Opening) (jobs : List Job) (history : List Entry) (outcomes : List (Outcome Infallible)) (rows : List Row) (out : List ℕ) → IfSome rest (λ bytes. InputAsks workers bytes o jobs) → AreRun o jobs workers tries history outcomes rows → out ≡ report_text history outcomes rows → IfSome rest (λ bytes. IsReport workers tries bytes out)
+is-report bank workers tries None o jobs history outcomes rows out asks run text = tt
+is-report bank workers tries (Some bytes) o jobs history outcomes rows out asks run text =
+    let opens = opens-first workers (cut bytes).given (cut bytes).ending o jobs asks in
+    record {
+      opening = o;
+      jobs = jobs;
+      asks = asks;
+      history = history;
+      outcomes = outcomes;
+      rows = rows;
+      are_run = run;
+      bank = bank workers opens.0 o (reverse history) opens.1 run.legal;
+      text = text;
+      written = text ∙ text-same (opened_setting o) history tries jobs outcomes rows run.replay run.stand.each;
+    }

@@ -9,7 +9,8 @@ use Rattle.sgt_stream.specs.declared.fault.Fault.TheVariants as fault
 use Rattle.sgt_stream.specs.Lines.{Cut, AtEnd}
 use Rattle.sgt_stream.specs.Intake.{EndsAs}
 use Rattle.sgt_stream.specs.Ends.{End}
-use Rattle.sgt_bank.specs.Jobs.{and_later, calls, numbered, or_later, end_of}
+use Rattle.sgt_stream.specs.Spelled.{at_line, and_later, spelled, or_later, end_of}
+use Rattle.sgt_bank.specs.Jobs.{unless_too_many, job_at, numbered}
 use Rattle.sgt_bank.specs.Taking.{Asks, Asked, EndsWith}
 
 -- one call more
@@ -45,13 +46,16 @@ asked-next (Some a) None d cs c few first next = absurd first
 asked-next (Some a) (Some b) None cs c few first next = next
 asked-next (Some a) (Some b) (Some d) cs c few first (line, given, asks, ending) =
     let fits : nat_le (length cs + 2) 1000001 ≡ true = le-leb (length cs + 2) 1000001 (grind (arith, few)) in
-    let later : calls b.given ≡ c ∷ calls d.given = ap calls given ∙ ap (λ r. and_later r (calls d.given)) asks in
+    let at : job_at (length cs + 2) line ≡ Ok c = ap (λ r. unless_too_many (length cs + 2) (at_line (length cs + 2) r)) asks
+    ∙ ap (λ t. if t then Ok c else Err fault.TooManyJobs) fits in
     let count : length cs + 2 + 1 ≡ length (cs ++ c ∷ []) + 2 = grind (arith, length-snoc cs c) in
-    let more : end_of (length cs + 2) b.given b.ending ≡ end_of (length (cs ++ c ∷ []) + 2) d.given d.ending =
-    ap (λ g. end_of (length cs + 2) g b.ending) given ∙ ap (λ r. or_later (length cs + 2) r (end_of (length cs + 2 + 1) d.given b.ending)) asks
-    ∙ ap (λ t. if t then end_of (length cs + 2 + 1) d.given b.ending else Err fault.TooManyJobs) fits
-    ∙ ap (λ e. end_of (length cs + 2 + 1) d.given e) ending ∙ ap (λ n. end_of n d.given d.ending) count in
-    (first.0 ∙ ap (λ l. cs ++ l) later ∙ sym (append_assoc cs (c ∷ []) (calls d.given)), first.1 ∙ more)
+    let later : spelled job_at (length cs + 2) b.given ≡ c ∷ spelled job_at (length (cs ++ c ∷ []) + 2) d.given =
+    ap (spelled job_at (length cs + 2)) given ∙ ap (λ r. and_later r (spelled job_at (length cs + 2 + 1) d.given)) at
+    ∙ ap (λ n. c ∷ spelled job_at n d.given) count in
+    let more : end_of job_at (length cs + 2) b.given b.ending ≡ end_of job_at (length (cs ++ c ∷ []) + 2) d.given d.ending =
+    ap (λ g. end_of job_at (length cs + 2) g b.ending) given ∙ ap (λ r. or_later r (end_of job_at (length cs + 2 + 1) d.given b.ending)) at
+    ∙ ap (λ e. end_of job_at (length cs + 2 + 1) d.given e) ending ∙ ap (λ n. end_of job_at n d.given d.ending) count in
+    (first.0 ∙ ap (λ l. cs ++ l) later ∙ sym (append_assoc cs (c ∷ []) (spelled job_at (length (cs ++ c ∷ []) + 2) d.given)), first.1 ∙ more)
 
 -- one more than may be asked for
 pub asked-many : (a b d : Option Cut) (cs : List JobCall) (c : JobCall) → length cs ≡ 1000000 → Asked a cs b → Asks b c d → EndsWith 2 (Err fault.TooManyJobs) a
@@ -60,20 +64,21 @@ asked-many (Some a) None d cs c many first next = absurd first
 asked-many (Some a) (Some b) None cs c many first next = absurd next
 asked-many (Some a) (Some b) (Some d) cs c many first (line, given, asks, ending) =
     let full : nat_le (length cs + 2) 1000001 ≡ false = rw many refl in
-    first.1 ∙ ap (λ g. end_of (length cs + 2) g b.ending) given ∙ ap (λ r. or_later (length cs + 2) r (end_of (length cs + 2 + 1) d.given b.ending)) asks
-    ∙ ap (λ t. if t then end_of (length cs + 2 + 1) d.given b.ending else Err fault.TooManyJobs) full
+    let at : job_at (length cs + 2) line ≡ Err fault.TooManyJobs = ap (λ r. unless_too_many (length cs + 2) (at_line (length cs + 2) r)) asks
+    ∙ ap (λ t. if t then Ok c else Err fault.TooManyJobs) full in
+    first.1 ∙ ap (λ g. end_of job_at (length cs + 2) g b.ending) given ∙ ap (λ r. or_later r (end_of job_at (length cs + 2 + 1) d.given b.ending)) at
 
 -- the next line is at fault
 pub asked-fault : (a b : Option Cut) (cs : List JobCall) (n : ℕ) (end : End) → n ≡ length cs + 2 → Asked a cs b → EndsWith n end b → EndsWith 2 end a
 asked-fault None b cs n end at first next = tt
 asked-fault (Some a) None cs n end at first next = absurd first
-asked-fault (Some a) (Some b) cs n end at first next = first.1 ∙ ap (λ k. end_of k b.given b.ending) (sym at) ∙ next
+asked-fault (Some a) (Some b) cs n end at first next = first.1 ∙ ap (λ k. end_of job_at k b.given b.ending) (sym at) ∙ next
 
 -- there is no line more
-pub asked-all : (a b : Option Cut) (cs : List JobCall) (jobs : List Job) → jobs ≡ numbered 0 cs → Asked a cs b → EndsAs AtEnd b → IfSome a (λ c. (jobs ≡ numbered 0 (calls c.given)) × (end_of 2 c.given c.ending ≡ Ok tt))
+pub asked-all : (a b : Option Cut) (cs : List JobCall) (jobs : List Job) → jobs ≡ numbered 0 cs → Asked a cs b → EndsAs AtEnd b → IfSome a (λ c. (jobs ≡ numbered 0 (spelled job_at 2 c.given)) × (end_of job_at 2 c.given c.ending ≡ Ok tt))
 asked-all None b cs jobs are first next = tt
 asked-all (Some a) None cs jobs are first next = absurd first
 asked-all (Some a) (Some b) cs jobs are first next = (
-  are ∙ ap (numbered 0) (sym (first.0 ∙ ap (λ (c : Cut). cs ++ calls c.given) next ∙ append-nil cs)),
-  first.1 ∙ ap (λ (c : Cut). end_of (length cs + 2) c.given c.ending) next,
+  are ∙ ap (numbered 0) (sym (first.0 ∙ ap (λ (c : Cut). cs ++ spelled job_at (length cs + 2) c.given) next ∙ append-nil cs)),
+  first.1 ∙ ap (λ (c : Cut). end_of job_at (length cs + 2) c.given c.ending) next,
 )

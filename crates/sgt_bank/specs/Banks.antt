@@ -1,5 +1,5 @@
 -- What the run of a bank's jobs writes.
-use Rattle.std.specs.Prelude.{◌≡◌, ℕ, ⊤, List, ◌++◌, reverse}
+use Rattle.std.specs.Prelude.{◌≡◌, ℕ, ⊤, List, reverse}
 use Rattle.std.specs.List.{All}
 use Rattle.std.specs.declared.convert.Infallible.{Infallible}
 use Rattle.sgt_model.specs.declared.entry.Entry.{Entry}
@@ -7,24 +7,20 @@ use Rattle.sgt_model.specs.Contents.{Key}
 use Rattle.sgt_model.specs.Databases.{Row, IsByKey, contents_of}
 use Rattle.sgt_model.specs.Walks.{Acyclic}
 use Rattle.sgt_model.specs.Pairs.{Pair}
-use Rattle.sgt_model.specs.Settings.{Setting, setting}
 use Rattle.sgt_model.specs.Legality.{Legal}
 use Rattle.sgt_model.specs.Replay.{folded, IsSerializable}
 use Rattle.sgt_model.specs.Aborts.{AbortsHaveCause}
 use Rattle.sgt_model.specs.CommitOrder.{CommitsInOrder}
-use Rattle.sgt_smallbank.specs.Texts.{procedures}
 use Rattle.sgt_smallbank.specs.Replays.{CommitsAreBank}
 use Rattle.sgt_format.specs.declared.opening.Opening.{Opening}
+use Rattle.sgt_program.specs.Openings.{opened_setting}
 use Rattle.sgt_dispatch.specs.declared.job.Job.{Job}
 use Rattle.sgt_workers.specs.declared.outcome.Outcome.{Outcome}
 use Rattle.sgt_workers.specs.declared.outcome.Outcome.TheVariants as outcome
 use Rattle.sgt_workers.specs.Reports.{OutcomesStand}
 use Rattle.sgt_bank.specs.Inputs.{InputAsks}
 use Rattle.sgt_bank.specs.Reports.{report_text}
-
--- the setting of an opening: SmallBank's procedures, and behind them its own
-abbrev pub opened_setting : Opening → Setting
-opened_setting opening = setting (contents_of opening.database) (procedures ++ opening.procedures.items) opening.limits
+use Rattle.sgt_bank.specs.SerialText.{serial_text}
 
 -- the job ran to an end: it committed, its procedure asked, its tries were spent, or its start was refused
 abbrev pub HasRun : {N : Type 0} → Outcome N → Type 0
@@ -49,8 +45,9 @@ pub record AreRun (opening : Opening) (jobs : List Job) (workers tries : ℕ) (h
   pub database : (k : Key) → contents_of rows k ≡ (folded (opened_setting opening) (reverse history)).last k
   pub by_key : IsByKey rows
 
--- what is written for an input of these bytes: the text of a report on the jobs that it asks for. Each committed transaction of
--- one of SmallBank's five procedures did the bank's arithmetic, on what those committed before it left
+-- what is written for an input of these bytes: the text of a report on the jobs that it asks for. Each `committed` line of it has
+-- the answers that the serial run gives the job's transaction. Each committed transaction of one of SmallBank's five procedures
+-- did the bank's arithmetic, on what those committed before it left
 pub record IsReport (workers tries : ℕ) (bytes out : List ℕ) : Type 0 where
   pub opening : Opening
   pub jobs : List Job
@@ -61,3 +58,4 @@ pub record IsReport (workers tries : ℕ) (bytes out : List ℕ) : Type 0 where
   pub are_run : AreRun opening jobs workers tries history outcomes rows
   pub bank : CommitsAreBank (opened_setting opening) (reverse history)
   pub text : out ≡ report_text history outcomes rows
+  pub written : out ≡ serial_text (opened_setting opening) history outcomes rows

@@ -9,13 +9,14 @@ use Rattle.sgt_stream.specs.declared.fault.Fault.{Fault}
 use Rattle.sgt_stream.specs.declared.fault.Fault.TheVariants as fault
 use Rattle.sgt_stream.specs.Lines.{Ending, cut}
 use Rattle.sgt_stream.specs.Ends.{IsOfInput, fault_of_opening, no_opening}
-use Rattle.sgt_bank.specs.Jobs.{calls, numbered, end_of}
+use Rattle.sgt_stream.specs.Spelled.{spelled, end_of}
+use Rattle.sgt_bank.specs.Jobs.{job_at, numbered}
 
 -- line 1 opens, with a place for each worker, and each later line asks for a job
 pub record IsInput (workers : ℕ) (line : List ℕ) (later : List (List ℕ)) (ending : Ending) (opening : Opening) (jobs : List Job) : Type 0 where
   pub opens : Opens workers line opening
-  pub jobs_are : jobs ≡ numbered 0 (calls later)
-  pub no_fault : end_of 2 later ending ≡ Ok tt
+  pub jobs_are : jobs ≡ numbered 0 (spelled job_at 2 later)
+  pub no_fault : end_of job_at 2 later ending ≡ Ok tt
 
 -- so it is with these lines: the first of them opens
 abbrev pub LinesAsk : ℕ → List (List ℕ) → Ending → Opening → List Job → Type 0
@@ -37,7 +38,7 @@ pub record IsRefused (workers : ℕ) (line : List ℕ) (f : Fault) : Type 0 wher
 pub record IsBehind (workers : ℕ) (line : List ℕ) (later : List (List ℕ)) (ending : Ending) (f : Fault) : Type 0 where
   pub opening : Opening
   pub opens : Opens workers line opening
-  pub ends : end_of 2 later ending ≡ Err f
+  pub ends : end_of job_at 2 later ending ≡ Err f
 
 -- the first fault of these lines
 abbrev pub LinesFail : ℕ → List (List ℕ) → Ending → Fault → Type 0

@@ -4,7 +4,8 @@ use Rattle.sgt_format.specs.JobLines.{job_of}
 use Rattle.sgt_format.specs.declared.call.JobCall.{JobCall}
 use Rattle.sgt_stream.specs.Lines.{Cut}
 use Rattle.sgt_stream.specs.Ends.{End}
-use Rattle.sgt_bank.specs.Jobs.{calls, end_of}
+use Rattle.sgt_stream.specs.Spelled.{spelled, end_of}
+use Rattle.sgt_bank.specs.Jobs.{job_at}
 
 -- known lines begin with one that asks for this call, and then come these
 abbrev pub Asks : Option Cut → JobCall → Option Cut → Type 0
@@ -16,8 +17,9 @@ Asks (Some old) call (Some new) = (line : List ℕ) × (old.given ≡ line ∷ n
 abbrev pub Asked : Option Cut → List JobCall → Option Cut → Type 0
 Asked None asked new = ⊤
 Asked (Some old) asked None = ⊥
-Asked (Some old) asked (Some new) = (calls old.given ≡ asked ++ calls new.given) × (end_of 2 old.given old.ending ≡ end_of (length asked + 2) new.given new.ending)
+Asked (Some old) asked (Some new) = (spelled job_at 2 old.given ≡ asked ++ spelled job_at (length asked + 2) new.given)
+    × (end_of job_at 2 old.given old.ending ≡ end_of job_at (length asked + 2) new.given new.ending)
 
 -- known lines from number n on end so at the next line, or where there is none
 abbrev pub EndsWith : ℕ → End → Option Cut → Type 0
-EndsWith n end known = IfSome known (λ c. end_of n c.given c.ending ≡ end)
+EndsWith n end known = IfSome known (λ c. end_of job_at n c.given c.ending ≡ end)

@@ -1,30 +1,17 @@
 ghost use Rattle.std.specs.Prelude.{◌≡◌, ◌≢◌, ℕ, List, IfOk, IfErr, IfSome, IsNone, Err, Ok, [], ◌+◌, ◌^◌, ◌<◌, ◌≤◌};
-ghost use Rattle.sgt_format.specs.JobLines.{job_of};
-ghost use Rattle.sgt_format.specs.declared.errors.LineError.{LineError as E};
 ghost use Rattle.sgt_stream.specs.Lines.{AtEnd};
 ghost use Rattle.sgt_stream.specs.Intake.{EndsAs, come, cut_left};
-ghost use Rattle.sgt_stream.specs.Ends.{IsOfInput, fault_in};
+ghost use Rattle.sgt_stream.specs.Ends.{IsOfInput};
 ghost use Rattle.sgt_workers.specs.Banks.{AreJobs};
-ghost use Rattle.sgt_bank.specs.Jobs.{calls, numbered, end_of};
+ghost use Rattle.sgt_stream.specs.Spelled.{spelled, end_of};
+ghost use Rattle.sgt_bank.specs.Jobs.{job_at, numbered};
 ghost use Rattle.sgt_bank.specs.Taking.{Asks, EndsWith};
 
 use sgt_dispatch::Job;
 use sgt_format::{JobCall, read_job};
-use sgt_stream::{Fault, Lines, Source, line_fault};
+use sgt_stream::{Fault, Lines, Source, at_line};
 use sgt_workers::MOST_JOBS;
 use std::alloc::Global;
-
-/// The call that the line given last asks for.
-fn call_of(alloc: Global, lines: &Lines) -> Result<JobCall, Fault>
-    ensures call { IfOk result (λ call. job_of lines.now.line ≡ Ok call) }
-    ensures fault { IfErr result (λ f. f ≢ Fault.NoMemory →
-        (e : E) × (job_of lines.now.line ≡ Err e) × (f ≡ fault_in lines.now.number e)) }
-{
-    match read_job(alloc, lines.line()) {
-        Ok(call) => Ok(call),
-        Err(error) => Err(line_fault(lines.number(), error)),
-    }
-}
 
 /// The call that the next line asks for, if there is a line.
 fn next_call<S: Source>(
@@ -52,7 +39,7 @@ fn next_call<S: Source>(
     if !lines.next_line(source)? {
         return Ok(None);
     }
-    let call = call_of(alloc, lines)?;
+    let call = at_line(lines.number(), read_job(alloc, lines.line()))?;
     Ok(Some(call))
 }
 
@@ -71,7 +58,8 @@ pub(crate) fn read_jobs<S: Source>(
     requires second { lines.old.number ≡ 1 }
     requires few { come lines.old ≤ 16777217 }
     ensures jobs { IfOk result (λ jobs. IfSome (cut_left lines.old (S.rest source.old)) (λ c.
-        (jobs.items ≡ numbered 0 (calls c.given)) × (end_of 2 c.given c.ending ≡ Ok tt))) }
+        (jobs.items ≡ numbered 0 (spelled job_at 2 c.given))
+        × (end_of job_at 2 c.given c.ending ≡ Ok tt))) }
     ensures numbered { IfOk result (λ jobs. AreJobs jobs.items) }
     ensures fault { IfErr result (λ f. IsOfInput f →
         EndsWith 2 (Err f) (cut_left lines.old (S.rest source.old))) }

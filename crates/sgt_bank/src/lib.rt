@@ -23,3 +23,4 @@ pub use input::read_input;
 pub use outcome_text::outcome_line;
 pub use report::report_text;
 pub use run::run_jobs;
+pub use sgt_workers::{MOST_TRIES, MOST_WORKERS};

@@ -1,21 +1,18 @@
-ghost use Rattle.std.specs.Prelude.{◌≡◌, ◌≢◌, ℕ, List, IfOk, IfErr, IfSome, Err, Ok, take, ◌++◌, ◌+◌, ◌^◌, ◌<◌, ◌≤◌};
+ghost use Rattle.std.specs.Prelude.{◌≡◌, ◌≢◌, ℕ, List, IfOk, IfErr, IfSome, Err, Ok, take, ◌+◌, ◌^◌, ◌<◌, ◌≤◌};
 ghost use Rattle.std.specs.Io.KnownBytes.{Appends};
-ghost use Rattle.sgt_smallbank.specs.Texts.{procedures};
+ghost use Rattle.sgt_program.specs.Openings.{opened_setting};
 ghost use Rattle.sgt_stream.specs.Ends.{IsOfInput};
-ghost use Rattle.sgt_workers.specs.Banks.{AreWorkers, AreTries, AreLimitsFor, AreJobs};
+ghost use Rattle.sgt_workers.specs.Banks.{setting_of, AreWorkers, AreTries, AreLimitsFor, AreJobs};
 ghost use Rattle.sgt_bank.specs.Inputs.{InputFails, IsOfText};
 ghost use Rattle.sgt_bank.specs.Banks.{AreRun, IsReport};
 
 use crate::gate::OpenGate;
 use crate::input::read_input;
 use crate::report::report_text;
-use sgt_access::PerKey;
 use sgt_dispatch::Job;
 use sgt_format::Opening;
-use sgt_graph::BitGraph;
 use sgt_model::NoMemory;
-use sgt_records::SlabRecords;
-use sgt_smallbank::replay_is_bank;
+use sgt_program::{SgtAccesses, SgtGraph, SgtRecords, all_procedures, opened_is_bank};
 use sgt_stream::{Fault, Sink, Source, write_all};
 use sgt_workers::{Bank, PoolError, Report, run};
 use std::alloc::Global;
@@ -23,22 +20,19 @@ use std::convert::Infallible;
 use std::sync::Wait;
 use std::thread::Threads;
 
-/// What the jobs of an opening are run on: SmallBank's procedures, and behind them those of the opening.
+/// What the jobs of an opening are run on: what the program's engine is made of.
 fn bank_of(alloc: Global, opening: Opening) -> Result<Bank, NoMemory>
-    ensures database { IfOk result (λ b. b.opening ≡ opening.database) }
-    ensures procedures { IfOk result (λ b. b.procedures.items ≡ procedures ++ opening.procedures.items) }
+    ensures setting { IfOk result (λ b. setting_of b ≡ opened_setting opening) }
     ensures limits { IfOk result (λ b. b.limits ≡ opening.limits) }
 {
     let Opening {
         limits,
         database,
-        mut procedures,
+        procedures,
     } = opening;
-    let mut all = sgt_smallbank::procedures(alloc)?;
-    all.append(&mut procedures)?;
     Ok(Bank {
         opening: database,
-        procedures: all,
+        procedures: all_procedures(alloc, procedures)?,
         limits,
     })
 }
@@ -66,7 +60,7 @@ fn run_opened<W: Threads + Wait + Sync>(
     ensures own { (result ≢ Err Fault.Reading) × (result ≢ Err Fault.Writing) }
 {
     let bank = bank_of(alloc, opening)?;
-    match run::<SlabRecords, PerKey, BitGraph, OpenGate, W>(
+    match run::<SgtRecords, SgtAccesses, SgtGraph, OpenGate, W>(
         rt, alloc, bank, jobs, workers, tries, &OpenGate,
     ) {
         Ok(report) => Ok(report),
@@ -103,8 +97,8 @@ fn report_of<S: Source, W: Threads + Wait + Sync>(
     ensures failed { result ≡ Err Fault.Reading →
         S.failures source.new ≡ S.failures source.old + 1 }
 {
-    // In every legal history over the opening SmallBank's procedures did the bank's arithmetic.
-    replay_is_bank();
+    // In every legal history behind the opening SmallBank's procedures did the bank's arithmetic.
+    opened_is_bank();
     let (opening, jobs) = read_input(alloc, source, workers)?;
     let report = run_opened(rt, alloc, opening, jobs.as_slice(), workers, tries)?;
     let text = report_text(

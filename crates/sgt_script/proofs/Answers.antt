@@ -16,7 +16,8 @@ use Rattle.std.specs.Io.KnownBytes.{Appends}
 use Rattle.sgt_format.specs.ReplyText.{text}
 use Rattle.sgt_stream.specs.Lines.{Cut}
 use Rattle.sgt_stream.specs.Ends.{End, IsExact, IsOfInput}
-use Rattle.sgt_script.specs.Scripts.{RunHistory, RunOutput, events, replies, end_of, Closing}
+use Rattle.sgt_stream.specs.Spelled.{spelled, end_of}
+use Rattle.sgt_script.specs.Scripts.{RunHistory, RunOutput, event_at, replies, Closing}
 use Rattle.sgt_script.specs.Answering.{Answered, AllAnswered}
 use Rattle.sgt_model.specs.Histories.{events_of}
 
@@ -30,7 +31,8 @@ answered-next n m k None b c past e first next = tt
 answered-next n m k (Some a) None c past e first next = absurd first
 answered-next n m k (Some a) (Some b) None past e first next = next
 answered-next n m k (Some a) (Some b) (Some c) past e first next =
-    let more : events_of past ++ e.event ∷ events c.given ≡ events_of (e ∷ past) ++ events c.given = sym (append_assoc (events_of past) (e.event ∷ []) (events c.given)) ∙ ap (λ l. l ++ events c.given) (sym (events_of-entry e past)) in
+    let more : events_of past ++ e.event ∷ spelled event_at k c.given ≡ events_of (e ∷ past) ++ spelled event_at k c.given =
+    sym (append_assoc (events_of past) (e.event ∷ []) (spelled event_at k c.given)) ∙ ap (λ l. l ++ spelled event_at k c.given) (sym (events_of-entry e past)) in
     (first.0 ∙ ap (λ l. events_of past ++ l) next.0 ∙ more, first.1 ∙ next.1)
 
 -- what is written in two parts
@@ -63,8 +65,8 @@ output-all s n (Some c) past end last held held' second legal all closing writte
   record {
     last = last;
     legal = legal;
-    events_are = sym all.0;
-    end_is = sym all.1 ∙ ap (λ k. end_of k c.given c.ending) second;
+    events_are = sym all.0 ∙ ap (λ k. spelled event_at k c.given) second;
+    end_is = sym all.1 ∙ ap (λ k. end_of event_at k c.given c.ending) second;
     closing = closing;
     text = refl;
   },

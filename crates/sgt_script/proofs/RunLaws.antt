@@ -1,24 +1,18 @@
--- The laws of a script's run: of its history, since it is legal, and of what was written. The bank's, since what an opening's
--- accounts open holds values.
+-- The laws of a script's run: of its history, since it is legal, and of what was written.
 use Rattle.std.proofs.Common.{◌≡◌, refl, sym, ap, ◌∙◌, subst, List, [], ◌∷◌, ◌++◌}
 use Rattle.std.specs.Prelude.{ℕ, Option, None, Some, IfSome, Ok, Err}
 use Rattle.std.specs.Io.KnownBytes.{Appends}
 use Rattle.sgt_model.specs.declared.entry.Entry.{Entry}
 use Rattle.sgt_model.specs.declared.reply.Reply.{Reply}
 use Rattle.sgt_model.specs.declared.reply.Reply.TheVariants as reply
-use Rattle.sgt_model.specs.Numbers.{IsValue}
 use Rattle.sgt_model.specs.Contents.{Key, Contents}
-use Rattle.sgt_model.specs.Databases.{contents_of}
 use Rattle.sgt_model.specs.Settings.{Setting}
 use Rattle.sgt_model.specs.Legality.{Legal}
 use Rattle.sgt_model.specs.Laws.{HeadlineHolds}
 use Rattle.sgt_model.specs.Replay.{told_in, told, IsSerializable}
-use Rattle.sgt_model.specs.StoredValues.{HoldValues}
-use Rattle.sgt_smallbank.specs.Texts.{procedures}
-use Rattle.sgt_smallbank.specs.Replays.{CommitsAreBank, ReplayIsBank, OpeningsHoldValues}
-use Rattle.sgt_format.specs.Openings.{Opens}
+use Rattle.sgt_smallbank.specs.Replays.{CommitsAreBank}
+use Rattle.sgt_program.specs.Openings.{OpenedIsBank}
 use Rattle.sgt_format.specs.ReplyText.{text}
-use Rattle.sgt_format.specs.declared.opening.Opening.{Opening}
 use Rattle.sgt_stream.specs.Lines.{Ending, cut}
 use Rattle.sgt_stream.specs.Ends.{End}
 use Rattle.sgt_script.specs.Scripts.{RunHistory, Closing, RunOutput, Script, ScriptOf, replies}
@@ -46,11 +40,8 @@ serial-text run later ending out end output replay = record {
   text = output.text ∙ ap (λ l. l ++ output.last) (sym (tells run.past) ∙ ap (λ results. replies_telling results run.past) (sym replay.answers));
 }
 
-module _ (headline : HeadlineHolds) (accounts : OpeningsHoldValues) (bank : ReplayIsBank) where
-  opening-holds : (line : List ℕ) (opening : Opening) → Opens 1 line opening → HoldValues (contents_of opening.database)
-  opening-holds line opening o k = subst (λ v. IfSome v IsValue) (sym (o.opens.contents k)) (accounts o.sheet.accounts o.opens.no_fault k)
-
-  run-laws : (ls : List (List ℕ)) (ending : Ending) (run : Option RunHistory) (out : List ℕ) (end : End) → ScriptOf procedures ls ending run out end → IfSome run (λ r. RunLaws r out end)
+module _ (headline : HeadlineHolds) (bank : OpenedIsBank) where
+  run-laws : (ls : List (List ℕ)) (ending : Ending) (run : Option RunHistory) (out : List ℕ) (end : End) → ScriptOf ls ending run out end → IfSome run (λ r. RunLaws r out end)
   run-laws [] ending None out end s = tt
   run-laws [] ending (Some run) out end s = absurd s
   run-laws (l ∷ ls) ending None out end s = tt
@@ -64,10 +55,10 @@ module _ (headline : HeadlineHolds) (accounts : OpeningsHoldValues) (bank : Repl
         causes = parts.causes;
         order = parts.order;
         bank = subst (λ (t : Setting). CommitsAreBank t run.past) (sym s.setting)
-            (bank (contents_of s.opening.database) s.opening.procedures.items s.opening.limits run.past (opening-holds l s.opening s.opens) legal);
+            (bank 1 l s.opening run.past s.opens legal);
       }
 
   -- what a run wrote, with its laws beside it
-  pub with-laws : (rest held held' : Option (List ℕ)) (end : End) → IfSome rest (λ bytes. (run : Option RunHistory) × (out : List ℕ) × Appends held held' out × Script procedures bytes run out end) → IfSome rest (λ bytes. (run : Option RunHistory) × (out : List ℕ) × Appends held held' out × Script procedures bytes run out end × IfSome run (λ r. RunLaws r out end))
+  pub with-laws : (rest held held' : Option (List ℕ)) (end : End) → IfSome rest (λ bytes. (run : Option RunHistory) × (out : List ℕ) × Appends held held' out × Script bytes run out end) → IfSome rest (λ bytes. (run : Option RunHistory) × (out : List ℕ) × Appends held held' out × Script bytes run out end × IfSome run (λ r. RunLaws r out end))
   with-laws None held held' end wrote = tt
   with-laws (Some bytes) held held' end (run, out, appended, script) = (run, out, appended, script, run-laws (cut bytes).given (cut bytes).ending run out end script)

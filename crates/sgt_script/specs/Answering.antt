@@ -4,20 +4,21 @@ use Rattle.sgt_model.specs.declared.entry.Entry.{Entry}
 use Rattle.sgt_model.specs.Histories.{events_of}
 use Rattle.sgt_stream.specs.Lines.{Cut}
 use Rattle.sgt_stream.specs.Ends.{End}
-use Rattle.sgt_script.specs.Scripts.{events, end_of}
+use Rattle.sgt_stream.specs.Spelled.{spelled, end_of}
+use Rattle.sgt_script.specs.Scripts.{event_at}
 
 -- known lines from number n on begin with those of a history's events; behind them, from number m on, are these
 abbrev pub Answered : ℕ → Option Cut → List Entry → ℕ → Option Cut → Type 0
 Answered n None past m new = ⊤
 Answered n (Some old) past m None = ⊥
-Answered n (Some old) past m (Some new) = (events old.given ≡ events_of past ++ events new.given) × (end_of n old.given old.ending ≡ end_of m new.given new.ending)
+Answered n (Some old) past m (Some new) = (spelled event_at n old.given ≡ events_of past ++ spelled event_at m new.given) × (end_of event_at n old.given old.ending ≡ end_of event_at m new.given new.ending)
 
 -- known lines from number n on give no event, and end so
 abbrev pub NoEvent : ℕ → Option Cut → End → Type 0
 NoEvent n None end = ⊤
-NoEvent n (Some c) end = (events c.given ≡ []) × (end_of n c.given c.ending ≡ end)
+NoEvent n (Some c) end = (spelled event_at n c.given ≡ []) × (end_of event_at n c.given c.ending ≡ end)
 
 -- known lines from number n on have just a history's events, and end so
 abbrev pub AllAnswered : ℕ → Option Cut → List Entry → End → Type 0
 AllAnswered n None past end = ⊤
-AllAnswered n (Some c) past end = (events c.given ≡ events_of past) × (end_of n c.given c.ending ≡ end)
+AllAnswered n (Some c) past end = (spelled event_at n c.given ≡ events_of past) × (end_of event_at n c.given c.ending ≡ end)

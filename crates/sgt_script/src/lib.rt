@@ -1,8 +1,7 @@
 //! The whole of `sgt script` over a source and a sink: bytes in, lines, events, replies, text out. `specs/Scripts.antt` says
 //! what a script's run writes and how it ends, over what `sgt_stream` says of lines and `sgt_format` of texts.
 //!
-//! It is no program: it opens no file and knows no command line. Inside, a `Machine` answers the events: `SmallBankEngine`,
-//! the engine with the bodies of its layers named.
+//! It is no program: it opens no file and knows no command line. Events are answered by the engine of `sgt_program`.
 //!
 //! ```
 //! let mut reader = Reader::new(rt.reader());
@@ -11,9 +10,7 @@
 //! ```
 #![tactic(auto)]
 
-mod machine;
 mod run;
 mod script;
-mod small_bank;
 
 pub use run::run_script;

@@ -1,14 +1,12 @@
 ghost use Rattle.std.specs.Prelude.{◌≡◌, ◌≢◌, ℕ, List, Option, IfSome, Err, ◌+◌, ◌^◌, ◌<◌, ◌≤◌};
 ghost use Rattle.std.specs.Io.KnownBytes.{Appends};
-ghost use Rattle.sgt_smallbank.specs.Texts.{procedures};
 ghost use Rattle.sgt_stream.specs.Ends.{IsExact};
 ghost use Rattle.sgt_script.specs.RunLaws.{RunLaws};
 ghost use Rattle.sgt_script.specs.Scripts.{RunHistory, Script};
 
 use crate::script::run_with;
-use crate::small_bank::SmallBankEngine;
 use sgt_model::headline_holds;
-use sgt_smallbank::replay_is_bank;
+use sgt_program::opened_is_bank;
 use sgt_stream::{Fault, Sink, Source};
 use std::alloc::Global;
 
@@ -21,8 +19,8 @@ use std::alloc::Global;
 ///
 /// # Errors
 ///
-/// The first fault of the script; and `Reading`, `Writing` and `NoMemory`. The replies to the lines before it are written
-/// then, as far as writing goes well, and no database.
+/// The first fault of the script: the replies to the lines before it are written then, and no database. And `Reading` where a
+/// read failed, `Writing` where a write did, and `NoMemory` where a growth was refused: no clause says what is written then.
 pub fn run_script<S: Source, T: Sink>(
     alloc: Global,
     source: &mut S,
@@ -32,7 +30,7 @@ pub fn run_script<S: Source, T: Sink>(
     requires writing { T.failures sink.old + 1 < 2 ^ 64 }
     ensures script { IsExact result → IfSome (S.rest source.old) (λ bytes.
         (run : Option RunHistory) × (out : List ℕ) × Appends (T.held sink.old) (T.held sink.new) out
-        × Script procedures bytes run out result × IfSome run (λ r. RunLaws r out result)) }
+        × Script bytes run out result × IfSome run (λ r. RunLaws r out result)) }
     ensures bounded { S.given source.new ≤ S.given source.old + 16777217 }
     ensures read_well { IsExact result → S.failures source.new ≡ S.failures source.old }
     ensures read_failed { result ≡ Err Fault.Reading →
@@ -45,6 +43,6 @@ pub fn run_script<S: Source, T: Sink>(
     // Of every legal history the headline holds.
     headline_holds();
     // And each committed transaction of one of the five procedures did the bank's arithmetic.
-    replay_is_bank();
-    run_with::<SmallBankEngine, S, T>(alloc, source, sink)
+    opened_is_bank();
+    run_with(alloc, source, sink)
 }

@@ -20,7 +20,7 @@ end_at n AtEnd = Ok tt
 end_at n AtLongLine = Err (fault.LongLine n)
 end_at n AtLimit = Err fault.TooLong
 
--- the fault of line n where it spells no event
+-- the fault of line n where it spells nothing
 abbrev pub fault_in : ℕ → LineError → Fault
 fault_in n line_error.NotJson = fault.NotJson n
 fault_in n line_error.BadLine = fault.BadLine n

@@ -2,3 +2,4 @@ pub mod Lines
 pub mod Buffers
 pub mod Intake
 pub mod Ends
+pub mod Spelled

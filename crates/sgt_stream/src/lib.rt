@@ -4,7 +4,8 @@
 //! A reader is a [`Source`] and a writer a [`Sink`], two small traits with bodies over any `Read` and `Write`, that count
 //! their failed calls; a source counts the bytes that it gives, too. [`Lines`] cuts what a source gives into lines within the
 //! limits, and keeps a piece of fixed size, however long the input is. `specs/Lines.antt` says what the lines of a text are.
-//! [`opening_of`] takes a line as the opening of a run. What a line spells is said in `sgt_format`.
+//! [`opening_of`] takes a line as the opening of a run. What a line spells is said in `sgt_format`; `specs/Spelled.antt` says
+//! what lines spell one after another, up to the first bad one, whatever reads a line.
 //!
 //! ```
 //! let mut source = Reader::new(rt.reader());
@@ -15,17 +16,17 @@
 //! ```
 #![tactic(auto)]
 
+mod bad_line;
 mod buffer;
 mod fault;
-mod line_errors;
 mod lines;
 mod misfit;
 mod opening;
 mod sink;
 mod source;
 
+pub use bad_line::at_line;
 pub use fault::Fault;
-pub use line_errors::line_fault;
 pub use lines::Lines;
 pub use misfit::Misfit;
 pub use opening::opening_of;

@@ -4,14 +4,14 @@ use Rattle.sgt_model.specs.Settings.{Setting}
 use Rattle.sgt_model.specs.Legality.{Legal}
 use Rattle.sgt_model.specs.Replay.{folded, IsSerializable}
 use Rattle.sgt_model.specs.Aborts.{AbortsHaveCause}
-use Rattle.sgt_bank.proofs.Reported.{each-run, setting-same}
+use Rattle.sgt_bank.proofs.Reported.{each-run}
 use Rattle.sgt_bank.proofs.run.run_opened.Goals as goal
 
 pub returns-in-Ok-clause-report : goal.returns-in-Ok-clause-report
 returns-in-Ok-clause-report g c =
     let ran = c.in-Ok.ensures.report in
     let past = reverse c.in-Ok.report.history.items in
-    let same = setting-same c.in_ok-bank.bank c.args.opening c.in_ok-bank.ensures.database c.in_ok-bank.ensures.procedures c.in_ok-bank.ensures.limits in
+    let same = c.in_ok-bank.ensures.setting in
     record {
       legal = subst (λ (s : Setting). Legal s past) same ran.legal;
       stand = ran.outcomes;

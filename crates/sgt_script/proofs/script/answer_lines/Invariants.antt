@@ -2,16 +2,17 @@ use Rattle.std.proofs.Common.{◌≡◌, ◌≤◌, ◌+◌, List, ℕ, ◌++◌
 use Rattle.std.specs.Io.KnownBytes.{Appends}
 use Rattle.sgt_model.specs.Legality.{Legal}
 use Rattle.sgt_stream.specs.Intake.{come, cut_left}
+use Rattle.sgt_engine.specs.EngineView.{setting_of}
 use Rattle.sgt_script.specs.Scripts.{replies}
 use Rattle.sgt_script.specs.Answering.{Answered}
 use Rattle.sgt_script.proofs.script.answer_lines.Given as goal
 
 abbrev pub invariant-loop-gathered : goal.invariant-loop-gathered
 invariant-loop-gathered g l = record {
-  setting : g.M.Machine.setting l.machine ≡ g.M.Machine.setting l.fn.machine;
-  legal : Legal (g.M.Machine.setting l.machine) (g.M.Machine.past l.machine);
-  answered : Answered (l.fn.lines.number + 1) (cut_left l.fn.lines (g.S.Source.rest l.fn.source)) (g.M.Machine.past l.machine) (l.lines.number + 1) (cut_left l.lines (g.S.Source.rest l.source));
-  written : (bytes : List ℕ) × Appends (g.T.Sink.held l.fn.sink) (g.T.Sink.held l.sink) bytes × (replies (g.M.Machine.past l.machine) ≡ bytes ++ l.gathered.items);
+  setting : setting_of l.engine ≡ setting_of l.fn.engine;
+  legal : Legal (setting_of l.engine) l.engine.past;
+  answered : Answered (l.fn.lines.number + 1) (cut_left l.fn.lines (g.S.Source.rest l.fn.source)) l.engine.past (l.lines.number + 1) (cut_left l.lines (g.S.Source.rest l.source));
+  written : (bytes : List ℕ) × Appends (g.T.Sink.held l.fn.sink) (g.T.Sink.held l.sink) bytes × (replies l.engine.past ≡ bytes ++ l.gathered.items);
   counted : g.S.Source.given l.source + come l.fn.lines ≤ g.S.Source.given l.fn.source + come l.lines;
   few : come l.lines ≤ 16777217;
   reading : g.S.Source.failures l.source ≡ g.S.Source.failures l.fn.source;

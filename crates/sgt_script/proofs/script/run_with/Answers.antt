@@ -2,29 +2,30 @@ use Rattle.std.proofs.Common.{rules, ◌≡◌, Err, ap, refl, subst, ◌∙◌}
 use Rattle.sgt_stream.specs.Lines.{AtEnd}
 use Rattle.sgt_stream.specs.Intake.{cut_left}
 use Rattle.sgt_stream.specs.Ends.{IsExact}
+use Rattle.sgt_engine.specs.EngineView.{setting_of}
 use Rattle.sgt_script.proofs.Runs.{wrote-nothing, wrote-refused, wrote-opened, wrote-no-line}
 use Rattle.sgt_script.proofs.script.run_with.Goals as goal
 
 pub returns-in_err-next_line-clause-script : goal.returns-in_err-next_line-clause-script
 returns-in_err-next_line-clause-script g c =
-    wrote-no-line g.M.Machine.programs c.in_ok-lines.lines (g.S.Source.rest c.args.source.now) (g.T.Sink.held c.args.sink.now)
+    wrote-no-line c.in_ok-lines.lines (g.S.Source.rest c.args.source.now) (g.T.Sink.held c.args.sink.now)
     c.in_err-next_line.field-0.0 c.from_residual-in_err-next_line.result c.in_ok-lines.ensures (search rules) c.in_err-next_line.ensures.fault
 
 pub returns-then-not-branch-clause-script : goal.returns-then-not-branch-clause-script
 returns-then-not-branch-clause-script g c = λ exact.
-    wrote-nothing g.M.Machine.programs c.in_ok-lines.lines (g.S.Source.rest c.args.source.now) (g.T.Sink.held c.args.sink.now)
+    wrote-nothing c.in_ok-lines.lines (g.S.Source.rest c.args.source.now) (g.T.Sink.held c.args.sink.now)
     AtEnd _ c.in_ok-lines.ensures (search rules) refl
 
 pub returns-in_err-opening-clause-script : goal.returns-in_err-opening-clause-script
 returns-in_err-opening-clause-script g c = λ exact.
     let failed : c.from_residual-in_err-opening.result ≡ Err c.in_err-opening.field-0.0 = search rules in
     let explained = c.in_err-opening.ensures.fault (subst IsExact failed exact) in
-    wrote-refused g.M.Machine.programs c.in_ok-lines.lines (g.S.Source.rest c.args.source.now) (g.T.Sink.held c.args.sink.now)
+    wrote-refused c.in_ok-lines.lines (g.S.Source.rest c.args.source.now) (g.T.Sink.held c.args.sink.now)
     c.next_line.new.self.line (cut_left c.next_line.new.self (g.S.Source.rest c.next_line.new.source)) explained.0 c.from_residual-in_err-opening.result
     c.in_ok-lines.ensures (search rules) explained.1 explained.2 (failed ∙ ap (λ f. Err f) explained.3)
 
 pub returns-clause-script : goal.returns-clause-script
 returns-clause-script g c = λ exact.
-    wrote-opened g.M.Machine.programs c.in_ok-lines.lines (g.M.Machine.setting c.in_ok-machine.machine) (g.S.Source.rest c.args.source.now) (g.T.Sink.held c.args.sink.now) (g.T.Sink.held c.run_opened.new.sink)
+    wrote-opened c.in_ok-lines.lines (setting_of c.in_ok-engine.engine) (g.S.Source.rest c.args.source.now) (g.T.Sink.held c.args.sink.now) (g.T.Sink.held c.run_opened.new.sink)
     c.next_line.new.self.line (cut_left c.next_line.new.self (g.S.Source.rest c.next_line.new.source)) c.in_ok-opening.opening c.run_opened.result
-    c.in_ok-lines.ensures (search rules) c.in_ok-opening.ensures.opening c.in_ok-machine.ensures.setting (c.run_opened.ensures.output exact)
+    c.in_ok-lines.ensures (search rules) c.in_ok-opening.ensures.opening c.in_ok-engine.ensures.setting (c.run_opened.ensures.output exact)

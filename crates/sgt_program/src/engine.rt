@@ -1,0 +1,62 @@
+ghost use Rattle.std.specs.Prelude.{◌≡◌, ◌++◌, [], IfOk};
+ghost use Rattle.sgt_model.specs.Bounds.{AreInRange};
+ghost use Rattle.sgt_engine.specs.EngineView.{setting_of};
+ghost use Rattle.sgt_smallbank.specs.Texts.{procedures};
+ghost use Rattle.sgt_program.specs.Openings.{opened_setting};
+
+use sgt_access::PerKey;
+use sgt_engine::Engine;
+use sgt_format::Opening;
+use sgt_graph::BitGraph;
+use sgt_model::{MakeError, NoMemory};
+use sgt_proc::Checked;
+use sgt_records::SlabRecords;
+use std::alloc::Global;
+
+/// What keeps the records of the program's engine.
+pub type SgtRecords = SlabRecords;
+
+/// What keeps its accesses.
+pub type SgtAccesses = PerKey;
+
+/// What keeps its serialization graph.
+pub type SgtGraph = BitGraph;
+
+/// The engine of the program.
+pub type SgtEngine = Engine<SlabRecords, PerKey, BitGraph>;
+
+/// The engine of an opening, with an empty history.
+///
+/// # Errors
+///
+/// `NoMemory` where a growth was refused.
+pub fn open_engine(alloc: Global, opening: Opening) -> Result<SgtEngine, NoMemory>
+    requires { AreInRange opening.limits }
+    ensures setting { IfOk result (λ e. setting_of e ≡ opened_setting opening) }
+    ensures fresh { IfOk result (λ e. e.past ≡ []) }
+{
+    let Opening {
+        limits,
+        database,
+        procedures,
+    } = opening;
+    let procedures = all_procedures(alloc, procedures)?;
+    match Engine::new(alloc, database, procedures, limits) {
+        Ok(engine) => Ok(engine),
+        Err(MakeError::NoMemory) => Err(NoMemory),
+        Err(MakeError::BadLimits) => unreachable!(),
+    }
+}
+
+/// The procedures of an engine: SmallBank's five, and behind them those of an opening.
+///
+/// # Errors
+///
+/// `NoMemory` where a growth was refused.
+pub fn all_procedures(alloc: Global, mut own: Vec<Checked>) -> Result<Vec<Checked>, NoMemory>
+    ensures { IfOk result (λ all. all.items ≡ procedures ++ own.items) }
+{
+    let mut all = sgt_smallbank::procedures(alloc)?;
+    all.append(&mut own)?;
+    Ok(all)
+}
