@@ -190,7 +190,9 @@ fn refuse<R: Print + Eprint>(rt: &R, error: &clap::Error) -> ExitCode {
     if error.kind() == ErrorKind::OutOfMemory {
         return tell(rt, Fault::NoMemory);
     }
-    let _ = error.print(rt);
+    if error.print(rt).is_err() {
+        return tell(rt, Fault::Writing);
+    }
     ExitCode::from(error.exit_code() as u8)
 }
 
