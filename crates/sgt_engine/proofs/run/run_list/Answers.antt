@@ -1,4 +1,4 @@
-use Rattle.std.proofs.Common.{rules, arith, Some, refl, sym, ap, ◌∙◌, ◌+◌, subst}
+use Rattle.std.proofs.Common.{rules, arith, Some, refl, sym, ap, ◌∙◌, ◌+◌}
 use Rattle.std.proofs.lemmas.Option.{slice_get_read}
 use Rattle.std.specs.Prelude.{slice_get}
 use Rattle.std.specs.Result.{is_ok}
