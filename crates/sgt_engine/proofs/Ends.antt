@@ -67,18 +67,28 @@ start_quiet limits begun living (Some count) args = fits (args_fit count args) w
 module _ (laws : StateLaws) (s : Setting) (past : List Entry) (legal : Legal s past) (c : State) (i : IsStateAfter s past c) where
   -- who was started and has not ended is listed as live
   pub unended_listed : (t : ℕ) → IsUnended c t → Member t c.live
-  unended_listed t u = ((laws.sound s past legal c i).listed t).0 (i.nodes t ∙ live_from past t (ap (nat_lt t) (sym i.starts) ∙ u.begun) (sym (i.fates t) ∙ u.unended))
+  unended_listed t u = ((laws.sound s past legal c i).listed t).0
+      (i.nodes t ∙ live_from past t (ap (nat_lt t) (sym i.starts) ∙ u.begun) (sym (i.fates t) ∙ u.unended))
 
   -- who is live was started, and has not ended
   pub live_unended : (t : ℕ) → live past t ≡ true → IsUnended c t
-  live_unended t alive = record { begun = ap (nat_lt t) i.starts ∙ live-started past t alive; unended = i.fates t ∙ live-no_fate past t alive }
+  live_unended t alive = record {
+    begun = ap (nat_lt t) i.starts ∙ live-started past t alive;
+    unended = i.fates t
+        ∙ live-no_fate past t alive;
+  }
 
   -- an event that has got its room leaves room for one end of each that is live then
-  pub room_left : (event : Event) (after : State) (r : Reply) (len cap : ℕ) → CallEffect s.rules event c r after → len + length c.live ≤ cap → ((EndsOne event c → ⊥) → len + (length c.live + 2) ≤ cap) → len + 1 + length after.live ≤ cap
+  pub room_left : (event : Event) (after : State) (r : Reply) (len cap : ℕ) → CallEffect s.rules event c r after
+      → len + length c.live ≤ cap → ((EndsOne event c → ⊥) → len + (length c.live + 2) ≤ cap) → len + 1 + length after.live ≤ cap
   room_left event after r len cap done kept more = both (is_ending r) refl where
     both : (b : Bool) → is_ending r ≡ b → len + 1 + length after.live ≤ cap
     both true e = omega (arith, kept, (laws.counts s.rules event c r after unended_listed done).fewer e)
-    both false e = omega (arith, more (λ ends. true≢false (sym ((laws.replies s.rules event c r after done).0 ends) ∙ e)), (laws.counts s.rules event c r after unended_listed done).most)
+    both false e = omega (
+      arith,
+      more (λ ends. true≢false (sym ((laws.replies s.rules event c r after done).0 ends) ∙ e)),
+      (laws.counts s.rules event c r after unended_listed done).most,
+    )
 
   -- a legal reply that ends a transaction is one to an event that ends it
   quiet : (r answer : Reply) → r ≡ answer → is_ending answer ≡ false → is_ending r ≡ true → ⊥
@@ -122,5 +132,8 @@ module _ (laws : StateLaws) (s : Setting) (past : List Entry) (legal : Legal s p
       live_unended t (live_from past t o.0 o.1)
 
 -- the same, as callers see an engine
-pub ends_seen : StateLaws → (before now : EngineView) → before ≡ now → (c : State) → Legal (setting_of before) before.past → IsStateAfter (setting_of before) before.past c → (event : Event) (r : Reply) → LegalReply (setting_of now) now.past event r → is_ending r ≡ true → EndsOne event c
-ends_seen laws before now seen c legal i event r l e = legal_ends laws (setting_of before) before.past legal c i event r (subst (λ (v : EngineView). LegalReply (setting_of v) v.past event r) (sym seen) l) e
+pub ends_seen : StateLaws → (before now : EngineView) → before ≡ now → (c : State) → Legal (setting_of before) before.past
+    → IsStateAfter (setting_of before) before.past c → (event : Event) (r : Reply) → LegalReply (setting_of now) now.past event r
+    → is_ending r ≡ true → EndsOne event c
+ends_seen laws before now seen c legal i event r l e = legal_ends laws (setting_of before) before.past legal c i event r
+    (subst (λ (v : EngineView). LegalReply (setting_of v) v.past event r) (sym seen) l) e

@@ -6,7 +6,7 @@ use sgt_access::OneList;
 use sgt_engine::{Engine, Ran, run_list};
 use sgt_format::{append_database, append_reply, read_event};
 use sgt_graph::PairGraph;
-use sgt_model::{Database, Entry, Key, Limits, MakeError, NoMemory};
+use sgt_model::{Args, Database, Entry, Event, Key, Limits, MakeError, NoMemory, Tid};
 use sgt_proc::{Checked, check};
 use sgt_records::ListRecords;
 use std::alloc::{AllocGlobal, Global};
@@ -149,4 +149,47 @@ fn limits_are_refused(rt: HostRuntime) {
             "{live} live, {begins} begins"
         );
     }
+}
+
+/// So many events: starts, each with the steps and the commit behind it.
+fn whole_runs(a: Global, count: u32) -> Result<Vec<Event>, Fail> {
+    let mut events = Vec::new(a);
+    for number in 0..count {
+        let t = Tid(number / 5);
+        events.push(match number % 5 {
+            0 => Event::Start {
+                procedure: 0,
+                args: Args::new(),
+            },
+            4 => Event::Commit(t),
+            _ => Event::Step(t),
+        })?;
+    }
+    Ok(events)
+}
+
+/// How many of so many events are applied.
+fn applied(a: Global, count: u32) -> Result<usize, Fail> {
+    let limits = Limits {
+        live: 8,
+        begins: 1_000,
+    };
+    let events = whole_runs(a, count)?;
+    let ran: SimpleRan = run_list(
+        a,
+        Database::empty(a),
+        procedures(a)?,
+        limits,
+        events.as_slice(),
+    )?;
+    Ok(ran.done)
+}
+
+#[test]
+fn lists_of_any_length_are_run_to_their_end(rt: HostRuntime) -> Result<(), Fail> {
+    for count in 0..130 {
+        assert_eq!(rt; applied(rt.alloc(), count)?, count as usize);
+    }
+    assert_eq!(rt; applied(rt.alloc(), 1_000)?, 1_000);
+    Ok(())
 }

@@ -14,10 +14,23 @@ use Rattle.sgt_engine.proofs.engine.Engine.answer.Goals as goal
 pub invariant_of-self-2 : goal.invariant_of-self-2
 invariant_of-self-2 g c =
     let s = setting (contents_of c.self.inside.opening) c.self.inside.sched.procedures.items c.self.inside.sched.limits in
-    let kept = kept_entry c.calls_simulate.ensures s _ c.self.inside.history.items c.file.new.history.items (state c.self.inside.sched) (state c.answer.new.self) c.args.event (told c.in_ok-brief.brief c.answer.new.place) (same_setting _ _ _ _ _ c.answer.ensures.done.kept.0 c.answer.ensures.done.kept.1)
+    let kept = kept_entry c.calls_simulate.ensures s _ c.self.inside.history.items c.file.new.history.items (state c.self.inside.sched)
+    (state c.answer.new.self) c.args.event (told c.in_ok-brief.brief c.answer.new.place)
+    (same_setting _ _ _ _ _ c.answer.ensures.done.kept.0 c.answer.ensures.done.kept.1)
     (added _ _ _ _ _ _ c.file.ensures.items c.make_room.ensures.items refl)
     (c.self.invariant.0, c.self.invariant.1) c.in_ok-brief.ensures.done.done.does in
-    let left = room_left (record { sound = c.states_are_sound.ensures; verdicts = c.verdicts_agree.ensures; nexts = c.nexts_agree.ensures; replies = c.endings_agree.ensures.replies; counts = c.endings_agree.ensures.counts }) (setting (contents_of c.self.inside.opening) c.self.inside.sched.procedures.items c.self.inside.sched.limits) (reverse c.self.inside.history.items) c.self.invariant.0 (state c.self.inside.sched) c.self.invariant.1 c.args.event (state c.answer.new.self) (told c.in_ok-brief.brief c.answer.new.place) (vec_len c.make_room.new.history) (vec_capacity c.make_room.new.history) c.in_ok-brief.ensures.done.done.does c.make_room.ensures.ends c.in_ok-make_room.ensures.room in
+    let left = room_left (record {
+      sound = c.states_are_sound.ensures;
+      verdicts = c.verdicts_agree.ensures;
+      nexts = c.nexts_agree.ensures;
+      replies = c.endings_agree.ensures.replies;
+      counts = c.endings_agree.ensures.counts;
+    })
+    (setting (contents_of c.self.inside.opening) c.self.inside.sched.procedures.items c.self.inside.sched.limits)
+    (reverse c.self.inside.history.items) c.self.invariant.0 (state c.self.inside.sched) c.self.invariant.1 c.args.event
+    (state c.answer.new.self) (told c.in_ok-brief.brief c.answer.new.place) (vec_len c.make_room.new.history)
+    (vec_capacity c.make_room.new.history) c.in_ok-brief.ensures.done.done.does c.make_room.ensures.ends
+    c.in_ok-make_room.ensures.room in
     (kept.0, kept.1, omega (arith, left, c.file.ensures.len, c.file.ensures.capacity))
 
 pub returns-clause-legal : goal.returns-clause-legal
@@ -31,25 +44,52 @@ returns-clause-order g c = (c.headline_holds.ensures _ _ (invariant_of-self-2 g 
 
 pub returns-clause-adds : goal.returns-clause-adds
 returns-clause-adds g c =
-    let s = setting (contents_of c.self.inside.opening) c.self.inside.sched.procedures.items c.self.inside.sched.limits in
-    (
+    let s = setting (contents_of c.self.inside.opening) c.self.inside.sched.procedures.items c.self.inside.sched.limits in (
       told c.in_ok-brief.brief c.answer.new.place,
-      entry_added c.self.inside.opening _ _ _ _ c.self.inside.history.items c.file.new.history.items c.args.event (told c.in_ok-brief.brief c.answer.new.place) c.args.self.now c.answer.ensures.done.kept.0 c.answer.ensures.done.kept.1
+      entry_added c.self.inside.opening _ _ _ _ c.self.inside.history.items c.file.new.history.items c.args.event
+          (told c.in_ok-brief.brief c.answer.new.place) c.args.self.now c.answer.ensures.done.kept.0 c.answer.ensures.done.kept.1
           (added _ _ _ _ _ _ c.file.ensures.items c.make_room.ensures.items refl) c.self.view_is,
-      legal_reply c.calls_simulate.ensures s _ (reverse c.self.inside.history.items) _ (state c.self.inside.sched) (state c.answer.new.self) c.args.event (told c.in_ok-brief.brief c.answer.new.place) (ap setting_of c.self.view_is) (ap (λ e. e.past) c.self.view_is) (c.self.invariant.0, c.self.invariant.1) c.in_ok-brief.ensures.done.done.does,
+      legal_reply c.calls_simulate.ensures s _ (reverse c.self.inside.history.items) _ (state c.self.inside.sched)
+          (state c.answer.new.self) c.args.event (told c.in_ok-brief.brief c.answer.new.place) (ap setting_of c.self.view_is)
+          (ap (λ e. e.past) c.self.view_is) (c.self.invariant.0, c.self.invariant.1) c.in_ok-brief.ensures.done.done.does,
     )
 
 pub returns-in_err-make_room-clause-no_memory : goal.returns-in_err-make_room-clause-no_memory
 returns-in_err-make_room-clause-no_memory g c = λ r legal e.
-    let ends = ends_seen (record { sound = c.states_are_sound.ensures; verdicts = c.verdicts_agree.ensures; nexts = c.nexts_agree.ensures; replies = c.endings_agree.ensures.replies; counts = c.endings_agree.ensures.counts }) _ c.args.self.now c.self.view_is (state c.self.inside.sched) c.self.invariant.0 c.self.invariant.1 c.args.event r legal e in
+    let ends = ends_seen (record {
+      sound = c.states_are_sound.ensures;
+      verdicts = c.verdicts_agree.ensures;
+      nexts = c.nexts_agree.ensures;
+      replies = c.endings_agree.ensures.replies;
+      counts = c.endings_agree.ensures.counts;
+    }) _ c.args.self.now c.self.view_is
+    (state c.self.inside.sched) c.self.invariant.0 c.self.invariant.1 c.args.event r legal e in
     absurd (true≢false (sym (c.make_room.ensures.no_memory ends) ∙ ap is_ok c.in_err-make_room.was))
 
 pub returns-in_err-brief-clause-no_memory : goal.returns-in_err-brief-clause-no_memory
 returns-in_err-brief-clause-no_memory g c = λ r legal e.
-    let ends = ends_seen (record { sound = c.states_are_sound.ensures; verdicts = c.verdicts_agree.ensures; nexts = c.nexts_agree.ensures; replies = c.endings_agree.ensures.replies; counts = c.endings_agree.ensures.counts }) _ c.args.self.now c.self.view_is (state c.self.inside.sched) c.self.invariant.0 c.self.invariant.1 c.args.event r legal e in
+    let ends = ends_seen (record {
+      sound = c.states_are_sound.ensures;
+      verdicts = c.verdicts_agree.ensures;
+      nexts = c.nexts_agree.ensures;
+      replies = c.endings_agree.ensures.replies;
+      counts = c.endings_agree.ensures.counts;
+    }) _ c.args.self.now c.self.view_is
+    (state c.self.inside.sched) c.self.invariant.0 c.self.invariant.1 c.args.event r legal e in
     absurd (true≢false (sym (c.answer.ensures.no_memory ends) ∙ ap is_ok c.in_err-brief.was))
 
 pub file-requires : goal.file-requires
 file-requires g c =
-    let left = room_left (record { sound = c.states_are_sound.ensures; verdicts = c.verdicts_agree.ensures; nexts = c.nexts_agree.ensures; replies = c.endings_agree.ensures.replies; counts = c.endings_agree.ensures.counts }) (setting (contents_of c.self.inside.opening) c.self.inside.sched.procedures.items c.self.inside.sched.limits) (reverse c.self.inside.history.items) c.self.invariant.0 (state c.self.inside.sched) c.self.invariant.1 c.args.event (state c.answer.new.self) (told c.in_ok-brief.brief c.answer.new.place) (vec_len c.make_room.new.history) (vec_capacity c.make_room.new.history) c.in_ok-brief.ensures.done.done.does c.make_room.ensures.ends c.in_ok-make_room.ensures.room in
+    let left = room_left (record {
+      sound = c.states_are_sound.ensures;
+      verdicts = c.verdicts_agree.ensures;
+      nexts = c.nexts_agree.ensures;
+      replies = c.endings_agree.ensures.replies;
+      counts = c.endings_agree.ensures.counts;
+    })
+    (setting (contents_of c.self.inside.opening) c.self.inside.sched.procedures.items c.self.inside.sched.limits)
+    (reverse c.self.inside.history.items) c.self.invariant.0 (state c.self.inside.sched) c.self.invariant.1 c.args.event
+    (state c.answer.new.self) (told c.in_ok-brief.brief c.answer.new.place) (vec_len c.make_room.new.history)
+    (vec_capacity c.make_room.new.history) c.in_ok-brief.ensures.done.done.does c.make_room.ensures.ends
+    c.in_ok-make_room.ensures.room in
     omega (arith, left)

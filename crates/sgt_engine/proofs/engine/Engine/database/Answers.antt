@@ -11,5 +11,6 @@ returns-clause-replayed g c = IfOk-weaker c.all.result _ _ (λ d are k.
     are k
     ∙ (ap (λ r. g.R.Records.settled r k) c.records.ensures
     ∙ (c.self.invariant.1.settled k
-    ∙ (sym ((c.replay_is_serial.ensures (setting (contents_of c.self.inside.opening) c.self.inside.sched.procedures.items c.self.inside.sched.limits) _ c.self.invariant.0).database k)
+    ∙ (sym ((c.replay_is_serial.ensures (setting (contents_of c.self.inside.opening) c.self.inside.sched.procedures.items
+    c.self.inside.sched.limits) _ c.self.invariant.0).database k)
     ∙ ap (λ e. (folded (setting_of e) e.past).last k) c.self.view_is)))) c.all.ensures.values
