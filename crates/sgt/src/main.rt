@@ -26,8 +26,13 @@ const VERSION: &str = "0.1.0";
 
 /// What `sgt --help` tells behind the options.
 const HELP: &str =
-    r#"Both read lines of JSON, of which the first opens, from standard input, and write to standard output. Their own help shows a
-first input. A fault of the input is told by one line on standard error, with status 2.
+    r#"Both read lines of JSON from standard input, of which the first opens, and write to standard output:
+
+  sgt script < examples/write_skew.jsonl
+  sgt bank --workers 4 < examples/bank/four_deposits.jsonl
+
+'sgt script --help' and 'sgt bank --help' show the lines. A fault of the input is told by one line on standard error, with
+status 2.
 
 Limits:
 
