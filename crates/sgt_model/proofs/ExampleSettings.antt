@@ -75,7 +75,8 @@ write_check = record {
       look 0 0 (arg 0) 1 (
       look 1 1 (reg 0) 5 (
       look 2 2 (reg 0) 5 (
-      choose (less (sum (reg 1) (reg 2)) (arg 1)) (save 3 (diff (diff (reg 2) (arg 1)) (num (pos 100))) empty) (save 3 (diff (reg 2) (arg 1)) empty) (
+      choose (less (sum (reg 1) (reg 2)) (arg 1)) (save 3 (diff (diff (reg 2) (arg 1)) (num (pos 100))) empty)
+      (save 3 (diff (reg 2) (arg 1)) empty) (
       put 2 (reg 0) (reg 3) (
       answer (reg 3)
       empty)))));
@@ -109,11 +110,13 @@ put_and_tell = record { args = 0; body = put 3 (num (pos 7)) (num (pos 4)) (look
 
 -- the opened database, with no third customer
 abbrev pub opening : Contents
-opening = found_in (((0, pos 1), pos 101) ∷ ((0, pos 2), pos 102) ∷ ((1, pos 101), pos 500) ∷ ((1, pos 102), pos 0) ∷ ((2, pos 101), pos 1000) ∷ ((2, pos 102), pos 200) ∷ [])
+opening = found_in (((0, pos 1), pos 101) ∷ ((0, pos 2), pos 102) ∷ ((1, pos 101), pos 500) ∷ ((1, pos 102), pos 0)
+    ∷ ((2, pos 101), pos 1000) ∷ ((2, pos 102), pos 200) ∷ [])
 
 -- with a third
 abbrev pub opening_of_three : Contents
-opening_of_three = found_in (((0, pos 1), pos 101) ∷ ((0, pos 2), pos 102) ∷ ((0, pos 3), pos 103) ∷ ((1, pos 101), pos 500) ∷ ((1, pos 102), pos 0) ∷ ((1, pos 103), pos 0) ∷ ((2, pos 101), pos 1000) ∷ ((2, pos 102), pos 200) ∷ ((2, pos 103), pos 300) ∷ [])
+opening_of_three = found_in (((0, pos 1), pos 101) ∷ ((0, pos 2), pos 102) ∷ ((0, pos 3), pos 103) ∷ ((1, pos 101), pos 500)
+    ∷ ((1, pos 102), pos 0) ∷ ((1, pos 103), pos 0) ∷ ((2, pos 101), pos 1000) ∷ ((2, pos 102), pos 200) ∷ ((2, pos 103), pos 300) ∷ [])
 
 -- the five by number
 abbrev pub five : List Program

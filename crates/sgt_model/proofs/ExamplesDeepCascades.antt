@@ -198,7 +198,8 @@ three_level_cycle-legal = (
         ),
         inr (made_by (3 ∷ []) refl),
       ),
-      inl (refused_by (1 ∷ 2 ∷ []) (1 ∷ 2 ∷ 3 ∷ []) ((1 ∷ []) ∷ (1 ∷ 2 ∷ []) ∷ (1 ∷ 2 ∷ 3 ∷ []) ∷ []) (0 ∷ 1 ∷ 2 ∷ 3 ∷ []) refl refl refl refl),
+      inl (refused_by (1 ∷ 2 ∷ []) (1 ∷ 2 ∷ 3 ∷ []) ((1 ∷ []) ∷ (1 ∷ 2 ∷ []) ∷ (1 ∷ 2 ∷ 3 ∷ []) ∷ [])
+          (0 ∷ 1 ∷ 2 ∷ 3 ∷ []) refl refl refl refl),
     ),
     refl,
   ),

@@ -114,5 +114,6 @@ two_deposits-settled : settled (small_bank 8 100).opening two_deposits (2, pos 1
 two_deposits-settled = refl
 
 -- no other record changed
-two_deposits-saving : (folded (small_bank 8 100) two_deposits).last (1, pos 101) ≡ settled (small_bank 8 100).opening two_deposits (1, pos 101)
+two_deposits-saving : (folded (small_bank 8 100) two_deposits).last (1, pos 101)
+    ≡ settled (small_bank 8 100).opening two_deposits (1, pos 101)
 two_deposits-saving = refl

@@ -31,7 +31,8 @@ draw = record {
 }
 
 -- all that is there may be drawn
-draws_all-trace : trace (run_with draw (pos 101 ∷ pos 1000 ∷ [])) (Some (pos 1000) ∷ []) ≡ record { accesses = look (2, pos 101) ∷ put (2, pos 101) (pos 0) ∷ []; ending = ended (pos 1000 ∷ []) }
+draws_all-trace : trace (run_with draw (pos 101 ∷ pos 1000 ∷ [])) (Some (pos 1000) ∷ [])
+    ≡ record { accesses = look (2, pos 101) ∷ put (2, pos 101) (pos 0) ∷ []; ending = ended (pos 1000 ∷ []) }
 draws_all-trace = refl
 
 draws_all-serial : serial (run_with draw (pos 101 ∷ pos 1000 ∷ [])) opening ≡ Done (pos 1000 ∷ []) (put_in opening (2, pos 101) (pos 0))
@@ -41,7 +42,8 @@ draws_all-execution : execution draw (pos 101 ∷ pos 1000 ∷ []) opening ≡ D
 draws_all-execution = refl
 
 -- of more than is there nothing is drawn
-draws_nothing-trace : trace (run_with draw (pos 101 ∷ pos 1001 ∷ [])) (Some (pos 1000) ∷ []) ≡ record { accesses = look (2, pos 101) ∷ put (2, pos 101) (pos 1000) ∷ []; ending = ended (pos 0 ∷ []) }
+draws_nothing-trace : trace (run_with draw (pos 101 ∷ pos 1001 ∷ [])) (Some (pos 1000) ∷ [])
+    ≡ record { accesses = look (2, pos 101) ∷ put (2, pos 101) (pos 1000) ∷ []; ending = ended (pos 0 ∷ []) }
 draws_nothing-trace = refl
 
 draws_nothing-serial : serial (run_with draw (pos 101 ∷ pos 1001 ∷ [])) opening ≡ Done (pos 0 ∷ []) (put_in opening (2, pos 101) (pos 1000))
@@ -56,7 +58,10 @@ draws_nowhere-execution = refl
 
 -- a store is looked at by the procedure itself, before anyone else sees it
 abbrev pub put_and_look : Program
-put_and_look = record { args = 0; body = text.put 3 (num (pos 7)) (num (pos 4)) (text.look 0 3 (num (pos 7)) 6 (text.answer (reg 0) text.empty)) }
+put_and_look = record {
+  args = 0;
+  body = text.put 3 (num (pos 7)) (num (pos 4)) (text.look 0 3 (num (pos 7)) 6 (text.answer (reg 0) text.empty));
+}
 
 put_and_look-serial : serial (run_with put_and_look []) opening ≡ Done (pos 4 ∷ []) (put_in opening (3, pos 7) (pos 4))
 put_and_look-serial = refl

@@ -19,7 +19,8 @@ insert-requires c =
 pub invariant_of-self-in-Continue-1 : goal.invariant_of-self-in-Continue-1
 invariant_of-self-in-Continue-1 c =
     insert_rows c.args.key c.args.value _ c.self.inside.rows.items c.args.self.now c.insert.new.self.items c.in-Err.at
-    (to_z-of_z w64 c.args.value c.ranges.value) c.self.view_is c.in_ok-insert-in-Err.ensures.items c.in-Err.ensures c.requires c.self.invariant
+    (to_z-of_z w64 c.args.value c.ranges.value) c.self.view_is c.in_ok-insert-in-Err.ensures.items c.in-Err.ensures
+    c.requires c.self.invariant
 
 pub returns-in-Ok-clause-put : goal.returns-in-Ok-clause-put
 returns-in-Ok-clause-put c =
@@ -48,4 +49,5 @@ returns-in-Ok-clause-by_key c =
 pub returns-in_ok-insert-in-Err-clause-by_key : goal.returns-in_ok-insert-in-Err-clause-by_key
 returns-in_ok-insert-in-Err-clause-by_key c =
     (insert_rows c.args.key c.args.value _ c.self.inside.rows.items c.args.self.now c.insert.new.self.items c.in-Err.at
-    (to_z-of_z w64 c.args.value c.ranges.value) c.self.view_is c.in_ok-insert-in-Err.ensures.items c.in-Err.ensures c.requires c.self.invariant).0
+    (to_z-of_z w64 c.args.value c.ranges.value) c.self.view_is c.in_ok-insert-in-Err.ensures.items c.in-Err.ensures
+    c.requires c.self.invariant).0
