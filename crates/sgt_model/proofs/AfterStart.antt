@@ -40,9 +40,6 @@ same a b d x p q r z = rw (p, q, r, z) refl
 above : (a b d x : Bool) → a ≡ false → b ≡ false → d ≡ false → (a && x) ≡ ((b && x) || d)
 above a b d x p q r = rw (p, q, r) refl
 
-not_eq : (u n : ℕ) → (u ≡ n → ⊥) → nat_eq u n ≡ false
-not_eq u n h = ne_eqb u n h
-
 module _ (s : Setting) (past : List Entry) (h : Legal s past) (p : ℕ) (args : List ℤ) where
   live_is : (u : ℕ) → live (start_entry p args (starts past) ∷ past) u ≡ (live past u || nat_eq u (starts past))
   live_is u = go (cases_lt u (starts past)) (cases_eq u (starts past))

@@ -73,9 +73,6 @@ chain-last p k (e ∷ past) = last-step (stores p k (access_of e)) (chain_of p k
 
 -- a store has a value
 
-HasValue : Access → Type 0
-HasValue a = a.value ≡ Some (unwrap_or a.value (pos 0))
-
 access-value : (event : Event) (r : Reply) (a : Access) → access_in event r ≡ Some a → is_store a.kind ≡ true
     → a.value ≡ Some (unwrap_or a.value (pos 0))
 access-value (Step t) (reply.Looked k v) a is h = absurd (cc (ap (λ (x : Access). is_store x.kind) (some_is _ a is) ∙ h))

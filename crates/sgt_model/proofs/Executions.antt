@@ -68,11 +68,6 @@ abbrev after : {A : Type 0} → OrCode A → (A → Outcome) → Outcome
 after (Ok a) go = go a
 after (Err code) go = Asked code
 
-after_both : {A B : Type 0} (r : OrCode A) (next : A → OrCode B) (go : B → Outcome) → after (and_then r next) go ≡ after r
-    (λ a. after (next a) go)
-after_both (Ok a) next go = refl
-after_both (Err code) next go = refl
-
 -- the tests of a run, one by one
 
 value_step : (g : Got) (r : OrCode ℤ) (go : ℤ → Run) (m : Contents) (next : ℤ → OrCode Workspace) (rest : Workspace → Outcome)

@@ -1,17 +1,17 @@
 -- The conflict pairs of a legal history have no cycle.
 use Rattle.std.specs.Prelude.{◌≡◌, ◌≢◌, ℕ, ◌<◌, true, false, ◌⊎◌, List, [], ◌∷◌, length, Option, Some, None}
-use Rattle.std.proofs.Common.{refl, sym, ◌∙◌, subst, inl, inr, arith}
+use Rattle.std.proofs.Common.{refl, sym, ◌∙◌, inl, inr, arith}
 use Rattle.sgt_model.specs.declared.entry.Entry.{Entry}
 use Rattle.sgt_model.specs.declared.kind.Kind.{Kind}
 use Rattle.sgt_model.specs.Contents.{Key}
-use Rattle.sgt_model.specs.Walks.{PathOf, last_of, Member, Reaches, Acyclic}
+use Rattle.sgt_model.specs.Walks.{PathOf, last_of, Reaches, Acyclic}
 use Rattle.sgt_model.specs.Accesses.{Access, access_of}
 use Rattle.sgt_model.specs.Fates.{aborted}
 use Rattle.sgt_model.specs.Pairs.{has_conflicting, FollowsIn, Precedes, Pair}
 use Rattle.sgt_model.specs.Closes.{Closes}
 use Rattle.sgt_model.specs.Settings.{Setting}
 use Rattle.sgt_model.specs.Legality.{LegalReply, Legal}
-use Rattle.sgt_model.proofs.Paths.{last_is_member, Simple, simple, simple_some, acyclic_grows, acyclic_map}
+use Rattle.sgt_model.proofs.Paths.{Simple, simple, simple_some, acyclic_grows, acyclic_map}
 use Rattle.sgt_model.proofs.Facts.{access-free, stood-before}
 
 -- where t reaches another transaction that the access conflicts with, there is a walk that it closes
@@ -28,17 +28,6 @@ closes_from_reach past t k kind y (path, goes, ends) apart conflict =
         conflict = rw (s.ends ∙ ends) conflict;
       },
     )
-
--- and the other way round
-pub reach_from_closes : (past : List Entry) (t : ℕ) (k : Key) (kind : Kind) (rest : List ℕ) → Closes past t k kind rest
-    → (y : ℕ) × Reaches (Pair past) t y × (y ≢ t) × (has_conflicting past y k kind ≡ true)
-reach_from_closes past t k kind [] c = absurd (omega (arith, c.at_least_two))
-reach_from_closes past t k kind (u ∷ rest) c = (
-  last_of u rest,
-  (u ∷ rest, c.pairs, refl),
-  (λ e. c.distinct.0 (subst (λ x. Member x (u ∷ rest)) e (last_is_member t u rest))),
-  c.conflict,
-)
 
 -- an access closes no walk
 abbrev pub Granted : List Entry → Option Access → Type 0

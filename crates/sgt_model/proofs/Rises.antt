@@ -1,5 +1,5 @@
 -- The live ones, as listed, rise.
-use Rattle.std.proofs.Common.{ℕ, ◌+◌, ◌<◌, ◌≤◌, Bool, true, false, cond, List, [], ◌∷◌, ◌++◌, arith, lt_of_lt_of_le}
+use Rattle.std.proofs.Common.{ℕ, ◌+◌, ◌<◌, Bool, true, false, cond, List, [], ◌∷◌, ◌++◌, arith}
 use Rattle.std.specs.List.{filter}
 use Rattle.sgt_model.specs.declared.entry.Entry.{Entry}
 use Rattle.sgt_model.specs.Walks.{Rising}
@@ -43,10 +43,6 @@ above-add t n (u ∷ l) h lt = (h.0, above-add t n l h.1 lt)
 sorted-add : (n : ℕ) (l : List ℕ) → Sorted l → Under n l → Sorted (l ++ n ∷ [])
 sorted-add n [] h u = (tt, tt)
 sorted-add n (t ∷ l) h u = (above-add t n l h.0 u.0, sorted-add n l h.1 u.1)
-
-under-more : (m n : ℕ) (l : List ℕ) → m ≤ n → Under m l → Under n l
-under-more m n [] le h = tt
-under-more m n (t ∷ l) le h = (lt_of_lt_of_le h.0 le, under-more m n l le h.1)
 
 under-add : (n : ℕ) (l : List ℕ) → Under n l → Under (n + 1) (l ++ n ∷ [])
 under-add n [] h = (omega arith, tt)

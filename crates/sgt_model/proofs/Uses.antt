@@ -1,5 +1,5 @@
 -- How far a run has come: one more access keeps what was used, and a run of few accesses has made few.
-use Rattle.std.proofs.Common.{◌≡◌, ℕ, zero, suc, ◌+◌, arith, subst, ℤ, List, [], ◌∷◌, ◌++◌, Option}
+use Rattle.std.proofs.Common.{◌≡◌, ℕ, zero, suc, ◌+◌, ℤ, List, [], ◌∷◌, ◌++◌, Option}
 use Rattle.sgt_model.specs.Contents.{Key}
 use Rattle.sgt_model.specs.Runs.{Run, looks, puts, ends, asks}
 use Rattle.sgt_model.specs.Traces.{Looks, Puts, trace, next_at, Used}
@@ -31,16 +31,3 @@ used_store-suc (looks j go) (w ∷ vs) (suc made) k x u e = used_store-suc (go w
 used_store-suc (puts j y rest) vs (suc made) k x u e = used_store-suc rest vs made k x u e
 used_store-suc (ends answers) vs (suc made) k x u e = absurd u
 used_store-suc (asks code) vs (suc made) k x u e = absurd u
-
-one_more : (made : ℕ) → suc made ≡ made + 1
-one_more made = omega arith
-
--- so it is with the number of accesses as a sum
-
-pub used_look : (r : Run) (vs : List (Option ℤ)) (made : ℕ) (k : Key) (v : Option ℤ) → Used r vs made
-    → next_at (trace r vs) made ≡ Looks k → Used r (vs ++ v ∷ []) (made + 1)
-used_look r vs made k v u e = subst (λ n. Used r (vs ++ v ∷ []) n) (one_more made) (used_look-suc r vs made k v u e)
-
-pub used_store : (r : Run) (vs : List (Option ℤ)) (made : ℕ) (k : Key) (x : ℤ) → Used r vs made
-    → next_at (trace r vs) made ≡ Puts k x → Used r vs (made + 1)
-used_store r vs made k x u e = subst (λ n. Used r vs n) (one_more made) (used_store-suc r vs made k x u e)

@@ -93,23 +93,6 @@ fate_at-found walks [] t e is = absurd (cc)
 fate_at-found walks (x ∷ ends) zero e is = let same : x ≡ e = cc in ap (fate_of walks) same
 fate_at-found walks (x ∷ ends) (suc t) e is = fate_at-found walks ends t e is
 
--- one more walk keeps the others
-pub kept-added : (walks : List (List ℕ)) (walk : List ℕ) → AreKept walks (walks ++ walk ∷ [])
-kept-added walks walk = record { count = more walks; same = stays walks } where
-  more : (l : List (List ℕ)) → length l ≤ length (l ++ walk ∷ [])
-  more [] = omega arith
-  more (w ∷ l) = let rest = more l in omega (arith, rest)
-
-  stays : (l : List (List ℕ)) (place : ℕ) → place < length l → slice_index_or (l ++ walk ∷ []) place [] ≡ slice_index_or l place []
-  stays [] place h = absurd (omega (arith, h))
-  stays (w ∷ l) zero h = refl
-  stays (w ∷ l) (suc place) h = stays l place (omega (arith, h))
-
--- and stands behind them
-pub last-added : (walks : List (List ℕ)) (walk : List ℕ) → slice_index_or (walks ++ walk ∷ []) (length walks) [] ≡ walk
-last-added [] walk = refl
-last-added (w ∷ walks) walk = last-added walks walk
-
 -- what stands at a place, whatever were read past the end
 pub read-any : (walks : List (List ℕ)) (place : ℕ) (d e : List ℕ) → place < length walks
     → slice_index_or walks place d ≡ slice_index_or walks place e
