@@ -1,6 +1,6 @@
 -- What was told is what the serial run tells.
-use Rattle.std.proofs.Common.{◌≡◌, ℕ, zero, suc, ◌+◌, List, [], ◌∷◌, ◌++◌, length, refl, sym, ◌∙◌, ap, subst, append_assoc}
-use Rattle.std.specs.Prelude.{ℤ, true, false, reverse, take, slice_get, Option, Some, None}
+use Rattle.std.proofs.Common.{◌≡◌, ℕ, zero, suc, ◌+◌, List, [], ◌∷◌, ◌++◌, length, refl, sym, ◌∙◌, ap, append_assoc}
+use Rattle.std.specs.Prelude.{ℤ, true, false, reverse, take, slice_get, Some}
 use Rattle.std.specs.List.{AllZip}
 use Rattle.std.proofs.lemmas.List.{reverse-append, length-reverse}
 use Rattle.std.proofs.lemmas.Grind.{reverse_onto}
@@ -12,7 +12,7 @@ use Rattle.sgt_model.specs.declared.reply.Reply.TheVariants as reply
 use Rattle.sgt_model.specs.declared.entry.Entry.{Entry}
 use Rattle.sgt_model.specs.Databases.{Row}
 use Rattle.sgt_model.specs.Settings.{Setting}
-use Rattle.sgt_model.specs.Replay.{RunResult, GaveAnswers, committed_call_in, committed_calls, told_in, told, folded, IsSerializable}
+use Rattle.sgt_model.specs.Replay.{RunResult, GaveAnswers, committed_call_in, committed_calls, told_in, told, IsSerializable}
 use Rattle.sgt_format.specs.DatabaseText.{database_text}
 use Rattle.sgt_dispatch.specs.declared.job.Job.{Job}
 use Rattle.sgt_workers.specs.declared.outcome.Outcome.{Outcome}
