@@ -23,7 +23,8 @@ use Rattle.sgt_model.specs.CallEffects.{CallEffect}
 use Rattle.sgt_model.specs.Refinement.{NextsAgree, StatesAreSound, VerdictsAgree}
 use Rattle.sgt_model.specs.Walks.{Member}
 use Rattle.sgt_sched.specs.Steps.{IsUnended}
-use Rattle.sgt_sched.specs.Endings.{is_ending, StepEnds, CommitEnds, EndsOne, RepliesEndWhere, CallsCount}
+use Rattle.sgt_model.specs.Questions.{is_ending}
+use Rattle.sgt_sched.specs.Endings.{StepEnds, CommitEnds, EndsOne, RepliesEndWhere, CallsCount}
 use Rattle.sgt_engine.specs.EngineView.{EngineView, setting_of}
 
 -- what is true of a state that belongs to a legal history, and of calls on it

@@ -8,7 +8,7 @@ use Rattle.sgt_model.specs.declared.errors.NoMemory.{NoMemory}
 use Rattle.sgt_model.specs.declared.event.Event.{Event}
 use Rattle.sgt_model.specs.declared.reply.Reply.{Reply}
 use Rattle.sgt_model.specs.Legality.{LegalReply}
-use Rattle.sgt_sched.specs.Endings.{is_ending}
+use Rattle.sgt_model.specs.Questions.{is_ending}
 use Rattle.sgt_engine.specs.EngineView.{EngineView, setting_of}
 use Rattle.sgt_engine.specs.Stops.{StopsAtNoEnd}
 

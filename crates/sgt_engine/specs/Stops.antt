@@ -3,7 +3,7 @@ use Rattle.std.specs.Prelude.{◌≡◌, ℕ, false, List, Some, slice_get}
 use Rattle.sgt_model.specs.declared.event.Event.{Event}
 use Rattle.sgt_model.specs.declared.reply.Reply.{Reply}
 use Rattle.sgt_model.specs.Legality.{LegalReply}
-use Rattle.sgt_sched.specs.Endings.{is_ending}
+use Rattle.sgt_model.specs.Questions.{is_ending}
 use Rattle.sgt_engine.specs.EngineView.{EngineView, setting_of}
 
 -- behind so many of these events: the next one, if there is one, ends no live transaction

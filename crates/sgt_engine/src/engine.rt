@@ -14,7 +14,7 @@ ghost use Rattle.sgt_model.specs.Replay.{folded, IsSerializable};
 ghost use Rattle.sgt_model.specs.StateAfter.{IsStateAfter};
 ghost use Rattle.sgt_model.specs.Values.{settled};
 ghost use Rattle.sgt_model.specs.Walks.{Acyclic};
-ghost use Rattle.sgt_sched.specs.Endings.{is_ending};
+ghost use Rattle.sgt_model.specs.Questions.{is_ending};
 ghost use Rattle.sgt_sched.specs.Scheduler.{parts, state};
 ghost use Rattle.sgt_engine.specs.EngineView.{setting_of, made_of, with_entry};
 

@@ -19,7 +19,8 @@ use Rattle.sgt_model.specs.Walks.{Member}
 use Rattle.sgt_model.specs.Changes.{Removes}
 use Rattle.sgt_model.specs.CallEffects.{Stays, IfOpen, AbortsIn, StepOn, CommitOn, CallEffect, StartOn}
 use Rattle.sgt_sched.specs.Steps.{IsUnended}
-use Rattle.sgt_sched.specs.Endings.{is_ending, StepEnds, CommitEnds, EndsOne, EndsWhere, Counts}
+use Rattle.sgt_model.specs.Questions.{is_ending}
+use Rattle.sgt_sched.specs.Endings.{StepEnds, CommitEnds, EndsOne, EndsWhere, Counts}
 
 quiet : (r answer : Reply) (X : Type 0) → r ≡ answer → is_ending answer ≡ false → (X → ⊥) → EndsWhere r X
 quiet r answer X is isnt none = ((λ x. absurd (none x)), (λ _. ap is_ending is ∙ isnt))

@@ -11,6 +11,7 @@ use Rattle.sgt_model.specs.declared.reply.Reply.TheVariants as reply
 use Rattle.sgt_model.specs.Contents.{Key}
 use Rattle.sgt_model.specs.Traces.{Next, Looks, Puts, Ends, Asks}
 use Rattle.sgt_model.specs.Left.{next_left}
+use Rattle.sgt_model.specs.Questions.{is_ending}
 use Rattle.sgt_model.specs.State.{State}
 use Rattle.sgt_model.specs.Blocks.{Blocks}
 use Rattle.sgt_model.specs.Changes.{Removes}
@@ -29,12 +30,6 @@ pub record EndsAborted (t : ℕ) (fate : Fate) (before after : State) : Type 0 w
 -- t is aborted, as a walk leads from it to one of these
 abbrev pub AbortsByWalk : ℕ → List ℕ → State → Reply → State → Type 0
 AbortsByWalk t targets before r after = (walk : List ℕ) × IsWalk before.pairs t targets walk × AbortsIn t (cause.Cycle walk) before r after
-
--- the reply ends a live transaction
-abbrev pub is_ending : Reply → Bool
-is_ending (reply.Committed answers) = true
-is_ending (reply.Aborted why fell) = true
-is_ending _ = false
 
 -- some walk blocks the access
 abbrev pub IsBlocked : State → ℕ → Key → Kind → Type 0
