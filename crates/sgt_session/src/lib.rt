@@ -82,6 +82,7 @@ mod new;
 mod own;
 mod receipt;
 mod round;
+mod same;
 mod session;
 mod shared;
 mod starters;

@@ -1,5 +1,5 @@
 ghost use Rattle.std.specs.Prelude.{◌≡◌, ◌↔◌, IsTrue};
-ghost use Rattle.sgt_model.specs.Questions.{is_ending};
+ghost use Rattle.sgt_sched.specs.Endings.{is_ending};
 ghost use Rattle.sgt_session.specs.Receipts.{IsWait};
 
 use sgt_model::Reply;
@@ -29,7 +29,7 @@ impl Waiters {
     pub fn wake_after(&self, reply: &Reply) -> bool
         ensures { result ≡ is_ending reply.now }
     {
-        let ends = reply.is_ending();
+        let ends = matches!(reply, Reply::Committed(_) | Reply::Aborted { .. });
         if ends {
             self.ended.notify_all();
         }

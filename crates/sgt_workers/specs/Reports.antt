@@ -18,8 +18,7 @@ use Rattle.sgt_dispatch.specs.declared.job.Job.{Job}
 use Rattle.sgt_workers.specs.declared.outcome.Outcome.{Outcome}
 use Rattle.sgt_workers.specs.declared.report.Report.{Report}
 use Rattle.sgt_workers.specs.declared.outcome.Outcome.TheVariants as outcome
-use Rattle.sgt_model.specs.Questions.{named_by, is_commit, is_quit}
-use Rattle.sgt_workers.specs.Outcomes.{Stands}
+use Rattle.sgt_workers.specs.Outcomes.{named_by, is_commit, is_quit, Stands}
 
 -- what is named
 
