@@ -17,6 +17,7 @@ pub mod Walks
 pub mod Histories
 pub mod Accesses
 pub mod Fates
+pub mod Questions
 pub mod Values
 pub mod ReadFrom
 pub mod Falls

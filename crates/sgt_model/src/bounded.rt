@@ -1,10 +1,11 @@
 ghost use Rattle.std.specs.Prelude.{◌≡◌, ◌<◌, ◌≤◌, ◌↔◌, [], ◌∷◌, ◌++◌, length, IsSome, IfSome, IsTrue};
+ghost use Rattle.std.specs.Cmp.Lexicographic.{pointwise, lists_per, lists_equiv};
 
 use arrayvec::ArrayVec;
 use std::marker::Model;
 
 /// A list of at most N items, kept in place: it never takes memory. It is copied by `copied`, item by item.
-#[derive(Debug, Drop, PartialEq, Eq)]
+#[derive(Debug, Drop)]
 pub struct Bounded<T: Copy + Default, const N: usize> {
     list: ArrayVec<T, N>,
 }
@@ -87,4 +88,18 @@ impl<T: Copy + Default, const N: usize> Bounded<T, N> {
             Err(_) => unreachable!(),
         }
     }
+}
+
+impl<T: Copy + Default + PartialEq, const N: usize> PartialEq for Bounded<T, N> {
+    ghost eq = { pointwise T.eq };
+
+    ghost laws = { lists_per T.laws };
+
+    fn eq(&self, other: &Self) -> bool {
+        self.as_slice() == other.as_slice()
+    }
+}
+
+impl<T: Copy + Default + Eq, const N: usize> Eq for Bounded<T, N> {
+    ghost laws = { lists_equiv T.Eq.laws };
 }

@@ -1,6 +1,8 @@
-ghost use Rattle.std.specs.Prelude.{◌≡◌};
+ghost use Rattle.std.specs.Prelude.{◌≡◌, ◌↔◌, IsTrue};
+ghost use Rattle.sgt_model.specs.Questions.{named_by, started_in, over_in};
 
 use crate::bounded::Bounded;
+use crate::reply::Reply;
 use crate::tid::Tid;
 
 /// The arguments of a procedure, at most 4, in order. An engine takes values alone.
@@ -35,6 +37,45 @@ impl Event {
             Event::Step(t) => Event::Step(*t),
             Event::Commit(t) => Event::Commit(*t),
             Event::Quit(t) => Event::Quit(*t),
+        }
+    }
+
+    /// Whether both are the same event.
+    pub fn is_same(&self, other: &Self) -> bool
+        ensures { IsTrue result ↔ (self.now ≡ other.now) }
+    {
+        self == other
+    }
+
+    /// The transaction that it names; a start names none.
+    pub fn named(&self) -> Option<Tid>
+        ensures { result ≡ named_by self.now }
+    {
+        match self {
+            Event::Start { .. } => None,
+            Event::Step(t) | Event::Commit(t) | Event::Quit(t) => Some(*t),
+        }
+    }
+
+    /// The transaction that it starts where this is its reply, if it starts one.
+    pub fn started(&self, reply: &Reply) -> Option<Tid>
+        ensures { result ≡ started_in self.now reply.now }
+    {
+        match self {
+            Event::Start { .. } => reply.started(),
+            Event::Step(_) | Event::Commit(_) | Event::Quit(_) => None,
+        }
+    }
+
+    /// The transaction that it and this reply to it tell to be over, if they tell of one. It is not live any more: a quit's
+    /// never is, whatever the reply.
+    pub fn over(&self, reply: &Reply) -> Option<Tid>
+        ensures { result ≡ over_in self.now reply.now }
+    {
+        match self {
+            Event::Start { .. } => None,
+            Event::Step(t) | Event::Commit(t) => reply.tells_end().then_some(*t),
+            Event::Quit(t) => Some(*t),
         }
     }
 }

@@ -1,4 +1,6 @@
-ghost use Rattle.std.specs.Prelude.{◌≡◌};
+ghost use Rattle.std.specs.Prelude.{◌≡◌, ◌↔◌, IsTrue};
+ghost use Rattle.sgt_model.specs.Fates.{is_start};
+ghost use Rattle.sgt_model.specs.Questions.{started_number, is_refusal, is_wait, is_commit, is_ask, is_quit, is_ending, tells_end};
 
 use crate::event::Answers;
 use crate::key::Key;
@@ -75,6 +77,13 @@ impl Cause {
             Cause::Quit => Cause::Quit,
         }
     }
+
+    /// Whether both are the same cause.
+    pub fn is_same(&self, other: &Self) -> bool
+        ensures { IsTrue result ↔ (self.now ≡ other.now) }
+    {
+        self == other
+    }
 }
 
 impl Fate {
@@ -87,6 +96,13 @@ impl Fate {
             Fate::Aborted(cause) => Fate::Aborted(cause.copied()),
             Fate::Fell(first) => Fate::Fell(*first),
         }
+    }
+
+    /// Whether both are the same fate.
+    pub fn is_same(&self, other: &Self) -> bool
+        ensures { IsTrue result ↔ (self.now ≡ other.now) }
+    {
+        self == other
     }
 }
 
@@ -120,5 +136,90 @@ impl Reply {
                 fell: fell.copied(),
             },
         }
+    }
+
+    /// Whether both are the same reply.
+    pub fn is_same(&self, other: &Self) -> bool
+        ensures { IsTrue result ↔ (self.now ≡ other.now) }
+    {
+        self == other
+    }
+
+    /// The transaction that it starts, if it starts one.
+    pub fn started(&self) -> Option<Tid>
+        ensures { result ≡ started_number self.now }
+    {
+        match self {
+            Reply::Started(t) => Some(*t),
+            _ => None,
+        }
+    }
+
+    /// Whether it starts a transaction.
+    pub fn is_start(&self) -> bool
+        ensures { result ≡ is_start self.now }
+    {
+        matches!(self, Reply::Started(_))
+    }
+
+    /// Whether it starts nothing, as a start is answered then.
+    pub fn is_refusal(&self) -> bool
+        ensures { result ≡ is_refusal self.now }
+    {
+        matches!(
+            self,
+            Reply::NoProcedure | Reply::BadArgs | Reply::Spent | Reply::Full
+        )
+    }
+
+    /// Whether it tells a commit to wait.
+    pub fn is_wait(&self) -> bool
+        ensures { result ≡ is_wait self.now }
+    {
+        matches!(self, Reply::Waits(_))
+    }
+
+    /// Whether it commits a transaction.
+    pub fn is_commit(&self) -> bool
+        ensures { result ≡ is_commit self.now }
+    {
+        matches!(self, Reply::Committed(_))
+    }
+
+    /// Whether it aborts a transaction whose procedure asked a code.
+    pub fn is_ask(&self) -> bool
+        ensures { result ≡ is_ask self.now }
+    {
+        match self {
+            Reply::Aborted { cause, .. } => matches!(cause, Cause::Asked(_)),
+            _ => false,
+        }
+    }
+
+    /// Whether it aborts a transaction that its caller quit.
+    pub fn is_quit(&self) -> bool
+        ensures { result ≡ is_quit self.now }
+    {
+        match self {
+            Reply::Aborted { cause, .. } => matches!(cause, Cause::Quit),
+            _ => false,
+        }
+    }
+
+    /// Whether it ends a live transaction, by a commit or an abort.
+    pub fn is_ending(&self) -> bool
+        ensures { result ≡ is_ending self.now }
+    {
+        matches!(self, Reply::Committed(_) | Reply::Aborted { .. })
+    }
+
+    /// Whether, as the reply to a step or a commit, it tells that their transaction has ended, now or before.
+    pub fn tells_end(&self) -> bool
+        ensures { result ≡ tells_end self.now }
+    {
+        matches!(
+            self,
+            Reply::Over(_) | Reply::Committed(_) | Reply::Aborted { .. }
+        )
     }
 }

@@ -1,0 +1,85 @@
+-- What an event and its reply say by themselves, before one looks at the history.
+use Rattle.std.specs.Prelude.{ℕ, Bool, true, false, cond, Option, Some, None}
+use Rattle.sgt_model.specs.declared.event.Event.{Event}
+use Rattle.sgt_model.specs.declared.event.Event.TheVariants.{Start, Step, Commit, Quit}
+use Rattle.sgt_model.specs.declared.reply.Reply.{Reply}
+use Rattle.sgt_model.specs.declared.reply.Reply.TheVariants as reply
+use Rattle.sgt_model.specs.declared.reply.Cause.TheVariants as cause
+
+-- an event
+
+-- the transaction that it names; a start names none
+abbrev pub named_by : Event → Option ℕ
+named_by (Start p args) = None
+named_by (Step t) = Some t
+named_by (Commit t) = Some t
+named_by (Quit t) = Some t
+
+-- a reply
+
+-- the number of the transaction that it starts, if it starts one
+abbrev pub started_number : Reply → Option ℕ
+started_number (reply.Started t) = Some t
+started_number _ = None
+
+-- it starts nothing, as a start is answered then
+abbrev pub is_refusal : Reply → Bool
+is_refusal reply.NoProcedure = true
+is_refusal reply.BadArgs = true
+is_refusal reply.Spent = true
+is_refusal reply.Full = true
+is_refusal _ = false
+
+-- it tells a commit to wait
+abbrev pub is_wait : Reply → Bool
+is_wait (reply.Waits u) = true
+is_wait _ = false
+
+-- it commits a transaction
+abbrev pub is_commit : Reply → Bool
+is_commit (reply.Committed answers) = true
+is_commit _ = false
+
+-- it aborts one whose procedure asked a code
+abbrev pub is_ask : Reply → Bool
+is_ask (reply.Aborted (cause.Asked code) fell) = true
+is_ask (reply.Aborted (cause.Cycle walk) fell) = false
+is_ask (reply.Aborted cause.Quit fell) = false
+is_ask _ = false
+
+-- it aborts one that its caller quit
+abbrev pub is_quit : Reply → Bool
+is_quit (reply.Aborted cause.Quit fell) = true
+is_quit (reply.Aborted (cause.Asked code) fell) = false
+is_quit (reply.Aborted (cause.Cycle walk) fell) = false
+is_quit _ = false
+
+-- it ends a live transaction, by a commit or an abort
+abbrev pub is_ending : Reply → Bool
+is_ending (reply.Committed answers) = true
+is_ending (reply.Aborted why fell) = true
+is_ending _ = false
+
+-- as the reply to a step or a commit, it tells that their transaction has ended, now or before
+abbrev pub tells_end : Reply → Bool
+tells_end (reply.Over fate) = true
+tells_end (reply.Committed answers) = true
+tells_end (reply.Aborted why fell) = true
+tells_end _ = false
+
+-- an event with its reply
+
+-- the transaction that they start, if they start one
+abbrev pub started_in : Event → Reply → Option ℕ
+started_in (Start p args) r = started_number r
+started_in (Step t) r = None
+started_in (Commit t) r = None
+started_in (Quit t) r = None
+
+-- the transaction that they tell to be over, if they tell of one: it is not live after them. Whatever a quit is answered, its
+-- transaction is over
+abbrev pub over_in : Event → Reply → Option ℕ
+over_in (Start p args) r = None
+over_in (Step t) r = cond (tells_end r) (Some t) None
+over_in (Commit t) r = cond (tells_end r) (Some t) None
+over_in (Quit t) r = Some t
