@@ -7,7 +7,8 @@ use Rattle.sgt_model.specs.declared.event.Event.{Event}
 use Rattle.sgt_model.specs.declared.event.Event.TheVariants.{Start, Step, Commit, Quit}
 use Rattle.sgt_model.specs.declared.reply.Reply.{Reply}
 use Rattle.sgt_session.specs.declared.receipt.Receipt.{Receipt}
-use Rattle.sgt_session.specs.Own.{started_number, started_by, tells_end, with_one, without, is_open, open_by, open_from, open_of, places}
+use Rattle.sgt_model.specs.Questions.{started_number, started_in, tells_end}
+use Rattle.sgt_session.specs.Own.{with_one, without, is_open, open_by, open_from, open_of, places}
 
 -- one is taken out
 pub without-few : (t : ℕ) (own : List ℕ) → length (without (Some t) own) ≤ length own
@@ -41,7 +42,7 @@ places-enough (Commit t) own r = without_if-few (tells_end r) t own
 places-enough (Quit t) own r = quit-few (is_open t own) t own refl
 
 -- there is room for one that is started
-pub started-room : (e : Event) (own : List ℕ) (r : Reply) (capacity : ℕ) → length own ≤ capacity → ((p : ℕ) (args : _) → e ≡ Start p args → length own + 1 ≤ capacity) → length (with_one (started_by e r) own) ≤ capacity
+pub started-room : (e : Event) (own : List ℕ) (r : Reply) (capacity : ℕ) → length own ≤ capacity → ((p : ℕ) (args : _) → e ≡ Start p args → length own + 1 ≤ capacity) → length (with_one (started_in e r) own) ≤ capacity
 started-room (Start p args) own r capacity fits more = (let h = with_one-few (started_number r) own in let m = more p args refl in omega (arith, h, m))
 started-room (Step t) own r capacity fits more = fits
 started-room (Commit t) own r capacity fits more = fits

@@ -1,9 +1,8 @@
 -- Receipts, one by one.
-use Rattle.std.specs.Prelude.{◌≡◌, ℕ, List, slice_get, Some}
+use Rattle.std.specs.Prelude.{◌≡◌, ℕ, true, List, slice_get, Some}
 use Rattle.sgt_model.specs.declared.event.Event.TheVariants.{Commit}
-use Rattle.sgt_model.specs.declared.reply.Reply.{Reply}
-use Rattle.sgt_model.specs.declared.reply.Reply.TheVariants as reply
 use Rattle.sgt_model.specs.declared.entry.Entry.{Entry}
+use Rattle.sgt_model.specs.Questions.{is_wait}
 use Rattle.sgt_session.specs.declared.receipt.Receipt.{Receipt}
 
 -- the receipt of the entry at a place
@@ -18,11 +17,6 @@ entry_of r = record { event = r.event; reply = r.reply }
 abbrev pub Stands : List Entry → Receipt → Type 0
 Stands history r = slice_get history r.number ≡ Some (entry_of r)
 
--- the reply tells a commit to wait
-abbrev pub IsWait : Reply → Type 0
-IsWait (reply.Waits u) = Unit {0}
-IsWait _ = ⊥
-
 -- a commit of t that has to wait
 abbrev pub IsWaitOf : ℕ → Receipt → Type 0
-IsWaitOf t r = (r.event ≡ Commit t) × IsWait r.reply
+IsWaitOf t r = (r.event ≡ Commit t) × (is_wait r.reply ≡ true)

@@ -5,7 +5,6 @@ ghost use Rattle.sgt_session.specs.Receipts.{receipt_of};
 
 use crate::named::Named;
 use crate::receipt::Receipt;
-use crate::same::{same_event, same_reply};
 use crate::session::Session;
 use sgt_model::Entry;
 
@@ -53,8 +52,8 @@ fn is_next(receipts: &[Receipt], at: usize, number: u64, entry: &Entry) -> bool
     match receipts.get(at) {
         Some(next) => {
             next.number == number
-                && same_event(&next.event, &entry.event)
-                && same_reply(&next.reply, &entry.reply)
+                && next.event.is_same(&entry.event)
+                && next.reply.is_same(&entry.reply)
         }
         None => false,
     }

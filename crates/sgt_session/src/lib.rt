@@ -82,7 +82,6 @@ mod new;
 mod own;
 mod receipt;
 mod round;
-mod same;
 mod session;
 mod shared;
 mod starters;

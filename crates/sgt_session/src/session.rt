@@ -1,15 +1,15 @@
-ghost use Rattle.std.specs.Prelude.{◌≡◌, ◌+◌, ◌<◌, ◌≤◌, List, [], ◌∷◌, ◌++◌, All, length, vec_len, vec_capacity, IfOk, MatchResult};
+ghost use Rattle.std.specs.Prelude.{◌≡◌, ◌+◌, ◌<◌, ◌≤◌, false, List, [], ◌∷◌, ◌++◌, All, length, vec_len, vec_capacity, IfOk, MatchResult};
 ghost use Rattle.std.specs.List.{sum_by};
 ghost use Rattle.sgt_model.specs.declared.event.Event.TheVariants.{Commit};
 ghost use Rattle.sgt_session.specs.declared.receipt.Receipt.{Receipt};
-ghost use Rattle.sgt_session.specs.Receipts.{IsWait, IsWaitOf};
+ghost use Rattle.sgt_model.specs.Questions.{is_wait};
+ghost use Rattle.sgt_session.specs.Receipts.{IsWaitOf};
 
 use crate::named::Named;
 use crate::own::{make_room, note};
 use crate::receipt::Receipt;
 use crate::shared::Shared;
 use crate::touch::touch;
-use crate::waiters::is_wait;
 use sgt_access::Accesses;
 use sgt_graph::Graph;
 use sgt_model::{Event, NoMemory, Tid};
@@ -141,7 +141,7 @@ impl<N: Named> Session<N> {
         t: Tid,
     ) -> Result<Receipt, NoMemory>
         ensures { (waits : List Receipt) × All (IsWaitOf t) waits × MatchResult result
-            (λ r. (self.new ≡ (self.old ++ waits) ++ r ∷ []) × (r.event ≡ Commit t) × (IsWait r.reply → ⊥))
+            (λ r. (self.new ≡ (self.old ++ waits) ++ r ∷ []) × (r.event ≡ Commit t) × (is_wait r.reply ≡ false))
             (λ _. self.new ≡ self.old ++ waits) }
     {
         self.make_commit(rt, shared, t)?;
@@ -156,12 +156,12 @@ impl<N: Named> Session<N> {
         t: Tid,
     ) -> Result<(), NoMemory>
         ensures { (waits : List Receipt) × All (IsWaitOf t) waits × MatchResult result
-            (λ _. (r : Receipt) × (self.new ≡ (self.old ++ waits) ++ r ∷ []) × (r.event ≡ Commit t) × (IsWait r.reply → ⊥))
+            (λ _. (r : Receipt) × (self.new ≡ (self.old ++ waits) ++ r ∷ []) × (r.event ≡ Commit t) × (is_wait r.reply ≡ false))
             (λ _. self.new ≡ self.old ++ waits) }
     {
         for _ in rt.forever() {
             self.make_one(rt, shared, Event::Commit(t), true)?;
-            if !is_wait(&self.last().reply) {
+            if !self.last().reply.is_wait() {
                 return Ok(());
             }
         }
@@ -194,7 +194,7 @@ impl<N: Named> Session<N> {
         let mut round = shared.starters.lock(rt, &shared.round, &event);
         round.apply(event, &mut self.share, &mut self.receipts)?;
         let receipt = &self.receipts[self.receipts.len() - 1];
-        if may_wait && is_wait(&receipt.reply) {
+        if may_wait && receipt.reply.is_wait() {
             drop(shared.waiters.wait(rt, round));
         } else {
             drop(round);

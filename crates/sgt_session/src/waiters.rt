@@ -1,6 +1,5 @@
-ghost use Rattle.std.specs.Prelude.{◌≡◌, ◌↔◌, IsTrue};
-ghost use Rattle.sgt_sched.specs.Endings.{is_ending};
-ghost use Rattle.sgt_session.specs.Receipts.{IsWait};
+ghost use Rattle.std.specs.Prelude.{◌≡◌};
+ghost use Rattle.sgt_model.specs.Questions.{is_ending};
 
 use sgt_model::Reply;
 use std::sync::{Condvar, MutexGuard, Wait};
@@ -29,17 +28,10 @@ impl Waiters {
     pub fn wake_after(&self, reply: &Reply) -> bool
         ensures { result ≡ is_ending reply.now }
     {
-        let ends = matches!(reply, Reply::Committed(_) | Reply::Aborted { .. });
+        let ends = reply.is_ending();
         if ends {
             self.ended.notify_all();
         }
         ends
     }
-}
-
-/// Whether the reply tells a commit to wait.
-pub fn is_wait(reply: &Reply) -> bool
-    ensures { IsTrue result ↔ IsWait reply.now }
-{
-    matches!(reply, Reply::Waits(_))
 }

@@ -21,7 +21,7 @@ use Rattle.sgt_model.proofs.Rises.{live_ones-rise}
 use Rattle.sgt_model.proofs.Room.{begun_below}
 use Rattle.sgt_model.proofs.SomeReply.{begun_has}
 use Rattle.sgt_workers.specs.LiveCount.{started_by, ended_by}
-use Rattle.sgt_workers.specs.Reports.{FewLive, NoneLive}
+use Rattle.sgt_workers.specs.Reports.{FewLive, AllEnded}
 use Rattle.sgt_workers.proofs.Numbers.{is_among, rising_distinct, some_less}
 
 starts_none : (r : Reply) → is_start r ≡ false → started_by r ≡ 0
@@ -176,7 +176,7 @@ take_whole (suc n) (e ∷ h) le = ap (λ l. e ∷ l) (take_whole n h (omega arit
 
 -- at the end of the history the count of the live ones tells whether nobody is live
 pub at_end : (h : List Entry) (i workers count : ℕ) → length h ≤ i → count ≡ length (live_ones (reverse (take i h)))
-    → ((n : ℕ) → n ≤ i → length (live_ones (reverse (take n h))) ≤ workers) → ((nat_eq count 0 ≡ true) ↔ (FewLive h workers × NoneLive h))
+    → ((n : ℕ) → n ≤ i → length (live_ones (reverse (take n h))) ≤ workers) → ((nat_eq count 0 ≡ true) ↔ (FewLive h workers × AllEnded h))
 at_end h i workers count whole is before = (
   (λ t. (few, (none_counted (reverse h)).0 (sym all ∙ eqb-true count 0 t))),
   λ both. eq-eqb count 0 (all ∙ (none_counted (reverse h)).1 both.1),

@@ -10,7 +10,8 @@ use Rattle.sgt_model.specs.Fates.{starts}
 use Rattle.sgt_dispatch.specs.declared.job.Job.{Job}
 use Rattle.sgt_workers.specs.declared.outcome.Outcome.{Outcome}
 use Rattle.sgt_workers.specs.declared.outcome.Outcome.TheVariants as outcome
-use Rattle.sgt_workers.specs.Outcomes.{named_by, is_commit, is_ask, Ends, IsFailed, Stands}
+use Rattle.sgt_model.specs.Questions.{named_by, is_commit, is_ask}
+use Rattle.sgt_workers.specs.Outcomes.{Ends, IsFailed, Stands}
 use Rattle.sgt_workers.specs.Reports.{entries_of, transaction_at, transactions_of}
 
 module _ (history : List Entry) (tries : ℕ) where

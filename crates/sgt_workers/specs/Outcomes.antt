@@ -2,16 +2,14 @@
 -- the n-th of the list; what is read newest entry first is read of its reverse.
 use Rattle.std.specs.Prelude.{◌≡◌, ℕ, ◌+◌, ◌<◌, Bool, true, false, List, length, reverse, Option, Some, None, slice_get, slice_index}
 use Rattle.std.specs.List.{All}
-use Rattle.sgt_model.specs.declared.event.Event.{Event}
-use Rattle.sgt_model.specs.declared.event.Event.TheVariants.{Start, Step, Commit, Quit}
 use Rattle.sgt_model.specs.declared.reply.Reply.{Reply}
-use Rattle.sgt_model.specs.declared.reply.Reply.TheVariants as reply
 use Rattle.sgt_model.specs.declared.reply.Cause.TheVariants as cause
 use Rattle.sgt_model.specs.declared.reply.Fate.{Fate}
 use Rattle.sgt_model.specs.declared.reply.Fate.TheVariants as fate
 use Rattle.sgt_model.specs.declared.entry.Entry.{Entry}
 use Rattle.sgt_model.specs.Fates.{starts, fate_of}
 use Rattle.sgt_model.specs.Progress.{Call, call_at, call_of}
+use Rattle.sgt_model.specs.Questions.{named_by, is_refusal, is_commit, is_ask}
 use Rattle.sgt_dispatch.specs.declared.job.Job.{Job}
 use Rattle.sgt_workers.specs.declared.outcome.Outcome.{Outcome}
 use Rattle.sgt_workers.specs.declared.outcome.Outcome.TheVariants as outcome
@@ -28,41 +26,7 @@ pub record IsOf (past : List Entry) (job : Job) (t : ℕ) : Type 0 where
   pub started : t < starts past
   pub call : call_of past t ≡ call_for job
 
--- the transaction that an event names; a start names none
-abbrev pub named_by : Event → Option ℕ
-named_by (Start p args) = None
-named_by (Step t) = Some t
-named_by (Commit t) = Some t
-named_by (Quit t) = Some t
-
--- replies
-
--- a commit
-abbrev pub is_commit : Reply → Bool
-is_commit (reply.Committed answers) = true
-is_commit _ = false
-
--- an abort because the procedure asked a code
-abbrev pub is_ask : Reply → Bool
-is_ask (reply.Aborted (cause.Asked code) fell) = true
-is_ask (reply.Aborted (cause.Cycle walk) fell) = false
-is_ask (reply.Aborted cause.Quit fell) = false
-is_ask _ = false
-
--- an abort because the caller quit
-abbrev pub is_quit : Reply → Bool
-is_quit (reply.Aborted cause.Quit fell) = true
-is_quit (reply.Aborted (cause.Asked code) fell) = false
-is_quit (reply.Aborted (cause.Cycle walk) fell) = false
-is_quit _ = false
-
--- what a start is answered where nothing is started
-abbrev pub is_refusal : Reply → Bool
-is_refusal reply.NoProcedure = true
-is_refusal reply.BadArgs = true
-is_refusal reply.Spent = true
-is_refusal reply.Full = true
-is_refusal _ = false
+-- fates
 
 -- aborted by a cycle, or fallen
 abbrev pub has_failed : Option Fate → Bool

@@ -18,7 +18,8 @@ use Rattle.sgt_dispatch.specs.declared.job.Job.{Job}
 use Rattle.sgt_workers.specs.declared.outcome.Outcome.{Outcome}
 use Rattle.sgt_workers.specs.declared.report.Report.{Report}
 use Rattle.sgt_workers.specs.declared.outcome.Outcome.TheVariants as outcome
-use Rattle.sgt_workers.specs.Outcomes.{named_by, is_commit, is_quit, Stands}
+use Rattle.sgt_model.specs.Questions.{named_by, is_commit, is_quit}
+use Rattle.sgt_workers.specs.Outcomes.{Stands}
 
 -- what is named
 
@@ -80,9 +81,9 @@ pub record CountsAgree {N : Type 0} (history : List Entry) (outcomes : List (Out
 abbrev pub FewLive : List Entry → ℕ → Type 0
 FewLive history workers = (n : ℕ) → length (live_ones (reverse (take n history))) ≤ workers
 
--- after the last entry no transaction is live
-abbrev pub NoneLive : List Entry → Type 0
-NoneLive history = (t : ℕ) → live (reverse history) t ≡ false
+-- after the last entry no transaction is live: each that was started has ended
+abbrev pub AllEnded : List Entry → Type 0
+AllEnded history = (t : ℕ) → live (reverse history) t ≡ false
 
 -- one outcome for each job, which says of the history and the job what is so; no transaction and no entry is named twice, by
 -- one outcome or by two; the counts agree; never are more transactions live than there are workers, and at the end none is
@@ -92,7 +93,7 @@ pub record OutcomesStand {N : Type 0} (history : List Entry) (jobs : List Job) (
   pub entries_once : Distinct (flat_map entries_of outcomes)
   pub counts : CountsAgree history outcomes workers
   pub few_live : FewLive history workers
-  pub none_live : NoneLive history
+  pub all_ended : AllEnded history
 
 -- what holds of the report of a run of these jobs, where the engine was made of this setting: the history is legal, each outcome
 -- says of it what is so, and none is for want of memory; and each part of what every legal history has, with the database that
@@ -101,7 +102,7 @@ pub record IsReportOf {N : Type 0} (s : Setting) (jobs : List Job) (workers trie
   pub opening : (k : Key) → contents_of r.opening k ≡ s.opening k
   pub legal : Legal s (reverse r.history.items)
   pub outcomes : OutcomesStand r.history.items jobs r.outcomes.items workers tries
-  pub none_live : NoneLive r.history.items
+  pub all_ended : AllEnded r.history.items
   pub memory : count_by is_no_memory r.outcomes.items ≡ 0
   pub values : (k : Key) → contents_of r.database k ≡ settled s.opening (reverse r.history.items) k
   pub replayed : (k : Key) → contents_of r.database k ≡ (folded s (reverse r.history.items)).last k

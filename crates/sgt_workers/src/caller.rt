@@ -89,7 +89,7 @@ impl<'a, N: Named, R: Records, A: Accesses, G: Graph, T: Gate, W: Wait> Caller<
             args: job.args.copied(),
         };
         match self.call(start) {
-            Ok(receipt) => match started(&receipt.reply) {
+            Ok(receipt) => match receipt.reply.started() {
                 Some(t) => self.attempt_with(t),
                 None => Attempt::Final(Outcome::Refused(receipt.number)),
             },
@@ -145,14 +145,6 @@ impl<'a, N: Named, R: Records, A: Accesses, G: Graph, T: Gate, W: Wait> Caller<
     /// or ended, the call is answered so, which is one entry more, or is refused memory.
     fn quit(&mut self, t: Tid) {
         let _ = self.session.make(self.rt, self.shared, Event::Quit(t));
-    }
-}
-
-/// The transaction that the reply tells to have been started, if it does.
-fn started(reply: &Reply) -> Option<Tid> {
-    match reply {
-        Reply::Started(t) => Some(*t),
-        _ => None,
     }
 }
 

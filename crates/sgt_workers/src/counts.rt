@@ -2,11 +2,10 @@
 ghost use Rattle.std.specs.Prelude.{◌≡◌, ◌↔◌, IsTrue};
 ghost use Rattle.std.specs.List.{count_by};
 ghost use Rattle.sgt_model.specs.declared.entry.Entry.{Entry as E};
-ghost use Rattle.sgt_workers.specs.Outcomes.{is_commit as commits, is_quit as quits};
+ghost use Rattle.sgt_model.specs.Questions.{is_commit, is_quit};
 ghost use Rattle.sgt_workers.specs.Reports.{is_done, is_left, is_untaken, is_no_memory, CountsAgree};
 
 use crate::outcome::Outcome;
-use crate::replies::{is_commit, is_quit};
 use sgt_model::Entry;
 
 /// How many outcomes of a kind there are.
@@ -32,11 +31,11 @@ pub fn counts_agree<N>(history: &[Entry], outcomes: &[Outcome<N>], workers: u32)
 
 /// How many entries commit.
 fn commits_in(history: &[Entry]) -> usize
-    ensures { result ≡ count_by (λ (e : E). commits e.reply) history.now }
+    ensures { result ≡ count_by (λ (e : E). is_commit e.reply) history.now }
 {
     let mut count = 0;
     for entry in history {
-        if is_commit(&entry.reply) {
+        if entry.reply.is_commit() {
             count += 1;
         }
     }
@@ -45,11 +44,11 @@ fn commits_in(history: &[Entry]) -> usize
 
 /// How many entries abort because the caller quit.
 fn quits_in(history: &[Entry]) -> usize
-    ensures { result ≡ count_by (λ (e : E). quits e.reply) history.now }
+    ensures { result ≡ count_by (λ (e : E). is_quit e.reply) history.now }
 {
     let mut count = 0;
     for entry in history {
-        if is_quit(&entry.reply) {
+        if entry.reply.is_quit() {
             count += 1;
         }
     }

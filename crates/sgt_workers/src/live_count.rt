@@ -3,14 +3,14 @@ ghost use Rattle.std.specs.Prelude.{◌≡◌, ◌↔◌, ℕ, ◌+◌, ◌<◌,
 ghost use Rattle.sgt_model.specs.Settings.{Setting};
 ghost use Rattle.sgt_model.specs.Legality.{Legal};
 ghost use Rattle.sgt_workers.specs.LiveCount.{started_by, ended_by};
-ghost use Rattle.sgt_workers.specs.Reports.{FewLive, NoneLive};
+ghost use Rattle.sgt_workers.specs.Reports.{FewLive, AllEnded};
 
 use sgt_model::{Entry, Reply};
 
 /// Whether at no place more transactions are live than there are workers, and at the end none is.
 pub fn live_counts_stand(history: &[Entry], workers: u32) -> bool
     requires { (s : Setting) × Legal s (reverse history.now) }
-    ensures { IsTrue result ↔ (FewLive history.now workers × NoneLive history.now) }
+    ensures { IsTrue result ↔ (FewLive history.now workers × AllEnded history.now) }
 {
     let mut live = 0;
     for entry in history {

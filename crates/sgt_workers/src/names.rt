@@ -5,7 +5,6 @@ ghost use Rattle.sgt_model.specs.Walks.{Distinct};
 ghost use Rattle.sgt_workers.specs.Reports.{entries_of, transaction_at, transactions_of};
 
 use crate::outcome::Outcome;
-use crate::replies::named_by;
 use sgt_model::{Entry, NoMemory, Tid};
 use std::alloc::Global;
 
@@ -51,7 +50,7 @@ fn add_named_at(named: &mut Vec<u64>, history: &[Entry], n: u64) -> Result<(), N
     ensures { OnOk result (named.new.items ≡ named.old.items ++ transaction_at history.now n) }
 {
     if let Some(entry) = history.get(n as usize) {
-        if let Some(t) = named_by(&entry.event) {
+        if let Some(t) = entry.event.named() {
             named.push(u64::from(t.0))?;
         }
     }

@@ -2,12 +2,13 @@
 ghost use Rattle.std.specs.Prelude.{◌≡◌, ◌↔◌, ℕ, IsTrue, Option, length, reverse};
 ghost use Rattle.std.specs.List.{AllZip};
 ghost use Rattle.sgt_workers.specs.Lives.{AreLives};
-ghost use Rattle.sgt_workers.specs.Outcomes.{is_commit, is_ask, Ends, IsRefused, Stands};
+ghost use Rattle.sgt_model.specs.Questions.{is_commit, is_ask};
+ghost use Rattle.sgt_workers.specs.Outcomes.{Ends, IsRefused, Stands};
 
 use crate::attempts::gave_up;
+use crate::events::{asks_for, names_one_of};
 use crate::lives::Life;
 use crate::outcome::Outcome;
-use crate::replies::{asks_for, is_ask, is_commit, is_refusal, names_one_of};
 use sgt_dispatch::Job;
 use sgt_model::Entry;
 
@@ -53,7 +54,7 @@ fn is_committed(history: &[Entry], lives: &[Life], job: &Job, n: u64) -> bool
     ensures { IsTrue result ↔ Ends is_commit history.now job.now n }
 {
     match history.get(n as usize) {
-        Some(entry) => is_commit(&entry.reply) && names_one_of(&entry.event, lives, job),
+        Some(entry) => entry.reply.is_commit() && names_one_of(&entry.event, lives, job),
         None => false,
     }
 }
@@ -64,7 +65,7 @@ fn is_asked(history: &[Entry], lives: &[Life], job: &Job, n: u64) -> bool
     ensures { IsTrue result ↔ Ends is_ask history.now job.now n }
 {
     match history.get(n as usize) {
-        Some(entry) => is_ask(&entry.reply) && names_one_of(&entry.event, lives, job),
+        Some(entry) => entry.reply.is_ask() && names_one_of(&entry.event, lives, job),
         None => false,
     }
 }
@@ -74,7 +75,7 @@ fn is_refused(history: &[Entry], job: &Job, n: u64) -> bool
     ensures { IsTrue result ↔ IsRefused history.now job.now n }
 {
     match history.get(n as usize) {
-        Some(entry) => is_refusal(&entry.reply) && asks_for(&entry.event, job),
+        Some(entry) => entry.reply.is_refusal() && asks_for(&entry.event, job),
         None => false,
     }
 }

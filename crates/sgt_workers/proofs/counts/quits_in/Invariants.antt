@@ -1,7 +1,7 @@
 use Rattle.std.proofs.Common.{◌≡◌, ◌≤◌, take}
 use Rattle.std.specs.List.{count_by}
 use Rattle.sgt_model.specs.declared.entry.Entry.{Entry}
-use Rattle.sgt_workers.specs.Outcomes.{is_quit}
+use Rattle.sgt_model.specs.Questions.{is_quit}
 use Rattle.sgt_workers.proofs.counts.quits_in.Given as goal
 
 abbrev pub invariant-loop-entry : goal.invariant-loop-entry

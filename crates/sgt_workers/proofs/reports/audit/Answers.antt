@@ -4,7 +4,7 @@ use Rattle.sgt_model.specs.Fates.{starts}
 use Rattle.sgt_model.specs.Walks.{Distinct}
 use Rattle.sgt_workers.specs.Lives.{AreLives}
 use Rattle.sgt_workers.specs.Outcomes.{Stands}
-use Rattle.sgt_workers.specs.Reports.{entries_of, transactions_of, CountsAgree, FewLive, NoneLive}
+use Rattle.sgt_workers.specs.Reports.{entries_of, transactions_of, CountsAgree, FewLive, AllEnded}
 use Rattle.sgt_workers.proofs.Named.{all_started, all_there}
 use Rattle.sgt_workers.proofs.reports.audit.Goals as goal
 
@@ -35,14 +35,14 @@ returns g c =
     let named : c.deref-2.result.now ≡ flat_map (transactions_of h) c.args.outcomes.now = c.deref-2.ensures.value ∙ c.in_ok-transactions.ensures in
     let named_too : c.deref-3.result.now ≡ flat_map entries_of c.args.outcomes.now = c.deref-3.ensures.value ∙ c.in_ok-entries.ensures in
     let counts : IsTrue c.counts_agree.result ↔ CountsAgree h c.args.outcomes.now c.args.workers = c.counts_agree.ensures in
-    let lives : IsTrue c.live_counts_stand.result ↔ (FewLive h c.args.workers × NoneLive h) = c.live_counts_stand.ensures in (
+    let lives : IsTrue c.live_counts_stand.result ↔ (FewLive h c.args.workers × AllEnded h) = c.live_counts_stand.ensures in (
       (λ t. record {
         each = stand.0 c.if-not-all_stand.false;
         transactions_once = subst Distinct named (transactions.0 c.if-not-branch.false);
         entries_once = subst Distinct named_too (entries.0 c.if-not-branch-2.false);
         counts = counts.0 c.if-not-counts_agree.false;
         few_live = (lives.0 t).0;
-        none_live = (lives.0 t).1;
+        all_ended = (lives.0 t).1;
       }),
-      λ o. lives.1 (o.few_live, o.none_live),
+      λ o. lives.1 (o.few_live, o.all_ended),
     )

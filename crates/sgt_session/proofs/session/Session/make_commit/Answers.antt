@@ -1,6 +1,7 @@
-use Rattle.std.proofs.Common.{rules, ◌≡◌, ◌∙◌, ◌++◌, [], ◌∷◌, ap, append_assoc}
+use Rattle.std.proofs.Common.{rules, ◌≡◌, true, ◌∙◌, ◌++◌, [], ◌∷◌, ap, append_assoc}
 use Rattle.std.proofs.lemmas.List.Elements.{All-append}
-use Rattle.sgt_session.specs.Receipts.{IsWait, IsWaitOf}
+use Rattle.sgt_model.specs.Questions.{is_wait}
+use Rattle.sgt_session.specs.Receipts.{IsWaitOf}
 use Rattle.sgt_session.proofs.session.Session.make_commit.Goals as goal
 
 pub loop-preserved : goal.loop-preserved
@@ -8,8 +9,8 @@ loop-preserved g c =
     let waits = c.loop.invariant.2 in
     let filed = c.in_ok-make_one.ensures in
     let same : c.last.result.now ≡ filed.0 = c.last.ensures _ _ filed.2 in
-    let waited : IsWait c.last.result.now.reply = search rules in
-    let wait : IsWait filed.0.reply = rw same at waited in (
+    let waited : is_wait c.last.result.now.reply ≡ true = search rules in
+    let wait : is_wait filed.0.reply ≡ true = rw same at waited in (
       search rules,
       search rules,
       (
