@@ -17,7 +17,8 @@ use Rattle.sgt_format.specs.DatabaseText.{database_text}
 use Rattle.sgt_dispatch.specs.declared.job.Job.{Job}
 use Rattle.sgt_workers.specs.declared.outcome.Outcome.{Outcome}
 use Rattle.sgt_workers.specs.declared.outcome.Outcome.TheVariants as outcome
-use Rattle.sgt_workers.specs.Outcomes.{is_commit, Stands}
+use Rattle.sgt_model.specs.Questions.{is_commit}
+use Rattle.sgt_workers.specs.Outcomes.{Stands}
 use Rattle.sgt_bank.specs.OutcomeText.{commit_words, words_at, outcome_words, outcome_line}
 use Rattle.sgt_bank.specs.Reports.{outcome_lines, report_text}
 use Rattle.sgt_bank.specs.SerialText.{serial_results, committed_before, result_words, serial_words, serial_lines, serial_text}
