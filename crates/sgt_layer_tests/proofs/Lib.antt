@@ -1,1 +1,2 @@
 mod FewNumbers
+mod Readers
