@@ -17,7 +17,7 @@ use Rattle.sgt_model.specs.Databases.{key_cmp, key_lt}
 use Rattle.sgt_model.specs.AccessList.{ListedAccess, is_conflicting}
 use Rattle.sgt_model.specs.Pairs.{one_stores}
 use Rattle.sgt_model.specs.declared.kind.Kind.{Kind}
-use Rattle.sgt_access.specs.ByKey.{IsByKey}
+use Rattle.sgt_access.specs.ByKey.{AreInKeyOrder}
 
 -- keys are in a total order
 key_order : IsTotalOrder key_cmp
@@ -109,28 +109,28 @@ at_most_below Greater Equal le h = absurd (omega (arith, le))
 at_most_below Greater Greater le h = h
 
 -- accesses by key are parted by a key
-pub parted_before : (xs : List ListedAccess) (k : Key) → IsByKey xs → IsPartitionedBy (λ (a : ListedAccess). key_lt a.key k) xs
+pub parted_before : (xs : List ListedAccess) (k : Key) → AreInKeyOrder xs → IsPartitionedBy (λ (a : ListedAccess). key_lt a.key k) xs
 parted_before xs k sorted i j d le short h =
     less_below _ _ (searchable_from_sorted key_order (λ (a : ListedAccess). a.key) xs k sorted i j d le short) h
 
-pub parted_through : (xs : List ListedAccess) (k : Key) → IsByKey xs → IsPartitionedBy (λ (a : ListedAccess). is_le (key_cmp a.key k)) xs
+pub parted_through : (xs : List ListedAccess) (k : Key) → AreInKeyOrder xs → IsPartitionedBy (λ (a : ListedAccess). is_le (key_cmp a.key k)) xs
 parted_through xs k sorted i j d le short h =
     at_most_below _ _ (searchable_from_sorted key_order (λ (a : ListedAccess). a.key) xs k sorted i j d le short) h
 
 -- one more, behind those that are not after it and before those that are, leaves them by key
-pub by_key_inserted : (xs : List ListedAccess) (i : ℕ) (a : ListedAccess) → i ≤ length xs → IsByKey xs
+pub by_key_inserted : (xs : List ListedAccess) (i : ℕ) (a : ListedAccess) → i ≤ length xs → AreInKeyOrder xs
     → AllWithin (λ (x : ListedAccess). key_lt a.key x.key ≡ false) xs 0 i
-    → AllWithin (λ (x : ListedAccess). key_lt a.key x.key ≡ true) xs i (length xs) → IsByKey (insert xs i a)
+    → AllWithin (λ (x : ListedAccess). key_lt a.key x.key ≡ true) xs i (length xs) → AreInKeyOrder (insert xs i a)
 by_key_inserted xs i a within sorted before after k d low high =
     let long = length-insert xs i a within in
     ⊎_elim
     (λ below. ⊎_elim
     (λ deep. rw (get_or-insert_below xs i a d (k + 1) deep within, get_or-insert_below xs i a d k below within)
     (sorted k d low (omega arith)))
-    (λ edge. rw (at_place (k + 1) (omega arith), get_or-insert_below xs i a d k below within) (before k d low below))
+    (λ edge. rw (at_index (k + 1) (omega arith), get_or-insert_below xs i a d k below within) (before k d low below))
     (cases_lt (k + 1) i))
     (λ from. ⊎_elim
-    (λ same. rw (get_or-insert_above xs i a d k from within, at_place k same)
+    (λ same. rw (get_or-insert_above xs i a d k from within, at_index k same)
     (access_order.one_way a (get_or xs k d) (after k d from (omega arith))))
     (λ apart.
     let back : (k - 1) + 1 ≡ k = omega arith in
@@ -142,8 +142,8 @@ by_key_inserted xs i a within sorted before after k d low high =
     (cases_eq k i))
     (cases_lt k i)
   where
-    at_place : (n : ℕ) → n ≡ i → get_or (insert xs i a) n d ≡ a
-    at_place n e = ap (λ m. get_or (insert xs i a) m d) e ∙ get_or-insert_at xs i a d within
+    at_index : (n : ℕ) → n ≡ i → get_or (insert xs i a) n d ≡ a
+    at_index n e = ap (λ m. get_or (insert xs i a) m d) e ∙ get_or-insert_at xs i a d within
 
 -- the rest of a list
 pub rest_of : {X : Type 0} (xs : List X) (n : ℕ) → take (length xs - n) (drop n xs) ≡ drop n xs
@@ -154,7 +154,7 @@ read_at : (xs : List ListedAccess) (i : ℕ) (x d : ListedAccess) → i < length
 read_at xs i x d short is = get_or_default xs i d x short ∙ sym is
 
 -- after one that is after a key, all are
-pub after_from : (xs : List ListedAccess) (k : Key) (i : ℕ) (x : ListedAccess) → IsByKey xs → i < length xs → x ≡ get_or xs i x
+pub after_from : (xs : List ListedAccess) (k : Key) (i : ℕ) (x : ListedAccess) → AreInKeyOrder xs → i < length xs → x ≡ get_or xs i x
     → key_lt k x.key ≡ true
     → AllWithin (λ (a : ListedAccess). key_lt k a.key ≡ true) xs i (length xs)
 after_from xs k i x sorted within is after n d low high = at (is_le (key_cmp (get_or xs n d).key k)) refl

@@ -24,7 +24,7 @@ any_noted p list a = list_any-append p list (a ∷ []) ∙ swapped (list_any p l
     swapped false true = refl
     swapped false false = refl
 
--- one more, at its place
+-- one more, at its index
 pub stands_noted : (list accesses : List ListedAccess) (i : ℕ) (a : ListedAccess) → StandsFor list accesses → i ≤ length accesses
     → AllWithin (λ (x : ListedAccess). key_lt a.key x.key ≡ false) accesses 0 i
     → AllWithin (λ (x : ListedAccess). key_lt a.key x.key ≡ true) accesses i (length accesses)

@@ -1,4 +1,4 @@
--- Rising lists of numbers: one more at its place, and how many there can be.
+-- Rising lists of numbers: one more at its index, and how many there can be.
 use Rattle.std.proofs.Common.{◌≡◌, ◌≢◌, ℕ, zero, suc, ◌<◌, ◌≤◌, ◌⊎◌, ◌↔◌, List, [], ◌∷◌, ◌++◌, Result, Bool, true, Ok, Err, length, take, drop, get_or, refl, sym, subst, inl, inr, arith, ◌∙◌, ap}
 use Rattle.std.proofs.lemmas.List.{take-append-drop}
 use Rattle.std.proofs.lemmas.List.Sorted.{searched}
@@ -56,19 +56,19 @@ by_index (x ∷ []) h (suc i) (suc j) le short = omega arith
 by_index (x ∷ y ∷ xs) h (suc i) (suc j) le short = by_index (y ∷ xs) h.1 i j (omega arith) (omega arith)
 
 -- all numbers before an index are smaller than t, and all from it on are greater
-pub record IsPlace (xs : List ℕ) (t i : ℕ) : Type 0 where
+pub record IsIndex (xs : List ℕ) (t i : ℕ) : Type 0 where
   pub within : i ≤ length xs
   pub before : (k : ℕ) → k < i → get_or xs k 0 < t
   pub after : (k : ℕ) → i ≤ k → k < length xs → t < get_or xs k 0
 
--- a number that has a place is no member
-pub place_absent : (xs : List ℕ) (t i : ℕ) → IsPlace xs t i → Member t xs → ⊥
-place_absent [] t i at m = m
-place_absent (x ∷ xs) t zero at (inl e) = omega (arith, at.after 0 (omega arith) (omega arith))
-place_absent (x ∷ xs) t (suc i) at (inl e) = omega (arith, at.before 0 (omega arith))
-place_absent (x ∷ xs) t zero at (inr m) = place_absent xs t zero
+-- a number that has an index is no member
+pub index_absent : (xs : List ℕ) (t i : ℕ) → IsIndex xs t i → Member t xs → ⊥
+index_absent [] t i at m = m
+index_absent (x ∷ xs) t zero at (inl e) = omega (arith, at.after 0 (omega arith) (omega arith))
+index_absent (x ∷ xs) t (suc i) at (inl e) = omega (arith, at.before 0 (omega arith))
+index_absent (x ∷ xs) t zero at (inr m) = index_absent xs t zero
     (record { within = omega arith; before = λ k lt. omega arith; after = λ k le lt. at.after (suc k) (omega arith) (omega arith) }) m
-place_absent (x ∷ xs) t (suc i) at (inr m) = place_absent xs t i
+index_absent (x ∷ xs) t (suc i) at (inr m) = index_absent xs t i
     (record {
       within = let w = at.within in omega arith;
       before = λ k lt. at.before (suc k) (omega arith);
@@ -76,17 +76,17 @@ place_absent (x ∷ xs) t (suc i) at (inr m) = place_absent xs t i
           (suc k) (omega arith) (omega arith);
     }) m
 
--- put in at its place, it leaves the list rising
-pub place_rises : (xs : List ℕ) (t i : ℕ) → Rising xs → IsPlace xs t i → Rising (insert xs i t)
-place_rises [] t zero h at = tt
-place_rises [] t (suc i) h at = tt
-place_rises (x ∷ xs) t zero h at = (at.after 0 (omega arith) (omega arith), h)
-place_rises (x ∷ []) t (suc zero) h at = (at.before 0 (omega arith), tt)
-place_rises (x ∷ []) t (suc (suc i)) h at = let w = at.within in omega arith
-place_rises (x ∷ y ∷ xs) t (suc zero) h at = (at.before 0 (omega arith), (at.after 1 (omega arith) (omega arith), h.1))
-place_rises (x ∷ y ∷ xs) t (suc (suc i)) h at = (
+-- put in at its index, it leaves the list rising
+pub index_rises : (xs : List ℕ) (t i : ℕ) → Rising xs → IsIndex xs t i → Rising (insert xs i t)
+index_rises [] t zero h at = tt
+index_rises [] t (suc i) h at = tt
+index_rises (x ∷ xs) t zero h at = (at.after 0 (omega arith) (omega arith), h)
+index_rises (x ∷ []) t (suc zero) h at = (at.before 0 (omega arith), tt)
+index_rises (x ∷ []) t (suc (suc i)) h at = let w = at.within in omega arith
+index_rises (x ∷ y ∷ xs) t (suc zero) h at = (at.before 0 (omega arith), (at.after 1 (omega arith) (omega arith), h.1))
+index_rises (x ∷ y ∷ xs) t (suc (suc i)) h at = (
   h.0,
-  place_rises (y ∷ xs) t (suc i) h.1 (record {
+  index_rises (y ∷ xs) t (suc i) h.1 (record {
     within = let w = at.within in
         omega arith;
     before = λ k lt. at.before (suc k) (omega arith);
@@ -94,14 +94,14 @@ place_rises (x ∷ y ∷ xs) t (suc (suc i)) h at = (
   }),
 )
 
--- a binary search finds the number, or its place
+-- a binary search finds the number, or its index
 pub search_finds : (xs ys : List ℕ) (t : ℕ) (r : Result ℕ ℕ) → ys ≡ xs → Rising xs → IsBinarySearchResult (λ y. nat_cmp y t) ys r
-    → MatchResult r (λ i. Member t xs) (λ i. IsPlace xs t i)
+    → MatchResult r (λ i. Member t xs) (λ i. IsIndex xs t i)
 search_finds xs ys t r same h is = go r (searched xs t r (subst (λ l. IsBinarySearchResult (λ y. nat_cmp y t) l r) same is) (by_index xs h))
   where
     go : (r : Result ℕ ℕ) → MatchResult r (λ i. (i < length xs) × (get_or xs i 0 ≡ t))
         (λ i. (i ≤ length xs) × ((k : ℕ) → k < i → get_or xs k 0 < t) × ((k : ℕ) → i ≤ k → k < length xs → t < get_or xs k 0))
-        → MatchResult r (λ i. Member t xs) (λ i. IsPlace xs t i)
+        → MatchResult r (λ i. Member t xs) (λ i. IsIndex xs t i)
     go (Ok i) at = member_at xs i t at.0 at.1
     go (Err i) at = record { within = at.0; before = at.1; after = at.2 }
 

@@ -1,4 +1,4 @@
--- The rivals of an access among the accesses up to a place of the list.
+-- The rivals of an access among the accesses up to an index of the list.
 use Rattle.std.proofs.Common.{◌≡◌, ◌≢◌, ℕ, ◌+◌, ◌-◌, ◌<◌, ◌≤◌, ◌⊎◌, ◌↔◌, ◌||◌, ◌&&◌, true, nat_eq, zero, suc, List, [], ◌∷◌, length, take, drop, get_or, arith, sym, subst, ap, inl, inr, ◌∙◌}
 use Rattle.std.proofs.lemmas.Bool.{or_left, or_right, or_cases, and_parts, eqb-true, eq-eqb}
 use Rattle.std.proofs.lemmas.List.Folds.{list_any_more, list_any-append}

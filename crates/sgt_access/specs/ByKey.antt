@@ -8,8 +8,8 @@ use Rattle.sgt_model.specs.Databases.{key_cmp}
 use Rattle.sgt_model.specs.AccessList.{ListedAccess}
 
 -- by their keys, none comes before the one before it
-abbrev pub IsByKey : List ListedAccess → Type 0
-IsByKey accesses = IsSortedByKey (λ (a : ListedAccess). a.key) key_cmp accesses
+abbrev pub AreInKeyOrder : List ListedAccess → Type 0
+AreInKeyOrder accesses = IsSortedByKey (λ (a : ListedAccess). a.key) key_cmp accesses
 
 -- a test that an access passes with a store if it does with a look
 abbrev pub TakesStores : (ListedAccess → Bool) → Type 0
@@ -21,5 +21,5 @@ Alike accesses list = (p : ListedAccess → Bool) → TakesStores p → list_any
 
 -- accesses in the order of their keys that stand for a list
 pub record StandsFor (list accesses : List ListedAccess) : Type 0 where
-  pub by_key : IsByKey accesses
+  pub by_key : AreInKeyOrder accesses
   pub alike : Alike accesses list

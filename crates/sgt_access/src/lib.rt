@@ -14,10 +14,10 @@
 
 mod access;
 mod accesses;
+mod bounds;
 mod conflicts;
 mod one_list;
 mod per_key;
-mod places;
 mod rising;
 mod whole_list;
 

@@ -8,8 +8,8 @@ ghost use Rattle.sgt_access.specs.ByKey.{StandsFor};
 
 use crate::access::Access;
 use crate::accesses::Accesses;
+use crate::bounds::{count_along, count_before, count_through};
 use crate::conflicts::rivals_among;
-use crate::places::{count_along, count_before, count_through};
 use crate::whole_list::WholeList;
 use sgt_model::{Key, Kind, NoMemory, Tid, Tids};
 use std::alloc::Global;
@@ -17,7 +17,7 @@ use std::marker::Model;
 
 /// The accesses in the order of their keys, those of one key side by side and oldest first.
 ///
-/// `rivals` searches for the key and looks at its accesses alone. `note` searches for the place behind them and moves the
+/// `rivals` searches for the key and looks at its accesses alone. `note` searches for the index behind them and moves the
 /// accesses of later keys up by one; but where the last of the key's accesses is of the same transaction, the two are kept as
 /// one, a store if either is: it conflicts with whatever one of them does. `forget` goes once through the accesses of those
 /// who are live. Nothing is kept of a key without accesses. The order in which accesses of different keys were noted is there
@@ -79,8 +79,8 @@ impl Accesses for PerKey {
 
     fn note(&mut self, t: Tid, key: Key, kind: Kind) {
         let access = Access { by: t, key, kind };
-        let place = count_through(self.by_key.as_slice(), key);
-        add(&mut self.by_key, place, access);
+        let index = count_through(self.by_key.as_slice(), key);
+        add(&mut self.by_key, index, access);
         self.whole.note(access);
     }
 
@@ -97,30 +97,30 @@ impl Accesses for PerKey {
 
 // Adds an access behind those of its key and of keys before it. Where the last of these is of its transaction and its key,
 // a look adds nothing, and a store takes that one's place.
-fn add(accesses: &mut Vec<Access>, place: usize, access: Access)
+fn add(accesses: &mut Vec<Access>, index: usize, access: Access)
     requires room { vec_len accesses.old < vec_capacity accesses.old }
-    requires within { place ≤ length accesses.old.items }
-    requires through { AllWithin (λ a. key_lt access.key a.key ≡ false) accesses.old.items 0 place }
-    requires after { AllWithin (λ a. key_lt access.key a.key ≡ true) accesses.old.items place (length accesses.old.items) }
+    requires within { index ≤ length accesses.old.items }
+    requires through { AllWithin (λ a. key_lt access.key a.key ≡ false) accesses.old.items 0 index }
+    requires after { AllWithin (λ a. key_lt access.key a.key ≡ true) accesses.old.items index (length accesses.old.items) }
     ensures { (list : List ListedAccess) → StandsFor list accesses.old.items
         → StandsFor (list ++ access ∷ []) accesses.new.items }
 {
-    if 0 < place && accesses[place - 1].is_beside(&access) {
-        raise(accesses, place - 1, access);
+    if 0 < index && accesses[index - 1].is_beside(&access) {
+        raise(accesses, index - 1, access);
         return;
     }
-    if accesses.insert(place, access).is_err() {
+    if accesses.insert(index, access).is_err() {
         unreachable!();
     }
 }
 
 // Puts a store in the place of an access of its transaction and its key. A look adds nothing to that.
-fn raise(accesses: &mut Vec<Access>, place: usize, access: Access)
-    requires { place < length accesses.old.items }
+fn raise(accesses: &mut Vec<Access>, index: usize, access: Access)
+    requires { index < length accesses.old.items }
     ensures look { access.kind ≡ Look → accesses.new.items ≡ accesses.old.items }
-    ensures store { access.kind ≡ Store → accesses.new.items ≡ slice_set accesses.old.items place access }
+    ensures store { access.kind ≡ Store → accesses.new.items ≡ slice_set accesses.old.items index access }
 {
     if access.kind == Kind::Store {
-        accesses[place] = access;
+        accesses[index] = access;
     }
 }

@@ -18,7 +18,7 @@ use Rattle.sgt_dispatch.specs.declared.job.Job.{Job}
 use Rattle.sgt_workers.specs.declared.outcome.Outcome.{Outcome}
 use Rattle.sgt_workers.specs.declared.outcome.Outcome.TheVariants as outcome
 use Rattle.sgt_model.specs.Questions.{is_commit}
-use Rattle.sgt_workers.specs.Outcomes.{Stands}
+use Rattle.sgt_workers.specs.Outcomes.{OutcomeStands}
 use Rattle.sgt_bank.specs.OutcomeText.{commit_words, words_at, outcome_words, outcome_line}
 use Rattle.sgt_bank.specs.Reports.{outcome_lines, report_text}
 use Rattle.sgt_bank.specs.SerialText.{serial_results, committed_before, result_words, serial_words, serial_lines, serial_text}
@@ -78,20 +78,20 @@ told-at (x ∷ later) (suc n) e answers at is =
 commit-words : (s : Setting) (history : List Entry) (n : ℕ) (e : Entry) (r : Reply) → IsSerializable s (reverse history) → slice_get history n ≡ Some e → e.reply ≡ r → is_commit r ≡ true → result_words (slice_get (serial_results s history) (committed_before history n)) ≡ commit_words r
 commit-words s history n e (reply.Committed answers) replay at is commits =
     ap result_words (
-      ap (λ l. slice_get (reverse l) (committed_before history n)) replay.answers
-          ∙ ap (λ l. slice_get l (committed_before history n)) (told-in-order history)
-          ∙ ap (slice_get (in_order history)) (committed-in-order history n)
-          ∙ told-at history n e answers at is
+    ap (λ l. slice_get (reverse l) (committed_before history n)) replay.answers
+    ∙ ap (λ l. slice_get l (committed_before history n)) (told-in-order history)
+    ∙ ap (slice_get (in_order history)) (committed-in-order history n)
+    ∙ told-at history n e answers at is
     )
 commit-words s history n e r replay at is commits = absurd (false≢true commits)
 
 -- the words of an outcome that stands in the history
-words-same : {N : Type 0} → (s : Setting) (history : List Entry) (tries : ℕ) (job : Job) (o : Outcome N) → IsSerializable s (reverse history) → Stands history tries job o → serial_words s history o ≡ outcome_words history o
+words-same : {N : Type 0} → (s : Setting) (history : List Entry) (tries : ℕ) (job : Job) (o : Outcome N) → IsSerializable s (reverse history) → OutcomeStands history tries job o → serial_words s history o ≡ outcome_words history o
 words-same s history tries job (outcome.Done n) replay stands =
     commit-words s history n stands.entry stands.entry.reply replay stands.there refl stands.reply_is ∙ ap (words_at commit_words) (sym stands.there)
 words-same s history tries job o replay stands = refl
 
-lines-same : {N : Type 0} → (s : Setting) (history : List Entry) (tries number : ℕ) (jobs : List Job) (os : List (Outcome N)) → IsSerializable s (reverse history) → AllZip (Stands history tries) jobs os → serial_lines number s history os ≡ outcome_lines number history os
+lines-same : {N : Type 0} → (s : Setting) (history : List Entry) (tries number : ℕ) (jobs : List Job) (os : List (Outcome N)) → IsSerializable s (reverse history) → AllZip (OutcomeStands history tries) jobs os → serial_lines number s history os ≡ outcome_lines number history os
 lines-same s history tries number [] [] replay stand = refl
 lines-same s history tries number [] (o ∷ os) replay stand = absurd stand
 lines-same s history tries number (job ∷ jobs) [] replay stand = absurd stand
@@ -100,5 +100,5 @@ lines-same s history tries number (job ∷ jobs) (o ∷ os) replay stand =
     ∙ ap (λ lines. outcome_line number (outcome_words history o) ++ lines) (lines-same s history tries (number + 1) jobs os replay stand.1)
 
 -- the text of a report whose outcomes stand in its history is what the serial run tells
-pub text-same : {N : Type 0} → (s : Setting) (history : List Entry) (tries : ℕ) (jobs : List Job) (os : List (Outcome N)) (rows : List Row) → IsSerializable s (reverse history) → AllZip (Stands history tries) jobs os → report_text history os rows ≡ serial_text s history os rows
+pub text-same : {N : Type 0} → (s : Setting) (history : List Entry) (tries : ℕ) (jobs : List Job) (os : List (Outcome N)) (rows : List Row) → IsSerializable s (reverse history) → AllZip (OutcomeStands history tries) jobs os → report_text history os rows ≡ serial_text s history os rows
 text-same s history tries jobs os rows replay stand = ap (λ lines. lines ++ database_text rows) (sym (lines-same s history tries 0 jobs os replay stand))

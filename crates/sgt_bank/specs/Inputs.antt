@@ -12,7 +12,7 @@ use Rattle.sgt_stream.specs.Ends.{IsOfInput, fault_of_opening, no_opening}
 use Rattle.sgt_stream.specs.Spelled.{spelled, end_of}
 use Rattle.sgt_bank.specs.Jobs.{job_at, numbered}
 
--- line 1 opens, with a place for each worker, and each later line asks for a job
+-- line 1 opens, with room for each worker, and each later line asks for a job
 pub record IsInput (workers : ℕ) (line : List ℕ) (later : List (List ℕ)) (ending : Ending) (opening : Opening) (jobs : List Job) : Type 0 where
   pub opens : Opens workers line opening
   pub jobs_are : jobs ≡ numbered 0 (spelled job_at 2 later)
@@ -28,7 +28,7 @@ abbrev pub InputAsks : ℕ → List ℕ → Opening → List Job → Type 0
 InputAsks workers bytes opening jobs = LinesAsk workers (cut bytes).given (cut bytes).ending opening jobs
 
 -- line 1 is refused as an opening, with this fault
-pub record IsRefused (workers : ℕ) (line : List ℕ) (f : Fault) : Type 0 where
+pub record OpeningIsRefused (workers : ℕ) (line : List ℕ) (f : Fault) : Type 0 where
   pub error : OpeningError
   pub refuses : Refuses workers line error
   pub known : error ≢ opening_error.NoMemory
@@ -43,7 +43,7 @@ pub record IsBehind (workers : ℕ) (line : List ℕ) (later : List (List ℕ)) 
 -- the first fault of these lines
 abbrev pub LinesFail : ℕ → List (List ℕ) → Ending → Fault → Type 0
 LinesFail workers [] ending f = no_opening ending ≡ Err f
-LinesFail workers (line ∷ later) ending f = IsRefused workers line f ⊎ IsBehind workers line later ending f
+LinesFail workers (line ∷ later) ending f = OpeningIsRefused workers line f ⊎ IsBehind workers line later ending f
 
 -- the first fault of these bytes
 abbrev pub InputFails : ℕ → List ℕ → Fault → Type 0

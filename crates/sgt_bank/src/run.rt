@@ -2,7 +2,7 @@ ghost use Rattle.std.specs.Prelude.{◌≡◌, ◌≢◌, ℕ, List, IfOk, IfErr
 ghost use Rattle.std.specs.Io.KnownBytes.{Appends};
 ghost use Rattle.sgt_program.specs.Openings.{opened_setting};
 ghost use Rattle.sgt_stream.specs.Ends.{IsOfInput};
-ghost use Rattle.sgt_workers.specs.Banks.{setting_of, AreWorkers, AreTries, AreLimitsFor, AreJobs};
+ghost use Rattle.sgt_workers.specs.Banks.{engine_setting, AreWorkers, AreTries, AreLimitsFor, AreJobs};
 ghost use Rattle.sgt_bank.specs.Inputs.{InputFails, IsOfText};
 ghost use Rattle.sgt_bank.specs.Banks.{AreRun, IsReport};
 
@@ -22,7 +22,7 @@ use std::thread::Threads;
 
 /// What the jobs of an opening are run on: what the program's engine is made of.
 fn bank_of(alloc: Global, opening: Opening) -> Result<Bank, NoMemory>
-    ensures setting { IfOk result (λ b. setting_of b ≡ opened_setting opening) }
+    ensures setting { IfOk result (λ b. engine_setting b ≡ opened_setting opening) }
     ensures limits { IfOk result (λ b. b.limits ≡ opening.limits) }
 {
     let Opening {
@@ -42,7 +42,7 @@ fn bank_of(alloc: Global, opening: Opening) -> Result<Bank, NoMemory>
 /// # Errors
 ///
 /// `Spawn`, `Mismatch` and `NoMemory`.
-fn run_opened<W: Threads + Wait + Sync>(
+fn run_behind_opening<W: Threads + Wait + Sync>(
     rt: &W,
     alloc: Global,
     opening: Opening,
@@ -76,7 +76,7 @@ fn run_opened<W: Threads + Wait + Sync>(
 /// # Errors
 ///
 /// The first fault of the input; and `Reading`, `Spawn`, `Mismatch` and `NoMemory`.
-fn report_of<S: Source, W: Threads + Wait + Sync>(
+fn report_on_input<S: Source, W: Threads + Wait + Sync>(
     rt: &W,
     alloc: Global,
     source: &mut S,
@@ -100,7 +100,7 @@ fn report_of<S: Source, W: Threads + Wait + Sync>(
     // In every legal history behind the opening SmallBank's procedures did the bank's arithmetic.
     opened_is_bank();
     let (opening, jobs) = read_input(alloc, source, workers)?;
-    let report = run_opened(rt, alloc, opening, jobs.as_slice(), workers, tries)?;
+    let report = run_behind_opening(rt, alloc, opening, jobs.as_slice(), workers, tries)?;
     let text = report_text(
         alloc,
         report.history.as_slice(),
@@ -111,7 +111,7 @@ fn report_of<S: Source, W: Threads + Wait + Sync>(
 }
 
 /// Runs the jobs of an input on worker threads, and writes what became of them: a line for each job, by number, and then the
-/// committed database. Line 1 opens, as in a script, with a place for each worker, and each later line asks for a job. All
+/// committed database. Line 1 opens, as in a script, with room for each worker, and each later line asks for a job. All
 /// input is read before the first thread is made, and nothing is written before all jobs have ended.
 ///
 /// What is written is the text of a report: the history behind it is legal, each outcome stands in it, and run one after
@@ -151,7 +151,7 @@ pub fn run_jobs<S: Source, T: Sink, W: Threads + Wait + Sync>(
     ensures write_failed { result ≡ Err Fault.Writing →
         T.failures sink.new ≡ T.failures sink.old + 1 }
 {
-    let text = report_of(rt, alloc, source, workers, tries)?;
+    let text = report_on_input(rt, alloc, source, workers, tries)?;
     if write_all(sink, text.as_slice()).is_err() {
         return Err(Fault::Writing);
     }

@@ -11,7 +11,7 @@ use sgt_model::{Tid, Tids};
 /// Each pair is of two live ones: the source, and the reader that has read from it. This takes no memory. It goes through the
 /// pairs once more than transactions fall, and for each pair through the live ones.
 ///
-/// Bernstein, Hadzilacos and Goodman (1987), chapter 2: cascading abort.
+/// Bernstein, Hadzilacos and Goodman (1987), chapter 1: cascading abort.
 pub fn fallers(read_from: &[(Tid, Tid)], live: &Tids, t: Tid) -> Tids
     requires live { Member t live.now }
     requires live_pairs { (u v : ℕ) → Has read_from.now u v

@@ -2,7 +2,7 @@ ghost use Rattle.std.specs.Prelude.{◌≡◌, ℕ, false, not, ◌&&◌, nat_eq
 ghost use Rattle.std.specs.Option.{option_or};
 ghost use Rattle.sgt_model.specs.Contents.{Key as K};
 ghost use Rattle.sgt_model.specs.AccessList.{forgotten};
-ghost use Rattle.sgt_model.specs.Chains.{without, value_in};
+ghost use Rattle.sgt_model.specs.Chains.{chain_without, value_in};
 ghost use Rattle.sgt_model.specs.ChainOrder.{IsFirstIn};
 ghost use Rattle.sgt_graph.specs.Graphs.{IsLeastPred};
 
@@ -30,7 +30,7 @@ pub fn finish<R: Records, A: Accesses, G: Graph>(
     t: Tid,
 )
     requires first { (k : K) → IsFirstIn t (R.chain records.old k) }
-    ensures chain { (k : K) → R.chain records.new k ≡ without t (R.chain records.old k) }
+    ensures chain { (k : K) → R.chain records.new k ≡ chain_without t (R.chain records.old k) }
     ensures settled { (k : K) → R.settled records.new k
         ≡ option_or (value_in t (R.chain records.old k)) (R.settled records.old k) }
     ensures accesses { A.list accesses.new ≡ forgotten t (A.list accesses.old) }
@@ -46,14 +46,14 @@ pub fn finish<R: Records, A: Accesses, G: Graph>(
 /// Aborts t in the layers: its values leave the chains, where those written over them stay, and t leaves the access list and
 /// the graph. The committed values stay. This takes no memory.
 ///
-/// Bernstein, Hadzilacos and Goodman (1987), chapter 2. No value from before t's writes is written back.
+/// No value from before t's writes is written back.
 pub fn unwind<R: Records, A: Accesses, G: Graph>(
     records: &mut R,
     accesses: &mut A,
     graph: &mut G,
     t: Tid,
 )
-    ensures chain { (k : K) → R.chain records.new k ≡ without t (R.chain records.old k) }
+    ensures chain { (k : K) → R.chain records.new k ≡ chain_without t (R.chain records.old k) }
     ensures settled { (k : K) → R.settled records.new k ≡ R.settled records.old k }
     ensures accesses { A.list accesses.new ≡ forgotten t (A.list accesses.old) }
     ensures nodes { (u : ℕ) → G.nodes graph.new u ≡ (G.nodes graph.old u && not (nat_eq t u)) }

@@ -62,9 +62,9 @@ pub fn compare<W: Threads + Wait + Sync>(rt: &W, alloc: Global) -> Result<Compar
 
 /// The job of this number: a deposit, a look at a balance, or all that a name has for the next name.
 fn job_of(number: u32) -> Job {
-    let place = number % ACCOUNTS;
-    let name = i64::from(place).wrapping_add(1);
-    let next = i64::from((place + 1) % ACCOUNTS).wrapping_add(1);
+    let index = number % ACCOUNTS;
+    let name = i64::from(index).wrapping_add(1);
+    let next = i64::from((index + 1) % ACCOUNTS).wrapping_add(1);
     match number % 3 {
         0 => job(number, DEPOSIT_CHECKING, &[name, 7]),
         1 => job(number, BALANCE, &[name]),
@@ -82,10 +82,10 @@ fn many_jobs(alloc: Global) -> Result<Vec<Job>, AllocError> {
 
 /// The jobs that were done, in the order of their commits, each numbered anew.
 fn done_jobs(alloc: Global, jobs: &[Job], report: &Report<u64>) -> Result<Vec<Job>, AllocError> {
-    let by_place = jobs_by_place(alloc, report)?;
+    let by_index = jobs_by_index(alloc, report)?;
     let mut done = Vec::with_capacity(alloc, jobs.len())?;
     let mut next = 0u32;
-    for number in &by_place {
+    for number in &by_index {
         let Some(number) = number else {
             continue;
         };
@@ -97,19 +97,19 @@ fn done_jobs(alloc: Global, jobs: &[Job], report: &Report<u64>) -> Result<Vec<Jo
     Ok(done)
 }
 
-/// By the places of the history, the job that was done there.
-fn jobs_by_place(alloc: Global, report: &Report<u64>) -> Result<Vec<Option<u32>>, AllocError> {
-    let mut by_place = Vec::from_elem(alloc, None, report.history.len())?;
+/// By the indices of the history, the job that was done there.
+fn jobs_by_index(alloc: Global, report: &Report<u64>) -> Result<Vec<Option<u32>>, AllocError> {
+    let mut by_index = Vec::from_elem(alloc, None, report.history.len())?;
     let mut number = 0u32;
     for outcome in &report.outcomes {
-        if let Outcome::Done(place) = outcome {
-            if let Some(at) = by_place.get_mut(*place as usize) {
+        if let Outcome::Done(index) = outcome {
+            if let Some(at) = by_index.get_mut(*index as usize) {
                 *at = Some(number);
             }
         }
         number = number.wrapping_add(1);
     }
-    Ok(by_place)
+    Ok(by_index)
 }
 
 /// Whether the commits have the same answers, in their order.

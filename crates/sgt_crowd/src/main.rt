@@ -1,4 +1,4 @@
-//! Runs jobs on several workers as the gate does, and tells what has to come out whatever the schedule; it stands in `stdout`.
+//! Runs jobs on several workers as the test command does, and tells what has to come out whatever the schedule; it stands in `stdout`.
 //!
 //! The first runs have gates of their own, which hold each worker until the others have come to where they are wanted: so it is
 //! told here, and by no proof, that workers run side by side, that the lock is let go between two calls, and that the gate is

@@ -1,11 +1,11 @@
--- Bits of numbers as sets of places.
+-- Bits of numbers as sets of indices.
 use Rattle.std.specs.Prelude.{◌≡◌, ℕ, ◌-◌, ◌*◌, ◌%◌, ◌^◌, ◌<◌, ◌≤◌, ◌⊎◌, min, max, true, false, not, ◌&&◌, ◌||◌, nat_eq, bit_and, bit_or}
 use Rattle.std.proofs.Common.{refl, sym, ◌∙◌, ap, subst, inl, inr, arith, w32}
 use Rattle.std.proofs.lemmas.Bool.{eq-eqb, eqb-true, false_from_ne_true, cases_eq, cases_lt}
 use Rattle.std.proofs.lemmas.Nat.{one_shl, pow_pos}
 use Rattle.std.proofs.lemmas.Nat.Bits.{bit_at_and, bit_at_or, bit_at_not, bit_at_above, bit_at-zero, bit_at-lt, bit_at-pow_same, bit_at-pow_other, bit_at-trailing_zeros, and_pow}
 use Rattle.std.specs.Int.{bit_at, trailing_zeros}
-use Rattle.sgt_cycle.specs.Places.{is_set}
+use Rattle.sgt_cycle.specs.Indices.{is_set}
 
 digit : (x : ℕ) → x < 2 → (x ≡ 0) ⊎ (x ≡ 1)
 digit x below = elim (cases_eq x 0) [ inl e ↦ inl e | inr n ↦ inr (omega arith) ]
@@ -37,7 +37,7 @@ pub joined_set : (a b i : ℕ) → is_set (bit_or a b) i ≡ (is_set a i || is_s
 unfolding is_set
 joined_set a b i = ap (λ x. nat_eq x 1) (bit_at_or a b i) ∙ digits_max (bit_at a i) (bit_at b i) (bit_at-lt a i) (bit_at-lt b i)
 
--- no place from 32 on is in a set
+-- no index from 32 on is in a set
 pub none_above : (a i : ℕ) → a < 2 ^ 32 → 32 ≤ i → is_set a i ≡ false
 unfolding is_set
 none_above a i fits high = ap (λ x. nat_eq x 1) (bit_at_above a 32 i fits high)

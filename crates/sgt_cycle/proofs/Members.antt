@@ -5,13 +5,13 @@ use Rattle.std.proofs.Math.Seq.{take-suc}
 use Rattle.sgt_model.specs.Walks.{Member, Distinct}
 use Rattle.sgt_model.proofs.Paths.{Within}
 
--- a member stands at some place
+-- a member stands at some index
 pub member_at : (x : ℕ) (xs : List ℕ) → Member x xs → (i : ℕ) × (i < length xs) × ((d : ℕ) → slice_index_or xs i d ≡ x)
 member_at x [] m = elim m [ ]
 member_at x (y ∷ xs) (inl e) = (0, omega arith, λ d. sym e)
 member_at x (y ∷ xs) (inr m) = let (i, below, at) = member_at x xs m in (suc i, omega arith, at)
 
--- what stands at a place is a member
+-- what stands at an index is a member
 pub at_member : (xs : List ℕ) (i d : ℕ) → i < length xs → Member (slice_index_or xs i d) xs
 at_member [] i d below = omega arith
 at_member (y ∷ xs) zero d below = inl refl
@@ -63,7 +63,7 @@ distinct_push (x ∷ xs) u d new = (
   distinct_push xs u d.1 (λ m. new (inr m)),
 )
 
--- no two places of a list of different numbers have one number
+-- no two indices of a list of different numbers have one number
 pub distinct_apart : (xs : List ℕ) → Distinct xs → (i j : ℕ) → i < j → j < length xs → slice_index xs i ≢ slice_index xs j
 distinct_apart [] d i j rises below same = omega arith
 distinct_apart (x ∷ xs) d i zero rises below same = omega arith

@@ -1,23 +1,23 @@
--- The search forward over rows of places, depth first.
+-- The search forward over rows of indices, depth first.
 use Rattle.std.specs.Prelude.{◌≡◌, ◌≢◌, ℕ, ◌<◌, ◌≤◌, ◌⊎◌, ◌↔◌, Bool, true, false, not, ◌&&◌, nat_eq, List, [], ◌∷◌, ◌++◌, length, slice_index, cond}
 use Rattle.std.proofs.Common.{zero, suc, refl, sym, ◌∙◌, ap, subst, inl, inr, arith}
 use Rattle.std.proofs.lemmas.Bool.{eqb-true, eq-eqb, and_from, both_ways, cases_lt, false_from_ne_true, cases_eq}
 use Rattle.sgt_model.specs.Walks.{PathOf, last_of, Member, Distinct}
 use Rattle.sgt_model.proofs.Paths.{Within, last_of-append}
-use Rattle.sgt_cycle.specs.Places.{is_set, is_bit, places_below, places}
+use Rattle.sgt_cycle.specs.Indices.{is_set, is_bit, indices_below, indices}
 use Rattle.sgt_cycle.specs.Walk.{Holds, IsWalk, NoWalk, Follows}
 use Rattle.sgt_cycle.proofs.Members.{member_push, distinct_push, distinct_fits}
 use Rattle.sgt_cycle.proofs.Searched.{closed_path}
 use Rattle.sgt_cycle.proofs.Bits.{none_in}
 
--- the members of the places of a set
-pub places_member : (n set t : ℕ) → Member t (places_below n set) ↔ ((t < n) × (is_set set t ≡ true))
-unfolding places_below
-places_member zero set t = ((λ m. absurd m), (λ h. absurd (omega (arith, h.0))))
-places_member (suc n) set t = go (places_member n set t) (is_set set n) refl
+-- the members of the indices of a set
+pub indices_member : (n set t : ℕ) → Member t (indices_below n set) ↔ ((t < n) × (is_set set t ≡ true))
+unfolding indices_below
+indices_member zero set t = ((λ m. absurd m), (λ h. absurd (omega (arith, h.0))))
+indices_member (suc n) set t = go (indices_member n set t) (is_set set n) refl
   where
-    go : (Member t (places_below n set) ↔ ((t < n) × (is_set set t ≡ true))) → (b : Bool) → is_set set n ≡ b
-        → Member t (cond b (n ∷ places_below n set) (places_below n set)) ↔ ((t < suc n) × (is_set set t ≡ true))
+    go : (Member t (indices_below n set) ↔ ((t < n) × (is_set set t ≡ true))) → (b : Bool) → is_set set n ≡ b
+        → Member t (cond b (n ∷ indices_below n set) (indices_below n set)) ↔ ((t < suc n) × (is_set set t ≡ true))
     go old true e = (
       (λ m. elim m [
         | inl same ↦ (omega arith, subst (λ x. is_set set x ≡ true) (sym same) e)
@@ -47,12 +47,12 @@ unfolding counted
 counted_member zero t below = absurd (omega arith)
 counted_member (suc n) t below = elim (cases_eq t n) [ inl e ↦ inl e | inr other ↦ inr (counted_member n t (omega arith)) ]
 
--- a path begins with the source, where it has a place
+-- a path begins with the source, where it has an index
 abbrev pub First : ℕ → List ℕ → Type 0
 First source [] = Unit {0}
 First source (x ∷ path) = x ≡ source
 
--- what the search keeps: the path that it is on, and the places that it has not met
+-- what the search keeps: the path that it is on, and the indices that it has not met
 pub record Searching (rows : List ℕ) (source targets fresh : ℕ) (path : List ℕ) : Type 0 where
   pub begins : First source path
   pub follows : Follows (is_bit rows) path
@@ -121,7 +121,7 @@ module _ (rows : List ℕ) (source targets : ℕ) where
       met_source : is_set fresh source ≡ false
       met_source = others source low ∙ ap not (eq-eqb source source refl)
 
-  -- a path of one more place fits
+  -- a path of one more index fits
   pub search_fits : (fresh : ℕ) (path : List ℕ) → Searching rows source targets fresh path → length path ≤ 32
   search_fits fresh path s =
       omega (arith, distinct_fits path (counted 32) s.distinct (λ x m. counted_member 32 x (s.met x m).0), counted_length 32)
@@ -130,7 +130,7 @@ module _ (rows : List ℕ) (source targets : ℕ) where
     pub search_here : here < 32
     search_here = (s.met here ((member_push here q here).1 (inr refl))).0
 
-    -- a step to a place that was not met
+    -- a step to an index that was not met
     pub search_push : (next fresh' : ℕ) → next < 32 → is_bit rows here next ≡ true → is_set fresh next ≡ true
         → ((i : ℕ) → is_set fresh' i ≡ (is_set fresh i && not (nat_eq i next)))
         → Searching rows source targets fresh' ((q ++ here ∷ []) ++ next ∷ [])
@@ -178,7 +178,7 @@ module _ (rows : List ℕ) (source targets : ℕ) where
           | inr e ↦ counted_member 32 x (subst (λ y. y < 32) (sym e) low)
         ]
 
-    -- back from a place whose steps all lead to places that were met
+    -- back from an index whose steps all lead to indices that were met
     pub search_pop : is_set targets here ≡ false → ((b : ℕ) → is_bit rows here b ≡ true → is_set fresh b ≡ false)
         → Searching rows source targets fresh q
     search_pop no_target closed = record {
@@ -201,32 +201,32 @@ module _ (rows : List ℕ) (source targets : ℕ) where
     }
 
     -- at a target the path is a walk
-    pub search_ends : is_set targets here ≡ true → IsWalk (is_bit rows) source (places targets) (q ++ here ∷ [])
+    pub search_ends : is_set targets here ≡ true → IsWalk (is_bit rows) source (indices targets) (q ++ here ∷ [])
     search_ends target = go q s.begins s.follows s.distinct
       where
-        last : Member here (places targets)
-        last = (places_member 32 targets here).1 (search_here, target)
+        last : Member here (indices targets)
+        last = (indices_member 32 targets here).1 (search_here, target)
 
         go : (q : List ℕ) → First source (q ++ here ∷ []) → Follows (is_bit rows) (q ++ here ∷ []) → Distinct (q ++ here ∷ [])
-            → IsWalk (is_bit rows) source (places targets) (q ++ here ∷ [])
+            → IsWalk (is_bit rows) source (indices targets) (q ++ here ∷ [])
         go [] f p d =
-            ([], ap (λ x. x ∷ []) f, record { distinct = ((λ m. m), tt); goes = tt; ends = subst (λ x. Member x (places targets)) f last })
+            ([], ap (λ x. x ∷ []) f, record { distinct = ((λ m. m), tt); goes = tt; ends = subst (λ x. Member x (indices targets)) f last })
         go (x ∷ q) f p d = (
           q ++ here ∷ [],
           ap (λ y. y ∷ q ++ here ∷ []) f,
           record {
             distinct = subst (λ y. Distinct (y ∷ q ++ here ∷ [])) f d;
             goes = subst (λ y. PathOf (Holds (is_bit rows)) y (q ++ here ∷ [])) f p;
-            ends = subst (λ y. Member y (places targets)) (sym (last_of-append source q (here ∷ []))) last;
+            ends = subst (λ y. Member y (indices targets)) (sym (last_of-append source q (here ∷ []))) last;
           },
         )
 
   -- where no path is left, none leads to a target
-  pub search_none : (fresh : ℕ) → Searching rows source targets fresh [] → NoWalk (is_bit rows) source (places targets)
+  pub search_none : (fresh : ℕ) → Searching rows source targets fresh [] → NoWalk (is_bit rows) source (indices targets)
   search_none fresh s rest w =
       let closed : is_set fresh (last_of source rest) ≡ false = closed_path (Holds (is_bit rows)) (λ x. is_set fresh x ≡ false)
       (λ a b old link. (outside a old).1 b link) source rest s.source_met w.goes in
-      both_ways _ (outside (last_of source rest) closed).0 ((places_member 32 targets (last_of source rest)).0 w.ends).1
+      both_ways _ (outside (last_of source rest) closed).0 ((indices_member 32 targets (last_of source rest)).0 w.ends).1
     where
       outside : (a : ℕ) → is_set fresh a ≡ false → (is_set targets a ≡ false) × ((b : ℕ) → is_bit rows a b ≡ true → is_set fresh b ≡ false)
       outside a old = elim (s.done a old) [ inl m ↦ absurd m | inr h ↦ h ]

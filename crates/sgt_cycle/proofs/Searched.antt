@@ -51,21 +51,21 @@ abbrev pub Leads : (ℕ → ℕ → Bool) → List ℕ → List ℕ → ℕ → 
 Leads test targets seen a = Member a targets ⊎ ((i : ℕ) × (i < length seen) × Holds test a (slice_index seen i))
 
 module _ (test : ℕ → ℕ → Bool) (targets seen : List ℕ) (a : ℕ) where
-  old_place : (i : ℕ) → i < length seen → slice_index (seen ++ a ∷ []) i ≡ slice_index seen i
-  old_place i below = get_or-append seen (a ∷ []) 0 i below
+  old_index : (i : ℕ) → i < length seen → slice_index (seen ++ a ∷ []) i ≡ slice_index seen i
+  old_index i below = get_or-append seen (a ∷ []) 0 i below
 
   pub leads_push : LeadsBack test targets seen → Leads test targets seen a → LeadsBack test targets (seen ++ a ∷ [])
   leads_push leads here j below = elim (cases_lt j (length seen)) [
     | inl old ↦ elim (leads j old) [
-      | inl m ↦ inl (subst (λ x. Member x targets) (sym (old_place j old)) m)
-      | inr (i, less, link) ↦ inr (i, less, rw (old_place j old, old_place i (omega arith)) link)
+      | inl m ↦ inl (subst (λ x. Member x targets) (sym (old_index j old)) m)
+      | inr (i, less, link) ↦ inr (i, less, rw (old_index j old, old_index i (omega arith)) link)
     ]
     | inr more ↦
         let same : j ≡ length seen = omega (arith, length-append seen (a ∷ [])) in
         let at : slice_index (seen ++ a ∷ []) j ≡ a = ap (λ k. slice_index (seen ++ a ∷ []) k) same ∙ get_or-append_seam seen a [] 0 in
         elim here [
           | inl m ↦ inl (subst (λ x. Member x targets) (sym at) m)
-          | inr (i, less, link) ↦ inr (i, omega arith, rw (at, old_place i less) link)
+          | inr (i, less, link) ↦ inr (i, omega arith, rw (at, old_index i less) link)
         ]
   ]
 

@@ -10,7 +10,7 @@ use Rattle.sgt_cycle.specs.Search.{LeadsBack}
 use Rattle.sgt_cycle.proofs.Members.{at_member, any_default, member_push, distinct_apart, distinct_push, distinct_fits}
 use Rattle.sgt_cycle.proofs.Links.{link_ends}
 
--- a walk from the source to the number at a place, all of it at that place or after
+-- a walk from the source to the number at an index, all of it at that index or after
 pub record Walked (test : ℕ → ℕ → Bool) (source : ℕ) (seen : List ℕ) (at : ℕ) (path : List ℕ) : Type 0 where
   pub rest : List ℕ
   pub is : path ≡ source ∷ rest
@@ -20,7 +20,7 @@ pub record Walked (test : ℕ → ℕ → Bool) (source : ℕ) (seen : List ℕ)
   pub behind : (x : ℕ) → Member x (source ∷ rest) → (i : ℕ) × (at ≤ i) × (i < length seen) × (slice_index seen i ≡ x)
 
 module _ (test : ℕ → ℕ → Bool) (source : ℕ) (seen : List ℕ) where
-  -- a step to a place before
+  -- a step to an index before
   walked_push : (at : ℕ) (path : List ℕ) (i : ℕ) → Distinct seen → Walked test source seen at path → at < length seen → i < at
       → Holds test (slice_index seen at) (slice_index seen i) → Walked test source seen i (path ++ slice_index seen i ∷ [])
   walked_push at path i distinct w below less link =
@@ -40,7 +40,7 @@ module _ (test : ℕ → ℕ → Bool) (source : ℕ) (seen : List ℕ) where
         ];
       }
 
-  -- the walk goes on to a place before
+  -- the walk goes on to an index before
   pub walked_next : (at : ℕ) (path : List ℕ) (next r u : ℕ) → Distinct seen → Walked test source seen at path → at < length seen
       → r ≡ slice_index_or seen at r
       → next < length (take at seen) → Holds test r (slice_index (take at seen) next) → u ≡ slice_index_or seen next u

@@ -1,4 +1,4 @@
 pub mod Links
 pub mod Walk
 pub mod Search
-pub mod Places
+pub mod Indices

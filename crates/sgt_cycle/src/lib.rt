@@ -2,7 +2,7 @@
 //! some targets.
 //!
 //! [`walk`] is exact: it answers a walk from the source to a target that passes no number twice, and `None` only where there
-//! is none. [`walk_rows`] does the same over rows of bits, where the numbers are places below 32 and [`places`] has the sets of
+//! is none. [`walk_rows`] does the same over rows of bits, where the numbers are indices below 32 and [`indices`] has the sets of
 //! them. [`is_walk`] tests a path. None of them takes memory, keeps a link, or knows what the links mean.
 //!
 //! ```
@@ -13,8 +13,8 @@
 //! ```
 #![tactic(auto)]
 
+pub mod indices;
 mod list;
-pub mod places;
 mod rows;
 mod search;
 mod walks;

@@ -4,8 +4,8 @@ ghost use Rattle.sgt_model.specs.Walks.{Member};
 
 use sgt_model::Tid;
 
-/// The first place of a number in a list.
-pub fn place(list: &[Tid], t: Tid) -> Option<usize>
+/// The first index of a number in a list.
+pub fn index(list: &[Tid], t: Tid) -> Option<usize>
     ensures some { IfSome result (λ i. (i < length list.now) × (slice_index list.now i ≡ t)) }
     ensures none { IsNone result → Member t list.now → ⊥ }
 {
@@ -21,5 +21,5 @@ pub fn place(list: &[Tid], t: Tid) -> Option<usize>
 pub fn has(list: &[Tid], t: Tid) -> bool
     ensures { IsTrue result ↔ Member t list.now }
 {
-    place(list, t).is_some()
+    index(list, t).is_some()
 }

@@ -1,19 +1,19 @@
 ghost use Rattle.std.specs.Prelude.{◌≡◌, ◌<◌, IfSome, IsNone};
-ghost use Rattle.sgt_cycle.specs.Places.{is_bit, places};
+ghost use Rattle.sgt_cycle.specs.Indices.{is_bit, indices};
 ghost use Rattle.sgt_cycle.specs.Walk.{IsWalk, NoWalk};
 
-use crate::places::{common, complement, has, least, minus, only};
+use crate::indices::{common, complement, has, least, minus, only};
 use arrayvec::ArrayVec;
 use sgt_model::Bounded;
 
-/// A walk along the rows from the source to one of the targets, through no place twice; None where there is none. Row `i` has
-/// the places to which a step leads from place `i`. It takes no memory, and comes to each place at most once.
+/// A walk along the rows from the source to one of the targets, through no index twice; None where there is none. Row `i` has
+/// the indices to which a step leads from index `i`. It takes no memory, and comes to each index at most once.
 ///
 /// Depth first (Tarjan, "Depth-first search and linear graph algorithms", 1972).
 pub fn walk_rows(rows: &[u32; 32], source: u8, targets: u32) -> Option<Bounded<u8, 32>>
-    requires place { source < 32 }
-    ensures some { IfSome result (IsWalk (is_bit rows.now) source (places targets)) }
-    ensures none { IsNone result → NoWalk (is_bit rows.now) source (places targets) }
+    requires index { source < 32 }
+    ensures some { IfSome result (IsWalk (is_bit rows.now) source (indices targets)) }
+    ensures none { IsNone result → NoWalk (is_bit rows.now) source (indices targets) }
 {
     let mut path: ArrayVec<u8, 32> = ArrayVec::new();
     path.push(source);

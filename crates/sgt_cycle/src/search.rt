@@ -3,7 +3,7 @@ ghost use Rattle.sgt_model.specs.Walks.{AtMost, Member, Distinct};
 ghost use Rattle.sgt_cycle.specs.Links.{is_link, is_end};
 ghost use Rattle.sgt_cycle.specs.Search.{LeadsBack};
 
-use crate::list::{has, place};
+use crate::list::{has, index};
 use sgt_model::{Bounded, Tid, Tids};
 
 /// The targets and their ancestors: 32 of each at most.
@@ -23,15 +23,15 @@ fn unseen_source(links: &[(Tid, Tid)], to: Tid, seen: &[Tid]) -> Option<Tid>
     None
 }
 
-/// The first place in the list to which a link leads from this number.
-pub fn next_place(links: &[(Tid, Tid)], from: Tid, list: &[Tid]) -> Option<usize>
+/// The first index in the list to which a link leads from this number.
+pub fn next_index(links: &[(Tid, Tid)], from: Tid, list: &[Tid]) -> Option<usize>
     ensures within { IfSome result (λ i. i < length list.now) }
     ensures link { IfSome result (λ i. is_link links.now from (slice_index list.now i) ≡ true) }
     ensures none { IsNone result → (b : ℕ) → Member b list.now → is_link links.now from b ≡ true → ⊥ }
 {
     for link in links {
         if link.0 == from {
-            if let Some(i) = place(list, link.1) {
+            if let Some(i) = index(list, link.1) {
                 return Some(i);
             }
         }

@@ -3,8 +3,8 @@ ghost use Rattle.sgt_model.specs.Walks.{AtMost};
 ghost use Rattle.sgt_cycle.specs.Links.{is_link, occurs};
 ghost use Rattle.sgt_cycle.specs.Walk.{IsWalk, NoWalk, Follows};
 
-use crate::list::{has, place};
-use crate::search::{next_place, with_ancestors};
+use crate::list::{has, index};
+use crate::search::{next_index, with_ancestors};
 use sgt_model::{Tid, Tids};
 
 /// A walk along the links from the source to one of the targets, through no number twice; None where there is none. It takes
@@ -16,12 +16,12 @@ pub fn walk(links: &[(Tid, Tid)], source: Tid, targets: &Tids) -> Option<Tids>
 {
     let seen = with_ancestors(links, targets);
     let list = seen.as_slice();
-    let mut at = place(list, source)?;
+    let mut at = index(list, source)?;
     let mut path = Tids::new();
     path.push(source);
     while !has(targets.as_slice(), list[at]) {
         let here = list[at];
-        let Some(next) = next_place(links, here, &list[..at]) else {
+        let Some(next) = next_index(links, here, &list[..at]) else {
             unreachable!();
         };
         path.push(list[next]);

@@ -9,7 +9,7 @@ use Rattle.sgt_dispatch.specs.declared.item.Item.TheVariants as Of
 use Rattle.sgt_dispatch.specs.declared.log.Log.{Log}
 use Rattle.sgt_dispatch.specs.declared.taker.Take.{Take}
 use Rattle.sgt_dispatch.specs.declared.taker.Take.TheVariants.{Job, Stop, Gone}
-use Rattle.sgt_dispatch.specs.Accounts.{Accounts}
+use Rattle.sgt_dispatch.specs.Accounts.{AccountsForItems}
 
 -- which feed an end is of
 abbrev pub FeedId : Type 0
@@ -66,8 +66,8 @@ abbrev pub IsRoom : ℕ → Type 0
 IsRoom room = (1 ≤ room) × (room ≤ 1024)
 
 -- how many jobs a feed may be made for
-abbrev pub AreJobs : ℕ → Type 0
-AreJobs jobs = jobs ≤ 1000000
+abbrev pub IsJobCount : ℕ → Type 0
+IsJobCount jobs = jobs ≤ 1000000
 
 -- how many takers it may have
 abbrev pub IsCrew : ℕ → Type 0
@@ -93,4 +93,4 @@ after_take Gone taker = taker
 
 -- what the joined takers took is accounted for, whatever the feed holds
 abbrev pub Accounted : PutterState → Type 0
-Accounted putter = (held : List Item) × Accounts putter.put putter.joined held (putter.unjoined ≡ 0)
+Accounted putter = (held : List Item) × AccountsForItems putter.put putter.joined held (putter.unjoined ≡ 0)

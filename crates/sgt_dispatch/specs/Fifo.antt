@@ -2,7 +2,7 @@
 use Rattle.std.specs.Prelude.{◌≡◌, ◌≤◌, ℕ, true, List, [], ◌++◌, All, sum_by}
 use Rattle.sgt_dispatch.specs.declared.item.Item.{Item}
 use Rattle.sgt_dispatch.specs.declared.log.Log.{Log}
-use Rattle.sgt_dispatch.specs.Accounts.{Accounts}
+use Rattle.sgt_dispatch.specs.Accounts.{AccountsForItems}
 use Rattle.sgt_dispatch.specs.Logs.{EachLog, weight_of}
 use Rattle.sgt_dispatch.specs.Subsequences.{IsSubsequence}
 
@@ -19,4 +19,4 @@ pub record IsFifo (held : List Item) (logs : List Log) : Type 0 where
 -- what the putter learns when it joins: it cannot have more than every part, and who has every part knows of all that was taken
 pub record IsTold (log : Log) (held : List Item) : Type 0 where
   pub few : log.parts ≤ 17
-  pub accounts : Accounts log.put log.joined held (log.parts ≡ 17)
+  pub accounts : AccountsForItems log.put log.joined held (log.parts ≡ 17)

@@ -2,7 +2,7 @@ ghost use Rattle.std.specs.Prelude.{◌≡◌, ◌-◌, ◌<◌, ◌≤◌, ◌�
 ghost use Rattle.crossbeam_channel.specs.Claims.{view, IsSeatAt};
 ghost use Rattle.crossbeam_channel.specs.Ends.{sends_on, receives_on};
 ghost use Rattle.sgt_dispatch.specs.declared.errors.FeedError.TheVariants as FeedError;
-ghost use Rattle.sgt_dispatch.specs.Ends.{feed_of, new_putter, new_taker, IsRoom, AreJobs, IsCrew};
+ghost use Rattle.sgt_dispatch.specs.Ends.{feed_of, new_putter, new_taker, IsRoom, IsJobCount, IsCrew};
 ghost use Rattle.sgt_dispatch.specs.Logs.{first_log};
 
 use crate::errors::FeedError;
@@ -60,8 +60,8 @@ impl Feed {
         jobs: usize,
         takers: usize,
     ) -> Result<(Putter, Vec<Taker>), FeedError>
-        ensures bad_room { (result ≡ Err FeedError.BadRoom) ↔ (¬ AreJobs jobs) }
-        ensures bad_takers { (result ≡ Err FeedError.BadTakers) ↔ (AreJobs jobs × (¬ IsCrew takers)) }
+        ensures bad_room { (result ≡ Err FeedError.BadRoom) ↔ (¬ IsJobCount jobs) }
+        ensures bad_takers { (result ≡ Err FeedError.BadTakers) ↔ (IsJobCount jobs × (¬ IsCrew takers)) }
         ensures putter { IfOk result (λ ends. ends.0 ≡ new_putter ends.0.feed takers) }
         ensures count { IfOk result (λ ends. vec_len ends.1 ≡ takers) }
         ensures takers { IfOk result (λ ends. All (λ taker. taker ≡ new_taker ends.0.feed) ends.1.items) }

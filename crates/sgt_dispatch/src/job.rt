@@ -3,9 +3,9 @@ use sgt_model::Args;
 /// One call of a procedure that a worker is to make as a transaction of its own.
 #[derive(Debug, Drop, PartialEq, Eq)]
 pub struct Job {
-    /// Its place among the jobs of a run, from 0.
+    /// Its index among the jobs of a run, from 0.
     pub number: u32,
-    /// The procedure, by its place in the list of procedures.
+    /// The procedure, by its index in the list of procedures.
     pub procedure: u16,
     /// What the procedure is called with.
     pub args: Args,

@@ -55,7 +55,7 @@ impl Putter {
     pub fn put<R: Wait>(&mut self, rt: &R, job: Job) -> Result<(), Job>
         ensures put { OnOk result (self.new ≡ with_put (Of.Job job) self.old) }
         ensures back { IfErr result (λ back. back ≡ job) }
-        ensures refused { OnErr result (self.new ≡ self.old) }
+        ensures unchanged { OnErr result (self.new ≡ self.old) }
     {
         let Err(error) = self
             .sender

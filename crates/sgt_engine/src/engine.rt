@@ -49,7 +49,7 @@ pub struct Engine<R: Records, A: Accesses, G: Graph> {
     sched: Sched<R, A, G>,
     history: Vec<Entry>,
     // Where the scheduler writes a reply that holds lists, before it is filed.
-    place: Reply,
+    out: Reply,
 }
 
 impl<R: Records, A: Accesses, G: Graph> Model for Engine<R, A, G> {
@@ -96,14 +96,14 @@ impl<R: Records, A: Accesses, G: Graph> Engine<R, A, G> {
         limits: Limits,
     ) -> Result<Self, MakeError>
         ensures made { IfOk result (λ e. e ≡ made_of opening procedures.items limits) }
-        ensures refused { (result ≡ Err MakeError.BadLimits) ↔ (¬ AreInRange limits) }
+        ensures bad_limits { (result ≡ Err MakeError.BadLimits) ↔ (¬ AreInRange limits) }
     {
         let sched = Sched::new(alloc, &opening, procedures, limits)?;
         Ok(Engine {
             opening,
             sched,
             history: Vec::new(alloc),
-            place: Reply::Ended,
+            out: Reply::Ended,
         })
     }
 
@@ -123,7 +123,7 @@ impl<R: Records, A: Accesses, G: Graph> Engine<R, A, G> {
     /// [`Reply`].
     ///
     /// Serialization graph testing is that of Bernstein, Hadzilacos and Goodman (1987), chapter 4, and the falling of readers
-    /// that of chapter 2. That a commit waits for its live predecessors, so that commit order is a serial order, is from
+    /// that of chapter 1. That a commit waits for its live predecessors, so that commit order is a serial order, is from
     /// Durner and Neumann (ICDE 2019).
     ///
     /// `NoMemory` where a growth was refused; then nothing has changed. A quit of a live transaction takes no memory, nor does
@@ -137,7 +137,7 @@ impl<R: Records, A: Accesses, G: Graph> Engine<R, A, G> {
         ensures no_cycle { Acyclic (Pair self.new.past) }
         ensures causes { AbortsHaveCause (setting_of self.new) self.new.past }
         ensures order { CommitsInOrder self.new.past }
-        ensures refused { OnErr result (self.new ≡ self.old) }
+        ensures unchanged { OnErr result (self.new ≡ self.old) }
         ensures no_memory { (r : Answer) → LegalReply (setting_of self.old) self.old.past event r
             → is_ending r ≡ true
             → IsOk result }
@@ -159,7 +159,7 @@ impl<R: Records, A: Accesses, G: Graph> Engine<R, A, G> {
         ensures no_cycle { Acyclic (Pair self.new.past) }
         ensures causes { AbortsHaveCause (setting_of self.new) self.new.past }
         ensures order { CommitsInOrder self.new.past }
-        ensures refused { OnErr result (self.new ≡ self.old) }
+        ensures unchanged { OnErr result (self.new ≡ self.old) }
         ensures no_memory { (r : Answer) → LegalReply (setting_of self.old) self.old.past event r
             → is_ending r ≡ true
             → IsOk result }
@@ -174,8 +174,8 @@ impl<R: Records, A: Accesses, G: Graph> Engine<R, A, G> {
         headline_holds();
 
         make_room(&mut self.history, &self.sched, &event)?;
-        let brief = self.sched.answer(&event, &mut self.place)?;
-        file(&mut self.history, event, &brief, &self.place);
+        let brief = self.sched.answer(&event, &mut self.out)?;
+        file(&mut self.history, event, &brief, &self.out);
         Ok(())
     }
 
@@ -242,7 +242,7 @@ impl<R: Records, A: Accesses, G: Graph> Engine<R, A, G> {
             opening,
             sched: _,
             history,
-            place: _,
+            out: _,
         } = self;
         Past { opening, history }
     }

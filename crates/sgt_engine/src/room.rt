@@ -1,7 +1,7 @@
 ghost use Rattle.std.specs.Prelude.{◌≡◌, ◌+◌, ◌<◌, ◌≤◌, [], ◌∷◌, ◌++◌, length, OnOk};
 ghost use Rattle.std.specs.Result.{IsOk};
 ghost use Rattle.std.specs.Vec.{vec_len, vec_capacity};
-ghost use Rattle.sgt_sched.specs.Briefs.{told};
+ghost use Rattle.sgt_sched.specs.Briefs.{in_full};
 ghost use Rattle.sgt_sched.specs.Endings.{EndsOne};
 ghost use Rattle.sgt_sched.specs.Scheduler.{state};
 
@@ -38,14 +38,14 @@ pub fn make_room<R: Records, A: Accesses, G: Graph>(
 }
 
 /// Adds an entry, with the reply in full. There is room for it.
-pub fn file(history: &mut Vec<Entry>, event: Event, brief: &Brief, place: &Reply)
+pub fn file(history: &mut Vec<Entry>, event: Event, brief: &Brief, out: &Reply)
     requires { vec_len history.old < vec_capacity history.old }
-    ensures items { history.new.items ≡ history.old.items ++ record { event = event; reply = told brief.now place.now } ∷ [] }
+    ensures items { history.new.items ≡ history.old.items ++ record { event = event; reply = in_full brief.now out.now } ∷ [] }
     ensures len { vec_len history.new ≡ vec_len history.old + 1 }
     ensures capacity { vec_capacity history.new ≡ vec_capacity history.old }
 {
     match brief {
-        Brief::Placed => file_placed(history, event, place),
+        Brief::Placed => file_placed(history, event, out),
         _ => history.push_reserved(Entry {
             event,
             reply: brief.short(),
@@ -53,15 +53,15 @@ pub fn file(history: &mut Vec<Entry>, event: Event, brief: &Brief, place: &Reply
     }
 }
 
-// Adds an entry with the reply that stands in the place. Most of these are commits.
+// Adds an entry with the reply that stands in `out`. Most of these are commits.
 #[inline(never)]
-fn file_placed(history: &mut Vec<Entry>, event: Event, place: &Reply)
+fn file_placed(history: &mut Vec<Entry>, event: Event, out: &Reply)
     requires { vec_len history.old < vec_capacity history.old }
-    ensures items { history.new.items ≡ history.old.items ++ record { event = event; reply = place.now } ∷ [] }
+    ensures items { history.new.items ≡ history.old.items ++ record { event = event; reply = out.now } ∷ [] }
     ensures len { vec_len history.new ≡ vec_len history.old + 1 }
     ensures capacity { vec_capacity history.new ≡ vec_capacity history.old }
 {
-    match place {
+    match out {
         Reply::Committed(answers) => {
             let answers = answers.copied();
             history.push_reserved(Entry {
@@ -69,7 +69,7 @@ fn file_placed(history: &mut Vec<Entry>, event: Event, place: &Reply)
                 reply: Reply::Committed(answers),
             });
         }
-        _ => file_copy(history, event, place),
+        _ => file_copy(history, event, out),
     }
 }
 

@@ -49,7 +49,7 @@ pub fn run_list<R: Records, A: Accesses, G: Graph>(
     ensures no_cycle { IfOk result (λ ran. Acyclic (Pair ran.engine.past)) }
     ensures causes { IfOk result (λ ran. AbortsHaveCause (setting_of ran.engine) ran.engine.past) }
     ensures order { IfOk result (λ ran. CommitsInOrder ran.engine.past) }
-    ensures refused { (result ≡ Err MakeError.BadLimits) ↔ (¬ AreInRange limits) }
+    ensures bad_limits { (result ≡ Err MakeError.BadLimits) ↔ (¬ AreInRange limits) }
 {
     let mut engine = Engine::new(alloc, opening, procedures, limits)?;
     let mut done = 0;

@@ -40,8 +40,8 @@ pub fn write_outcomes<R: AllocGlobal + Print>(rt: &R) -> io::Result<()> {
     write_line(rt, &Outcome::Asked(2))?;
     let attempts = vec![in rt.alloc(); Tid(1), Tid(4)]?;
     write_line(rt, &Outcome::Gave(attempts))?;
-    for place in 3..7 {
-        write_line(rt, &Outcome::Refused(place))?;
+    for number in 3..7 {
+        write_line(rt, &Outcome::Refused(number))?;
     }
     write_line(rt, &Outcome::Left(0))?;
     write_line(rt, &Outcome::Untaken)?;

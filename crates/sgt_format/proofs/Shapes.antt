@@ -10,7 +10,7 @@ use Rattle.serde_json.specs.declared.value.Value.{Value}
 use Rattle.sgt_format.specs.Trees.{tree_of, list, each}
 use Rattle.sgt_proc_json.specs.Trees.{whole}
 use Rattle.sgt_smallbank.specs.declared.account.Account.{Account}
-use Rattle.sgt_format.specs.Openings.{Sheet, count, pair_from, pair, account_from, account, list_at, all_three, parts_of, parts_in, sheet_of, IsRefused, Refuses}
+use Rattle.sgt_format.specs.Openings.{Sheet, count, pair_from, pair, account_from, account_in, list_at, all_three, parts_of, parts_in, sheet_of, RefusesSheet, Refuses}
 use Rattle.sgt_format.specs.declared.errors.OpeningError.{OpeningError}
 use Rattle.sgt_format.specs.declared.opening.Opening.{Opening}
 use Rattle.sgt_format.specs.declared.errors.OpeningError.TheVariants.{NotJson, BadLine, BadLimits, BadOpening, ProcShape, ProcFlaw, NoMemory}
@@ -58,7 +58,7 @@ not_four trees other = by_numbers (each whole trees) refl
     by_numbers None same = refl
     by_numbers (Some numbers) same = account_from-length numbers (λ four. other (grind (arith, length-each whole trees numbers same)))
 
-pub no_account : (tree : Data) (values : List Value) → Some (map view values) ≡ list tree → length values ≢ 4 → None ≡ account tree
+pub no_account : (tree : Data) (values : List Value) → Some (map view values) ≡ list tree → length values ≢ 4 → None ≡ account_in tree
 no_account tree values is other = sym (ap (λ o. option_and_then account_from (option_and_then (each whole) o)) (sym is) ∙ not_four (map view values) (λ four. other (sym (length-map values view) ∙ four)))
 
 -- an object has as many members as its map has entries
@@ -76,10 +76,10 @@ parts_found tree ms limits accounts procedures object three at_limits at_account
     ∙ ap (λ o. all_three (Some limits) (Some accounts) o) (sym at_procedures))
 
 -- the sheet of a line
-pub sheet_found : (line : List ℕ) (tree : Data) (limits : ℤ × ℤ) (trees procedures : List Data) (accounts : List Account) → Some tree ≡ tree_of line → Some (limits, trees, procedures) ≡ parts_in tree → Some accounts ≡ each account trees → sheet_of line ≡ Some (record { limits = limits; accounts = accounts; procedures = procedures })
+pub sheet_found : (line : List ℕ) (tree : Data) (limits : ℤ × ℤ) (trees procedures : List Data) (accounts : List Account) → Some tree ≡ tree_of line → Some (limits, trees, procedures) ≡ parts_in tree → Some accounts ≡ each account_in trees → sheet_of line ≡ Some (record { limits = limits; accounts = accounts; procedures = procedures })
 sheet_found line tree limits trees procedures accounts at_line at_tree at_trees = rw (← at_line) (rw (← at_tree) (rw (← at_trees) refl))
 
-refused_sheet : (least : ℕ) (line : List ℕ) (sheet : Sheet) (error : OpeningError) → sheet_of line ≡ Some sheet → IsRefused least sheet error → Refuses least line error
+refused_sheet : (least : ℕ) (line : List ℕ) (sheet : Sheet) (error : OpeningError) → sheet_of line ≡ Some sheet → RefusesSheet least sheet error → Refuses least line error
 refused_sheet least line sheet NotJson shape is = absurd is
 refused_sheet least line sheet BadLine shape is = absurd is
 refused_sheet least line sheet BadLimits shape is = (sheet, shape, is)
@@ -89,6 +89,6 @@ refused_sheet least line sheet (ProcFlaw number flaw) shape is = (sheet, shape, 
 refused_sheet least line sheet NoMemory shape is = tt
 
 -- what gives an opening or not is refused as what the line says is
-pub refused_line : (least : ℕ) (line : List ℕ) (sheet : Sheet) (result : Result Opening OpeningError) → sheet_of line ≡ Some sheet → IfErr result (IsRefused least sheet) → IfErr result (Refuses least line)
+pub refused_line : (least : ℕ) (line : List ℕ) (sheet : Sheet) (result : Result Opening OpeningError) → sheet_of line ≡ Some sheet → IfErr result (RefusesSheet least sheet) → IfErr result (Refuses least line)
 refused_line least line sheet (Ok opening) shape is = tt
 refused_line least line sheet (Err error) shape is = refused_sheet least line sheet error shape is

@@ -11,7 +11,7 @@ use Rattle.sgt_smallbank.specs.declared.account.Account.{Account}
 use Rattle.sgt_smallbank.specs.declared.errors.BadOpening as accounts
 use Rattle.sgt_smallbank.specs.declared.errors.BadOpening.TheVariants as bad
 use Rattle.sgt_format.specs.Trees.{tree_of, list, each, wholes}
-use Rattle.sgt_format.specs.Procedures.{AreProcedures, HasMisfit, HasFlaw, NextIs}
+use Rattle.sgt_format.specs.Procedures.{AreProcedures, HasMisfit, HasLeastFlaw, NextIs}
 use Rattle.sgt_format.specs.declared.errors.OpeningError.{OpeningError}
 use Rattle.sgt_format.specs.declared.errors.OpeningError.TheVariants.{NotJson, BadLine, BadLimits, BadOpening, ProcShape, ProcFlaw, NoMemory}
 use Rattle.sgt_format.specs.declared.opening.Opening.{Opening}
@@ -42,8 +42,8 @@ account_from (name ∷ customer ∷ saving ∷ checking ∷ []) = Some (record {
 account_from numbers = None
 
 -- a tree that is a list of four
-abbrev pub account : Data → Option Account
-account tree = option_and_then account_from (wholes tree)
+abbrev pub account_in : Data → Option Account
+account_in tree = option_and_then account_from (wholes tree)
 
 -- the list at a name
 abbrev pub list_at : List ℕ → Data → Option (List Data)
@@ -66,7 +66,7 @@ parts_in tree = option_and_then (λ members. cond (nat_eq (count members) 3) (pa
 
 -- the same with the accounts, each of four whole numbers
 abbrev pub sheet_from : (ℤ × ℤ) × List Data × List Data → Option Sheet
-sheet_from parts = option_map (λ accounts. record { limits = parts.0; accounts = accounts; procedures = parts.2 }) (each account parts.1)
+sheet_from parts = option_map (λ accounts. record { limits = parts.0; accounts = accounts; procedures = parts.2 }) (each account_in parts.1)
 
 -- those that a tree spells
 abbrev pub sheet_in : Data → Option Sheet
@@ -107,14 +107,14 @@ HasLimits least sheet = (limits : Limits) × AreLimits least sheet.limits limits
 -- a procedure of those that trees spell is refused: the first that is none, or that has a flaw
 abbrev pub ProcedureIsRefused : List Data → OpeningError → Type 0
 ProcedureIsRefused trees (ProcShape number place) = (n : ℕ) × (number ≡ first_number + n) × NextIs (HasMisfit place) n trees
-ProcedureIsRefused trees (ProcFlaw number flaw) = (n : ℕ) × (number ≡ first_number + n) × NextIs (HasFlaw flaw) n trees
+ProcedureIsRefused trees (ProcFlaw number flaw) = (n : ℕ) × (number ≡ first_number + n) × NextIs (HasLeastFlaw flaw) n trees
 ProcedureIsRefused trees NoMemory = ⊤
 ProcedureIsRefused trees other = ⊥
 
 -- the procedure that the tree is to spell is refused as the one of this number
 abbrev pub IsRefusedAs : ℕ → Data → OpeningError → Type 0
 IsRefusedAs number tree (ProcShape n place) = (n ≡ number) × HasMisfit place tree
-IsRefusedAs number tree (ProcFlaw n flaw) = (n ≡ number) × HasFlaw flaw tree
+IsRefusedAs number tree (ProcFlaw n flaw) = (n ≡ number) × HasLeastFlaw flaw tree
 IsRefusedAs number tree NoMemory = ⊤
 IsRefusedAs number tree other = ⊥
 
@@ -125,18 +125,18 @@ error_of bad.NoMemory = NoMemory
 
 -- why what a line says is refused: its limits are out of their ranges, or let too few be live, or else an account is at fault, or else a procedure is
 -- refused. Memory is wanting only where the limits and the accounts pass
-abbrev pub IsRefused : ℕ → Sheet → OpeningError → Type 0
-IsRefused least sheet NotJson = ⊥
-IsRefused least sheet BadLine = ⊥
-IsRefused least sheet BadLimits = (limits : Limits) → ¬ AreLimits least sheet.limits limits
-IsRefused least sheet (BadOpening fault) = HasLimits least sheet × (fault_of sheet.accounts ≡ Some fault)
-IsRefused least sheet (ProcShape number place) = HasLimits least sheet × (fault_of sheet.accounts ≡ None) × ProcedureIsRefused sheet.procedures (ProcShape number place)
-IsRefused least sheet (ProcFlaw number flaw) = HasLimits least sheet × (fault_of sheet.accounts ≡ None) × ProcedureIsRefused sheet.procedures (ProcFlaw number flaw)
-IsRefused least sheet NoMemory = HasLimits least sheet × (fault_of sheet.accounts ≡ None)
+abbrev pub RefusesSheet : ℕ → Sheet → OpeningError → Type 0
+RefusesSheet least sheet NotJson = ⊥
+RefusesSheet least sheet BadLine = ⊥
+RefusesSheet least sheet BadLimits = (limits : Limits) → ¬ AreLimits least sheet.limits limits
+RefusesSheet least sheet (BadOpening fault) = HasLimits least sheet × (fault_of sheet.accounts ≡ Some fault)
+RefusesSheet least sheet (ProcShape number place) = HasLimits least sheet × (fault_of sheet.accounts ≡ None) × ProcedureIsRefused sheet.procedures (ProcShape number place)
+RefusesSheet least sheet (ProcFlaw number flaw) = HasLimits least sheet × (fault_of sheet.accounts ≡ None) × ProcedureIsRefused sheet.procedures (ProcFlaw number flaw)
+RefusesSheet least sheet NoMemory = HasLimits least sheet × (fault_of sheet.accounts ≡ None)
 
 -- the same of a line that has the shape of an opening
-abbrev pub SheetIsRefused : ℕ → List ℕ → OpeningError → Type 0
-SheetIsRefused least line error = (sheet : Sheet) × (sheet_of line ≡ Some sheet) × IsRefused least sheet error
+abbrev pub RefusesItsSheet : ℕ → List ℕ → OpeningError → Type 0
+RefusesItsSheet least line error = (sheet : Sheet) × (sheet_of line ≡ Some sheet) × RefusesSheet least sheet error
 
 -- why the line spells none: it is no JSON, or it has not the shape, or what it says is refused. To read what it says takes
 -- memory too
@@ -144,4 +144,4 @@ abbrev pub Refuses : ℕ → List ℕ → OpeningError → Type 0
 Refuses least line NotJson = tree_of line ≡ None
 Refuses least line BadLine = IsSome (tree_of line) × (sheet_of line ≡ None)
 Refuses least line NoMemory = ⊤
-Refuses least line error = SheetIsRefused least line error
+Refuses least line error = RefusesItsSheet least line error

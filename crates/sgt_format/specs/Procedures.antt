@@ -22,8 +22,8 @@ abbrev pub HasMisfit : List ℕ → Data → Type 0
 HasMisfit place tree = reading tree ≡ Err place
 
 -- a tree spells a procedure whose least flaw is this one
-abbrev pub HasFlaw : Flaw → Data → Type 0
-HasFlaw flaw tree = (p : Program) × (reading tree ≡ Ok p) × IsLeastFlaw flaw p
+abbrev pub HasLeastFlaw : Flaw → Data → Type 0
+HasLeastFlaw flaw tree = (p : Program) × (reading tree ≡ Ok p) × IsLeastFlaw flaw p
 
 -- so many trees spell procedures without a flaw, and the next is so
 abbrev pub NextIs : (Data → Type 0) → ℕ → List Data → Type 0

@@ -1,6 +1,6 @@
 ghost use Rattle.std.specs.Prelude.{◌≡◌, IfOk, IfErr, map};
 ghost use Rattle.serde_json.specs.View.{view};
-ghost use Rattle.sgt_format.specs.Openings.{Opens, Refuses, IsOpened, IsRefused};
+ghost use Rattle.sgt_format.specs.Openings.{Opens, Refuses, IsOpened, RefusesSheet};
 
 use crate::errors::OpeningError;
 use crate::procedures::read_procedures;
@@ -53,7 +53,7 @@ fn open(
       accounts = accounts.now;
       procedures = map view procedures.now;
     })) }
-    ensures refused { IfErr result (IsRefused least (record {
+    ensures refused { IfErr result (RefusesSheet least (record {
       limits = numbers;
       accounts = accounts.now;
       procedures = map view procedures.now;

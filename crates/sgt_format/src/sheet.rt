@@ -2,7 +2,7 @@ ghost use Rattle.std.specs.Prelude.{◌≡◌, IfOk, IfSome, IsNone, map, option
 ghost use Rattle.serde_json.specs.View.{view};
 ghost use Rattle.sgt_model.specs.declared.limits.Limits.{Limits as L};
 ghost use Rattle.sgt_format.specs.Trees.{each};
-ghost use Rattle.sgt_format.specs.Openings.{pair, account, parts_in, AreLimits};
+ghost use Rattle.sgt_format.specs.Openings.{pair, account_in, parts_in, AreLimits};
 
 use crate::tree::items;
 use serde_json::Value;
@@ -40,7 +40,7 @@ pub(crate) fn read_accounts(
     trees: &[Value],
 ) -> Result<Option<Vec<Account>>, NoMemory>
     ensures { IfOk result
-        (λ accounts. option_map (λ v. v.items) accounts ≡ each account (map view trees.now)) }
+        (λ accounts. option_map (λ v. v.items) accounts ≡ each account_in (map view trees.now)) }
 {
     let mut accounts = Vec::new(alloc);
     for tree in trees {
@@ -53,7 +53,7 @@ pub(crate) fn read_accounts(
 }
 
 fn account(tree: &Value) -> Option<Account>
-    ensures { result ≡ account (view tree.now) }
+    ensures { result ≡ account_in (view tree.now) }
 {
     match items(tree)? {
         [name, customer, saving, checking] => Some(Account {

@@ -1,4 +1,4 @@
--- The places stay a graph: with a transaction more, with pairs into one place, without a place.
+-- The indices stay a graph: with a transaction more, with pairs into one index, without an index.
 use Rattle.std.specs.Prelude.{◌≡◌, ◌≢◌, ℕ, ◌<◌, ◌≤◌, ◌⊎◌, ◌↔◌, Bool, true, false, not, ◌&&◌, ◌||◌, nat_eq, List, [], ◌∷◌, map, length, slice_index, slice_set, cond, Option, Some, None, IfSome}
 use Rattle.std.proofs.Common.{zero, suc, refl, sym, ◌∙◌, ap, subst, inl, inr, arith}
 use Rattle.std.proofs.lemmas.List.{get_or-set_same, get_or-set_other}
@@ -6,10 +6,10 @@ use Rattle.std.proofs.Math.ListN.{length-set}
 use Rattle.std.proofs.lemmas.Bool.{eqb-true, eq-eqb, le-ltb, and_parts, and_from, or_cases, or_left, or_right, both_ways, false_from_ne_true, cases_eq}
 use Rattle.sgt_model.specs.Walks.{PathOf, Member, Distinct, AtMost}
 use Rattle.sgt_model.proofs.Paths.{path_map}
-use Rattle.sgt_cycle.specs.Places.{is_set, is_bit, places}
+use Rattle.sgt_cycle.specs.Indices.{is_set, is_bit, indices}
 use Rattle.sgt_cycle.specs.Walk.{Holds, IsWalk}
 use Rattle.sgt_graph.specs.Closures.{Leads, IsClosure}
-use Rattle.sgt_graph.specs.BitGraphs.{is_at, last_below, place_of, is_placed, is_pair, IsBitGraph, IsPlaceVerdict, IsLeastAt}
+use Rattle.sgt_graph.specs.BitGraphs.{is_at, last_below, index_of, is_placed, is_pair, IsBitGraph, IsIndexVerdict, IsLeastAt}
 use Rattle.sgt_graph.specs.Graphs.{IsLeastPred}
 use Rattle.sgt_graph.specs.Verdicts.{IsVerdict, Inserts}
 use Rattle.sgt_graph.specs.declared.verdict.Verdict.{Verdict}
@@ -38,7 +38,7 @@ last_none test none (suc n) = ap (λ b. cond b n (last_below n test)) (none n) �
 
 pub none_placed : (taken : ℕ) (tids : List ℕ) (u : ℕ) → ((i : ℕ) → is_set taken i ≡ false) → is_placed taken tids u ≡ false
 none_placed taken tids u none =
-    le-ltb (place_of taken tids u) 32 (let e : place_of taken tids u ≡ 32 =
+    le-ltb (index_of taken tids u) 32 (let e : index_of taken tids u ≡ 32 =
     last_none (is_at taken tids u) (λ i. ap (λ x. x && nat_eq (slice_index tids i) u) (none i)) 32 in omega arith)
 
 pub empty_graph : (tids rows : List ℕ) → length tids ≡ 32 → ((i j : ℕ) → is_bit rows i j ≡ false) → IsBitGraph 0 tids rows rows
@@ -55,7 +55,7 @@ empty_graph tids rows size none = record {
   acyclic = λ i. none i i;
 }
 
--- a place that alone is taken is taken no more
+-- an index that alone is taken is taken no more
 pub alone_left : (taken p : ℕ) → ((i : ℕ) → is_set taken i ≡ nat_eq i p) → (i : ℕ) → is_set 0 i ≡ (is_set taken i && not (nat_eq i p))
 alone_left taken p alone i = none_in i ∙ sym (ap (λ x. x && not (nat_eq i p)) (alone i) ∙ nothing (nat_eq i p))
   where
@@ -63,7 +63,7 @@ alone_left taken p alone i = none_in i ∙ sym (ap (λ x. x && not (nat_eq i p))
     nothing true = refl
     nothing false = refl
 
--- where one place alone is taken there is no pair
+-- where one index alone is taken there is no pair
 module _ (taken : ℕ) (tids pairs reached : List ℕ) (g : IsBitGraph taken tids pairs reached) (p : ℕ)
     (alone : (i : ℕ) → is_set taken i ≡ nat_eq i p) where
   pub alone_none : (i j : ℕ) → is_bit pairs i j ≡ false
@@ -83,7 +83,7 @@ module _ (taken : ℕ) (tids pairs reached : List ℕ) (g : IsBitGraph taken tid
     acyclic = g.acyclic;
   }
 
--- a transaction more, at a free place
+-- a transaction more, at a free index
 module _ (taken : ℕ) (tids pairs reached : List ℕ) (g : IsBitGraph taken tids pairs reached) (t p taken' : ℕ) (low : p < 32)
     (is_free : is_set taken p ≡ false) (new : is_placed taken tids t ≡ false)
     (more : (i : ℕ) → is_set taken' i ≡ (is_set taken i || nat_eq i p)) where
@@ -139,7 +139,7 @@ module _ (taken : ℕ) (tids pairs reached : List ℕ) (g : IsBitGraph taken tid
 
   pub grown_nodes : (u : ℕ) → is_placed taken' (slice_set tids p t) u ≡ (is_placed taken tids u || nat_eq u t)
   grown_nodes u = same_test _ _
-      (λ h. elim (at_cases u (place_of taken' (slice_set tids p t) u) (placed_at taken' (slice_set tids p t) u h)) [
+      (λ h. elim (at_cases u (index_of taken' (slice_set tids p t) u) (placed_at taken' (slice_set tids p t) u h)) [
         | inl old ↦ or_left (is_placed taken tids u) _ (at_placed taken tids (placed taken tids pairs reached g) u _ old)
         | inr e ↦ or_right (is_placed taken tids u) _ (eq-eqb u t e.1)
       ])
@@ -166,7 +166,7 @@ module _ (taken : ℕ) (tids pairs reached : List ℕ) (g : IsBitGraph taken tid
       old u i h there =
           elim (at_cases u i h) [ inl x ↦ x | inr x ↦ absurd (both_ways _ is_free (subst (λ y. is_set taken y ≡ true) x.0 there)) ]
 
--- pairs from some places into one
+-- pairs from some indices into one
 module _ (taken : ℕ) (tids pairs reached : List ℕ) (g : IsBitGraph taken tids pairs reached) (from p : ℕ) (new after : List ℕ)
     (there : is_set taken p ≡ true) (sources : (i : ℕ) → is_set from i ≡ true → is_set taken i ≡ true)
     (apart : is_set from p ≡ false) (none_back : (i : ℕ) → is_set from i ≡ true → is_bit reached p i ≡ false)
@@ -182,14 +182,14 @@ module _ (taken : ℕ) (tids pairs reached : List ℕ) (g : IsBitGraph taken tid
     leads_old i j (k, step, (path, goes, ends)) =
         (k, (new_is i k).1 (inl step), (path, path_map (λ a b h. (new_is a b).1 (inl h)) k path goes, ends))
 
-    to_place : (i : ℕ) → Before i → Leads new i p
-    to_place i (inl h) = leads_step new i p ((new_is i p).1 (inr (h, refl)))
-    to_place i (inr (k, first, h)) =
+    to_index : (i : ℕ) → Before i → Leads new i p
+    to_index i (inl h) = leads_step new i p ((new_is i p).1 (inr (h, refl)))
+    to_index i (inr (k, first, h)) =
         leads_join new i k p (leads_old i k (g.closure.leads i k first)) (leads_step new k p ((new_is k p).1 (inr (h, refl))))
 
-    from_place : (i j : ℕ) → Leads new i p → After j → Leads new i j
-    from_place i j l (inl e) = subst (λ x. Leads new i x) (sym e) l
-    from_place i j l (inr h) = leads_join new i p j l (leads_old p j (g.closure.leads p j h))
+    from_index : (i j : ℕ) → Leads new i p → After j → Leads new i j
+    from_index i j l (inl e) = subst (λ x. Leads new i x) (sym e) l
+    from_index i j l (inr h) = leads_join new i p j l (leads_old p j (g.closure.leads p j h))
 
     back : (i j : ℕ) → is_bit reached i j ≡ true → Before j → Before i
     back i j r (inl h) = inr (j, r, h)
@@ -237,14 +237,14 @@ module _ (taken : ℕ) (tids pairs reached : List ℕ) (g : IsBitGraph taken tid
             λ i j h. elim ((after_is i j).0 h) [
               | inl o ↦ leads_old i j (g.closure.leads i j o)
               | inr n ↦
-                  from_place i j (to_place i n.0) n.1
+                  from_index i j (to_index i n.0) n.1
             ];
       };
       acyclic = λ i. false_from_ne_true (is_bit after i i)
           (λ h. elim ((after_is i i).0 h) [ inl o ↦ both_ways _ (g.acyclic i) o | inr n ↦ no_return i n.0 n.1 ]);
     }
 
--- without a place
+-- without an index
 module _ (taken : ℕ) (tids pairs reached : List ℕ) (g : IsBitGraph taken tids pairs reached) (p taken' : ℕ) (new : List ℕ)
     (left : (i : ℕ) → is_set taken' i ≡ (is_set taken i && not (nat_eq i p)))
     (new_is : (i j : ℕ) → is_bit new i j ≡ (is_bit pairs i j && (not (nat_eq i p) && not (nat_eq j p)))) where
@@ -288,7 +288,7 @@ module _ (taken : ℕ) (tids pairs reached : List ℕ) (g : IsBitGraph taken tid
     acyclic = λ i. false_from_ne_true (is_bit after i i) (λ h. both_ways _ (g.acyclic i) (all i i (old_leads i i (closure.leads i i h))));
   }
 
-  -- where no pair leads to the place, what is reached from the others stays
+  -- where no pair leads to the index, what is reached from the others stays
   pub first_freed : (after : List ℕ) → ((i : ℕ) → is_bit pairs i p ≡ true → ⊥)
       → ((i j : ℕ) → is_bit after i j ≡ (is_bit reached i j && (not (nat_eq i p) && not (nat_eq j p)))) → IsClosure new after
   first_freed after none after_is = record {
@@ -330,7 +330,7 @@ module _ (taken : ℕ) (tids pairs reached : List ℕ) (g : IsBitGraph taken tid
 
     freed_nodes : (u : ℕ) → is_placed taken' tids u ≡ (is_placed taken tids u && not (nat_eq t u))
     freed_nodes u = same_test _ _
-        (λ k. let (a, other) = was_at u (place_of taken' tids u) (placed_at taken' tids u k) in
+        (λ k. let (a, other) = was_at u (index_of taken' tids u) (placed_at taken' tids u k) in
         and_from _ _ (at_placed taken tids (placed taken tids pairs reached g) u _ a) (not_it u _ a other))
         (λ k. let (old, other) = and_parts (is_placed taken tids u) _ k in
         let a = placed_at taken tids u old in
@@ -361,9 +361,9 @@ module _ (taken : ℕ) (tids pairs reached : List ℕ) (g : IsBitGraph taken tid
         → is_pair taken' tids' new u v ≡ (is_pair taken tids pairs u v && (not (nat_eq t u) && not (nat_eq t v)))
     removed_pairs tids' same u v = ap (λ x. is_pair taken' x new u v) same ∙ freed_pairs u v
 
--- a walk over places goes through places below 32
+-- a walk over indices goes through indices below 32
 pub walk_low : (taken : ℕ) (tids pairs reached : List ℕ) → IsBitGraph taken tids pairs reached → (p from : ℕ) (path : List ℕ) → p < 32
-    → IsWalk (is_bit pairs) p (places from) path → (i : ℕ) → Member i path → i < 32
+    → IsWalk (is_bit pairs) p (indices from) path → (i : ℕ) → Member i path → i < 32
 walk_low taken tids pairs reached g p from path low (rest, is, w) i m = elim (subst (λ l. Member i l) is m) [
   | inl e ↦ subst (λ x. x < 32) (sym e) low
   | inr k ↦ go p rest w.goes k
@@ -374,33 +374,33 @@ walk_low taken tids pairs reached g p from path low (rest, is, w) i m = elim (su
     go p (q ∷ rest) goes (inl e) = subst (λ x. x < 32) (sym e) (g.low q (g.of_taken p q goes.0).1)
     go p (q ∷ rest) goes (inr k) = go q rest goes.1 k
 
--- what a verdict says of places it says of transactions
-module _ (taken : ℕ) (tids pairs reached : List ℕ) (g : IsBitGraph taken tids pairs reached) (t place targets : ℕ) (preds : List ℕ)
-    (here : is_at taken tids t place ≡ true)
+-- what a verdict says of indices it says of transactions
+module _ (taken : ℕ) (tids pairs reached : List ℕ) (g : IsBitGraph taken tids pairs reached) (t index targets : ℕ) (preds : List ℕ)
+    (here : is_at taken tids t index ≡ true)
     (exact : (i : ℕ) → (is_set targets i ≡ true) ↔ ((is_set taken i ≡ true) × Member (slice_index tids i) preds)) where
-  pub verdict_of : ((u : ℕ) → Member u preds → u ≢ t) → (verdict : Verdict) → IsPlaceVerdict tids pairs reached place targets verdict
+  pub verdict_of : ((u : ℕ) → Member u preds → u ≢ t) → (verdict : Verdict) → IsIndexVerdict tids pairs reached index targets verdict
       → IsVerdict (is_pair taken tids pairs) t preds verdict
-  verdict_of others Accepted v = accepted taken tids pairs reached g t place targets preds here exact others v
-  verdict_of others (Closes walk) (path, is, same) = closes taken tids pairs reached g t place targets preds here exact path walk is same
+  verdict_of others Accepted v = accepted taken tids pairs reached g t index targets preds here exact others v
+  verdict_of others (Closes walk) (path, is, same) = closes taken tids pairs reached g t index targets preds here exact path walk is same
 
-  -- pairs from the targets to the place are what an insertion adds
+  -- pairs from the targets to the index are what an insertion adds
   pub inserts : ((u : ℕ) → Member u preds → is_placed taken tids u ≡ true) → (verdict : Verdict) → verdict ≡ Accepted
       → (taken' : ℕ) (tids' new reached' : List ℕ)
-      → taken' ≡ taken → tids' ≡ tids → ((i j : ℕ) → is_bit new i j ≡ (is_bit pairs i j || (is_set targets i && nat_eq j place)))
+      → taken' ≡ taken → tids' ≡ tids → ((i j : ℕ) → is_bit new i j ≡ (is_bit pairs i j || (is_set targets i && nat_eq j index)))
       → IsBitGraph taken' tids' new reached'
       → Inserts (is_pair taken tids pairs) (is_pair taken' tids' new) t preds verdict
   inserts nodes verdict is taken' tids' new reached' same_taken same_tids more after =
       subst (λ x. Inserts (is_pair taken tids pairs) (is_pair taken' tids' new) t preds x) (sym is) (λ u v.
       subst (λ x. (is_pair x tids' new u v ≡ true) ↔ ((is_pair taken tids pairs u v ≡ true) ⊎ ((v ≡ t) × Member u preds))) (sym same_taken)
       (subst (λ x. (is_pair taken x new u v ≡ true) ↔ ((is_pair taken tids pairs u v ≡ true) ⊎ ((v ≡ t) × Member u preds))) (sym same_tids)
-      (inserted taken tids pairs reached g t place targets preds here exact new more
+      (inserted taken tids pairs reached g t index targets preds here exact new more
       (subst (λ x. (i j : ℕ) → is_bit new i j ≡ true → (is_set x i ≡ true) × (is_set x j ≡ true)) same_taken after.of_taken) nodes u v)))
 
 -- a transaction that is nowhere has no pairs
-pub none_in_place : (taken : ℕ) (tids pairs reached : List ℕ) → IsBitGraph taken tids pairs reached → (t : ℕ)
+pub none_in_index : (taken : ℕ) (tids pairs reached : List ℕ) → IsBitGraph taken tids pairs reached → (t : ℕ)
     → ((i : ℕ) → is_at taken tids t i ≡ false)
     → (u : ℕ) → is_pair taken tids pairs u t ≡ false
-none_in_place taken tids pairs reached g t none u = false_from_ne_true (is_pair taken tids pairs u t) (λ h.
+none_in_index taken tids pairs reached g t none u = false_from_ne_true (is_pair taken tids pairs u t) (λ h.
     let (i, j, a, b, step) = pair_at taken tids (placed taken tids pairs reached g) pairs g.of_taken u t h in
     both_ways _ (none j) b)
 
@@ -414,7 +414,7 @@ module _ (taken : ℕ) (tids pairs reached : List ℕ) (g : IsBitGraph taken tid
 
   pub absent_nodes : (u : ℕ) → is_placed taken tids u ≡ (is_placed taken tids u && not (nat_eq t u))
   absent_nodes u = same_test _ _
-      (λ h. and_from _ _ h (other_than u (place_of taken tids u) (placed_at taken tids u h)))
+      (λ h. and_from _ _ h (other_than u (index_of taken tids u) (placed_at taken tids u h)))
       (λ h. (and_parts (is_placed taken tids u) _ h).0)
 
   pub absent_pairs : (u v : ℕ) → is_pair taken tids pairs u v ≡ (is_pair taken tids pairs u v && (not (nat_eq t u) && not (nat_eq t v)))
@@ -424,34 +424,34 @@ module _ (taken : ℕ) (tids pairs reached : List ℕ) (g : IsBitGraph taken tid
       and_from _ _ h (and_from _ _ (other_than u i a) (other_than v j b)))
       (λ h. (and_parts (is_pair taken tids pairs u v) _ h).0)
 
--- the column of a place: who has a pair to it
-module _ (taken : ℕ) (tids pairs reached : List ℕ) (g : IsBitGraph taken tids pairs reached) (t place : ℕ)
-    (here : is_at taken tids t place ≡ true) (column alone : ℕ)
-    (alone_is : (i : ℕ) → is_set alone i ≡ nat_eq i place)
+-- the column of an index: who has a pair to it
+module _ (taken : ℕ) (tids pairs reached : List ℕ) (g : IsBitGraph taken tids pairs reached) (t index : ℕ)
+    (here : is_at taken tids t index ≡ true) (column alone : ℕ)
+    (alone_is : (i : ℕ) → is_set alone i ≡ nat_eq i index)
     (column_is : (i : ℕ) → (is_set column i ≡ true) ↔ ((j : ℕ) × (is_bit pairs i j ≡ true) × (is_set alone j ≡ true))) where
-  in_column : (i : ℕ) → (is_set column i ≡ true) ↔ (is_bit pairs i place ≡ true)
+  in_column : (i : ℕ) → (is_set column i ≡ true) ↔ (is_bit pairs i index ≡ true)
   in_column i = (
-    (λ h. let (j, step, only) = (column_is i).0 h in subst (λ x. is_bit pairs i x ≡ true) (eqb-true j place (sym (alone_is j) ∙ only))
+    (λ h. let (j, step, only) = (column_is i).0 h in subst (λ x. is_bit pairs i x ≡ true) (eqb-true j index (sym (alone_is j) ∙ only))
         step),
-    (λ step. (column_is i).1 (place, step, alone_is place ∙ eq-eqb place place refl)),
+    (λ step. (column_is i).1 (index, step, alone_is index ∙ eq-eqb index index refl)),
   )
 
-  -- who has a pair to t stands at a place of the column
+  -- who has a pair to t stands at an index of the column
   pub no_pred_of : ((i : ℕ) → is_set column i ≡ false) → (u : ℕ) → is_pair taken tids pairs u t ≡ false
   no_pred_of none u = false_from_ne_true (is_pair taken tids pairs u t) (λ h.
       let (i, j, a, b, step) = pair_at taken tids (placed taken tids pairs reached g) pairs g.of_taken u t h in
-      both_ways _ (none i) ((in_column i).1 (subst (λ x. is_bit pairs i x ≡ true) (g.apart j place t b here) step)))
+      both_ways _ (none i) ((in_column i).1 (subst (λ x. is_bit pairs i x ≡ true) (g.apart j index t b here) step)))
 
   least_of : (u : ℕ) → IsLeastAt tids column u → IsLeastPred (is_pair taken tids pairs) t u
   least_of u l =
-      let step : is_bit pairs l.place place ≡ true = (in_column l.place).0 l.set_there in
+      let step : is_bit pairs l.index index ≡ true = (in_column l.index).0 l.set_there in
       record {
-        pair = pair_from taken tids (placed taken tids pairs reached g) pairs u t l.place place
-            (at_from taken tids u l.place (g.of_taken l.place place step).0 l.there) here ∙ step;
+        pair = pair_from taken tids (placed taken tids pairs reached g) pairs u t l.index index
+            (at_from taken tids u l.index (g.of_taken l.index index step).0 l.there) here ∙ step;
         least = λ v h.
             let (i, j, a, b, link) = pair_at taken tids (placed taken tids pairs reached g) pairs g.of_taken v t h in
             let column_i : is_set column i ≡ true =
-            (in_column i).1 (subst (λ x. is_bit pairs i x ≡ true) (g.apart j place t b here) link) in
+            (in_column i).1 (subst (λ x. is_bit pairs i x ≡ true) (g.apart j index t b here) link) in
             subst (λ x. u ≤ x) (at_parts taken tids v i a).1 (l.least i column_i);
       }
 
@@ -473,7 +473,7 @@ counted_distinct : (n : ℕ) → Distinct (counted n)
 counted_distinct zero = tt
 counted_distinct (suc n) = ((λ m. let low : n < n = counted_below n n m in absurd (omega arith)), counted_distinct n)
 
--- where all places are taken, there are 32 transactions
+-- where all indices are taken, there are 32 transactions
 module _ (taken : ℕ) (tids pairs reached : List ℕ) (g : IsBitGraph taken tids pairs reached) where
   name_member : (i : ℕ) (rest : List ℕ) → is_set taken i ≡ true → ((x : ℕ) → Member x rest → is_set taken x ≡ true)
       → Member (slice_index tids i) (map (λ i. slice_index tids i) rest) → Member i rest

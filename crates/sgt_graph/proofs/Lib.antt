@@ -6,4 +6,4 @@ pub mod Least
 pub mod RowSteps
 pub mod Placed
 pub mod BitSteps
-pub mod LeastPlaces
+pub mod LeastIndices

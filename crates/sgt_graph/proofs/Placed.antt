@@ -1,13 +1,13 @@
--- Transactions at places: what holds of rows of places holds of the transactions.
+-- Transactions at indices: what holds of rows of indices holds of the transactions.
 use Rattle.std.specs.Prelude.{◌≡◌, ◌≢◌, ℕ, ◌<◌, ◌≤◌, ◌⊎◌, ◌↔◌, Bool, true, false, ◌&&◌, ◌||◌, nat_eq, List, [], ◌∷◌, map, slice_index, cond}
 use Rattle.std.proofs.Common.{zero, suc, refl, sym, ◌∙◌, ap, subst, inl, inr, arith}
 use Rattle.std.proofs.lemmas.Bool.{eqb-true, eq-eqb, ltb-true, lt-ltb, and_parts, and_from, or_cases, or_left, or_right, both_ways, cases_eq}
 use Rattle.sgt_model.specs.Walks.{PathOf, last_of, Member, Distinct}
-use Rattle.sgt_cycle.specs.Places.{is_set, is_bit, places_below, places}
+use Rattle.sgt_cycle.specs.Indices.{is_set, is_bit, indices_below, indices}
 use Rattle.sgt_cycle.specs.Walk.{Holds, IsWalk, NoWalk}
 use Rattle.sgt_graph.specs.Graphs.{NoCycle, OfNodes}
 use Rattle.sgt_graph.specs.Closures.{Leads}
-use Rattle.sgt_graph.specs.BitGraphs.{is_at, last_below, place_of, is_placed, is_pair, IsBitGraph}
+use Rattle.sgt_graph.specs.BitGraphs.{is_at, last_below, index_of, is_placed, is_pair, IsBitGraph}
 
 -- two tests that hold together are the same
 pub same_test : (a b : Bool) → (a ≡ true → b ≡ true) → (b ≡ true → a ≡ true) → a ≡ b
@@ -15,25 +15,25 @@ same_test true b to from = sym (to refl)
 same_test false true to from = from refl
 same_test false false to from = refl
 
--- the members of the places of a set
-pub place_member : (n set t : ℕ) → Member t (places_below n set) → (t < n) × (is_set set t ≡ true)
-unfolding places_below
-place_member zero set t m = absurd m
-place_member (suc n) set t m = go (place_member n set t) (is_set set n) refl m
+-- the members of the indices of a set
+pub index_member : (n set t : ℕ) → Member t (indices_below n set) → (t < n) × (is_set set t ≡ true)
+unfolding indices_below
+index_member zero set t m = absurd m
+index_member (suc n) set t m = go (index_member n set t) (is_set set n) refl m
   where
-    go : (Member t (places_below n set) → (t < n) × (is_set set t ≡ true)) → (b : Bool) → is_set set n ≡ b
-        → Member t (cond b (n ∷ places_below n set) (places_below n set)) → (t < suc n) × (is_set set t ≡ true)
+    go : (Member t (indices_below n set) → (t < n) × (is_set set t ≡ true)) → (b : Bool) → is_set set n ≡ b
+        → Member t (cond b (n ∷ indices_below n set) (indices_below n set)) → (t < suc n) × (is_set set t ≡ true)
     go old true e (inl same) = (omega arith, subst (λ x. is_set set x ≡ true) (sym same) e)
     go old true e (inr k) = let h = old k in let low : t < n = h.0 in (omega arith, h.1)
     go old false e k = let h = old k in let low : t < n = h.0 in (omega arith, h.1)
 
-pub member_place : (n set t : ℕ) → t < n → is_set set t ≡ true → Member t (places_below n set)
-unfolding places_below
-member_place zero set t low set_there = absurd (omega arith)
-member_place (suc n) set t low set_there = go (member_place n set t) (is_set set n) refl
+pub member_index : (n set t : ℕ) → t < n → is_set set t ≡ true → Member t (indices_below n set)
+unfolding indices_below
+member_index zero set t low set_there = absurd (omega arith)
+member_index (suc n) set t low set_there = go (member_index n set t) (is_set set n) refl
   where
-    go : (t < n → is_set set t ≡ true → Member t (places_below n set)) → (b : Bool) → is_set set n ≡ b
-        → Member t (cond b (n ∷ places_below n set) (places_below n set))
+    go : (t < n → is_set set t ≡ true → Member t (indices_below n set)) → (b : Bool) → is_set set n ≡ b
+        → Member t (cond b (n ∷ indices_below n set) (indices_below n set))
     go old true e = elim (cases_eq t n) [ inl same ↦ inl same | inr other ↦ inr (old (omega arith) set_there) ]
     go old false e =
         elim (cases_eq t n) [
@@ -42,7 +42,7 @@ member_place (suc n) set t low set_there = go (member_place n set t) (is_set set
               old (omega arith) set_there
         ]
 
--- the last place that passes
+-- the last index that passes
 module _ (test : ℕ → Bool) where
   last_passes : (n : ℕ) → n ≤ 32 → last_below n test < 32 → test (last_below n test) ≡ true
   unfolding last_below
@@ -64,7 +64,7 @@ module _ (test : ℕ → Bool) where
       go false e old =
           elim (cases_eq i n) [ inl same ↦ absurd (both_ways _ e (subst (λ x. test x ≡ true) same here)) | inr other ↦ old (omega arith) ]
 
--- what has to be known of the places
+-- what has to be known of the indices
 pub record Placed (taken : ℕ) (tids : List ℕ) : Type 0 where
   pub apart : (i j t : ℕ) → is_at taken tids t i ≡ true → is_at taken tids t j ≡ true → i ≡ j
   pub low : (i : ℕ) → is_set taken i ≡ true → i < 32
@@ -76,35 +76,35 @@ module _ (taken : ℕ) (tids : List ℕ) where
   pub at_parts : (t i : ℕ) → is_at taken tids t i ≡ true → (is_set taken i ≡ true) × (slice_index tids i ≡ t)
   at_parts t i h = let both = and_parts (is_set taken i) _ h in (both.0, eqb-true (slice_index tids i) t both.1)
 
-  pub placed_at : (t : ℕ) → is_placed taken tids t ≡ true → is_at taken tids t (place_of taken tids t) ≡ true
-  placed_at t h = last_passes (is_at taken tids t) 32 (omega arith) (ltb-true (place_of taken tids t) 32 h)
+  pub placed_at : (t : ℕ) → is_placed taken tids t ≡ true → is_at taken tids t (index_of taken tids t) ≡ true
+  placed_at t h = last_passes (is_at taken tids t) 32 (omega arith) (ltb-true (index_of taken tids t) 32 h)
 
   module _ (p : Placed taken tids) where
-    pub place_is : (t i : ℕ) → is_at taken tids t i ≡ true → place_of taken tids t ≡ i
-    place_is t i h = last_is (is_at taken tids t) 32 i (p.low i (at_parts t i h).0) h (λ j k. p.apart j i t k h)
+    pub index_is : (t i : ℕ) → is_at taken tids t i ≡ true → index_of taken tids t ≡ i
+    index_is t i h = last_is (is_at taken tids t) 32 i (p.low i (at_parts t i h).0) h (λ j k. p.apart j i t k h)
 
     pub at_placed : (t i : ℕ) → is_at taken tids t i ≡ true → is_placed taken tids t ≡ true
-    at_placed t i h = lt-ltb (place_of taken tids t) 32 (subst (λ x. x < 32) (sym (place_is t i h)) (p.low i (at_parts t i h).0))
+    at_placed t i h = lt-ltb (index_of taken tids t) 32 (subst (λ x. x < 32) (sym (index_is t i h)) (p.low i (at_parts t i h).0))
 
     pub pair_from : (pairs : List ℕ) (u v i j : ℕ) → is_at taken tids u i ≡ true → is_at taken tids v j ≡ true
         → is_pair taken tids pairs u v ≡ is_bit pairs i j
-    pair_from pairs u v i j a b = ap (λ x. is_bit pairs x (place_of taken tids v)) (place_is u i a)
-        ∙ ap (λ x. is_bit pairs i x) (place_is v j b)
+    pair_from pairs u v i j a b = ap (λ x. is_bit pairs x (index_of taken tids v)) (index_is u i a)
+        ∙ ap (λ x. is_bit pairs i x) (index_is v j b)
 
-    -- a pair is of two places that are taken
+    -- a pair is of two indices that are taken
     pub pair_at : (pairs : List ℕ) → ((i j : ℕ) → is_bit pairs i j ≡ true → (is_set taken i ≡ true) × (is_set taken j ≡ true))
         → (u v : ℕ) → is_pair taken tids pairs u v ≡ true → (i j : ℕ) × (is_at taken tids u i ≡ true) × (is_at taken tids v j ≡ true)
         × (is_bit pairs i j ≡ true)
     pair_at pairs of_taken u v h =
-        let both = of_taken (place_of taken tids u) (place_of taken tids v) h in (
-          place_of taken tids u,
-          place_of taken tids v,
+        let both = of_taken (index_of taken tids u) (index_of taken tids v) h in (
+          index_of taken tids u,
+          index_of taken tids v,
           last_passes (is_at taken tids u) 32 (omega arith) (p.low _ both.0),
           last_passes (is_at taken tids v) 32 (omega arith) (p.low _ both.1),
           h,
         )
 
--- the pairs of a graph of places
+-- the pairs of a graph of indices
 module _ (taken : ℕ) (tids pairs reached : List ℕ) (g : IsBitGraph taken tids pairs reached) where
   pub placed : Placed taken tids
   placed = record { apart = g.apart; low = g.low }
@@ -144,18 +144,18 @@ module _ (taken : ℕ) (tids pairs reached : List ℕ) (g : IsBitGraph taken tid
       both_ways _ (g.acyclic i) (subst (λ x. is_bit reached i x ≡ true)
       (g.apart k i t (subst (λ x. is_at taken tids x k ≡ true) e at_last) at_t) back)
 
-  module _ (t place targets : ℕ) (preds : List ℕ) (here : is_at taken tids t place ≡ true)
+  module _ (t index targets : ℕ) (preds : List ℕ) (here : is_at taken tids t index ≡ true)
       (exact : (i : ℕ) → (is_set targets i ≡ true) ↔ ((is_set taken i ≡ true) × Member (slice_index tids i) preds)) where
     -- nothing that is reached is a target, so no walk leads to one
-    pub accepted : ((u : ℕ) → Member u preds → u ≢ t) → ((j : ℕ) → is_set targets j ≡ true → is_bit reached place j ≡ false)
+    pub accepted : ((u : ℕ) → Member u preds → u ≢ t) → ((j : ℕ) → is_set targets j ≡ true → is_bit reached index j ≡ false)
         → NoWalk (is_pair taken tids pairs) t preds
     accepted others free [] w = others t w.ends refl
     accepted others free (u ∷ rest) w =
-        let (j, at_last, back) = path_reached t u rest place here w.goes in
+        let (j, at_last, back) = path_reached t u rest index here w.goes in
         let parts = at_parts taken tids (last_of u rest) j at_last in
         both_ways _ (free j ((exact j).1 (parts.0, subst (λ x. Member x preds) (sym parts.1) w.ends))) back
 
-    -- a walk over places is one of transactions
+    -- a walk over indices is one of transactions
     steps_taken : (i : ℕ) (rest : List ℕ) → PathOf (Holds (is_bit pairs)) i rest → (x : ℕ) → Member x rest → is_set taken x ≡ true
     steps_taken i [] p x m = absurd m
     steps_taken i (j ∷ rest) p x (inl e) = subst (λ y. is_set taken y ≡ true) (sym e) (g.of_taken i j p.0).1
@@ -189,29 +189,29 @@ module _ (taken : ℕ) (tids pairs reached : List ℕ) (g : IsBitGraph taken tid
     named_distinct (j ∷ rest) all d =
         ((λ m. d.0 (named_member j rest (all j (inl refl)) (λ x k. all x (inr k)) m)), named_distinct rest (λ x k. all x (inr k)) d.1)
 
-    pub closes : (path walk : List ℕ) → IsWalk (is_bit pairs) place (places targets) path → walk ≡ map (λ i. slice_index tids i) path
+    pub closes : (path walk : List ℕ) → IsWalk (is_bit pairs) index (indices targets) path → walk ≡ map (λ i. slice_index tids i) path
         → IsWalk (is_pair taken tids pairs) t preds walk
     closes path walk (rest, is, w) same =
-        let parts = at_parts taken tids t place here in
-        let all : (x : ℕ) → Member x (place ∷ rest) → is_set taken x ≡ true = λ x m. elim m [
+        let parts = at_parts taken tids t index here in
+        let all : (x : ℕ) → Member x (index ∷ rest) → is_set taken x ≡ true = λ x m. elim m [
           | inl e ↦ subst (λ y. is_set taken y ≡ true) (sym e) parts.0
-          | inr k ↦ steps_taken place rest w.goes x k
+          | inr k ↦ steps_taken index rest w.goes x k
         ] in
-        let last = place_member 32 targets (last_of place rest) w.ends in (
+        let last = index_member 32 targets (last_of index rest) w.ends in (
           map (λ i. slice_index tids i) rest,
           same ∙ ap (map (λ i. slice_index tids i)) is ∙ ap (λ x. x ∷ map (λ i. slice_index tids i) rest) parts.1,
           record {
             distinct =
-                subst (λ x. Distinct (x ∷ map (λ i. slice_index tids i) rest)) parts.1 (named_distinct (place ∷ rest) all w.distinct);
+                subst (λ x. Distinct (x ∷ map (λ i. slice_index tids i) rest)) parts.1 (named_distinct (index ∷ rest) all w.distinct);
             goes = subst (λ x. PathOf (Holds (is_pair taken tids pairs)) x (map (λ i. slice_index tids i) rest)) parts.1
-                (named_goes place rest parts.0 w.goes);
+                (named_goes index rest parts.0 w.goes);
             ends = subst (λ x. Member (last_of x (map (λ i. slice_index tids i) rest)) preds) parts.1
-                (subst (λ x. Member x preds) (sym (named_last place rest)) ((exact (last_of place rest)).0 last.1).1);
+                (subst (λ x. Member x preds) (sym (named_last index rest)) ((exact (last_of index rest)).0 last.1).1);
           },
         )
 
-    -- pairs from the targets to the place are pairs from the preds to the transaction
-    pub inserted : (new : List ℕ) → ((i j : ℕ) → is_bit new i j ≡ (is_bit pairs i j || (is_set targets i && nat_eq j place)))
+    -- pairs from the targets to the index are pairs from the preds to the transaction
+    pub inserted : (new : List ℕ) → ((i j : ℕ) → is_bit new i j ≡ (is_bit pairs i j || (is_set targets i && nat_eq j index)))
         → ((i j : ℕ) → is_bit new i j ≡ true → (is_set taken i ≡ true) × (is_set taken j ≡ true))
         → ((u : ℕ) → Member u preds → is_placed taken tids u ≡ true)
         → (u v : ℕ) → (is_pair taken tids new u v ≡ true) ↔ ((is_pair taken tids pairs u v ≡ true) ⊎ ((v ≡ t) × Member u preds))
@@ -222,10 +222,10 @@ module _ (taken : ℕ) (tids pairs reached : List ℕ) (g : IsBitGraph taken tid
             | inl old ↦ inl (pair_from taken tids placed pairs u v i j at_u at_v ∙ old)
             | inr n ↦
                 let both = and_parts (is_set targets i) _ n in
-                let at_j : j ≡ place = eqb-true j place both.1 in
+                let at_j : j ≡ index = eqb-true j index both.1 in
                 let v_is = (at_parts taken tids v j at_v).1 in
                 inr (
-                  sym v_is ∙ ap (λ x. slice_index tids x) at_j ∙ (at_parts taken tids t place here).1,
+                  sym v_is ∙ ap (λ x. slice_index tids x) at_j ∙ (at_parts taken tids t index here).1,
                   subst (λ x. Member x preds)
                       (at_parts taken tids u i at_u).1 ((exact i).0 both.0).1,
                 )
@@ -236,11 +236,11 @@ module _ (taken : ℕ) (tids pairs reached : List ℕ) (g : IsBitGraph taken tid
             pair_from taken tids placed new u v i j at_u at_v ∙ more i j ∙ or_left (is_bit pairs i j) _ step
         | inr n ↦
             let at_u = placed_at taken tids u (nodes u n.1) in
-            let at_v : is_at taken tids v place ≡ true = subst (λ x. is_at taken tids x place ≡ true) (sym n.0) here in
-            let parts = at_parts taken tids u (place_of taken tids u) at_u in
-            pair_from taken tids placed new u v (place_of taken tids u) place at_u at_v ∙ more (place_of taken tids u) place
-            ∙ or_right (is_bit pairs (place_of taken tids u) place) _
-            (and_from _ _ ((exact (place_of taken tids u)).1 (parts.0, subst (λ x. Member x preds) (sym parts.1) n.1))
-            (eq-eqb place place refl))
+            let at_v : is_at taken tids v index ≡ true = subst (λ x. is_at taken tids x index ≡ true) (sym n.0) here in
+            let parts = at_parts taken tids u (index_of taken tids u) at_u in
+            pair_from taken tids placed new u v (index_of taken tids u) index at_u at_v ∙ more (index_of taken tids u) index
+            ∙ or_right (is_bit pairs (index_of taken tids u) index) _
+            (and_from _ _ ((exact (index_of taken tids u)).1 (parts.0, subst (λ x. Member x preds) (sym parts.1) n.1))
+            (eq-eqb index index refl))
       ]),
     )

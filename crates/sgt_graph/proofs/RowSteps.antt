@@ -1,4 +1,4 @@
--- Rows of places, one after another.
+-- Rows of indices, one after another.
 use Rattle.std.specs.Prelude.{◌≡◌, ℕ, ◌+◌, ◌^◌, ◌<◌, ◌≤◌, ◌⊎◌, ◌↔◌, Bool, true, false, not, ◌&&◌, ◌||◌, nat_eq, List, [], ◌∷◌, length, slice_index, slice_set}
 use Rattle.std.proofs.Common.{zero, suc, refl, sym, ◌∙◌, ap, subst, inl, inr, arith}
 use Rattle.std.proofs.lemmas.Nat.Bits.{bit_at_above, bit_at-zero}
@@ -6,17 +6,17 @@ use Rattle.std.proofs.lemmas.List.{get_or-set_same, get_or-set_other}
 use Rattle.std.proofs.lemmas.Bool.{eqb-true, eq-eqb, or_cases, or_left, or_right, both_ways, cases_lt, false_from_ne_true, cases_eq}
 use Rattle.sgt_model.specs.Walks.{Reaches}
 use Rattle.sgt_model.proofs.Paths.{reaches_self, reaches_step, reaches_trans}
-use Rattle.sgt_cycle.specs.Places.{is_set, is_bit}
+use Rattle.sgt_cycle.specs.Indices.{is_set, is_bit}
 use Rattle.sgt_cycle.specs.Walk.{Holds}
 use Rattle.sgt_graph.specs.Closures.{Leads, IsClosure}
 
--- no place from 32 on is in a set
+-- no index from 32 on is in a set
 pub none_above : (a i : ℕ) → a < 2 ^ 32 → 32 ≤ i → is_set a i ≡ false
 unfolding is_set
 none_above a i fits high = ap (λ x. nat_eq x 1) (bit_at_above a 32 i fits high)
 
-pub low_place : (a i : ℕ) → a < 2 ^ 32 → is_set a i ≡ true → i < 32
-low_place a i fits set = elim (cases_lt i 32) [ inl low ↦ low | inr high ↦ absurd (both_ways _ (none_above a i fits high) set) ]
+pub low_index : (a i : ℕ) → a < 2 ^ 32 → is_set a i ≡ true → i < 32
+low_index a i fits set = elim (cases_lt i 32) [ inl low ↦ low | inr high ↦ absurd (both_ways _ (none_above a i fits high) set) ]
 
 pub none_in : (i : ℕ) → is_set 0 i ≡ false
 unfolding is_set
@@ -49,7 +49,7 @@ module _ (now : ℕ → ℕ → Bool) (old : List ℕ) where
     | inr above ↦ let size : length rows ≡ 32 = c.size in no_row rows i j (omega arith) ∙ sym (none i j above)
   ]
 
--- the first places whose rows have one of a set
+-- the first indices whose rows have one of a set
 module _ (meets : ℕ → Type 0) where
   abbrev pub Found : ℕ → ℕ → Type 0
   Found n found = (i : ℕ) → (is_set found i ≡ true) ↔ ((i < n) × meets i)
@@ -79,7 +79,7 @@ module _ (meets : ℕ → Type 0) where
     ]),
   )
 
--- what is reached, joined at the first n places
+-- what is reached, joined at the first n indices
 pub record ClosedBelow (rows : List ℕ) (n : ℕ) (reached : List ℕ) : Type 0 where
   pub each : (i j : ℕ) → is_bit rows i j ≡ true → is_bit reached i j ≡ true
   pub joins : (i k j : ℕ) → k < n → is_bit reached i k ≡ true → is_bit reached k j ≡ true → is_bit reached i j ≡ true
@@ -138,7 +138,7 @@ module _ (rows : List ℕ) where
     leads = c.leads;
   }
 
--- a row is emptied, after its place was taken out of all rows
+-- a row is emptied, after its index was taken out of all rows
 pub emptied : (old rows : List ℕ) (p : ℕ) → p < length rows → ((i j : ℕ) → is_bit rows i j ≡ (is_bit old i j && not (nat_eq j p)))
     → (i j : ℕ) → is_bit (slice_set rows p 0) i j ≡ (is_bit old i j && (not (nat_eq i p) && not (nat_eq j p)))
 emptied old rows p low out i j = elim (cases_eq i p) [

@@ -1,34 +1,34 @@
--- A graph as 32 places: the transactions at the places that are taken, and rows of places.
+-- A graph as 32 indices: the transactions at the indices that are taken, and rows of indices.
 use Rattle.std.specs.Prelude.{◌≡◌, ℕ, ◌<◌, ◌≤◌, Bool, true, false, ◌&&◌, nat_eq, nat_lt, List, length, slice_index, map, cond}
 use Rattle.std.proofs.Common.{zero, suc}
-use Rattle.sgt_cycle.specs.Places.{is_set, is_bit, places}
+use Rattle.sgt_cycle.specs.Indices.{is_set, is_bit, indices}
 use Rattle.sgt_cycle.specs.Walk.{IsWalk}
 use Rattle.sgt_graph.specs.declared.verdict.Verdict.{Verdict}
 use Rattle.sgt_graph.specs.declared.verdict.Verdict.TheVariants.{Accepted, Closes}
 use Rattle.sgt_graph.specs.Closures.{IsClosure}
 
--- whether the transaction is at the place
+-- whether the transaction is at the index
 abbrev pub is_at : ℕ → List ℕ → ℕ → ℕ → Bool
 is_at taken tids t i = is_set taken i && nat_eq (slice_index tids i) t
 
--- the last place below n that passes the test; 32 where none does
+-- the last index below n that passes the test; 32 where none does
 unfoldable pub last_below : ℕ → (ℕ → Bool) → ℕ
 last_below zero test = 32
 last_below (suc n) test = cond (test n) n (last_below n test)
 
 -- where the transaction is
-abbrev pub place_of : ℕ → List ℕ → ℕ → ℕ
-place_of taken tids t = last_below 32 (is_at taken tids t)
+abbrev pub index_of : ℕ → List ℕ → ℕ → ℕ
+index_of taken tids t = last_below 32 (is_at taken tids t)
 
 -- whether it is anywhere
 abbrev pub is_placed : ℕ → List ℕ → ℕ → Bool
-is_placed taken tids t = nat_lt (place_of taken tids t) 32
+is_placed taken tids t = nat_lt (index_of taken tids t) 32
 
 -- whether a pair leads from one to the other
 abbrev pub is_pair : ℕ → List ℕ → List ℕ → ℕ → ℕ → Bool
-is_pair taken tids pairs u v = is_bit pairs (place_of taken tids u) (place_of taken tids v)
+is_pair taken tids pairs u v = is_bit pairs (index_of taken tids u) (index_of taken tids v)
 
--- there are 32 places, no transaction has two of them, pairs are of places that are taken, and the rows reached are those of the pairs, without a cycle
+-- there are 32 indices, no transaction has two of them, pairs are of indices that are taken, and the rows reached are those of the pairs, without a cycle
 pub record IsBitGraph (taken : ℕ) (tids pairs reached : List ℕ) : Type 0 where
   pub size : length tids ≡ 32
   pub apart : (i j t : ℕ) → is_at taken tids t i ≡ true → is_at taken tids t j ≡ true → i ≡ j
@@ -37,14 +37,14 @@ pub record IsBitGraph (taken : ℕ) (tids pairs reached : List ℕ) : Type 0 whe
   pub closure : IsClosure pairs reached
   pub acyclic : (i : ℕ) → is_bit reached i i ≡ false
 
--- u is the least of the transactions at these places
+-- u is the least of the transactions at these indices
 pub record IsLeastAt (tids : List ℕ) (set u : ℕ) : Type 0 where
-  pub place : ℕ
-  pub set_there : is_set set place ≡ true
-  pub there : slice_index tids place ≡ u
+  pub index : ℕ
+  pub set_there : is_set set index ≡ true
+  pub there : slice_index tids index ≡ u
   pub least : (i : ℕ) → is_set set i ≡ true → u ≤ slice_index tids i
 
--- what a verdict says of places: nothing that is reached from the place is a target, or there is a walk
-abbrev pub IsPlaceVerdict : List ℕ → List ℕ → List ℕ → ℕ → ℕ → Verdict → Type 0
-IsPlaceVerdict tids pairs reached place targets Accepted = (j : ℕ) → is_set targets j ≡ true → is_bit reached place j ≡ false
-IsPlaceVerdict tids pairs reached place targets (Closes walk) = (path : List ℕ) × IsWalk (is_bit pairs) place (places targets) path × (walk ≡ map (λ i. slice_index tids i) path)
+-- what a verdict says of indices: nothing that is reached from the index is a target, or there is a walk
+abbrev pub IsIndexVerdict : List ℕ → List ℕ → List ℕ → ℕ → ℕ → Verdict → Type 0
+IsIndexVerdict tids pairs reached index targets Accepted = (j : ℕ) → is_set targets j ≡ true → is_bit reached index j ≡ false
+IsIndexVerdict tids pairs reached index targets (Closes walk) = (path : List ℕ) × IsWalk (is_bit pairs) index (indices targets) path × (walk ≡ map (λ i. slice_index tids i) path)

@@ -1,14 +1,14 @@
--- What is reached along rows of places.
+-- What is reached along rows of indices.
 use Rattle.std.specs.Prelude.{◌≡◌, ℕ, true, List}
 use Rattle.sgt_model.specs.Walks.{Reaches}
-use Rattle.sgt_cycle.specs.Places.{is_bit}
+use Rattle.sgt_cycle.specs.Indices.{is_bit}
 use Rattle.sgt_cycle.specs.Walk.{Holds}
 
 -- in a step or more
 abbrev pub Leads : List ℕ → ℕ → ℕ → Type 0
 Leads rows i j = (k : ℕ) × (is_bit rows i k ≡ true) × Reaches (Holds (is_bit rows)) k j
 
--- the second rows have exactly the places that are reached along the first: they have these, are joined end to end, and have
+-- the second rows have exactly the indices that are reached along the first: they have these, are joined end to end, and have
 -- no other
 pub record IsClosure (rows reached : List ℕ) : Type 0 where
   pub each : (i j : ℕ) → is_bit rows i j ≡ true → is_bit reached i j ≡ true

@@ -1,17 +1,17 @@
 ghost use Rattle.std.specs.Prelude.{◌≡◌, ℕ, ◌<◌, true, false, not, ◌||◌, ◌&&◌, nat_eq, IsTrue};
-ghost use Rattle.sgt_cycle.specs.Places.{is_set, is_bit};
-ghost use Rattle.sgt_graph.specs.BitGraphs.{is_placed, is_pair, IsPlaceVerdict, IsBitGraph};
+ghost use Rattle.sgt_cycle.specs.Indices.{is_set, is_bit};
+ghost use Rattle.sgt_graph.specs.BitGraphs.{is_placed, is_pair, IsIndexVerdict, IsBitGraph};
 
 use crate::graph::Graph;
 use crate::rows::{Rows, add, closure, meeting, take_out};
-use crate::tids::{least_at, place_of, places_of, tids_at};
+use crate::tids::{index_of, indices_of, least_at, tids_at};
 use crate::verdict::Verdict;
-use sgt_cycle::places::{complement, joined, least, meets, minus, only};
+use sgt_cycle::indices::{complement, joined, least, meets, minus, only};
 use sgt_cycle::walk_rows;
 use sgt_model::{Tid, Tids};
 use std::marker::Model;
 
-/// A graph as 32 places, each with a transaction or free. Beside the pairs it keeps what is reached along them, so that a
+/// A graph as 32 indices, each with a transaction or free. Beside the pairs it keeps what is reached along them, so that a
 /// verdict is read and not searched for. A walk is searched for only where there is one.
 #[derive(Drop)]
 pub struct BitGraph {
@@ -47,11 +47,11 @@ impl Graph for BitGraph {
     }
 
     fn add(&mut self, t: Tid) {
-        let Some(place) = least(complement(self.taken)) else {
+        let Some(index) = least(complement(self.taken)) else {
             unreachable!();
         };
-        self.tids[usize::from(place)] = t;
-        self.taken = joined(self.taken, only(place));
+        self.tids[usize::from(index)] = t;
+        self.taken = joined(self.taken, only(index));
     }
 
     fn test(&self, t: Tid, preds: &Tids) -> Verdict {
@@ -60,10 +60,10 @@ impl Graph for BitGraph {
         if preds.is_empty() {
             return Verdict::Accepted;
         }
-        let Some(place) = place_of(taken, &self.tids, t) else {
+        let Some(index) = index_of(taken, &self.tids, t) else {
             unreachable!();
         };
-        self.verdict(place, places_of(taken, &self.tids, preds))
+        self.verdict(index, indices_of(taken, &self.tids, preds))
     }
 
     fn insert(&mut self, t: Tid, preds: &Tids) -> Verdict {
@@ -71,28 +71,28 @@ impl Graph for BitGraph {
         if preds.is_empty() {
             return Verdict::Accepted;
         }
-        let Some(place) = place_of(taken, &self.tids, t) else {
+        let Some(index) = index_of(taken, &self.tids, t) else {
             unreachable!();
         };
-        let from = places_of(taken, &self.tids, preds);
-        let verdict = self.verdict(place, from);
+        let from = indices_of(taken, &self.tids, preds);
+        let verdict = self.verdict(index, from);
         if let Verdict::Accepted = verdict {
-            self.add_pairs(from, place);
+            self.add_pairs(from, index);
         }
         verdict
     }
 
     fn least_pred(&self, t: Tid) -> Option<Tid> {
-        let place = place_of(self.taken, &self.tids, t)?;
-        if self.is_alone(place) {
+        let index = index_of(self.taken, &self.tids, t)?;
+        if self.is_alone(index) {
             return None;
         }
-        least_at(&self.tids, meeting(&self.pairs, only(place)))
+        least_at(&self.tids, meeting(&self.pairs, only(index)))
     }
 
     fn remove(&mut self, t: Tid) {
-        if let Some(place) = place_of(self.taken, &self.tids, t) {
-            self.free(place);
+        if let Some(index) = index_of(self.taken, &self.tids, t) {
+            self.free(index);
         }
     }
 
@@ -103,67 +103,67 @@ impl Graph for BitGraph {
 }
 
 impl BitGraph {
-    /// Whether pairs from the places of the set to this one would leave the graph without a cycle.
-    fn verdict(&self, place: u8, from: u32) -> Verdict
-        requires low { place < 32 }
-        requires apart { is_set from place ≡ false }
-        ensures { IsPlaceVerdict self.now.1 self.now.2 self.now.3 place from result }
+    /// Whether pairs from the indices of the set to this one would leave the graph without a cycle.
+    fn verdict(&self, index: u8, from: u32) -> Verdict
+        requires low { index < 32 }
+        requires apart { is_set from index ≡ false }
+        ensures { IsIndexVerdict self.now.1 self.now.2 self.now.3 index from result }
     {
-        if !meets(self.reached[usize::from(place)], from) {
+        if !meets(self.reached[usize::from(index)], from) {
             return Verdict::Accepted;
         }
-        match walk_rows(&self.pairs, place, from) {
+        match walk_rows(&self.pairs, index, from) {
             Some(walk) => Verdict::Closes(tids_at(&self.tids, walk.as_slice())),
             None => unreachable!(),
         }
     }
 
-    /// Whether no other place is taken. Then there is no pair.
-    fn is_alone(&self, place: u8) -> bool
-        requires low { place < 32 }
-        ensures { IsTrue result → (i : ℕ) → is_set self.now.0 i ≡ nat_eq i place }
+    /// Whether no other index is taken. Then there is no pair.
+    fn is_alone(&self, index: u8) -> bool
+        requires low { index < 32 }
+        ensures { IsTrue result → (i : ℕ) → is_set self.now.0 i ≡ nat_eq i index }
     {
-        self.taken == only(place)
+        self.taken == only(index)
     }
 
-    /// Adds pairs from the places of the set to this one, and what is reached by them.
-    fn add_pairs(&mut self, from: u32, place: u8)
-        requires low { place < 32 }
-        requires taken { is_set self.old.0 place ≡ true }
+    /// Adds pairs from the indices of the set to this one, and what is reached by them.
+    fn add_pairs(&mut self, from: u32, index: u8)
+        requires low { index < 32 }
+        requires taken { is_set self.old.0 index ≡ true }
         requires of_taken { (i : ℕ) → is_set from i ≡ true → is_set self.old.0 i ≡ true }
-        requires apart { is_set from place ≡ false }
-        requires none_back { (i : ℕ) → is_set from i ≡ true → is_bit self.old.3 place i ≡ false }
+        requires apart { is_set from index ≡ false }
+        requires none_back { (i : ℕ) → is_set from i ≡ true → is_bit self.old.3 index i ≡ false }
         ensures taken { self.new.0 ≡ self.old.0 }
         ensures tids { self.new.1 ≡ self.old.1 }
-        ensures pairs { (i j : ℕ) → is_bit self.new.2 i j ≡ (is_bit self.old.2 i j || (is_set from i && nat_eq j place)) }
+        ensures pairs { (i j : ℕ) → is_bit self.new.2 i j ≡ (is_bit self.old.2 i j || (is_set from i && nat_eq j index)) }
         ensures graph { IsBitGraph self.new.0 self.new.1 self.new.2 self.new.3 }
     {
-        let to = only(place);
+        let to = only(index);
         let before = joined(from, meeting(&self.reached, from));
-        let after = joined(to, self.reached[usize::from(place)]);
+        let after = joined(to, self.reached[usize::from(index)]);
         add(&mut self.pairs, from, to);
         add(&mut self.reached, before, after);
     }
 
-    /// Frees a place. What is reached stays for the others where no pair leads to it, and is else made anew from the pairs.
-    fn free(&mut self, place: u8)
-        requires low { place < 32 }
-        ensures taken { (i : ℕ) → is_set self.new.0 i ≡ (is_set self.old.0 i && not (nat_eq i place)) }
+    /// Frees an index. What is reached stays for the others where no pair leads to it, and is else made anew from the pairs.
+    fn free(&mut self, index: u8)
+        requires low { index < 32 }
+        ensures taken { (i : ℕ) → is_set self.new.0 i ≡ (is_set self.old.0 i && not (nat_eq i index)) }
         ensures tids { self.new.1 ≡ self.old.1 }
         ensures pairs { (i j : ℕ) → is_bit self.new.2 i j
-            ≡ (is_bit self.old.2 i j && (not (nat_eq i place) && not (nat_eq j place))) }
+            ≡ (is_bit self.old.2 i j && (not (nat_eq i index) && not (nat_eq j index))) }
         ensures graph { IsBitGraph self.new.0 self.new.1 self.new.2 self.new.3 }
     {
-        if self.is_alone(place) {
+        if self.is_alone(index) {
             self.taken = 0;
             return;
         }
-        let alone = only(place);
+        let alone = only(index);
         let is_first = least(meeting(&self.pairs, alone)).is_none();
         self.taken = minus(self.taken, alone);
-        take_out(&mut self.pairs, place);
+        take_out(&mut self.pairs, index);
         if is_first {
-            take_out(&mut self.reached, place);
+            take_out(&mut self.reached, index);
         } else {
             self.reached = closure(&self.pairs);
         }

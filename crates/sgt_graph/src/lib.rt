@@ -3,7 +3,7 @@
 //!
 //! [`Graph`] is what a scheduler asks of it, [`BitGraph`] the body that reads a verdict from rows of bits, and
 //! [`PairGraph`] the plain body, two lists. A graph never has a cycle: new pairs
-//! into a transaction are accepted where they close none, and else refused with a walk that shows the cycle. No call takes
+//! into a transaction are accepted where they close none, and else rejected with a walk that shows the cycle. No call takes
 //! memory. It knows no history, key or access: who conflicts with whom is told to it.
 //!
 //! ```

@@ -1,48 +1,48 @@
-//! Rows of places: row `i` is a set of the places that place `i` is related to.
+//! Rows of indices: row `i` is a set of the indices that index `i` is related to.
 ghost use Rattle.std.specs.Prelude.{◌≡◌, ℕ, ◌<◌, true, not, ◌||◌, ◌&&◌, ◌↔◌, nat_eq};
-ghost use Rattle.sgt_cycle.specs.Places.{is_set, is_bit};
+ghost use Rattle.sgt_cycle.specs.Indices.{is_set, is_bit};
 ghost use Rattle.sgt_graph.specs.Closures.{IsClosure};
 
-use sgt_cycle::places::{has, joined, meets, minus, only};
+use sgt_cycle::indices::{has, joined, meets, minus, only};
 
-/// A row for each of 32 places.
+/// A row for each of 32 indices.
 pub type Rows = [u32; 32];
 
-/// The places whose rows have one of these.
+/// The indices whose rows have one of these.
 pub fn meeting(rows: &Rows, set: u32) -> u32
     ensures { (i : ℕ) → (is_set result i ≡ true) ↔ ((j : ℕ) × (is_bit rows.now i j ≡ true) × (is_set set j ≡ true)) }
 {
     let mut found = 0;
-    for place in 0..32u8 {
-        if meets(rows[usize::from(place)], set) {
-            found = joined(found, only(place));
+    for index in 0..32u8 {
+        if meets(rows[usize::from(index)], set) {
+            found = joined(found, only(index));
         }
     }
     found
 }
 
-/// Adds these places to the rows of those.
+/// Adds these indices to the rows of those.
 pub fn add(rows: &mut Rows, to: u32, more: u32)
     ensures { (i j : ℕ) → is_bit rows.new i j ≡ (is_bit rows.old i j || (is_set to i && is_set more j)) }
 {
-    for place in 0..32u8 {
-        if has(to, place) {
-            let i = usize::from(place);
+    for index in 0..32u8 {
+        if has(to, index) {
+            let i = usize::from(index);
             rows[i] = joined(rows[i], more);
         }
     }
 }
 
-/// Takes a place out of all rows, and empties its own.
-pub fn take_out(rows: &mut Rows, place: u8)
-    requires { place < 32 }
-    ensures { (i j : ℕ) → is_bit rows.new i j ≡ (is_bit rows.old i j && (not (nat_eq i place) && not (nat_eq j place))) }
+/// Takes an index out of all rows, and empties its own.
+pub fn take_out(rows: &mut Rows, index: u8)
+    requires { index < 32 }
+    ensures { (i j : ℕ) → is_bit rows.new i j ≡ (is_bit rows.old i j && (not (nat_eq i index) && not (nat_eq j index))) }
 {
-    let out = only(place);
+    let out = only(index);
     for i in 0..32 {
         rows[i] = minus(rows[i], out);
     }
-    rows[usize::from(place)] = 0;
+    rows[usize::from(index)] = 0;
 }
 
 /// What is reached along these rows, in a step or more.
@@ -52,9 +52,9 @@ pub fn closure(rows: &Rows) -> Rows
     ensures { IsClosure rows.now result }
 {
     let mut reached = *rows;
-    for place in 0..32u8 {
-        let from = meeting(&reached, only(place));
-        let more = reached[usize::from(place)];
+    for index in 0..32u8 {
+        let from = meeting(&reached, only(index));
+        let more = reached[usize::from(index)];
         add(&mut reached, from, more);
     }
     reached

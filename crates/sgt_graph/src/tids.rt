@@ -1,34 +1,34 @@
-//! Transactions at 32 places, some of which are taken.
+//! Transactions at 32 indices, some of which are taken.
 ghost use Rattle.std.specs.Prelude.{◌≡◌, ℕ, ◌<◌, ◌≤◌, true, false, ◌↔◌, IfSome, IsNone, map, length, slice_index};
 ghost use Rattle.sgt_model.specs.Walks.{Member};
-ghost use Rattle.sgt_cycle.specs.Places.{is_set};
+ghost use Rattle.sgt_cycle.specs.Indices.{is_set};
 ghost use Rattle.sgt_graph.specs.BitGraphs.{is_at, IsLeastAt};
 
 use crate::pair_graph::smaller;
-use sgt_cycle::places::{has, joined, only};
+use sgt_cycle::indices::{has, joined, only};
 use sgt_model::{Tid, Tids};
 
 /// Where a transaction is.
-pub fn place_of(taken: u32, tids: &[Tid; 32], t: Tid) -> Option<u8>
+pub fn index_of(taken: u32, tids: &[Tid; 32], t: Tid) -> Option<u8>
     ensures some { IfSome result (λ i. (i < 32) × (is_at taken tids.now t i ≡ true)) }
     ensures none { IsNone result → (i : ℕ) → is_at taken tids.now t i ≡ false }
 {
-    for place in 0..32u8 {
-        if tids[usize::from(place)] == t && has(taken, place) {
-            return Some(place);
+    for index in 0..32u8 {
+        if tids[usize::from(index)] == t && has(taken, index) {
+            return Some(index);
         }
     }
     None
 }
 
-/// The places at which these transactions are.
-pub fn places_of(taken: u32, tids: &[Tid; 32], among: &Tids) -> u32
+/// The indices at which these transactions are.
+pub fn indices_of(taken: u32, tids: &[Tid; 32], among: &Tids) -> u32
     ensures { (i : ℕ) → (is_set result i ≡ true) ↔ ((is_set taken i ≡ true) × Member (slice_index tids.now i) among.now) }
 {
     let mut found = 0;
-    for place in 0..32u8 {
-        if has(taken, place) && is_among(tids[usize::from(place)], among) {
-            found = joined(found, only(place));
+    for index in 0..32u8 {
+        if has(taken, index) && is_among(tids[usize::from(index)], among) {
+            found = joined(found, only(index));
         }
     }
     found
@@ -42,20 +42,20 @@ fn is_among(t: Tid, among: &Tids) -> bool
     among.as_slice().contains(&t)
 }
 
-/// The transactions at these places.
+/// The transactions at these indices.
 pub fn tids_at(tids: &[Tid; 32], walk: &[u8]) -> Tids
     requires few { length walk.now ≤ 32 }
     requires low { (i : ℕ) → Member i walk.now → i < 32 }
     ensures { result ≡ map (λ i. slice_index tids.now i) walk.now }
 {
     let mut named = Tids::new();
-    for place in walk {
-        named.push(tids[usize::from(*place)]);
+    for index in walk {
+        named.push(tids[usize::from(*index)]);
     }
     named
 }
 
-/// The least transaction at one of these places.
+/// The least transaction at one of these indices.
 pub fn least_at(tids: &[Tid; 32], set: u32) -> Option<Tid>
     ensures some { IfSome result (IsLeastAt tids.now set) }
     ensures none { IsNone result → (i : ℕ) → is_set set i ≡ false }
@@ -64,9 +64,9 @@ pub fn least_at(tids: &[Tid; 32], set: u32) -> Option<Tid>
         return None;
     }
     let mut least: Option<Tid> = None;
-    for place in 0..32u8 {
-        if has(set, place) {
-            least = Some(smaller(least, tids[usize::from(place)]));
+    for index in 0..32u8 {
+        if has(set, index) {
+            least = Some(smaller(least, tids[usize::from(index)]));
         }
     }
     least

@@ -61,7 +61,7 @@ fn of_replies(
     Ok((whole, first))
 }
 
-/// The hash with a reply's line behind what it was taken of. The line is a place for the text, which is made once more where
+/// The hash with a reply's line behind what it was taken of. The line is room for the text, which is made once more where
 /// it is refused memory.
 fn with_line(
     hash: u64,

@@ -1,4 +1,4 @@
-//! Runs a list of 10,000 mixed events as the gate does, and compares: on an engine with three accounts, where up to eight
+//! Runs a list of 10,000 mixed events as the test command does, and compares: on an engine with three accounts, where up to eight
 //! transactions of SmallBank's five procedures are live at once. It tells how many of each kind of reply there were, what the
 //! committed accounts hold in all, and a digest of the replies' lines. Then it runs the list over other bodies of the layers
 //! too, with up to 8 and up to 32 live, and tells the digests for each: of the replies, of the replies where each walk is

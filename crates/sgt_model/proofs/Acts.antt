@@ -5,7 +5,7 @@ use Rattle.sgt_model.specs.Contents.{Key, key_eq, Contents}
 use Rattle.sgt_model.specs.Runs.{Run, Outcome, Done, Asked, serial}
 use Rattle.sgt_model.specs.Traces.{trace, Next, Ends, Asks, next_at}
 use Rattle.sgt_model.specs.Accesses.{Access, is_store}
-use Rattle.sgt_model.specs.Progress.{looked, made}
+use Rattle.sgt_model.specs.Progress.{values_read, made}
 use Rattle.sgt_model.proofs.Effects.{Fits}
 
 -- what the run asks for, by the values looked at and the number of accesses made
@@ -15,7 +15,7 @@ asks_of r vs made = next_at (trace r vs) made
 -- each access is what is asked for after those before it
 abbrev pub AsAsked : (List (Option ℤ) → ℕ → Next) → List Access → Type 0
 AsAsked asked [] = Unit {0}
-AsAsked asked (a ∷ before) = AsAsked asked before × Fits (asked (looked before) (length before)) a
+AsAsked asked (a ∷ before) = AsAsked asked before × Fits (asked (values_read before) (length before)) a
 
 -- contents with the last store of each key over them
 abbrev pub stored : Access → Key → Option ℤ → Option ℤ
@@ -37,6 +37,6 @@ DoneWith result answers m = (last : Contents) × (result ≡ Done answers last) 
 -- a run at once is its trace, said of accesses
 pub record ActsLaw (r : Run) : Type 0 where
   pub done : (m : Contents) (all : List Access) (answers : List ℤ) → AsAsked (asks_of r) all → FindsIn m all
-      → asks_of r (looked all) (length all) ≡ Ends answers → DoneWith (serial r m) answers (over m all)
-  pub asked : (m : Contents) (all : List Access) (code : ℕ) → AsAsked (asks_of r) all → FindsIn m all → asks_of r (looked all)
+      → asks_of r (values_read all) (length all) ≡ Ends answers → DoneWith (serial r m) answers (over m all)
+  pub asked : (m : Contents) (all : List Access) (code : ℕ) → AsAsked (asks_of r) all → FindsIn m all → asks_of r (values_read all)
       (length all) ≡ Asks code → serial r m ≡ Asked code

@@ -12,7 +12,7 @@ use Rattle.sgt_model.specs.Contents.{Key}
 use Rattle.sgt_model.specs.Accesses.{Access, access_of, is_store}
 use Rattle.sgt_model.specs.Values.{stores}
 use Rattle.sgt_model.specs.Pairs.{FollowsIn, Precedes, has_conflicting}
-use Rattle.sgt_model.specs.Chains.{chain_of, store_into, without, write_last, writes_in}
+use Rattle.sgt_model.specs.Chains.{chain_of, store_into, chain_without, write_last, writes_in}
 use Rattle.sgt_model.specs.ChainOrder.{EachAfter, InOrder, IsFirstIn, IsLastIn}
 use Rattle.sgt_model.proofs.Facts.{some_is}
 use Rattle.sgt_model.proofs.Stores.{Stored, key_eq-true, stores-some, stored-conflicts, stored-has_conflicting}
@@ -110,21 +110,21 @@ any-filter t f (w ∷ c) h = go (f w) (any-filter t f c) h
 
 pub written-cases : (t u : ℕ) (v : ℤ) (c : List (ℕ × ℤ)) → writes_in t (write_last u v c) ≡ true → (writes_in t c ≡ true) ⊎ (u ≡ t)
 written-cases t u v c h =
-    elim (or_cases (writes_in t (without u c)) (writes_in t ((u, v) ∷ []))
-    (sym (list_any-append (λ w. nat_eq w.0 t) (without u c) ((u, v) ∷ [])) ∙ h)) [
+    elim (or_cases (writes_in t (chain_without u c)) (writes_in t ((u, v) ∷ []))
+    (sym (list_any-append (λ w. nat_eq w.0 t) (chain_without u c) ((u, v) ∷ [])) ∙ h)) [
       | inl before ↦ inl (any-filter t _ c before)
       | inr now ↦ elim (or_cases (nat_eq u t) false now) [ inl e ↦ inr (eqb-true u t e) | inr none ↦ absurd (cc) ]
     ]
 
-pub without-apart : (t u : ℕ) (c : List (ℕ × ℤ)) → writes_in t (without u c) ≡ true → t ≢ u
-without-apart t u [] h = absurd (cc)
-without-apart t u (w ∷ c) h = go (nat_eq w.0 u) refl (without-apart t u c) h
+pub chain_without-apart : (t u : ℕ) (c : List (ℕ × ℤ)) → writes_in t (chain_without u c) ≡ true → t ≢ u
+chain_without-apart t u [] h = absurd (cc)
+chain_without-apart t u (w ∷ c) h = go (nat_eq w.0 u) refl (chain_without-apart t u c) h
   where
-    go : (b : Bool) → nat_eq w.0 u ≡ b → (writes_in t (without u c) ≡ true → t ≢ u)
-        → writes_in t (cond (not b) (w ∷ without u c) (without u c)) ≡ true → t ≢ u
+    go : (b : Bool) → nat_eq w.0 u ≡ b → (writes_in t (chain_without u c) ≡ true → t ≢ u)
+        → writes_in t (cond (not b) (w ∷ chain_without u c) (chain_without u c)) ≡ true → t ≢ u
     go true e ih h = ih h
     go false e ih h =
-        elim (or_cases (nat_eq w.0 t) (writes_in t (without u c)) h) [
+        elim (or_cases (nat_eq w.0 t) (writes_in t (chain_without u c)) h) [
           | inl now ↦ (λ z. both_ways _ e
               (eq-eqb w.0 u (eqb-true w.0 t now ∙ z)))
           | inr later ↦ ih later
@@ -183,9 +183,9 @@ chain-ordered p k (e ∷ past) =
         → InOrder (Before (e ∷ past)) (chain_of p k (e ∷ past))
     go ih (inl same) = subst (λ c. InOrder (Before (e ∷ past)) c) (sym same) ih
     go ih (inr w) = subst (λ c. InOrder (Before (e ∷ past)) c) (sym w.is) (in_order-add (Before (e ∷ past)) w.access.by
-        (unwrap_or w.access.value (pos 0)) (without w.access.by (chain_of p k past)) (in_order-filter (Before (e ∷ past)) _ _ ih)
+        (unwrap_or w.access.value (pos 0)) (chain_without w.access.by (chain_of p k past)) (in_order-filter (Before (e ∷ past)) _ _ ih)
         (λ t m. (
-          without-apart t w.access.by (chain_of p k past) m,
+          chain_without-apart t w.access.by (chain_of p k past) m,
           inl (follows t (chain-wrote p k past t (any-filter t (λ x. not (nat_eq x.0 w.access.by)) (chain_of p k past) m))),
         )))
       where

@@ -15,7 +15,7 @@ use Rattle.sgt_model.specs.Contents.{Key, key_eq}
 use Rattle.sgt_model.specs.Accesses.{Access, access_in, access_of, is_store}
 use Rattle.sgt_model.specs.Values.{newest_store, stores}
 use Rattle.sgt_model.specs.Pairs.{FollowsIn, Precedes, has_conflicting}
-use Rattle.sgt_model.specs.Chains.{chain_of, store_into, value_in, without, write_last}
+use Rattle.sgt_model.specs.Chains.{chain_of, store_into, value_in, chain_without, write_last}
 use Rattle.sgt_model.proofs.Facts.{none_unless, option_or-cases, some_is}
 use Rattle.sgt_model.proofs.Stores.{key_eq-true, Stored, stores-some, newest-counts, found}
 
@@ -65,7 +65,7 @@ last_or-added o (y ∷ xs) x = last_or-added (Some y) xs x
 last-step : (o : Option Access) (c : List (ℕ × ℤ)) (n : Option Access) → last_or None c ≡ entry_of n
     → last_or None (store_into o c) ≡ entry_of (option_or o n)
 last-step None c n h = h
-last-step (Some a) c n h = last_or-added None (without a.by c) (a.by, unwrap_or a.value (pos 0))
+last-step (Some a) c n h = last_or-added None (chain_without a.by c) (a.by, unwrap_or a.value (pos 0))
 
 pub chain-last : (p : ℕ → Bool) (k : Key) (past : List Entry) → last_or None (chain_of p k past) ≡ entry_of (newest_store p k past)
 chain-last p k [] = refl
@@ -102,20 +102,20 @@ value_in-append t (w ∷ xs) ys = go (nat_eq w.0 t) (value_in-append t xs ys)
     go true h = refl
     go false h = h
 
-pub value_in-without : (t : ℕ) (c : List (ℕ × ℤ)) → value_in t (without t c) ≡ None
+pub value_in-without : (t : ℕ) (c : List (ℕ × ℤ)) → value_in t (chain_without t c) ≡ None
 value_in-without t [] = refl
 value_in-without t (w ∷ c) = go (nat_eq w.0 t) refl (value_in-without t c)
   where
-    go : (b : Bool) → nat_eq w.0 t ≡ b → value_in t (without t c) ≡ None → value_in t (cond (not b) (w ∷ without t c) (without t c)) ≡ None
+    go : (b : Bool) → nat_eq w.0 t ≡ b → value_in t (chain_without t c) ≡ None → value_in t (cond (not b) (w ∷ chain_without t c) (chain_without t c)) ≡ None
     go true e h = h
-    go false e h = ap (λ b. cond b (Some w.1) (value_in t (without t c))) e ∙ h
+    go false e h = ap (λ b. cond b (Some w.1) (value_in t (chain_without t c))) e ∙ h
 
-value_in-other : (t u : ℕ) (c : List (ℕ × ℤ)) → u ≢ t → value_in t (without u c) ≡ value_in t c
+value_in-other : (t u : ℕ) (c : List (ℕ × ℤ)) → u ≢ t → value_in t (chain_without u c) ≡ value_in t c
 value_in-other t u [] n = refl
 value_in-other t u (w ∷ c) n = go (nat_eq w.0 u) refl (value_in-other t u c n)
   where
-    go : (b : Bool) → nat_eq w.0 u ≡ b → value_in t (without u c) ≡ value_in t c
-        → value_in t (cond (not b) (w ∷ without u c) (without u c)) ≡ cond (nat_eq w.0 t) (Some w.1) (value_in t c)
+    go : (b : Bool) → nat_eq w.0 u ≡ b → value_in t (chain_without u c) ≡ value_in t c
+        → value_in t (cond (not b) (w ∷ chain_without u c) (chain_without u c)) ≡ cond (nat_eq w.0 t) (Some w.1) (value_in t c)
     go true e h = h ∙ sym (ap (λ b. cond b (Some w.1) (value_in t c)) (ne_eqb w.0 t (λ z. n (sym (eqb-true w.0 u e) ∙ z))))
     go false e h = ap (λ z. cond (nat_eq w.0 t) (Some w.1) z) h
 
@@ -125,11 +125,11 @@ stored_value None = None
 stored_value (Some a) = Some (unwrap_or a.value (pos 0))
 
 written-own : (t : ℕ) (v : ℤ) (c : List (ℕ × ℤ)) → value_in t (write_last t v c) ≡ Some v
-written-own t v c = value_in-append t (without t c) ((t, v) ∷ [])
+written-own t v c = value_in-append t (chain_without t c) ((t, v) ∷ [])
     ∙ (ap₂ (λ x b. option_or x (cond b (Some v) None)) (value_in-without t c) (eq-eqb t t refl))
 
 written-other : (t u : ℕ) (v : ℤ) (c : List (ℕ × ℤ)) → u ≢ t → value_in t (write_last u v c) ≡ value_in t c
-written-other t u v c n = value_in-append t (without u c) ((u, v) ∷ [])
+written-other t u v c n = value_in-append t (chain_without u c) ((u, v) ∷ [])
     ∙ (ap₂ (λ x b. option_or x (cond b (Some v) None)) (value_in-other t u c n) (ne_eqb u t n) ∙ or_none (value_in t c))
   where
     or_none : (x : Option ℤ) → option_or x None ≡ x

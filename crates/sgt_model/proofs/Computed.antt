@@ -21,7 +21,7 @@ use Rattle.sgt_model.specs.ReadFrom.{IsBy, LooksFrom, ReadFrom}
 use Rattle.sgt_model.specs.Falls.{Feeds, Falls}
 use Rattle.sgt_model.specs.Pairs.{has_conflicting, FollowsIn, Precedes, Pair}
 use Rattle.sgt_model.specs.Closes.{Closes}
-use Rattle.sgt_model.specs.Legality.{Aborts, Refuses, Makes, NoneLive, MustWait, MayCommit}
+use Rattle.sgt_model.specs.Legality.{Aborts, AbortsByCycle, Makes, NoneLive, MustWait, MayCommit}
 use Rattle.sgt_model.proofs.Paths.{last_is_member}
 use Rattle.sgt_model.proofs.Facts.{some_is, member_from, member_to, conflicts-access, follows-access}
 use Rattle.sgt_model.proofs.Sources.{read-precedes}
@@ -341,10 +341,10 @@ pub aborts_by : {past : List Entry} {t : ℕ} {why : Cause} (fell : List ℕ) (p
     → rising fell ≡ true → each_test past t fell paths ≡ true → all_test past t fell set ≡ true → Aborts past t why (reply.Aborted why fell)
 aborts_by {past} {t} {why} fell paths set r e a = record { fell = fell; falls = falls-so past t fell paths set r e a; is = refl }
 
--- an access is refused, with a walk that it would close
+-- an access is rejected, with a walk that it would close
 pub refused_by : {past : List Entry} {t : ℕ} {k : Key} {kind : Kind} (rest fell : List ℕ) (paths : List (List ℕ)) (set : List ℕ)
     → closes_test past t k kind rest ≡ true → rising fell ≡ true → each_test past t fell paths ≡ true
-    → all_test past t fell set ≡ true → Refuses past t k kind (reply.Aborted (cause.Cycle (t ∷ rest)) fell)
+    → all_test past t fell set ≡ true → AbortsByCycle past t k kind (reply.Aborted (cause.Cycle (t ∷ rest)) fell)
 refused_by {past} {t} {k} {kind} rest fell paths set c r e a = record {
   rest = rest;
   closes = closes-so past t k kind rest c;

@@ -19,7 +19,7 @@ use Rattle.sgt_model.specs.Pairs.{conflicts, one_stores, has_conflicting}
 use Rattle.sgt_model.specs.Settings.{Setting}
 use Rattle.sgt_model.specs.Legality.{Legal}
 use Rattle.sgt_model.specs.AccessList.{ListedAccess, is_conflicting, listed_in, access_list, lists_conflicting}
-use Rattle.sgt_model.specs.Chains.{chain_of, store_into, without, write_last}
+use Rattle.sgt_model.specs.Chains.{chain_of, store_into, chain_without, write_last}
 use Rattle.sgt_model.proofs.Facts.{access-live, live-started, starts-grow}
 
 -- on filters
@@ -106,8 +106,8 @@ module _ (gone : ℕ → Bool) where
   abbrev pub stays_in : ℕ × ℤ → Bool
   stays_in w = not (gone w.0)
 
-  without-gone : (t : ℕ) (c : List (ℕ × ℤ)) → gone t ≡ true → filter stays_in (without t c) ≡ filter stays_in c
-  without-gone t c h = filter-both stays_in (λ w. not (nat_eq w.0 t)) c ∙ filter-same _ _ c (λ w. at w.0 (cases_eq w.0 t))
+  chain_without-gone : (t : ℕ) (c : List (ℕ × ℤ)) → gone t ≡ true → filter stays_in (chain_without t c) ≡ filter stays_in c
+  chain_without-gone t c h = filter-both stays_in (λ w. not (nat_eq w.0 t)) c ∙ filter-same _ _ c (λ w. at w.0 (cases_eq w.0 t))
     where
       at : (u : ℕ) → (u ≡ t) ⊎ (u ≢ t) → (not (nat_eq u t) && not (gone u)) ≡ not (gone u)
       at u (inl e) = rw (e, eq-eqb t t refl, h) refl
@@ -116,12 +116,12 @@ module _ (gone : ℕ → Bool) where
   written-stays : (t : ℕ) (v : ℤ) (c : List (ℕ × ℤ)) → gone t ≡ false → write_last t v (filter stays_in c) ≡ filter stays_in
       (write_last t v c)
   written-stays t v c h = ap₂ (λ l m. l ++ m) (filter-swap (λ w. not (nat_eq w.0 t)) stays_in c)
-      (sym (ap (λ b. cond (not b) ((t, v) ∷ []) []) h)) ∙ sym (filter-append stays_in (without t c) ((t, v) ∷ []))
+      (sym (ap (λ b. cond (not b) ((t, v) ∷ []) []) h)) ∙ sym (filter-append stays_in (chain_without t c) ((t, v) ∷ []))
 
   written-gone : (t : ℕ) (v : ℤ) (c : List (ℕ × ℤ)) → gone t ≡ true → filter stays_in c ≡ filter stays_in (write_last t v c)
   written-gone t v c h =
-      sym (filter-append stays_in (without t c) ((t, v) ∷ [])
-      ∙ (ap₂ (λ l m. l ++ m) (without-gone t c h) (ap (λ b. cond (not b) ((t, v) ∷ []) []) h) ∙ append-nil (filter stays_in c)))
+      sym (filter-append stays_in (chain_without t c) ((t, v) ∷ [])
+      ∙ (ap₂ (λ l m. l ++ m) (chain_without-gone t c h) (ap (λ b. cond (not b) ((t, v) ∷ []) []) h) ∙ append-nil (filter stays_in c)))
 
   store-removed : (a : Access) (c : List (ℕ × ℤ)) (x y p g : Bool) → gone a.by ≡ g
       → store_into (cond (x && (y && (p && not g))) (Some a) None) (filter stays_in c) ≡ filter stays_in

@@ -24,7 +24,7 @@ use Rattle.sgt_model.specs.Closes.{Closes}
 use Rattle.sgt_model.specs.Settings.{Setting, takes}
 use Rattle.sgt_model.specs.Progress.{call_in, next_of}
 use Rattle.sgt_model.specs.StartReply.{args_fit, taken_reply}
-use Rattle.sgt_model.specs.Legality.{Aborts, Refuses, StepReply, NoneLive, CommitReply, OfStarted, OfLive, LegalReply}
+use Rattle.sgt_model.specs.Legality.{Aborts, AbortsByCycle, StepReply, NoneLive, CommitReply, OfStarted, OfLive, LegalReply}
 use Rattle.sgt_model.specs.Replay.{committed_call_in, told_in}
 use Rattle.sgt_model.specs.Aborts.{Wants, HasCause, AbortHasCause}
 use Rattle.sgt_model.specs.Laws.{CommitAgrees}
@@ -209,7 +209,7 @@ quit_at s past t r alive a = subst (λ x. Effect s past (Quit t) x) (sym a.is)
     }))
 
 refuse_at : (s : Setting) (past : List Entry) (t : ℕ) (k : Key) (kind : Kind) (r : Reply) → live past t ≡ true
-    → Wants (next_of s past t) k kind → Refuses past t k kind r → Effect s past (Step t) r
+    → Wants (next_of s past t) k kind → AbortsByCycle past t k kind r → Effect s past (Step t) r
 refuse_at s past t k kind r alive wants h = abort_at s past t (cause.Cycle (t ∷ h.rest)) r alive
     (record {
       rest = h.rest;

@@ -61,7 +61,7 @@ limits_and_fates-legal = (
   refl,
 )
 
--- where all numbers are spent and no place is free, the arguments are tested first
+-- where all numbers are spent and as many as may be are live, the arguments are tested first
 abbrev pub tests_in_order : List Entry
 tests_in_order =
     entry (Start 0 (pos 1 ∷ [])) (reply.Spent)

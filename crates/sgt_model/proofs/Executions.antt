@@ -8,7 +8,7 @@ use Rattle.sgt_model.specs.Syntax.{Term, num, arg, reg, sum, diff, Test, less, a
 use Rattle.sgt_model.specs.Runs.{Run, Outcome, Asked, serial}
 use Rattle.sgt_model.specs.Ways.{Way, onto}
 use Rattle.sgt_model.specs.Ways as way
-use Rattle.sgt_model.specs.Meaning.{Got, is, over, missing, got, bounded, both, value_of, Holds, holds, too_far, unknown, compared, result_of, wrong, with_value, with_test, is_key, if_found, run}
+use Rattle.sgt_model.specs.Meaning.{Got, is, over, missing, got, bounded, both, value_of, Truth, holds, too_far, unknown, compared, truth_of, wrong, with_value, with_test, is_key, if_found, run}
 use Rattle.sgt_model.specs.Executions.{OrCode, and_then, provided, Workspace, workspace_of, in_turn, value_or_overflow, evaluate, decide, look_at_record, put_record, let_register, give_answer, execute, outcome_of, SerialIsExecution}
 
 -- expressions
@@ -18,7 +18,7 @@ got_or_code (is v) = Ok v
 got_or_code over = Err 1000
 got_or_code missing = Err 0
 
-abbrev test_or_code : Holds → OrCode Bool
+abbrev test_or_code : Truth → OrCode Bool
 test_or_code (holds b) = Ok b
 test_or_code too_far = Err 1000
 test_or_code unknown = Err 0
@@ -55,7 +55,7 @@ value_is (sum a b) args w = rw (value_is a args w, value_is b args w) (both_are 
 value_is (diff a b) args w = rw (value_is a args w, value_is b args w) (both_are (λ x y. x -ℤ y) (value_of a args w.registers)
     (value_of b args w.registers))
 
-test_is : (t : Test) (args : List ℤ) (w : Workspace) → decide t args w ≡ test_or_code (result_of t args w.registers)
+test_is : (t : Test) (args : List ℤ) (w : Workspace) → decide t args w ≡ test_or_code (truth_of t args w.registers)
 test_is (less a b) args w = rw (value_is a args w, value_is b args w) (compared_are int_lt (value_of a args w.registers)
     (value_of b args w.registers))
 test_is (at_most a b) args w = rw (value_is a args w, value_is b args w) (compared_are int_le (value_of a args w.registers)
@@ -91,7 +91,7 @@ last_step : (fits : Bool) (w : Workspace) (go : Run) (m : Contents) (rest : Work
 last_step true w go m rest same = same
 last_step false w go m rest same = refl
 
-test_step : (h : Holds) (r : OrCode Bool) (ys ns : Run) (m : Contents) (next : Bool → OrCode Workspace) (rest : Workspace → Outcome)
+test_step : (h : Truth) (r : OrCode Bool) (ys ns : Run) (m : Contents) (next : Bool → OrCode Workspace) (rest : Workspace → Outcome)
     → r ≡ test_or_code h → serial ys m ≡ after (next true) rest → serial ns m ≡ after (next false) rest
     → serial (with_test h ys ns) m ≡ after (and_then r next) rest
 test_step (holds true) r ys ns m next rest e yes_same no_same = rw e yes_same
@@ -133,7 +133,7 @@ block_is args (save to value b) behind w =
     (value_is value args w) (λ v. refl))
 block_is args (ask code b) behind w = refl
 block_is args (choose test ys ns b) behind w =
-    test_step (result_of test args w.registers) (decide test args w) _ _ w.working _ (along args behind) (test_is test args w)
+    test_step (truth_of test args w.registers) (decide test args w) _ _ w.working _ (along args behind) (test_is test args w)
     (behind_first args b behind (execute args ys w) _ (block_is args b behind) (block_is args ys (onto b behind) w))
     (behind_first args b behind (execute args ns w) _ (block_is args b behind) (block_is args ns (onto b behind) w))
 block_is args (answer value b) behind w =

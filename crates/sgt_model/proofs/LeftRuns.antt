@@ -8,7 +8,7 @@ use Rattle.sgt_model.specs.Runs.{Run, looks, puts, ends, asks}
 use Rattle.sgt_model.specs.Traces.{Used, Next, Looks, Puts, Ends, Asks, trace, next_at}
 use Rattle.sgt_model.specs.Ways.{Way, onto}
 use Rattle.sgt_model.specs.Ways as way
-use Rattle.sgt_model.specs.Meaning.{Got, is, over, missing, Holds, holds, too_far, unknown, Registers, value_of, result_of, wrong, with_value, with_test, is_key, if_found, run, run_with}
+use Rattle.sgt_model.specs.Meaning.{Got, is, over, missing, Truth, holds, too_far, unknown, Registers, value_of, truth_of, wrong, with_value, with_test, is_key, if_found, run, run_with}
 use Rattle.sgt_model.specs.Executions.{OrCode, and_then, provided}
 use Rattle.sgt_model.specs.Left.{Rest, Left, ToRun, ToAsk, left_at_start, followed_by, Reached, AtLook, AtStore, AtEnd, then_behind, number_or_code, choice_or_code, reach, reached, next_of_reached, next_left, with_found, behind_look, after_look, behind_store, after_store, after_next, left_after, NextIsOfLeft, LeftAfterLook, LeftAfterStore}
 
@@ -49,7 +49,7 @@ last_step : (args : List ℤ) (behind : Way) (fits : Bool) (r : Reached) (go : R
 last_step args behind true r go same = same
 last_step args behind false r go same = refl
 
-test_step : (args : List ℤ) (behind : Way) (h : Holds) (ys ns : Run) (next : Bool → OrCode Reached) → ys ≡ run_reached args behind
+test_step : (args : List ℤ) (behind : Way) (h : Truth) (ys ns : Run) (next : Bool → OrCode Reached) → ys ≡ run_reached args behind
     (next true) → ns ≡ run_reached args behind (next false) → with_test h ys ns ≡ run_reached args behind (and_then (choice_or_code h) next)
 test_step args behind (holds true) ys ns next yes_same no_same = yes_same
 test_step args behind (holds false) ys ns next yes_same no_same = no_same
@@ -82,7 +82,7 @@ reach_is args (save to value b) behind registers answers =
     value_step args behind (value_of value args registers) _ _ (λ v. reach_is args b behind (slice_set registers to (Some v)) answers)
 reach_is args (ask code b) behind registers answers = refl
 reach_is args (choose test ys ns b) behind registers answers =
-    test_step args behind (result_of test args registers) _ _ _
+    test_step args behind (truth_of test args registers) _ _ _
     (reach_is args ys (onto b behind) registers answers ∙ if_step args b behind (reach ys args registers answers) (reach_is args b behind))
     (reach_is args ns (onto b behind) registers answers ∙ if_step args b behind (reach ns args registers answers) (reach_is args b behind))
 reach_is args (answer value b) behind registers answers =

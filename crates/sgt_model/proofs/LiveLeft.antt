@@ -9,7 +9,7 @@ use Rattle.sgt_model.specs.Traces.{Used, trace, Next, Looks, Puts, Ends, Asks, n
 use Rattle.sgt_model.specs.Left.{Left, next_left, after_look, after_store, left_after}
 use Rattle.sgt_model.specs.Accesses.{Access, acts}
 use Rattle.sgt_model.specs.Settings.{Setting, run_if}
-use Rattle.sgt_model.specs.Progress.{Call, call_of, run_of, if_look, looked, reads, made, next_of}
+use Rattle.sgt_model.specs.Progress.{Call, call_of, run_of, if_look, values_read, reads, made, next_of}
 use Rattle.sgt_model.specs.Legality.{Legal}
 use Rattle.sgt_model.specs.LiveLeft.{left_if, left_of_call, left_of}
 use Rattle.sgt_model.proofs.Effects.{Fits}
@@ -20,23 +20,23 @@ use Rattle.sgt_model.proofs.LeftRuns.{run_left, next_after, look_after, store_af
 
 -- what is left of a call after these accesses, newest first
 abbrev pub left_by : Setting → Call → List Access → Left
-left_by s c all = left_after (left_of_call s.rules c) (looked all) (length all)
+left_by s c all = left_after (left_of_call s.rules c) (values_read all) (length all)
 
 -- accesses that were asked for use the values that they looked at
 
-one_used : (r : Run) (done : List Access) (a : Access) (n : Next) → next_at (trace r (looked done)) (length done) ≡ n → Fits n a
-    → Used r (looked done) (length done) → Used r (looked done ++ if_look a.kind a.value) (suc (length done))
-one_used r done a (Looks k) next fits used = subst (λ kind. Used r (looked done ++ if_look kind a.value) (suc (length done)))
-    (sym fits.1) (used_look-suc r (looked done) (length done) k a.value used next)
-one_used r done a (Puts k v) next fits used = subst (λ kind. Used r (looked done ++ if_look kind a.value) (suc (length done)))
-    (sym fits.1) (subst (λ l. Used r l (suc (length done))) (sym (append-nil (looked done)))
-    (used_store-suc r (looked done) (length done) k v used next))
+one_used : (r : Run) (done : List Access) (a : Access) (n : Next) → next_at (trace r (values_read done)) (length done) ≡ n → Fits n a
+    → Used r (values_read done) (length done) → Used r (values_read done ++ if_look a.kind a.value) (suc (length done))
+one_used r done a (Looks k) next fits used = subst (λ kind. Used r (values_read done ++ if_look kind a.value) (suc (length done)))
+    (sym fits.1) (used_look-suc r (values_read done) (length done) k a.value used next)
+one_used r done a (Puts k v) next fits used = subst (λ kind. Used r (values_read done ++ if_look kind a.value) (suc (length done)))
+    (sym fits.1) (subst (λ l. Used r l (suc (length done))) (sym (append-nil (values_read done)))
+    (used_store-suc r (values_read done) (length done) k v used next))
 one_used r done a (Ends answers) next fits used = absurd fits
 one_used r done a (Asks code) next fits used = absurd fits
 
-all_used : (r : Run) (done : List Access) → AsAsked (asks_of r) done → Used r (looked done) (length done)
+all_used : (r : Run) (done : List Access) → AsAsked (asks_of r) done → Used r (values_read done) (length done)
 all_used r [] h = tt
-all_used r (a ∷ done) h = one_used r done a (next_at (trace r (looked done)) (length done)) refl h.1 (all_used r done h.0)
+all_used r (a ∷ done) h = one_used r done a (next_at (trace r (values_read done)) (length done)) refl h.1 (all_used r done h.0)
 
 -- what is left at the start is the whole run
 

@@ -1,4 +1,4 @@
--- A refused access, added all the same, would leave the members of its walk with no order.
+-- A rejected access, added all the same, would leave the members of its walk with no order.
 -- an access ends no transaction
 use Rattle.std.specs.Prelude.{◌≡◌, ◌≢◌, ℕ, ◌<◌, ◌≤◌, true, false, cond, nat_eq, List, [], ◌∷◌, Option, Some, None}
 use Rattle.std.specs.Option.{option_or}
@@ -68,7 +68,7 @@ last_stands : (past : List Entry) (t u : ℕ) (rest : List ℕ) → PathOf (Pair
 last_stands past t u [] p = p.0.second_stands
 last_stands past t u (v ∷ rest) p = last_stands past u v rest p.1
 
--- with the refused access added no numbers for the walk's members rise along each pair among them
+-- with the rejected access added no numbers for the walk's members rise along each pair among them
 pub refused_has_no_rank : (past : List Entry) (t : ℕ) (k : Key) (kind : Kind) (rest : List ℕ) → Closes past t k kind rest
     → (e : Entry) → IsAccessBy (access_of e) t k kind
     → (rank : ℕ → ℕ) → ((a b : ℕ) → Member a (t ∷ rest) → Member b (t ∷ rest) → Pair (e ∷ past) a b → rank a < rank b) → ⊥
@@ -84,34 +84,34 @@ refused_has_no_rank past t k kind (u ∷ rest) c e is rank up =
     (λ a b ma mb p. up a b ma mb (pair_stays e past t k kind is a b p)) t (u ∷ rest) (λ x m. m) c.pairs in
     omega arith
 
--- the place of a number in a list
-place : List ℕ → ℕ → ℕ
-place [] a = 0
-place (c ∷ rest) a = cond (nat_eq a c) 0 (suc (place rest a))
+-- the index of a number in a list
+index : List ℕ → ℕ → ℕ
+index [] a = 0
+index (c ∷ rest) a = cond (nat_eq a c) 0 (suc (index rest a))
 
 before_member : (a b : ℕ) (list : List ℕ) → StandsBefore a b list → Member a list × Member b list
 before_member a b [] s = elim s [ ]
 before_member a b (c ∷ rest) (inl (same, m)) = (inl same, inr m)
 before_member a b (c ∷ rest) (inr s) = let (x, y) = before_member a b rest s in (inr x, inr y)
 
-place-other : (c : ℕ) (rest : List ℕ) (a : ℕ) → (Member c rest → ⊥) → Member a rest → place (c ∷ rest) a ≡ suc (place rest a)
-unfolding place
-place-other c rest a new m = rw (ne_eqb a c (λ same. new (subst (λ x. Member x rest) same m)))
+index-other : (c : ℕ) (rest : List ℕ) (a : ℕ) → (Member c rest → ⊥) → Member a rest → index (c ∷ rest) a ≡ suc (index rest a)
+unfolding index
+index-other c rest a new m = rw (ne_eqb a c (λ same. new (subst (λ x. Member x rest) same m)))
 
-place-same : (c : ℕ) (rest : List ℕ) (a : ℕ) → a ≡ c → place (c ∷ rest) a ≡ 0
-unfolding place
-place-same c rest a same = rw (eq-eqb a c same)
+index-same : (c : ℕ) (rest : List ℕ) (a : ℕ) → a ≡ c → index (c ∷ rest) a ≡ 0
+unfolding index
+index-same c rest a same = rw (eq-eqb a c same)
 
-place_rises : (a b : ℕ) (list : List ℕ) → Distinct list → StandsBefore a b list → place list a < place list b
-place_rises a b [] d s = elim s [ ]
-place_rises a b (c ∷ rest) d (inl (same, m)) = omega (arith, place-same c rest a same, place-other c rest b d.0 m)
-place_rises a b (c ∷ rest) d (inr s) =
+index_rises : (a b : ℕ) (list : List ℕ) → Distinct list → StandsBefore a b list → index list a < index list b
+index_rises a b [] d s = elim s [ ]
+index_rises a b (c ∷ rest) d (inl (same, m)) = omega (arith, index-same c rest a same, index-other c rest b d.0 m)
+index_rises a b (c ∷ rest) d (inr s) =
     let (ma, mb) = before_member a b rest s in
-    omega (arith, place_rises a b rest d.1 s, place-other c rest a d.0 ma, place-other c rest b d.0 mb)
+    omega (arith, index_rises a b rest d.1 s, index-other c rest a d.0 ma, index-other c rest b d.0 mb)
 
--- with the refused access added as an entry, the members of its walk have no order in which the first of each pair
+-- with the rejected access added as an entry, the members of its walk have no order in which the first of each pair
 -- among them comes first
 pub refused_has_no_order : (past : List Entry) (t : ℕ) (k : Key) (kind : Kind) (rest : List ℕ) → Closes past t k kind rest
     → (e : Entry) → IsAccessBy (access_of e) t k kind → (order : List ℕ) → Orders (Pair (e ∷ past)) (t ∷ rest) order → ⊥
 refused_has_no_order past t k kind rest c e is order o =
-    refused_has_no_rank past t k kind rest c e is (place order) (λ a b ma mb p. place_rises a b order o.once (o.first_first a b ma mb p))
+    refused_has_no_rank past t k kind rest c e is (index order) (λ a b ma mb p. index_rises a b order o.once (o.first_first a b ma mb p))

@@ -1,4 +1,4 @@
--- Two legal replies to one event are the same, but for the walk of a refused access.
+-- Two legal replies to one event are the same, but for the walk of a rejected access.
 use Rattle.std.specs.Prelude.{◌≡◌, ℕ, ◌<◌, Bool, true, false, ◌⊎◌, nat_lt, List, [], ◌∷◌, Option, Some, None, ℤ}
 use Rattle.std.proofs.Common.{refl, sym, ◌∙◌, ap, ap₂, inl, inr, arith}
 use Rattle.sgt_model.specs.declared.event.Event.TheVariants.{Start, Step, Commit, Quit}
@@ -17,7 +17,7 @@ use Rattle.sgt_model.specs.Fates.{starts, fate_of}
 use Rattle.sgt_model.specs.Falls.{Falls}
 use Rattle.sgt_model.specs.Settings.{Setting}
 use Rattle.sgt_model.specs.Progress.{next_of}
-use Rattle.sgt_model.specs.Legality.{Aborts, Refuses, Makes, StepReply, LivePredecessor, MustWait, MayCommit, CommitReply, OfStarted}
+use Rattle.sgt_model.specs.Legality.{Aborts, AbortsByCycle, Makes, StepReply, LivePredecessor, MustWait, MayCommit, CommitReply, OfStarted}
 use Rattle.sgt_model.specs.OneReply.{SameButWalk, RepliesAreUnique}
 use Rattle.sgt_model.proofs.Paths.{Within}
 
@@ -73,7 +73,7 @@ one_abort past t why r q a b = a.is ∙ (ap (λ l. reply.Aborted why l) (same_fa
 -- steps
 
 one_access : (past : List Entry) (t : ℕ) (k : Key) (kind : Kind) (given r q : Reply)
-    → Refuses past t k kind r ⊎ Makes past t k kind given r → Refuses past t k kind q ⊎ Makes past t k kind given q → SameButWalk r q
+    → AbortsByCycle past t k kind r ⊎ Makes past t k kind given r → AbortsByCycle past t k kind q ⊎ Makes past t k kind given q → SameButWalk r q
 one_access past t k kind given r q (inl a) (inl b) = inr (record {
   walk = t ∷ a.rest;
   other_walk = t ∷ b.rest;

@@ -23,7 +23,7 @@ use Rattle.sgt_model.specs.Pairs.{Pair}
 use Rattle.sgt_model.specs.Settings.{Rules, Setting, takes}
 use Rattle.sgt_model.specs.Progress.{next_of}
 use Rattle.sgt_model.specs.StartReply.{args_fit, room_reply, taken_reply, start_reply}
-use Rattle.sgt_model.specs.Legality.{Aborts, Refuses, Makes, StepReply, CommitReply, OfStarted, LegalReply, Legal}
+use Rattle.sgt_model.specs.Legality.{Aborts, AbortsByCycle, Makes, StepReply, CommitReply, OfStarted, LegalReply, Legal}
 use Rattle.sgt_model.specs.ReplySizes.{CauseNamesAtMost, FateNamesAtMost, ReplyNamesAtMost, RepliesNameFew}
 use Rattle.sgt_model.proofs.Paths.{Within}
 use Rattle.sgt_model.proofs.Facts.{some_is, option_or-cases}
@@ -108,7 +108,7 @@ module _ (s : Setting) (past : List Entry) (h : Legal s past) where
       subst (λ x. ReplyNamesAtMost s.rules.limits.live x) (sym a.is) (few, omega arith)
 
   access_names : (t : ℕ) → live past t ≡ true → (k : Key) (kind : Kind) (given r : Reply)
-      → ReplyNamesAtMost s.rules.limits.live given → Refuses past t k kind r ⊎ Makes past t k kind given r
+      → ReplyNamesAtMost s.rules.limits.live given → AbortsByCycle past t k kind r ⊎ Makes past t k kind given r
       → ReplyNamesAtMost s.rules.limits.live r
   access_names t alive k kind given r few (inl x) = abort_names t alive (cause.Cycle (t ∷ x.rest))
       (live_listed (t ∷ x.rest) x.closes.distinct (walk_live t x.rest alive x.closes.pairs)) r x.aborts

@@ -1,4 +1,4 @@
--- Rows by key: the place of a key among them, and what a row put there changes.
+-- Rows by key: the index of a key among them, and what a row put there changes.
 use Rattle.std.proofs.Common.{◌≡◌, ℕ, zero, suc, ℤ, ◌<◌, ◌≤◌, ◌+◌, ◌<ℤ◌, arith, Bool, true, false, cond, nat_eq, List, [], ◌∷◌, length, Option, Some, None, Ordering, Less, Equal, Greater, refl, sym, ap, ◌∙◌, subst, slice_get, slice_set, insert, get_or, Ok, Err}
 use Rattle.std.specs.Ordering.{nat_cmp, int_cmp, ordering_reverse, ordering_then, partial_ordering_then, is_some_and, is_lt, MatchOrdering}
 use Rattle.std.specs.Cmp.{IsTotalOrder, Some-then, ranks, int_ranks}
@@ -7,7 +7,7 @@ use Rattle.std.proofs.lemmas.Option.{same_Some, slice_get_read, slice_get_within
 use Rattle.std.proofs.lemmas.Cmp.{then_total, on_total, nat_cmp_total, int_cmp_total}
 use Rattle.sgt_model.specs.Numbers.{IsValue}
 use Rattle.sgt_model.specs.Contents.{Key, key_eq, put_in}
-use Rattle.sgt_model.specs.Databases.{Row, contents_of, key_cmp, key_lt, IsPlace, IsFound, IsBelow, IsByKey, HasValues}
+use Rattle.sgt_model.specs.Databases.{Row, contents_of, key_cmp, key_lt, IsRowIndex, IsFound, IsBelow, IsByKey, HasValues}
 use Rattle.sgt_model.proofs.Stores.{key_eq-true, key_eq-refl}
 
 -- on keys
@@ -71,7 +71,7 @@ key_eq-above a b h = both (key_eq a b) refl where
   both false e = e
   both true e = absurd (true≢false (sym (subst (λ c. key_lt b c ≡ true) (key_eq-true a b e) h) ∙ key_lt-refl b))
 
--- on places
+-- on indices
 
 -- a key below rows comes before that of each
 pub below_at : (k : Key) (rows : List Row) (i : ℕ) (r : Row) → IsBelow k rows → slice_get rows i ≡ Some r → key_lt k r.0 ≡ true
@@ -111,23 +111,23 @@ high_moves rows m q k rising at more i r h at' = within (nat_eq i m) refl where
     both true f =
         absurd (true≢false (sym (key_lt-trans q.0 r.0 k (by_key_at rows m i q r rising (omega (arith, eqb-false i m e)) at at') f) ∙ more))
 
--- where all before it come before the key, and none from it on, it is the key's place
-pub place_from : (k : Key) (rows : List Row) (n : ℕ) → n ≤ length rows → ((i : ℕ) (r : Row) → i < n → slice_get rows i ≡ Some r
-    → key_lt r.0 k ≡ true) → ((i : ℕ) (r : Row) → n ≤ i → slice_get rows i ≡ Some r → key_lt r.0 k ≡ false) → IsPlace k rows n
-place_from k [] zero h below above = tt
-place_from k [] (suc n) h below above = absurd (omega arith)
-place_from k (x ∷ rows) zero h below above = above 0 x (omega arith) refl
-place_from k (x ∷ rows) (suc n) h below above = (
+-- where all before it come before the key, and none from it on, it is the key's index
+pub index_from : (k : Key) (rows : List Row) (n : ℕ) → n ≤ length rows → ((i : ℕ) (r : Row) → i < n → slice_get rows i ≡ Some r
+    → key_lt r.0 k ≡ true) → ((i : ℕ) (r : Row) → n ≤ i → slice_get rows i ≡ Some r → key_lt r.0 k ≡ false) → IsRowIndex k rows n
+index_from k [] zero h below above = tt
+index_from k [] (suc n) h below above = absurd (omega arith)
+index_from k (x ∷ rows) zero h below above = above 0 x (omega arith) refl
+index_from k (x ∷ rows) (suc n) h below above = (
   below 0 x (omega arith) refl,
-  place_from k rows n (omega arith) (λ i r g. below (suc i) r (omega arith))
+  index_from k rows n (omega arith) (λ i r g. below (suc i) r (omega arith))
       (λ i r g. above (suc i) r (omega arith)),
 )
 
--- what is read at a place within the rows
+-- what is read at an index within the rows
 pub read_at : (rows seen : List Row) (m : ℕ) (r : Row) → rows ≡ seen → m < length seen → r ≡ get_or rows m r → slice_get seen m ≡ Some r
 read_at rows seen m r same within read = slice_get_read seen (length seen) m r refl within (subst (λ l. r ≡ get_or l m r) same read)
 
--- what the place of a key tells
+-- what the index of a key tells
 
 -- what a row says of a key
 abbrev pub value_if : Option Row → Key → Option ℤ
@@ -143,18 +143,18 @@ below_less : (j k : Key) (rows : List Row) → key_lt j k ≡ true → IsBelow k
 below_less j k [] h below = tt
 below_less j k (r ∷ rows) h below = (key_lt-trans j k r.0 h below.0, below_less j k rows h below.1)
 
--- the row at the key's place says the key's value
-pub contents_at : (k : Key) (rows : List Row) (n : ℕ) → IsByKey rows → IsPlace k rows n → contents_of rows k ≡ value_if (slice_get rows n) k
-contents_at k [] zero rising place = refl
-contents_at k [] (suc n) rising place = absurd place
-contents_at k (r ∷ rows) zero rising place = both (key_eq r.0 k) refl where
+-- the row at the key's index says the key's value
+pub contents_at : (k : Key) (rows : List Row) (n : ℕ) → IsByKey rows → IsRowIndex k rows n → contents_of rows k ≡ value_if (slice_get rows n) k
+contents_at k [] zero rising index = refl
+contents_at k [] (suc n) rising index = absurd index
+contents_at k (r ∷ rows) zero rising index = both (key_eq r.0 k) refl where
   both : (t : Bool) → key_eq r.0 k ≡ t → cond (key_eq r.0 k) (Some r.1) (contents_of rows k) ≡ cond (key_eq r.0 k) (Some r.1) None
   both true e = rw e refl
-  both false e = rw e (none_below k rows (below_less k r.0 rows (key_lt-other r.0 k place e) rising.0))
-contents_at k (r ∷ rows) (suc n) rising place = ap (λ b. cond b (Some r.1) (contents_of rows k)) (key_eq-below r.0 k place.0)
-    ∙ contents_at k rows n rising.1 place.1
+  both false e = rw e (none_below k rows (below_less k r.0 rows (key_lt-other r.0 k index e) rising.0))
+contents_at k (r ∷ rows) (suc n) rising index = ap (λ b. cond b (Some r.1) (contents_of rows k)) (key_eq-below r.0 k index.0)
+    ∙ contents_at k rows n rising.1 index.1
 
--- what a row that is put at the key's place changes
+-- what a row that is put at the key's index changes
 
 under : (k : Key) (v : ℤ) (x : Row) (rows new : List Row) → key_lt x.0 k ≡ true → (j : Key) → contents_of new j ≡ put_in
     (contents_of rows) k v j → contents_of (x ∷ new) j ≡ put_in (contents_of (x ∷ rows)) k v j
@@ -165,10 +165,10 @@ under k v x rows new less j rest = both (key_eq x.0 j) refl where
   both false e = rw e rest
 
 -- in place of one with the same key
-pub set_contents : (k : Key) (v : ℤ) (rows : List Row) (n : ℕ) (r : Row) → IsPlace k rows n → slice_get rows n ≡ Some r → r.0 ≡ k
+pub set_contents : (k : Key) (v : ℤ) (rows : List Row) (n : ℕ) (r : Row) → IsRowIndex k rows n → slice_get rows n ≡ Some r → r.0 ≡ k
     → (j : Key) → contents_of (slice_set rows n (k, v)) j ≡ put_in (contents_of rows) k v j
-set_contents k v [] n r place at same j = absurd (cc)
-set_contents k v (x ∷ rows) zero r place at same j = both (key_eq k j) refl where
+set_contents k v [] n r index at same j = absurd (cc)
+set_contents k v (x ∷ rows) zero r index at same j = both (key_eq k j) refl where
   first : x.0 ≡ k
   first = ap (λ (y : Row). y.0) (same_Some _ _ at) ∙ same
 
@@ -176,16 +176,16 @@ set_contents k v (x ∷ rows) zero r place at same j = both (key_eq k j) refl wh
       (cond (key_eq x.0 j) (Some x.1) (contents_of rows j))
   both true e = rw e refl
   both false e = rw (first, e) refl
-set_contents k v (x ∷ rows) (suc n) r place at same j = under k v x rows (slice_set rows n (k, v)) place.0 j
-    (set_contents k v rows n r place.1 at same j)
+set_contents k v (x ∷ rows) (suc n) r index at same j = under k v x rows (slice_set rows n (k, v)) index.0 j
+    (set_contents k v rows n r index.1 at same j)
 
 -- or as a new one
-pub insert_contents : (k : Key) (v : ℤ) (rows : List Row) (n : ℕ) → IsPlace k rows n → (j : Key)
+pub insert_contents : (k : Key) (v : ℤ) (rows : List Row) (n : ℕ) → IsRowIndex k rows n → (j : Key)
     → contents_of (insert rows n (k, v)) j ≡ put_in (contents_of rows) k v j
-insert_contents k v [] zero place j = refl
-insert_contents k v [] (suc n) place j = absurd place
-insert_contents k v (x ∷ rows) zero place j = refl
-insert_contents k v (x ∷ rows) (suc n) place j = under k v x rows (insert rows n (k, v)) place.0 j (insert_contents k v rows n place.1 j)
+insert_contents k v [] zero index j = refl
+insert_contents k v [] (suc n) index j = absurd index
+insert_contents k v (x ∷ rows) zero index j = refl
+insert_contents k v (x ∷ rows) (suc n) index j = under k v x rows (insert rows n (k, v)) index.0 j (insert_contents k v rows n index.1 j)
 
 set_below : (i k : Key) (v : ℤ) (rows : List Row) (n : ℕ) (r : Row) → slice_get rows n ≡ Some r → r.0 ≡ k → IsBelow i rows
     → IsBelow i (slice_set rows n (k, v))
@@ -202,64 +202,64 @@ set_by_key k v (x ∷ rows) zero r at same rising =
     (subst (λ i. IsBelow i rows) (ap (λ (y : Row). y.0) (same_Some _ _ at) ∙ same) rising.0, rising.1)
 set_by_key k v (x ∷ rows) (suc n) r at same rising = (set_below x.0 k v rows n r at same rising.0, set_by_key k v rows n r at same rising.1)
 
-insert_below : (i k : Key) (v : ℤ) (rows : List Row) (n : ℕ) → key_lt i k ≡ true → IsPlace k rows n → IsBelow i rows
+insert_below : (i k : Key) (v : ℤ) (rows : List Row) (n : ℕ) → key_lt i k ≡ true → IsRowIndex k rows n → IsBelow i rows
     → IsBelow i (insert rows n (k, v))
-insert_below i k v [] zero less place below = (less, tt)
-insert_below i k v [] (suc n) less place below = absurd place
-insert_below i k v (x ∷ rows) zero less place below = (less, below)
-insert_below i k v (x ∷ rows) (suc n) less place below = (below.0, insert_below i k v rows n less place.1 below.1)
+insert_below i k v [] zero less index below = (less, tt)
+insert_below i k v [] (suc n) less index below = absurd index
+insert_below i k v (x ∷ rows) zero less index below = (less, below)
+insert_below i k v (x ∷ rows) (suc n) less index below = (below.0, insert_below i k v rows n less index.1 below.1)
 
-pub insert_by_key : (k : Key) (v : ℤ) (rows : List Row) (n : ℕ) → IsPlace k rows n
+pub insert_by_key : (k : Key) (v : ℤ) (rows : List Row) (n : ℕ) → IsRowIndex k rows n
     → ((r : Row) → slice_get rows n ≡ Some r → key_eq r.0 k ≡ false) → IsByKey rows → IsByKey (insert rows n (k, v))
-insert_by_key k v [] zero place new rising = (tt, tt)
-insert_by_key k v [] (suc n) place new rising = absurd place
-insert_by_key k v (x ∷ rows) zero place new rising =
-    let less = key_lt-other x.0 k place (new x refl) in
+insert_by_key k v [] zero index new rising = (tt, tt)
+insert_by_key k v [] (suc n) index new rising = absurd index
+insert_by_key k v (x ∷ rows) zero index new rising =
+    let less = key_lt-other x.0 k index (new x refl) in
     ((less, below_less k x.0 rows less rising.0), rising)
-insert_by_key k v (x ∷ rows) (suc n) place new rising =
-    (insert_below x.0 k v rows n place.0 place.1 rising.0, insert_by_key k v rows n place.1 new rising.1)
+insert_by_key k v (x ∷ rows) (suc n) index new rising =
+    (insert_below x.0 k v rows n index.0 index.1 rising.0, insert_by_key k v rows n index.1 new rising.1)
 
 pub set_values : (k : Key) (v : ℤ) (rows : List Row) (n : ℕ) → IsValue v → HasValues rows → HasValues (slice_set rows n (k, v))
 set_values k v [] n h all = all
 set_values k v (x ∷ rows) zero h all = (h, all.1)
 set_values k v (x ∷ rows) (suc n) h all = (all.0, set_values k v rows n h all.1)
 
-pub insert_values : (k : Key) (v : ℤ) (rows : List Row) (n : ℕ) → IsPlace k rows n → IsValue v → HasValues rows
+pub insert_values : (k : Key) (v : ℤ) (rows : List Row) (n : ℕ) → IsRowIndex k rows n → IsValue v → HasValues rows
     → HasValues (insert rows n (k, v))
-insert_values k v [] zero place h all = (h, tt)
-insert_values k v [] (suc n) place h all = absurd place
-insert_values k v (x ∷ rows) zero place h all = (h, all)
-insert_values k v (x ∷ rows) (suc n) place h all = (all.0, insert_values k v rows n place.1 h all.1)
+insert_values k v [] zero index h all = (h, tt)
+insert_values k v [] (suc n) index h all = absurd index
+insert_values k v (x ∷ rows) zero index h all = (h, all)
+insert_values k v (x ∷ rows) (suc n) index h all = (all.0, insert_values k v rows n index.1 h all.1)
 
--- a place is not past the end
-pub place_within : (k : Key) (rows : List Row) (n : ℕ) → IsPlace k rows n → n ≤ length rows
-place_within k rows zero place = omega arith
-place_within k [] (suc n) place = absurd place
-place_within k (x ∷ rows) (suc n) place = let h = place_within k rows n place.1 in omega arith
+-- an index is not past the end
+pub index_within : (k : Key) (rows : List Row) (n : ℕ) → IsRowIndex k rows n → n ≤ length rows
+index_within k rows zero index = omega arith
+index_within k [] (suc n) index = absurd index
+index_within k (x ∷ rows) (suc n) index = let h = index_within k rows n index.1 in omega arith
 
 -- what is found there
 
-pub found_place : (k : Key) (rows : List Row) (n : ℕ) (r : Row) → IsPlace k rows n → slice_get rows n ≡ Some r → key_eq r.0 k ≡ true
+pub found_index : (k : Key) (rows : List Row) (n : ℕ) (r : Row) → IsRowIndex k rows n → slice_get rows n ≡ Some r → key_eq r.0 k ≡ true
     → IsFound k rows (Ok n)
-found_place k rows n r place at e = (place, r.1, at ∙ ap (λ i. Some (i, r.1)) (key_eq-true r.0 k e))
+found_index k rows n r index at e = (index, r.1, at ∙ ap (λ i. Some (i, r.1)) (key_eq-true r.0 k e))
 
-pub other_place : (k : Key) (rows : List Row) (n : ℕ) (r : Row) → IsPlace k rows n → slice_get rows n ≡ Some r
+pub other_index : (k : Key) (rows : List Row) (n : ℕ) (r : Row) → IsRowIndex k rows n → slice_get rows n ≡ Some r
     → key_eq r.0 k ≡ false → IsFound k rows (Err n)
-other_place k rows n r place at e = (place, λ q at'. subst (λ (y : Row). key_eq y.0 k ≡ false) (same_Some _ _ (sym at ∙ at')) e)
+other_index k rows n r index at e = (index, λ q at'. subst (λ (y : Row). key_eq y.0 k ≡ false) (same_Some _ _ (sym at ∙ at')) e)
 
-pub past_place : (k : Key) (rows : List Row) (n : ℕ) → IsPlace k rows n → length rows ≤ n → IsFound k rows (Err n)
-past_place k rows n place past = (place, λ q at. let h = slice_get_within rows n q at in absurd (omega arith))
+pub past_index : (k : Key) (rows : List Row) (n : ℕ) → IsRowIndex k rows n → length rows ≤ n → IsFound k rows (Err n)
+past_index k rows n index past = (index, λ q at. let h = slice_get_within rows n q at in absurd (omega arith))
 
 -- the key's value, by its row
-pub value_found : (k : Key) (rows : List Row) (n : ℕ) (v : ℤ) → IsByKey rows → IsPlace k rows n → slice_get rows n ≡ Some (k, v)
+pub value_found : (k : Key) (rows : List Row) (n : ℕ) (v : ℤ) → IsByKey rows → IsRowIndex k rows n → slice_get rows n ≡ Some (k, v)
     → Some v ≡ contents_of rows k
-value_found k rows n v rising place at = sym (contents_at k rows n rising place ∙ ap (λ o. value_if o k) at
+value_found k rows n v rising index at = sym (contents_at k rows n rising index ∙ ap (λ o. value_if o k) at
     ∙ ap (λ b. cond b (Some v) None) (key_eq-refl k))
 
--- it has none where its place is another's
-pub value_missing : (k : Key) (rows : List Row) (n : ℕ) → IsByKey rows → IsPlace k rows n
+-- it has none where its index is another's
+pub value_missing : (k : Key) (rows : List Row) (n : ℕ) → IsByKey rows → IsRowIndex k rows n
     → ((r : Row) → slice_get rows n ≡ Some r → key_eq r.0 k ≡ false) → None ≡ contents_of rows k
-value_missing k rows n rising place other = sym (contents_at k rows n rising place ∙ both (slice_get rows n) refl) where
+value_missing k rows n rising index other = sym (contents_at k rows n rising index ∙ both (slice_get rows n) refl) where
   both : (o : Option Row) → slice_get rows n ≡ o → value_if (slice_get rows n) k ≡ None
   both None e = ap (λ o. value_if o k) e
   both (Some r) e = ap (λ o. value_if o k) e ∙ ap (λ b. cond b (Some r.1) None) (other r e)
@@ -276,20 +276,20 @@ pub insert_rows : (k : Key) (v w : ℤ) (rows seen new : List Row) (n : ℕ) →
     → IsFound k seen (Err n) → IsValue v → IsByKey rows × HasValues rows → IsByKey new × HasValues new
 insert_rows k v w rows seen new n value same is found fits all =
     subst (λ l. IsByKey l × HasValues l) (sym (is ∙ ap (λ z. insert rows n (k, z)) value)) (
-      insert_by_key k v rows n place (λ r at. found.1 r (ap (λ l. slice_get l n) (sym same) ∙ at)) all.0,
-      insert_values k v rows n place fits all.1,
+      insert_by_key k v rows n index (λ r at. found.1 r (ap (λ l. slice_get l n) (sym same) ∙ at)) all.0,
+      insert_values k v rows n index fits all.1,
     ) where
-      place : IsPlace k rows n
-      place = subst (λ l. IsPlace k l n) (sym same) found.0
+      index : IsRowIndex k rows n
+      index = subst (λ l. IsRowIndex k l n) (sym same) found.0
 
-pub set_told : (k : Key) (v w : ℤ) (rows seen : List Row) (n : ℕ) (old : ℤ) → w ≡ v → rows ≡ seen → IsPlace k seen n
+pub set_told : (k : Key) (v w : ℤ) (rows seen : List Row) (n : ℕ) (old : ℤ) → w ≡ v → rows ≡ seen → IsRowIndex k seen n
     → slice_get seen n ≡ Some (k, old) → (j : Key) → contents_of (slice_set rows n (k, w)) j ≡ put_in (contents_of seen) k v j
-set_told k v w rows seen n old value same place at j =
+set_told k v w rows seen n old value same index at j =
     ap (λ l. contents_of (slice_set l n (k, w)) j) same ∙ ap (λ z. contents_of (slice_set seen n (k, z)) j) value
-    ∙ set_contents k v seen n (k, old) place at refl j
+    ∙ set_contents k v seen n (k, old) index at refl j
 
 pub insert_told : (k : Key) (v w : ℤ) (rows seen new : List Row) (n : ℕ) → w ≡ v → rows ≡ seen → new ≡ insert rows n (k, w)
-    → IsPlace k seen n → (j : Key) → contents_of new j ≡ put_in (contents_of seen) k v j
-insert_told k v w rows seen new n value same is place j =
+    → IsRowIndex k seen n → (j : Key) → contents_of new j ≡ put_in (contents_of seen) k v j
+insert_told k v w rows seen new n value same is index j =
     ap (λ l. contents_of l j) (is ∙ ap (λ l. insert l n (k, w)) same ∙ ap (λ z. insert seen n (k, z)) value)
-    ∙ insert_contents k v seen n place j
+    ∙ insert_contents k v seen n index j

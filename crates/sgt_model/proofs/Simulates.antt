@@ -19,13 +19,13 @@ use Rattle.sgt_model.specs.Fates.{fate_of, live, live_ones, starts}
 use Rattle.sgt_model.specs.Closes.{Closes}
 use Rattle.sgt_model.specs.Settings.{Setting, takes}
 use Rattle.sgt_model.specs.Progress.{next_of}
-use Rattle.sgt_model.specs.Legality.{Aborts, CommitReply, Legal, LegalReply, OfStarted, Refuses, StepReply}
+use Rattle.sgt_model.specs.Legality.{Aborts, CommitReply, Legal, LegalReply, OfStarted, AbortsByCycle, StepReply}
 use Rattle.sgt_model.specs.Left.{next_left}
 use Rattle.sgt_model.specs.State.{State}
 use Rattle.sgt_model.specs.StateAfter.{IsStateAfter}
 use Rattle.sgt_model.specs.Blocks.{Blocks}
 use Rattle.sgt_model.specs.StartReply.{args_fit, taken_reply}
-use Rattle.sgt_model.specs.CallEffects.{AbortsIn, CommitEffect, CommitOn, IfOpen, QuitEffect, RefusesIn, StartEffect, StartOn, Stays, StepEffect, StepOn}
+use Rattle.sgt_model.specs.CallEffects.{AbortsIn, CommitEffect, CommitOn, IfOpen, QuitEffect, AbortsByCycleIn, StartEffect, StartOn, Stays, StepEffect, StepOn}
 use Rattle.sgt_model.proofs.Effects.{Idle, ends_none-no_end, no_start-no_call}
 use Rattle.sgt_model.proofs.Facts.{live_from, member_from}
 use Rattle.sgt_model.proofs.Verdict.{blocks_from_closes, closes_from_blocks, falls_from, found-visible, least_from, none_from}
@@ -91,8 +91,8 @@ module _ (s : Setting) (past : List Entry) (h : Legal s past) (before after : St
         | inr m ↦ sym (i.nodes u) ∙ (x.falls.each u (member_from u x.fell m)).0
       ]
 
-  refused_in : (k : Key) (kind : Kind) (r : Reply) → live past t ≡ true → RefusesIn t k kind before r after
-      → Refuses past t k kind r × IsStateAfter s (entry (Step t) r ∷ past) after
+  refused_in : (k : Key) (kind : Kind) (r : Reply) → live past t ≡ true → AbortsByCycleIn t k kind before r after
+      → AbortsByCycle past t k kind r × IsStateAfter s (entry (Step t) r ∷ past) after
   refused_in k kind r alive x = let a = aborted_in (Step t) (cause.Cycle (t ∷ x.rest)) r (of_step t) alive x.aborts in
       (record { rest = x.rest; closes = closes_from_blocks s past h before i t k kind x.rest x.blocks; aborts = a.0 }, a.1)
 

@@ -24,7 +24,7 @@ use Rattle.sgt_model.specs.Closes.{Closes}
 use Rattle.sgt_model.specs.Settings.{Setting}
 use Rattle.sgt_model.specs.Progress.{next_of}
 use Rattle.sgt_model.specs.StartReply.{start_reply}
-use Rattle.sgt_model.specs.Legality.{Aborts, Refuses, Makes, StepReply, MustWait, MayCommit, CommitReply, OfStarted}
+use Rattle.sgt_model.specs.Legality.{Aborts, AbortsByCycle, Makes, StepReply, MustWait, MayCommit, CommitReply, OfStarted}
 use Rattle.sgt_model.specs.OneReply.{SomeReplyIsLegal}
 use Rattle.sgt_model.proofs.Paths.{last_is_member, Simple, simple, simple_some}
 use Rattle.sgt_model.proofs.Listed.{member_added, kept_member, member_kept}
@@ -154,7 +154,7 @@ module _ (past : List Entry) (t : ℕ) where
         (actors past) (λ a b p. (precedes-actors past a b p.precedes).1) t (last_of t rest) (rest, c.pairs, refl) in
         and_from _ _ (not_from_false _ (ne_eqb t (last_of t rest) (apart_from_last rest c))) (and_from _ _ c.conflict led)
 
-    some_access : (given : Reply) → (r : Reply) × (Refuses past t k kind r ⊎ Makes past t k kind given r)
+    some_access : (given : Reply) → (r : Reply) × (AbortsByCycle past t k kind r ⊎ Makes past t k kind given r)
     some_access given = elim (least_or_none closing (actors past)) [
       | inl w ↦
           let walk = walk_to w.at w.passes in

@@ -11,14 +11,14 @@ use Rattle.sgt_model.specs.Walks.{Member}
 use Rattle.sgt_model.specs.Pairs.{one_stores}
 use Rattle.sgt_model.specs.Left.{Left}
 use Rattle.sgt_model.specs.AccessList.{ListedAccess, is_conflicting, lists_conflicting}
-use Rattle.sgt_model.specs.Chains.{without, write_last, writes_in}
+use Rattle.sgt_model.specs.Chains.{chain_without, write_last, writes_in}
 use Rattle.sgt_model.specs.ChainOrder.{InOrder}
 use Rattle.sgt_model.specs.State.{Has, State, PairIn}
 use Rattle.sgt_model.specs.Found.{SourceIs, top}
 use Rattle.sgt_model.specs.Changes.{LooksAt, Notes, Removes, Starts}
 use Rattle.sgt_model.specs.Soundness.{Sound}
 use Rattle.sgt_model.proofs.Stores.{key_eq-true}
-use Rattle.sgt_model.proofs.ChainOrder.{any-filter, in_order-add, in_order-filter, in_order-map, last_writes, without-apart, written-cases, in_order-within}
+use Rattle.sgt_model.proofs.ChainOrder.{any-filter, in_order-add, in_order-filter, in_order-map, last_writes, chain_without-apart, written-cases, in_order-within}
 use Rattle.sgt_model.proofs.Room.{member_append}
 use Rattle.sgt_model.proofs.Listed.{member_added, kept_member, member_kept}
 
@@ -127,14 +127,14 @@ module _ (most : ℕ) (before after : State) (sound : Sound most before) where
 
       order : (j : Key) (b : Bool) → key_eq k j ≡ b → InOrder (PairIn after) (cond b (write_last t v (before.chain j)) (before.chain j))
       order j false e = in_order-map (PairIn before) (PairIn after) (notes_pairs t k Store n) (before.chain j) (sound.order j)
-      order j true e = in_order-add (PairIn after) t v (without t (before.chain j))
+      order j true e = in_order-add (PairIn after) t v (chain_without t (before.chain j))
           (in_order-filter (PairIn after) (λ w. not (nat_eq w.0 t)) (before.chain j) (in_order-map (PairIn before) (PairIn after)
           (notes_pairs t k Store n) (before.chain j) (sound.order j)))
           (λ u m. (n.pairs u t).1
           (inr (
             refl,
             record {
-              apart = without-apart u t (before.chain j) m;
+              apart = chain_without-apart u t (before.chain j) m;
               has_conflicting = subst
                   (λ z. lists_conflicting before.accesses u z Store ≡ true) (sym (key_eq-true k j e))
                   (sound.writers j u (any-filter u (λ w. not (nat_eq w.0 t)) (before.chain j) m));

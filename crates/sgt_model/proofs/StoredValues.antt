@@ -8,7 +8,7 @@ use Rattle.sgt_model.specs.Syntax.{Program}
 use Rattle.sgt_model.specs.Ways.{Way, onto}
 use Rattle.sgt_model.specs.Ways as way
 use Rattle.sgt_model.specs.Runs.{Run, looks, puts, ends, asks, serial, contents_after}
-use Rattle.sgt_model.specs.Meaning.{Got, is, over, missing, Registers, fresh, value_of, Holds, holds, too_far, unknown, result_of, wrong, with_value, with_test, is_key, with_key, with_stored, if_found, run}
+use Rattle.sgt_model.specs.Meaning.{Got, is, over, missing, Registers, fresh, value_of, Truth, holds, too_far, unknown, truth_of, wrong, with_value, with_test, is_key, with_key, with_stored, if_found, run}
 use Rattle.sgt_model.specs.Settings.{setting, run_if}
 use Rattle.sgt_model.specs.StoredValues.{HoldValues, StoresValues, RunsStoreValues, ReplaysHoldValues, CommittedAreValues}
 use Rattle.sgt_model.proofs.Replays.{is_serializable}
@@ -31,7 +31,7 @@ stores_with (is v) go h = h v
 stores_with over go h = tt
 stores_with missing go h = tt
 
-stores_either : (h : Holds) (ys ns : Run) → StoresValues ys → StoresValues ns → StoresValues (with_test h ys ns)
+stores_either : (h : Truth) (ys ns : Run) → StoresValues ys → StoresValues ns → StoresValues (with_test h ys ns)
 stores_either (holds true) ys ns first second = first
 stores_either (holds false) ys ns first second = second
 stores_either too_far ys ns first second = tt
@@ -59,7 +59,7 @@ stores_along args (way.save to value rest) regs answers =
     stores_with _ _ (λ v. stores_along args rest _ answers)
 stores_along args (way.ask code) regs answers = tt
 stores_along args (way.fork test ys ns) regs answers =
-    stores_either (result_of test args regs) _ _ (stores_along args ys regs answers) (stores_along args ns regs answers)
+    stores_either (truth_of test args regs) _ _ (stores_along args ys regs answers) (stores_along args ns regs answers)
 stores_along args (way.answer value rest) regs answers =
     stores_with _ _ (λ v. stores_where (nat_lt (length answers) 8) _ (λ e. stores_along args rest regs _))
 

@@ -6,9 +6,9 @@ use Rattle.sgt_model.specs.declared.kind.Kind.{Kind}
 use Rattle.sgt_model.specs.declared.kind.Kind.TheVariants.{Look, Store}
 use Rattle.sgt_model.specs.Contents.{Key, key_eq, Contents, put_in}
 use Rattle.sgt_model.specs.Runs.{Run, looks, puts, ends, asks, serial}
-use Rattle.sgt_model.specs.Traces.{Act, look, put, Ending, ended, asking, Trace, after_access, trace, Next, Looks, Puts, Ends, Asks, next_at, Finds, with_stores, GivesAt, RunIsTrace}
+use Rattle.sgt_model.specs.Traces.{Act, look, put, TraceEnding, ended, asking, Trace, after_access, trace, Next, Looks, Puts, Ends, Asks, next_at, Finds, with_stores, GivesAt, RunIsTrace}
 use Rattle.sgt_model.specs.Accesses.{Access, is_store}
-use Rattle.sgt_model.specs.Progress.{if_look, looked}
+use Rattle.sgt_model.specs.Progress.{if_look, values_read}
 use Rattle.sgt_model.proofs.Effects.{Fits}
 use Rattle.sgt_model.proofs.Stores.{found}
 use Rattle.sgt_model.proofs.Acts.{asks_of, AsAsked, stored, over, FindsIn, ActsLaw}
@@ -81,19 +81,19 @@ trace_by (asks code) a ws h = absurd h
 behind_append : (xs : List Act) (x : Act) (t : Trace) → behind xs (after_access x t) ≡ behind (xs ++ x ∷ []) t
 behind_append xs x t = ap (λ (l : List Act). record { accesses = l; ending = t.ending }) (sym (append_assoc xs (x ∷ []) t.accesses))
 
-next_left : (r : Run) (done : List Access) → trace r (looked done ++ []) ≡ behind (olds done) (trace (left r done) [])
-    → next_at (trace r (looked done)) (length done) ≡ next_of_run (left r done)
+next_left : (r : Run) (done : List Access) → trace r (values_read done ++ []) ≡ behind (olds done) (trace (left r done) [])
+    → next_at (trace r (values_read done)) (length done) ≡ next_of_run (left r done)
 next_left r done e =
-    ap₂ (asks_of r) (sym (append-nil (looked done))) (sym (length-olds done))
+    ap₂ (asks_of r) (sym (append-nil (values_read done))) (sym (length-olds done))
     ∙ (ap (λ t. next_at t (length (olds done))) e
     ∙ (next_behind (olds done) (trace (left r done) []) ∙ first_next (left r done)))
 
 -- the trace over what the acts looked at begins with the acts
 trace_left : (r : Run) (done : List Access) → AsAsked (asks_of r) done → (ws : List (Option ℤ))
-    → trace r (looked done ++ ws) ≡ behind (olds done) (trace (left r done) ws)
+    → trace r (values_read done ++ ws) ≡ behind (olds done) (trace (left r done) ws)
 trace_left r [] h ws = refl
 trace_left r (a ∷ done) h ws =
-    ap (λ vs. trace r vs) (append_assoc (looked done) (if_look a.kind a.value) ws)
+    ap (λ vs. trace r vs) (append_assoc (values_read done) (if_look a.kind a.value) ws)
     ∙ (trace_left r done h.0 (if_look a.kind a.value ++ ws)
     ∙ (ap (λ t. behind (olds done) t)
     (trace_by (left r done) a ws (subst (λ n. Fits n a) (next_left r done (trace_left r done h.0 [])) h.1))
@@ -115,7 +115,7 @@ fits_shape (Asks code) a h = absurd h
 
 asked_shaped : (asked : List (Option ℤ) → ℕ → Next) (done : List Access) → AsAsked asked done → Shaped done
 asked_shaped asked [] h = tt
-asked_shaped asked (a ∷ done) h = (asked_shaped asked done h.0, fits_shape (asked (looked done) (length done)) a h.1)
+asked_shaped asked (a ∷ done) h = (asked_shaped asked done h.0, fits_shape (asked (values_read done) (length done)) a h.1)
 
 with_append : (m : Contents) (xs ys : List Act) → with_stores m (xs ++ ys) ≡ with_stores (with_stores m xs) ys
 with_append m [] ys = refl
@@ -143,17 +143,17 @@ finds_one m a ys ws (inr h) found = subst (λ kind. Finds (with_stores m (act_of
     → Finds m (act_of kind a.key a.value ∷ ys) (if_look kind a.value ++ ws)) (sym h.1) (λ g. g)
 
 finds_left : (m : Contents) (done : List Access) → Shaped done → FindsIn m done → (ys : List Act) (ws : List (Option ℤ))
-    → Finds (with_stores m (olds done)) ys ws → Finds m (olds done ++ ys) (looked done ++ ws)
+    → Finds (with_stores m (olds done)) ys ws → Finds m (olds done ++ ys) (values_read done ++ ws)
 finds_left m [] sh f ys ws g = g
 finds_left m (a ∷ done) sh f ys ws g =
     let found : a.kind ≡ Look → a.value ≡ with_stores m (olds done) a.key = λ h. f.1 h ∙ sym (with_over m done sh.0 a.key) in
     let one = finds_one (with_stores m (olds done)) a ys ws sh.1 found
     (subst (λ n. Finds n ys ws) (with_append m (olds done) (as_act a ∷ [])) g) in
     subst₂ (λ xs vs. Finds m xs vs) (sym (append_assoc (olds done) (as_act a ∷ []) ys))
-    (sym (append_assoc (looked done) (if_look a.kind a.value) ws)) (finds_left m done sh.0 f.0 (as_act a ∷ ys)
+    (sym (append_assoc (values_read done) (if_look a.kind a.value) ws)) (finds_left m done sh.0 f.0 (as_act a ∷ ys)
     (if_look a.kind a.value ++ ws) one)
 
-abbrev over_with : List Access → Ending → Trace
+abbrev over_with : List Access → TraceEnding → Trace
 over_with done e = record { accesses = olds done; ending = e }
 
 ended_trace : (r : Run) (answers : List ℤ) → next_of_run r ≡ Ends answers → trace r [] ≡ over_with [] (ended answers)
@@ -168,23 +168,23 @@ asking_trace (puts k v rest) code h = absurd (cc h)
 asking_trace (ends given) code h = absurd (cc h)
 asking_trace (asks given) code h = let e : given ≡ code = cc h in ap (λ c. over_with [] (asking c)) e
 
-whole_trace : (r : Run) (done : List Access) (e : Ending) → AsAsked (asks_of r) done → trace (left r done) [] ≡ over_with [] e
-    → trace r (looked done) ≡ over_with done e
+whole_trace : (r : Run) (done : List Access) (e : TraceEnding) → AsAsked (asks_of r) done → trace (left r done) [] ≡ over_with [] e
+    → trace r (values_read done) ≡ over_with done e
 whole_trace r done e h g =
-    ap (λ vs. trace r vs) (sym (append-nil (looked done)))
+    ap (λ vs. trace r vs) (sym (append-nil (values_read done)))
     ∙ (trace_left r done h []
     ∙ (ap (λ t. behind (olds done) t) g
     ∙ ap (λ (l : List Act). record { accesses = l; ending = e }) (append-nil (olds done))))
 
-gives : (r : Run) → RunIsTrace r → (m : Contents) (done : List Access) (e : Ending) → AsAsked (asks_of r) done → FindsIn m done
+gives : (r : Run) → RunIsTrace r → (m : Contents) (done : List Access) (e : TraceEnding) → AsAsked (asks_of r) done → FindsIn m done
     → trace (left r done) [] ≡ over_with [] e → GivesAt e (with_stores m (olds done)) (serial r m)
 gives r law m done e h f g =
-    let found : Finds m (olds done) (looked done) = subst₂ (λ xs vs. Finds m xs vs) (append-nil (olds done))
-    (append-nil (looked done)) (finds_left m done (asked_shaped (asks_of r) done h) f [] [] tt) in
-    let P : Trace → Type 0 = λ t. Finds m t.accesses (looked done) → GivesAt t.ending (with_stores m t.accesses) (serial r m) in
-    (subst P (whole_trace r done e h g) (law m (looked done))) found
+    let found : Finds m (olds done) (values_read done) = subst₂ (λ xs vs. Finds m xs vs) (append-nil (olds done))
+    (append-nil (values_read done)) (finds_left m done (asked_shaped (asks_of r) done h) f [] [] tt) in
+    let P : Trace → Type 0 = λ t. Finds m t.accesses (values_read done) → GivesAt t.ending (with_stores m t.accesses) (serial r m) in
+    (subst P (whole_trace r done e h g) (law m (values_read done))) found
 
-left_next : (r : Run) (done : List Access) → AsAsked (asks_of r) done → next_at (trace r (looked done)) (length done) ≡ next_of_run
+left_next : (r : Run) (done : List Access) → AsAsked (asks_of r) done → next_at (trace r (values_read done)) (length done) ≡ next_of_run
     (left r done)
 left_next r done h = next_left r done (trace_left r done h [])
 

@@ -15,14 +15,14 @@ use Rattle.sgt_model.specs.Contents.{Key}
 use Rattle.sgt_model.specs.Walks.{Member, PathOf, last_of, Rising}
 use Rattle.sgt_model.specs.Fates.{live}
 use Rattle.sgt_model.specs.Pairs.{Pair, has_conflicting}
-use Rattle.sgt_model.specs.Legality.{Refuses, Makes, MustWait, MayCommit, LegalReply}
+use Rattle.sgt_model.specs.Legality.{AbortsByCycle, Makes, MustWait, MayCommit, LegalReply}
 use Rattle.sgt_model.proofs.Computed.{pair, pair-so, so-pair, free_test, free-so, closes-so, each-so, all-so}
 use Rattle.sgt_model.proofs.ExampleSettings.{small_bank, entry, small_bank_put, small_bank_copy, small_bank_twice, small_bank_look_twice, small_bank_put_over, small_bank_tell}
 use Rattle.sgt_model.proofs.ExamplesDeepCascades.{three_levels}
 
--- where an access closes no walk it is not refused
+-- where an access closes no walk it is not rejected
 not_refused : {past : List Entry} {t : ℕ} {k : Key} {kind : Kind} {why : Cause} {fell : List ℕ} (given : Reply) (set : List ℕ)
-    → free_test past t k kind set ≡ true → (given ≡ reply.Aborted why fell → ⊥) → Refuses past t k kind
+    → free_test past t k kind set ≡ true → (given ≡ reply.Aborted why fell → ⊥) → AbortsByCycle past t k kind
     (reply.Aborted why fell) ⊎ Makes past t k kind given (reply.Aborted why fell) → ⊥
 not_refused {past} {t} {k} {kind} given set free apart (inl h) = free-so past t k kind set free h.rest h.closes
 not_refused {past} {t} {k} {kind} given set free apart (inr h) = apart (sym h.is)
@@ -263,7 +263,7 @@ no_answers : LegalReply (small_bank 8 100) at_its_end (Commit 0) (reply.Committe
 no_answers (inl h) = cc h.is
 no_answers (inr h) = cc h.is
 
--- a walk follows pairs, and begins with the one that is refused. Here it is 2, 1, 0
+-- a walk follows pairs, and begins with the one that is rejected. Here it is 2, 1, 0
 abbrev ring : List Entry
 ring =
     entry (Step 1) (reply.Wrote (2, pos 103) (pos 200))

@@ -11,7 +11,7 @@ pub record IsRival (c : State) (t : ℕ) (k : Key) (kind : Kind) (u : ℕ) : Typ
   pub apart : u ≢ t
   pub has_conflicting : lists_conflicting c.accesses u k kind ≡ true
 
--- the access is refused: a walk along the graph leads from t to a rival, none twice
+-- the access is rejected: a walk along the graph leads from t to a rival, none twice
 pub record Blocks (c : State) (t : ℕ) (k : Key) (kind : Kind) (rest : List ℕ) : Type 0 where
   pub distinct : Distinct (t ∷ rest)
   pub pairs : PathOf (PairIn c) t rest

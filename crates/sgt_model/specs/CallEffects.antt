@@ -43,8 +43,8 @@ pub record AbortsIn (t : ℕ) (why : Cause) (before : State) (r : Reply) (after 
   pub reply : r ≡ reply.Aborted why fell
   pub drops : Drops t why fell before after
 
--- an access that is blocked is refused: t is aborted, and the reply names the walk
-pub record RefusesIn (t : ℕ) (k : Key) (kind : Kind) (before : State) (r : Reply) (after : State) : Type 0 where
+-- an access that is blocked is rejected: t is aborted, and the reply names the walk
+pub record AbortsByCycleIn (t : ℕ) (k : Key) (kind : Kind) (before : State) (r : Reply) (after : State) : Type 0 where
   pub rest : List ℕ
   pub blocks : Blocks before t k kind rest
   pub aborts : AbortsIn t (cause.Cycle (t ∷ rest)) before r after
@@ -63,8 +63,8 @@ pub record MakesStore (t : ℕ) (k : Key) (v : ℤ) (before : State) (r : Reply)
 
 -- a step of a live transaction, by what its procedure does next
 abbrev pub StepOn : ℕ → Next → State → Reply → State → Type 0
-StepOn t (Looks k) before r after = RefusesIn t k Look before r after ⊎ MakesLook t k before r after
-StepOn t (Puts k v) before r after = RefusesIn t k Store before r after ⊎ MakesStore t k v before r after
+StepOn t (Looks k) before r after = AbortsByCycleIn t k Look before r after ⊎ MakesLook t k before r after
+StepOn t (Puts k v) before r after = AbortsByCycleIn t k Store before r after ⊎ MakesStore t k v before r after
 StepOn t (Ends answers) before r after = Stays reply.Ended before r after
 StepOn t (Asks code) before r after = AbortsIn t (cause.Asked code) before r after
 

@@ -8,12 +8,12 @@ use Rattle.sgt_model.specs.Accesses.{Access, access_of}
 use Rattle.sgt_model.specs.Values.{stores}
 
 -- a chain without t's value
-abbrev pub without : ℕ → List (ℕ × ℤ) → List (ℕ × ℤ)
-without t chain = filter (λ w. not (nat_eq w.0 t)) chain
+abbrev pub chain_without : ℕ → List (ℕ × ℤ) → List (ℕ × ℤ)
+chain_without t chain = filter (λ w. not (nat_eq w.0 t)) chain
 
 -- t's value is replaced, or added, and is the last one then
 abbrev pub write_last : ℕ → ℤ → List (ℕ × ℤ) → List (ℕ × ℤ)
-write_last t v chain = without t chain ++ (t, v) ∷ []
+write_last t v chain = chain_without t chain ++ (t, v) ∷ []
 
 -- a store, if there is one, goes into the chain
 abbrev pub store_into : Option Access → List (ℕ × ℤ) → List (ℕ × ℤ)

@@ -16,7 +16,7 @@ abbrev pub CommitsBefore : List Entry → ℕ → ℕ → Type 0
 CommitsBefore [] t u = ⊥
 CommitsBefore (e ∷ past) t u = ((ending_in e.event e.reply u ≡ Some fate.Committed) × (committed past t ≡ true)) ⊎ CommitsBefore past t u
 
--- the place of t's last store of the key: how many entries stand before it
+-- the number of t's last store of the key: how many entries stand before it
 abbrev pub last_store : List Entry → Key → ℕ → Option ℕ
 last_store [] k t = None
 last_store (e ∷ past) k t = option_or (option_map (λ (a : Access). length past) (stores (λ u. nat_eq u t) k (access_of e))) (last_store past k t)

@@ -22,17 +22,17 @@ key_cmp = then_cmp (on (λ k. k.0) nat_cmp) (on (λ k. k.1) int_cmp)
 abbrev pub key_lt : Key → Key → Bool
 key_lt a b = is_lt (key_cmp a b)
 
--- the first so many rows come before the key, and the next, if there is one, does not: its place, where rows are by key
-abbrev pub IsPlace : Key → List Row → ℕ → Type 0
-IsPlace k [] zero = Unit {0}
-IsPlace k (r ∷ rows) zero = key_lt r.0 k ≡ false
-IsPlace k [] (suc n) = ⊥
-IsPlace k (r ∷ rows) (suc n) = (key_lt r.0 k ≡ true) × IsPlace k rows n
+-- the first so many rows come before the key, and the next, if there is one, does not: its index, where rows are by key
+abbrev pub IsRowIndex : Key → List Row → ℕ → Type 0
+IsRowIndex k [] zero = Unit {0}
+IsRowIndex k (r ∷ rows) zero = key_lt r.0 k ≡ false
+IsRowIndex k [] (suc n) = ⊥
+IsRowIndex k (r ∷ rows) (suc n) = (key_lt r.0 k ≡ true) × IsRowIndex k rows n
 
--- the place of the key's row, or else the one where it would stand
+-- the index of the key's row, or else the one where it would stand
 abbrev pub IsFound : Key → List Row → Result ℕ ℕ → Type 0
-IsFound k rows (Ok n) = IsPlace k rows n × (v : ℤ) × (slice_get rows n ≡ Some (k, v))
-IsFound k rows (Err n) = IsPlace k rows n × ((r : Row) → slice_get rows n ≡ Some r → key_eq r.0 k ≡ false)
+IsFound k rows (Ok n) = IsRowIndex k rows n × (v : ℤ) × (slice_get rows n ≡ Some (k, v))
+IsFound k rows (Err n) = IsRowIndex k rows n × ((r : Row) → slice_get rows n ≡ Some r → key_eq r.0 k ≡ false)
 
 -- the key comes before that of each row
 abbrev pub IsBelow : Key → List Row → Type 0

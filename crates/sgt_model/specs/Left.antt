@@ -6,7 +6,7 @@ use Rattle.sgt_model.specs.Numbers.{is_value}
 use Rattle.sgt_model.specs.Contents.{Key}
 use Rattle.sgt_model.specs.Syntax.{Block, empty, look, put, save, ask, choose, answer, Program}
 use Rattle.sgt_model.specs.Traces.{Used, Next, Looks, Puts, Ends, Asks, trace, next_at}
-use Rattle.sgt_model.specs.Meaning.{Got, is, over, missing, Holds, holds, too_far, unknown, Registers, fresh, value_of, result_of, run_with}
+use Rattle.sgt_model.specs.Meaning.{Got, is, over, missing, Truth, holds, too_far, unknown, Registers, fresh, value_of, truth_of, run_with}
 use Rattle.sgt_model.specs.Executions.{OrCode, and_then, provided, overflow, stuck, key_of}
 
 -- what is left
@@ -64,7 +64,7 @@ number_or_code over = Err overflow
 number_or_code missing = Err stuck
 
 -- whether a condition holds, or the code that it asks
-abbrev pub choice_or_code : Holds → OrCode Bool
+abbrev pub choice_or_code : Truth → OrCode Bool
 choice_or_code (holds chosen) = Ok chosen
 choice_or_code too_far = Err overflow
 choice_or_code unknown = Err stuck
@@ -87,7 +87,7 @@ reach (save to value rest) args registers answers =
     reach rest args (slice_set registers to (Some v)) answers)
 reach (ask code rest) args registers answers = Err code
 reach (choose test ys ns rest) args registers answers =
-    and_then (choice_or_code (result_of test args registers)) (λ chosen.
+    and_then (choice_or_code (truth_of test args registers)) (λ chosen.
     and_then (cond chosen (reach ys args registers answers) (reach ns args registers answers))
     (then_behind rest (λ registers_then answers_then. reach rest args registers_then answers_then)))
 reach (answer value rest) args registers answers =

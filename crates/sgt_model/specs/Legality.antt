@@ -32,8 +32,8 @@ pub record Aborts (past : List Entry) (t : ℕ) (why : Cause) (r : Reply) : Type
   pub falls : Falls past t fell
   pub is : r ≡ reply.Aborted why fell
 
--- an access that would close a cycle is refused: t is aborted, and the reply names some walk
-pub record Refuses (past : List Entry) (t : ℕ) (k : Key) (kind : Kind) (r : Reply) : Type 0 where
+-- an access that would close a cycle is rejected: t is aborted, and the reply names some walk
+pub record AbortsByCycle (past : List Entry) (t : ℕ) (k : Key) (kind : Kind) (r : Reply) : Type 0 where
   pub rest : List ℕ
   pub closes : Closes past t k kind rest
   pub aborts : Aborts past t (cause.Cycle (t ∷ rest)) r
@@ -45,8 +45,8 @@ pub record Makes (past : List Entry) (t : ℕ) (k : Key) (kind : Kind) (made_rep
 
 -- the reply to a step of a live transaction, by what its procedure does next
 abbrev pub StepReply : Setting → List Entry → ℕ → Next → Reply → Type 0
-StepReply s past t (Looks k) r = Refuses past t k Look r ⊎ Makes past t k Look (reply.Looked k (visible s.opening past k)) r
-StepReply s past t (Puts k v) r = Refuses past t k Store r ⊎ Makes past t k Store (reply.Wrote k v) r
+StepReply s past t (Looks k) r = AbortsByCycle past t k Look r ⊎ Makes past t k Look (reply.Looked k (visible s.opening past k)) r
+StepReply s past t (Puts k v) r = AbortsByCycle past t k Store r ⊎ Makes past t k Store (reply.Wrote k v) r
 StepReply s past t (Ends answers) r = r ≡ reply.Ended
 StepReply s past t (Asks code) r = Aborts past t (cause.Asked code) r
 

@@ -32,7 +32,7 @@ both f (is a) missing = missing
 both f over _ = over
 both f missing _ = missing
 
--- the registers: a place for each, with None where it is not set
+-- the registers, each with its value, or None where it is not set
 abbrev pub Registers : Type 0
 Registers = List (Option ℤ)
 
@@ -49,13 +49,13 @@ value_of (sum a b) args regs = both (λ x y. bounded (x +ℤ y)) (value_of a arg
 value_of (diff a b) args regs = both (λ x y. bounded (x -ℤ y)) (value_of a args regs) (value_of b args regs)
 
 -- what a condition gives: it holds or not, or a part of it is over or missing
-pub data Holds : Type 0 where
-  holds : Bool → Holds
-  too_far : Holds
-  unknown : Holds
+pub data Truth : Type 0 where
+  holds : Bool → Truth
+  too_far : Truth
+  unknown : Truth
 
 -- two numbers compared, if they are there
-abbrev pub compared : (ℤ → ℤ → Bool) → Got → Got → Holds
+abbrev pub compared : (ℤ → ℤ → Bool) → Got → Got → Truth
 compared f (is a) (is b) = holds (f a b)
 compared f (is a) over = too_far
 compared f (is a) missing = unknown
@@ -63,10 +63,10 @@ compared f over _ = too_far
 compared f missing _ = unknown
 
 -- what a condition gives
-abbrev pub result_of : Test → List ℤ → Registers → Holds
-result_of (less a b) args regs = compared int_lt (value_of a args regs) (value_of b args regs)
-result_of (at_most a b) args regs = compared int_le (value_of a args regs) (value_of b args regs)
-result_of (equal a b) args regs = compared int_eq (value_of a args regs) (value_of b args regs)
+abbrev pub truth_of : Test → List ℤ → Registers → Truth
+truth_of (less a b) args regs = compared int_lt (value_of a args regs) (value_of b args regs)
+truth_of (at_most a b) args regs = compared int_le (value_of a args regs) (value_of b args regs)
+truth_of (equal a b) args regs = compared int_eq (value_of a args regs) (value_of b args regs)
 
 -- what no procedure that passed the check does: it asks code 0
 abbrev pub wrong : Run
@@ -79,7 +79,7 @@ with_value over go = asks 1000
 with_value missing go = wrong
 
 -- the branch that a condition chooses
-abbrev pub with_test : Holds → Run → Run → Run
+abbrev pub with_test : Truth → Run → Run → Run
 with_test (holds b) ys ns = cond b ys ns
 with_test too_far ys ns = asks 1000
 with_test unknown ys ns = wrong
@@ -116,7 +116,7 @@ run args (way.save to value rest) regs answers =
     with_value (value_of value args regs) (λ v. run args rest (slice_set regs to (Some v)) answers)
 run args (way.ask code) regs answers = asks code
 run args (way.fork test ys ns) regs answers =
-    with_test (result_of test args regs) (run args ys regs answers) (run args ns regs answers)
+    with_test (truth_of test args regs) (run args ys regs answers) (run args ns regs answers)
 run args (way.answer value rest) regs answers =
     with_value (value_of value args regs) (λ v. with_room answers (run args rest regs (answers ++ v ∷ [])))
 

@@ -1,4 +1,4 @@
--- How many replies are legal for an event: there always is one and, but for the walk that a refused access names, no other.
+-- How many replies are legal for an event: there always is one and, but for the walk that a rejected access names, no other.
 use Rattle.std.specs.Prelude.{◌≡◌, ℕ, ◌⊎◌, List}
 use Rattle.sgt_model.specs.declared.event.Event.{Event}
 use Rattle.sgt_model.specs.declared.reply.Reply.{Reply}

@@ -43,13 +43,13 @@ if_look Look v = v ∷ []
 if_look Store v = []
 
 -- the values that accesses, newest first, have looked at, oldest first
-abbrev pub looked : List Access → List (Option ℤ)
-looked [] = []
-looked (a ∷ before) = looked before ++ if_look a.kind a.value
+abbrev pub values_read : List Access → List (Option ℤ)
+values_read [] = []
+values_read (a ∷ before) = values_read before ++ if_look a.kind a.value
 
 -- the values that t looked at, oldest first
 abbrev pub reads : List Entry → ℕ → List (Option ℤ)
-reads past t = looked (acts past t)
+reads past t = values_read (acts past t)
 
 -- how many accesses t has made
 abbrev pub made : List Entry → ℕ → ℕ

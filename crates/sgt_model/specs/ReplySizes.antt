@@ -1,4 +1,4 @@
--- How many transactions a reply names: no more than may be live at once, so a list of that many places holds them.
+-- How many transactions a reply names: no more than may be live at once, so a list with room for that many holds them.
 use Rattle.std.specs.Prelude.{ℕ, ◌<◌, ◌≤◌, length}
 use Rattle.sgt_model.specs.declared.event.Event.{Event}
 use Rattle.sgt_model.specs.declared.reply.Reply.{Reply}

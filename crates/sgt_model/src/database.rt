@@ -1,7 +1,7 @@
 ghost use Rattle.std.specs.Prelude.{◌≡◌, [], None, OnOk, OnErr};
 ghost use Rattle.sgt_model.specs.Numbers.{IsValue};
 ghost use Rattle.sgt_model.specs.Contents.{Key as K, put_in};
-ghost use Rattle.sgt_model.specs.Databases.{contents_of, IsByKey, IsFound, IsPlace, HasValues};
+ghost use Rattle.sgt_model.specs.Databases.{contents_of, IsByKey, IsFound, IsRowIndex, HasValues};
 
 use crate::errors::NoMemory;
 use crate::key::Key;
@@ -62,11 +62,11 @@ impl Database {
         Ok(())
     }
 
-    // The place of the key's row, or else the one where it would stand.
+    // The index of the key's row, or else the one where it would stand.
     fn find(&self, key: Key) -> Result<usize, usize>
         ensures { IsFound key self.now result }
     {
-        let at = self.place(key);
+        let at = self.index(key);
         if at < self.rows.len() {
             if self.rows[at].0 == key {
                 return Ok(at);
@@ -76,8 +76,8 @@ impl Database {
     }
 
     // How many rows come before the key, by halving.
-    fn place(&self, key: Key) -> usize
-        ensures { IsPlace key self.now result }
+    fn index(&self, key: Key) -> usize
+        ensures { IsRowIndex key self.now result }
     {
         let mut low = 0;
         let mut high = self.rows.len();

@@ -11,7 +11,7 @@ use Rattle.sgt_model.specs.Syntax.{Term, Block, empty, Program}
 use Rattle.sgt_model.specs.Ways.{Way, onto}
 use Rattle.sgt_model.specs.Ways as way
 use Rattle.sgt_model.specs.Runs.{Run, looks, puts}
-use Rattle.sgt_model.specs.Meaning.{Got, is, over, missing, Holds, holds, too_far, unknown, is_key, with_stored, value_of, result_of, run, run_with, fresh}
+use Rattle.sgt_model.specs.Meaning.{Got, is, over, missing, Truth, holds, too_far, unknown, is_key, with_stored, value_of, truth_of, run, run_with, fresh}
 use Rattle.sgt_model.specs.Traces as trace
 use Rattle.sgt_model.specs.Traces.{next_at}
 use Rattle.sgt_proc.specs.declared.interpreter.Interpreter.{Interpreter}
@@ -29,7 +29,7 @@ value_is (is v) n e = cc
 value_is over n e = cc
 value_is missing n e = cc
 
-pub test_is : (h : Holds) (b : Bool) → Ok b ≡ choice_or_code h → h ≡ holds b
+pub test_is : (h : Truth) (b : Bool) → Ok b ≡ choice_or_code h → h ≡ holds b
 test_is (holds v) b e = cc
 test_is too_far b e = cc
 test_is unknown b e = cc
@@ -70,7 +70,7 @@ module _ (args : List ℤ) (read : List (Option ℤ)) (m : Interpreter) where
 
   -- an If does what the branch does that it takes
   pub if_taken : (c : Cond) (ys ns : Vec Statement Global) (rest : Way) (result : Result Unit Next) (m' : Interpreter) (b : Bool)
-      → result_of (test_of c) args m.registers ≡ holds b → Executed args read (cond b (block_of ys.items) (block_of ns.items)) m result m'
+      → truth_of (test_of c) args m.registers ≡ holds b → Executed args read (cond b (block_of ys.items) (block_of ns.items)) m result m'
       → next_executing args read (onto (before (If c ys ns) empty) rest) m ≡ or_next result (λ _. next_executing args read rest m')
   if_taken c ys ns rest result m' true e w = ap (λ x. next_executing args read x m) (onto_if c ys ns rest) ∙ rw e (w rest)
   if_taken c ys ns rest result m' false e w = ap (λ x. next_executing args read x m) (onto_if c ys ns rest) ∙ rw e (w rest)

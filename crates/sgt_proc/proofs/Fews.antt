@@ -7,7 +7,7 @@ use Rattle.sgt_model.specs.Ways.{Way, onto}
 use Rattle.sgt_model.specs.Ways as way
 use Rattle.sgt_model.specs.Runs.{Run, looks, puts, ends, asks}
 use Rattle.sgt_model.specs.Traces.{Next, Looks, Puts, Ends, Asks, trace, next_at, Used}
-use Rattle.sgt_model.specs.Meaning.{Got, is, over, missing, Holds, holds, too_far, unknown, Registers, value_of, result_of, with_value, with_test, is_key, if_found, run, run_with, fresh}
+use Rattle.sgt_model.specs.Meaning.{Got, is, over, missing, Truth, holds, too_far, unknown, Registers, value_of, truth_of, with_value, with_test, is_key, if_found, run, run_with, fresh}
 use Rattle.sgt_proc.specs.declared.flaw.Flaw.TheVariants.{TooLong}
 use Rattle.sgt_proc.specs.declared.next.Next.{Next as DeclaredNext}
 use Rattle.sgt_proc.specs.declared.next.Next.TheVariants as declared
@@ -44,7 +44,7 @@ within_cond : (n : ℕ) (b : Bool) (r : Run) → MakesAtMost r n → MakesAtMost
 within_cond n true r h = h
 within_cond n false r h = tt
 
-within_test : (n : ℕ) (t : Holds) (ys ns : Run) → MakesAtMost ys n → MakesAtMost ns n → MakesAtMost (with_test t ys ns) n
+within_test : (n : ℕ) (t : Truth) (ys ns : Run) → MakesAtMost ys n → MakesAtMost ns n → MakesAtMost (with_test t ys ns) n
 within_test n (holds true) ys ns h i = h
 within_test n (holds false) ys ns h i = i
 within_test n too_far ys ns h i = tt
@@ -82,7 +82,7 @@ within_onto (text.ask code b) rest n h args regs answers = tt
 within_onto (text.choose test ys ns b) rest n h args regs answers =
     let behind = within_onto b rest n h in
     within_more _ (size ys + size ns + (size b + n)) (1 + (size ys + size ns) + size b + n) (omega arith)
-    (within_test (size ys + size ns + (size b + n)) (result_of test args regs) _ _
+    (within_test (size ys + size ns + (size b + n)) (truth_of test args regs) _ _
     (grown (onto ys (onto b rest)) (size ys + (size b + n)) (size ys + size ns + (size b + n)) (omega arith)
     (within_onto ys (onto b rest) (size b + n) behind) args regs answers)
     (grown (onto ns (onto b rest)) (size ns + (size b + n)) (size ys + size ns + (size b + n)) (omega arith)

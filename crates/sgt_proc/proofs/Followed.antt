@@ -2,7 +2,7 @@
 use Rattle.std.proofs.Common.{◌≡◌, refl, sym, ap, ◌+◌, ℤ, Bool, true, false, cond, List, [], ◌∷◌, ◌++◌, length, nat_lt, slice_set, Some, Ok, Err, arith}
 use Rattle.sgt_model.specs.Numbers.{is_value}
 use Rattle.sgt_model.specs.Syntax.{Block, empty, look, put, save, ask, choose, answer}
-use Rattle.sgt_model.specs.Meaning.{Registers, value_of, result_of}
+use Rattle.sgt_model.specs.Meaning.{Registers, value_of, truth_of}
 use Rattle.sgt_model.specs.Executions.{OrCode, and_then, provided, key_of, stuck}
 use Rattle.sgt_model.specs.Left.{Rest, Reached, AtLook, AtStore, AtEnd, followed_by, then_behind, number_or_code, choice_or_code, reach}
 use Rattle.sgt_proc.specs.Flaws.{size}
@@ -87,7 +87,7 @@ reach_followed (save to value b) more args registers answers =
     (λ v. reach_followed b more args (slice_set registers to (Some v)) answers)
 reach_followed (ask code b) more args registers answers = refl
 reach_followed (choose test ys ns b) more args registers answers =
-    then_then (choice_or_code (result_of test args registers)) _ _ _
+    then_then (choice_or_code (truth_of test args registers)) _ _ _
     (λ chosen. if_then args b more (cond chosen (reach ys args registers answers) (reach ns args registers answers))
     (λ registers_then answers_then. reach_followed b more args registers_then answers_then))
 reach_followed (answer value b) more args registers answers =

@@ -13,7 +13,7 @@ use Rattle.sgt_model.specs.Syntax.{Term, num, arg, reg, sum, diff, Test, less, a
 use Rattle.sgt_model.specs.Ways.{Way, onto}
 use Rattle.sgt_model.specs.Ways as way
 use Rattle.sgt_model.specs.Runs.{Run, looks, puts}
-use Rattle.sgt_model.specs.Meaning.{Got, is, over, missing, got, bounded, both, Registers, fresh, value_of, Holds, holds, too_far, unknown, compared, result_of, with_value, with_test, with_key, with_stored, if_found, with_room, run}
+use Rattle.sgt_model.specs.Meaning.{Got, is, over, missing, got, bounded, both, Registers, fresh, value_of, Truth, holds, too_far, unknown, compared, truth_of, with_value, with_test, with_key, with_stored, if_found, with_room, run}
 use Rattle.sgt_proc.specs.declared.flaw.Flaw.{Flaw}
 use Rattle.sgt_proc.specs.declared.flaw.Flaw.TheVariants.{HighRegister, UnsetRegister, NoArgument, HighTable, TooLong, TooDeep, ManyAnswers, BadCode, ManyArguments, BadLiteral}
 use Rattle.sgt_proc.specs.declared.numbers.Number.{Number}
@@ -29,7 +29,7 @@ IsFine (is v) = IsValue v
 IsFine over = Unit {0}
 IsFine missing = ⊥
 
-abbrev IsKnown : Holds → Type 0
+abbrev IsKnown : Truth → Type 0
 IsKnown (holds b) = Unit {0}
 IsKnown too_far = Unit {0}
 IsKnown unknown = ⊥
@@ -81,7 +81,7 @@ with_value_sound (is v) f h s = s v h
 with_value_sound over f h s = (omega arith, omega arith)
 with_value_sound missing f h s = absurd h
 
-with_test_sound : (h : Holds) (f g : Run) → IsKnown h → IsSound f → IsSound g → IsSound (with_test h f g)
+with_test_sound : (h : Truth) (f g : Run) → IsKnown h → IsSound f → IsSound g → IsSound (with_test h f g)
 with_test_sound (holds true) f g h s s' = s
 with_test_sound (holds false) f g h s s' = s'
 with_test_sound too_far f g h s s' = (omega arith, omega arith)
@@ -140,7 +140,7 @@ module _ (args : List ℤ) (all_values : All IsValue args) where
       (value_fine regs b (λ f. (or_parts _ _ (c f)).1) (λ r h e. assigned r h (or_right (uses r a) (uses r b) e)))
 
   test_known : (regs : Registers) (t : Test) → Clean (λ so. in_test so t) → AreAssigned (λ r. test_uses r t) regs
-      → IsKnown (result_of t args regs)
+      → IsKnown (truth_of t args regs)
   test_known regs (less a b) c assigned = both_known _ regs a b c assigned
   test_known regs (at_most a b) c assigned = both_known _ regs a b c assigned
   test_known regs (equal a b) c assigned = both_known _ regs a b c assigned
@@ -192,7 +192,7 @@ module _ (args : List ℤ) (all_values : All IsValue args) where
       (asked.0, omega (arith, asked.1))
   run_sound (way.fork test ys ns) regs answers c l assigned m all =
       let branches = (λ (f : Flaw). (or_parts _ _ (c f)).1) in
-      with_test_sound (result_of test args regs) _ _ (test_known regs test (λ f. (or_parts _ _ (c f)).0)
+      with_test_sound (truth_of test args regs) _ _ (test_known regs test (λ f. (or_parts _ _ (c f)).0)
       (λ r h e. assigned r h (or_left _ _ e)))
       (run_sound ys regs answers (λ f. (or_parts _ _ (branches f)).0) l (λ r h e. assigned r h (or_right _ _ (or_left _ _ e)))
       (few_left (length answers) (most_answers ys) (most_answers ns) m) all)

@@ -7,7 +7,7 @@ use Rattle.sgt_model.specs.declared.procedure.Statement.TheVariants.{If}
 use Rattle.sgt_model.specs.declared.procedure.Cond.{Cond}
 use Rattle.sgt_model.specs.Syntax.{Test, Block, empty, choose}
 use Rattle.sgt_model.specs.Programs.{test_of, before, block_of}
-use Rattle.sgt_model.specs.Meaning.{holds, Registers, result_of}
+use Rattle.sgt_model.specs.Meaning.{holds, Registers, truth_of}
 use Rattle.sgt_model.specs.Left.{followed_by, reach}
 use Rattle.sgt_model.proofs.Texts.{before_if}
 use Rattle.sgt_proc.specs.declared.place.Turn.{Turn}
@@ -30,7 +30,7 @@ to_come_branch : (path : List Turn) (t : Turn) (b : Block) (test : Test) (ys ns 
 to_come_branch path t b test ys ns rest e = both_followed _ _ _ _ (inner_last path t b ∙ ap (branch t.held) e) (outer_last path t b)
 
 reach_branch : (held : Bool) (test : Test) (ys ns rest : Block) (args : List ℤ) (registers : Registers) (answers : List ℤ)
-    → result_of test args registers ≡ holds held → reach (followed_by (cond held ys ns) rest) args registers answers ≡ reach
+    → truth_of test args registers ≡ holds held → reach (followed_by (cond held ys ns) rest) args registers answers ≡ reach
     (choose test ys ns rest) args registers answers
 reach_branch true test ys ns rest args registers answers e = rw e (reach_followed ys rest args registers answers)
 reach_branch false test ys ns rest args registers answers e = rw e (reach_followed ns rest args registers answers)
@@ -41,7 +41,7 @@ branch_smaller false ys ns = omega arith
 
 pub if_step : (b : Block) (m m' : Place) (s : Statement) (c : Cond) (ys ns : Vec Statement Global) (held : Bool) → IsIn b m → s ≡ If c ys ns
     → behind m.at (inner m.path.items b) ≡ before s (behind (m.at + 1) (inner m.path.items b)) → m.at < 64
-    → result_of (test_of c) m.args m.registers ≡ holds held → m'.args ≡ m.args → m'.registers ≡ m.registers → m'.answers ≡ m.answers
+    → truth_of (test_of c) m.args m.registers ≡ holds held → m'.args ≡ m.args → m'.registers ≡ m.registers → m'.answers ≡ m.answers
     → m'.path.items ≡ m.path.items ++ record { at = m.at; held = held } ∷ [] → m'.at ≡ 0 → Passes b m m'
 if_step b m m' s c ys ns held inside is here few choice args registers answers path at = record {
   same = rw (args, registers, answers, at, path, come)

@@ -14,13 +14,13 @@ use Rattle.sgt_proc.specs.declared.next.Next.{Next}
 use Rattle.sgt_proc.specs.Nexts.{or_next}
 
 -- what is left of a run after so many accesses, of which the looks found these values
-abbrev pub left_of : Run → List (Option ℤ) → ℕ → Run
-left_of r vs zero = r
-left_of (looks k go) [] (suc made) = looks k go
-left_of (looks k go) (v ∷ vs) (suc made) = left_of (go v) vs made
-left_of (puts k v rest) vs (suc made) = left_of rest vs made
-left_of (ends answers) vs (suc made) = ends answers
-left_of (asks code) vs (suc made) = asks code
+abbrev pub run_after : Run → List (Option ℤ) → ℕ → Run
+run_after r vs zero = r
+run_after (looks k go) [] (suc made) = looks k go
+run_after (looks k go) (v ∷ vs) (suc made) = run_after (go v) vs made
+run_after (puts k v rest) vs (suc made) = run_after rest vs made
+run_after (ends answers) vs (suc made) = ends answers
+run_after (asks code) vs (suc made) = asks code
 
 -- what a run does first
 abbrev pub first_of : Run → trace.Next
@@ -31,7 +31,7 @@ first_of (asks code) = trace.Asks code
 
 -- what comes next in a run, behind the accesses that the interpreter has still to pass over
 abbrev pub next_past : List (Option ℤ) → Run → Interpreter → trace.Next
-next_past read r m = first_of (left_of r (drop m.used read) m.left)
+next_past read r m = first_of (run_after r (drop m.used read) m.left)
 
 -- a look is passed over with what it found, or comes next
 abbrev pub PassesLook : List (Option ℤ) → Key → Interpreter → Result (Option ℤ) Next → Interpreter → Type 0

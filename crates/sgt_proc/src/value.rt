@@ -1,6 +1,6 @@
 ghost use Rattle.std.specs.Prelude.{◌≡◌, ◌+ℤ◌, ◌-ℤ◌, None, slice_get, slice_index_or};
 ghost use Rattle.sgt_model.specs.Programs.{term_of, test_of};
-ghost use Rattle.sgt_model.specs.Meaning.{got, bounded, value_of, result_of};
+ghost use Rattle.sgt_model.specs.Meaning.{got, bounded, value_of, truth_of};
 ghost use Rattle.sgt_model.specs.Executions.{key_of};
 ghost use Rattle.sgt_model.specs.Left.{number_or_code, choice_or_code};
 
@@ -68,7 +68,7 @@ fn register(registers: &[Option<i64>; 16], n: u8) -> Result<i64, u16>
 
 /// Whether a condition holds, or the code that is asked in its place.
 pub fn test(cond: &Cond, args: &[i64], registers: &[Option<i64>; 16]) -> Result<bool, u16>
-    ensures { result ≡ choice_or_code (result_of (test_of cond.now) args.now registers.now) }
+    ensures { result ≡ choice_or_code (truth_of (test_of cond.now) args.now registers.now) }
 {
     let (left, right) = match cond {
         Cond::Less(left, right) | Cond::AtMost(left, right) | Cond::Equal(left, right) => {

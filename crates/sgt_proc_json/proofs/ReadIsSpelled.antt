@@ -6,7 +6,7 @@ use Rattle.serde_json.specs.Data.{Data, null, boolean, number, array, string, ob
 use Rattle.serde_json.specs.Find.{as_str}
 use Rattle.sgt_model.specs.Syntax.{Term, num, arg, reg, sum, diff, Test, less, at_most, equal, Block, empty, look, put, save, ask, choose, answer, Program}
 use Rattle.sgt_proc_json.specs.Trees.{whole, natural}
-use Rattle.sgt_proc_json.specs.Spelling.{Row, Byte, Short, SpellsTerm, SpellsTest, Listed, SpellsBlock, Spells}
+use Rattle.sgt_proc_json.specs.Spelling.{WordAnd, Byte, Short, SpellsTerm, SpellsTest, Listed, SpellsBlock, Spells}
 use Rattle.sgt_proc_json.specs.Readings.{Reading, here, at, one, two, three, four, or_here, is_word, byte, short, expression, condition, statement, block, statements, reading, one_item, two_items, three_items, four_items}
 
 -- a choice that is read is read from one of the two
@@ -83,7 +83,7 @@ name_read w n e is =
 
 -- two expressions
 pair_read : (f : Term → Term → Term) (word : List ℕ) (w a b : Data) (e : Term)
-    → ((x y : Term) → SpellsTerm (f x y) ≡ Row word (SpellsTerm x ∷ SpellsTerm y ∷ [])) → w ≡ string word
+    → ((x y : Term) → SpellsTerm (f x y) ≡ WordAnd word (SpellsTerm x ∷ SpellsTerm y ∷ [])) → w ≡ string word
     → ((t : Term) → expression a ≡ Ok t → SpellsTerm t a) → ((t : Term) → expression b ≡ Ok t → SpellsTerm t b)
     → two f (at 1 (expression a)) (at 2 (expression b)) ≡ Ok e → SpellsTerm e (array (item w (item a (item b no_items))))
 pair_read f word w a b e spells says left right is =
@@ -121,7 +121,7 @@ term_read (array (item w (item a (item b (item c rest))))) e is = absurd (cc)
 
 -- two expressions that are compared
 compared_read : (f : Term → Term → Test) (word : List ℕ) (w a b : Data) (e : Test)
-    → ((x y : Term) → SpellsTest (f x y) ≡ Row word (SpellsTerm x ∷ SpellsTerm y ∷ [])) → w ≡ string word
+    → ((x y : Term) → SpellsTest (f x y) ≡ WordAnd word (SpellsTerm x ∷ SpellsTerm y ∷ [])) → w ≡ string word
     → two f (at 1 (expression a)) (at 2 (expression b)) ≡ Ok e → SpellsTest e (array (item w (item a (item b no_items))))
 compared_read f word w a b e spells says is =
     let o = two_read f (at 1 (expression a)) (at 2 (expression b)) e is in

@@ -3,7 +3,7 @@ use Rattle.std.proofs.Common.{◌≡◌, refl, ap, ◌∙◌, ℕ, ◌+◌, List
 use Rattle.std.specs.Prelude.{codes}
 use Rattle.serde_json.specs.Data.{Data, null, boolean, number, array, string, object, Items, no_items, item}
 use Rattle.sgt_model.specs.Syntax.{Term, num, arg, reg, sum, diff, Test, less, at_most, equal, Block, empty, look, put, save, ask, choose, answer, Program}
-use Rattle.sgt_proc_json.specs.Spelling.{Shape, Each, Row, Byte, Short, SpellsTerm, SpellsTest, Listed, SpellsBlock, Spells}
+use Rattle.sgt_proc_json.specs.Spelling.{Shape, Each, WordAnd, Byte, Short, SpellsTerm, SpellsTest, Listed, SpellsBlock, Spells}
 use Rattle.sgt_proc_json.specs.Readings.{at, one, or_here, byte, short, expression, condition, statement, block, statements, reading}
 
 read_byte : (n i : ℕ) (d : Data) → Byte n d → at i (byte d) ≡ Ok n
@@ -13,7 +13,7 @@ read_short : (n i : ℕ) (d : Data) → Short n d → at i (short d) ≡ Ok n
 read_short n i d is = ap (λ o. at i (or_here o)) is
 
 -- a row is a list that begins with its word
-row_is : (word : List ℕ) (shapes : List Shape) (d : Data) → Row word shapes d
+row_is : (word : List ℕ) (shapes : List Shape) (d : Data) → WordAnd word shapes d
     → (items : Items) × (d ≡ array (item (string word) items)) × Each shapes items
 row_is word shapes null is = absurd is
 row_is word shapes (boolean b) is = absurd is
@@ -48,7 +48,7 @@ listed_is so (object ms) is = absurd is
 listed_is so (array items) is = (items, refl, is)
 
 -- a row of one item
-one_is : (word : List ℕ) (s : Shape) (d : Data) → Row word (s ∷ []) d
+one_is : (word : List ℕ) (s : Shape) (d : Data) → WordAnd word (s ∷ []) d
     → (a : Data) × (d ≡ array (item (string word) (item a no_items))) × s a
 one_is word s d is =
     let r = row_is word (s ∷ []) d is in
@@ -56,7 +56,7 @@ one_is word s d is =
     (x.0, r.1 ∙ ap (λ l. array (item (string word) l)) (x.2 ∙ ap (item x.0) (none_is x.1 x.4)), x.3)
 
 -- of two
-two_are : (word : List ℕ) (s t : Shape) (d : Data) → Row word (s ∷ t ∷ []) d
+two_are : (word : List ℕ) (s t : Shape) (d : Data) → WordAnd word (s ∷ t ∷ []) d
     → (a b : Data) × (d ≡ array (item (string word) (item a (item b no_items)))) × s a × t b
 two_are word s t d is =
     let r = row_is word (s ∷ t ∷ []) d is in
@@ -65,7 +65,7 @@ two_are word s t d is =
     (x.0, y.0, r.1 ∙ ap (λ l. array (item (string word) l)) (x.2 ∙ ap (item x.0) (y.2 ∙ ap (item y.0) (none_is y.1 y.4))), x.3, y.3)
 
 -- of three
-three_are : (word : List ℕ) (s t u : Shape) (d : Data) → Row word (s ∷ t ∷ u ∷ []) d
+three_are : (word : List ℕ) (s t u : Shape) (d : Data) → WordAnd word (s ∷ t ∷ u ∷ []) d
     → (a b c : Data) × (d ≡ array (item (string word) (item a (item b (item c no_items))))) × s a × t b × u c
 three_are word s t u d is =
     let r = row_is word (s ∷ t ∷ u ∷ []) d is in
@@ -83,7 +83,7 @@ three_are word s t u d is =
     )
 
 -- of four
-four_are : (word : List ℕ) (s t u v : Shape) (d : Data) → Row word (s ∷ t ∷ u ∷ v ∷ []) d
+four_are : (word : List ℕ) (s t u v : Shape) (d : Data) → WordAnd word (s ∷ t ∷ u ∷ v ∷ []) d
     → (a b c e : Data) × (d ≡ array (item (string word) (item a (item b (item c (item e no_items)))))) × s a × t b × u c × v e
 four_are word s t u v d is =
     let r = row_is word (s ∷ t ∷ u ∷ v ∷ []) d is in

@@ -17,9 +17,9 @@ Each (shape ∷ shapes) no_items = ⊥
 Each (shape ∷ shapes) (item tree items) = shape tree × Each shapes items
 
 -- a list of a word and then these
-abbrev pub Row : List ℕ → List Shape → Shape
-Row word shapes (array (item (string w) items)) = (w ≡ word) × Each shapes items
-Row word shapes tree = ⊥
+abbrev pub WordAnd : List ℕ → List Shape → Shape
+WordAnd word shapes (array (item (string w) items)) = (w ≡ word) × Each shapes items
+WordAnd word shapes tree = ⊥
 
 -- a whole number
 abbrev pub Whole : ℤ → Shape
@@ -36,16 +36,16 @@ Short n tree = option_and_then (natural 16) (whole tree) ≡ Some n
 -- the tree spells the expression
 abbrev pub SpellsTerm : Term → Shape
 SpellsTerm (num z) = Whole z
-SpellsTerm (arg n) = Row (codes "arg") (Byte n ∷ [])
-SpellsTerm (reg n) = Row (codes "reg") (Byte n ∷ [])
-SpellsTerm (sum a b) = Row (codes "sum") (SpellsTerm a ∷ SpellsTerm b ∷ [])
-SpellsTerm (diff a b) = Row (codes "diff") (SpellsTerm a ∷ SpellsTerm b ∷ [])
+SpellsTerm (arg n) = WordAnd (codes "arg") (Byte n ∷ [])
+SpellsTerm (reg n) = WordAnd (codes "reg") (Byte n ∷ [])
+SpellsTerm (sum a b) = WordAnd (codes "sum") (SpellsTerm a ∷ SpellsTerm b ∷ [])
+SpellsTerm (diff a b) = WordAnd (codes "diff") (SpellsTerm a ∷ SpellsTerm b ∷ [])
 
 -- the tree spells the condition
 abbrev pub SpellsTest : Test → Shape
-SpellsTest (less a b) = Row (codes "less") (SpellsTerm a ∷ SpellsTerm b ∷ [])
-SpellsTest (at_most a b) = Row (codes "most") (SpellsTerm a ∷ SpellsTerm b ∷ [])
-SpellsTest (equal a b) = Row (codes "same") (SpellsTerm a ∷ SpellsTerm b ∷ [])
+SpellsTest (less a b) = WordAnd (codes "less") (SpellsTerm a ∷ SpellsTerm b ∷ [])
+SpellsTest (at_most a b) = WordAnd (codes "most") (SpellsTerm a ∷ SpellsTerm b ∷ [])
+SpellsTest (equal a b) = WordAnd (codes "same") (SpellsTerm a ∷ SpellsTerm b ∷ [])
 
 -- a list whose items are so
 abbrev pub Listed : (Items → Type 0) → Shape
@@ -61,12 +61,12 @@ First shape rest (item tree items) = shape tree × rest items
 abbrev pub SpellsBlock : Block → Items → Type 0
 SpellsBlock empty no_items = ⊤
 SpellsBlock empty (item tree items) = ⊥
-SpellsBlock (look to table id absent b) items = First (Row (codes "look") (Byte to ∷ Byte table ∷ SpellsTerm id ∷ Short absent ∷ [])) (SpellsBlock b) items
-SpellsBlock (put table id value b) items = First (Row (codes "put") (Byte table ∷ SpellsTerm id ∷ SpellsTerm value ∷ [])) (SpellsBlock b) items
-SpellsBlock (save to value b) items = First (Row (codes "let") (Byte to ∷ SpellsTerm value ∷ [])) (SpellsBlock b) items
-SpellsBlock (ask code b) items = First (Row (codes "ask") (Short code ∷ [])) (SpellsBlock b) items
-SpellsBlock (choose test ys ns b) items = First (Row (codes "if") (SpellsTest test ∷ Listed (SpellsBlock ys) ∷ Listed (SpellsBlock ns) ∷ [])) (SpellsBlock b) items
-SpellsBlock (answer value b) items = First (Row (codes "answer") (SpellsTerm value ∷ [])) (SpellsBlock b) items
+SpellsBlock (look to table id absent b) items = First (WordAnd (codes "look") (Byte to ∷ Byte table ∷ SpellsTerm id ∷ Short absent ∷ [])) (SpellsBlock b) items
+SpellsBlock (put table id value b) items = First (WordAnd (codes "put") (Byte table ∷ SpellsTerm id ∷ SpellsTerm value ∷ [])) (SpellsBlock b) items
+SpellsBlock (save to value b) items = First (WordAnd (codes "let") (Byte to ∷ SpellsTerm value ∷ [])) (SpellsBlock b) items
+SpellsBlock (ask code b) items = First (WordAnd (codes "ask") (Short code ∷ [])) (SpellsBlock b) items
+SpellsBlock (choose test ys ns b) items = First (WordAnd (codes "if") (SpellsTest test ∷ Listed (SpellsBlock ys) ∷ Listed (SpellsBlock ns) ∷ [])) (SpellsBlock b) items
+SpellsBlock (answer value b) items = First (WordAnd (codes "answer") (SpellsTerm value ∷ [])) (SpellsBlock b) items
 
 -- the tree spells the procedure: a list of the count of its arguments and the list of its statements
 abbrev pub Spells : Program → Shape

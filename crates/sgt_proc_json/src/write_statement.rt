@@ -3,7 +3,7 @@ ghost use Rattle.serde_json.specs.Data.{Items, item};
 ghost use Rattle.serde_json.specs.View.{view};
 ghost use Rattle.sgt_model.specs.Syntax.{Block};
 ghost use Rattle.sgt_model.specs.Programs.{term_of, before, block_of};
-ghost use Rattle.sgt_proc_json.specs.Spelling.{Row, Byte, Short, SpellsTerm, Listed, SpellsBlock};
+ghost use Rattle.sgt_proc_json.specs.Spelling.{WordAnd, Byte, Short, SpellsTerm, Listed, SpellsBlock};
 
 use crate::write_cond::write_cond;
 use crate::write_expr::write_expr;
@@ -55,7 +55,7 @@ fn write_statement(alloc: Global, statement: &Statement) -> Result<Value, NoMemo
 
 /// The tree of a look.
 fn write_look(alloc: Global, reg: u8, table: u8, id: &Expr, absent: u16) -> Result<Value, NoMemory>
-    ensures { IfOk result (λ v. Row (codes "look")
+    ensures { IfOk result (λ v. WordAnd (codes "look")
         (Byte reg ∷ Byte table ∷ SpellsTerm (term_of id.now) ∷ Short absent ∷ []) (view v)) }
 {
     Ok(Value::Array(vec![in alloc;

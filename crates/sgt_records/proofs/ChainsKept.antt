@@ -4,8 +4,8 @@ use Rattle.std.proofs.lemmas.List.Elements.{All-nil, All-head, All-tail, All-fil
 use Rattle.std.specs.List.{All, last_or}
 use Rattle.std.specs.Option.{option_or}
 use Rattle.sgt_model.specs.Numbers.{IsValue}
-use Rattle.sgt_model.specs.Chains.{without, write_last, value_in, writes_in}
-use Rattle.sgt_records.specs.Tops.{top_from, top_of, value_of}
+use Rattle.sgt_model.specs.Chains.{chain_without, write_last, value_in, writes_in}
+use Rattle.sgt_records.specs.Tops.{top_from, top_of, value_of_top}
 use Rattle.sgt_records.specs.Validity.{IsChain}
 use Rattle.sgt_records.proofs.PendingWrites.{few_filtered, few_written, once_without, once_written}
 
@@ -24,7 +24,7 @@ chain_written t v c chain value room = record {
   values = All-push HasValue _ _ (All-filter (λ w. not (nat_eq w.0 t)) HasValue c chain.values) value;
 }
 
-pub chain_left : (t : ℕ) (c : List (ℕ × ℤ)) → IsChain c → IsChain (without t c)
+pub chain_left : (t : ℕ) (c : List (ℕ × ℤ)) → IsChain c → IsChain (chain_without t c)
 chain_left t c chain = record {
   once = λ u. once_without t u c (chain.once u);
   few = (let le = few_filtered (λ w. not (nat_eq w.0 t)) c in let few = chain.few in omega (arith, le, few));
@@ -56,11 +56,11 @@ last_value (w ∷ c) d all here = last_value c (Some w) (All-tail HasValue w c a
 
 -- what a look finds is a value
 pub top_value : (c : List (ℕ × ℤ)) (committed : Option ℤ) → IsChain c → IfSome committed IsValue
-    → IfSome (value_of (top_of c committed)) IsValue
+    → IfSome (value_of_top (top_of c committed)) IsValue
 top_value c committed chain value = go (last_or None c) committed (last_value c None chain.values tt) value
   where
     go : (last : Option (ℕ × ℤ)) (below : Option ℤ) → IfSome last HasValue → IfSome below IsValue
-        → IfSome (value_of (top_from last below)) IsValue
+        → IfSome (value_of_top (top_from last below)) IsValue
     go (Some w) below h v = h
     go None (Some x) h v = v
     go None None h v = tt

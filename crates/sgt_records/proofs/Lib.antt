@@ -3,8 +3,8 @@ pub mod RowsRead
 pub mod RecordsRead
 pub mod PendingWrites
 pub mod LastWrites
-pub mod ChainPlaces
-pub mod RecordPlaces
+pub mod ChainIndices
+pub mod RecordSlots
 pub mod ChainsKept
 pub mod EntriesRead
 pub mod LiveWritesLeft

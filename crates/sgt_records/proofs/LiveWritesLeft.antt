@@ -5,11 +5,11 @@ use Rattle.std.proofs.Math.Seq.{take-suc}
 use Rattle.std.specs.List.{filter}
 use Rattle.std.specs.Option.{option_or}
 use Rattle.sgt_model.specs.Contents.{Key, key_eq}
-use Rattle.sgt_model.specs.Chains.{without, write_last, value_in, writes_in}
+use Rattle.sgt_model.specs.Chains.{chain_without, write_last, value_in, writes_in}
 use Rattle.sgt_model.proofs.Stores.{key_eq-true}
 use Rattle.sgt_records.specs.declared.live_write.LiveWrite.{LiveWrite}
 use Rattle.sgt_records.specs.LiveWrites.{is_live}
-use Rattle.sgt_records.proofs.ChainPlaces.{left_whole, no_value}
+use Rattle.sgt_records.proofs.ChainIndices.{left_whole, no_value}
 
 -- on booleans
 or_false : (b : Bool) → (b || false) ≡ b
@@ -23,7 +23,7 @@ or_assoc false b c = refl
 -- on one chain
 
 -- who writes in what is left
-pub writers_left : (t u : ℕ) (c : List (ℕ × ℤ)) → writes_in u (without t c) ≡ (not (nat_eq u t) && writes_in u c)
+pub writers_left : (t u : ℕ) (c : List (ℕ × ℤ)) → writes_in u (chain_without t c) ≡ (not (nat_eq u t) && writes_in u c)
 writers_left t u [] = go (nat_eq u t)
   where
     go : (b : Bool) → false ≡ (not b && false)
@@ -32,8 +32,8 @@ writers_left t u [] = go (nat_eq u t)
 writers_left t u (w ∷ c) = go (nat_eq w.0 t) refl (nat_eq w.0 u) refl (nat_eq u t) refl (writers_left t u c)
   where
     go : (a : Bool) → nat_eq w.0 t ≡ a → (b : Bool) → nat_eq w.0 u ≡ b → (d : Bool) → nat_eq u t ≡ d
-        → writes_in u (without t c) ≡ (not d && writes_in u c)
-        → writes_in u (cond (not a) (w ∷ without t c) (without t c)) ≡ (not d && (b || writes_in u c))
+        → writes_in u (chain_without t c) ≡ (not d && writes_in u c)
+        → writes_in u (cond (not a) (w ∷ chain_without t c) (chain_without t c)) ≡ (not d && (b || writes_in u c))
     go true e true f true g h = h
     go true e true f false g h = absurd (true≢false (sym (subst (λ x. nat_eq x t ≡ true) (eqb-true w.0 u f) e) ∙ g))
     go true e false f d g h = h
@@ -42,7 +42,7 @@ writers_left t u (w ∷ c) = go (nat_eq w.0 t) refl (nat_eq w.0 u) refl (nat_eq 
     go false e false f d g h = rw f h
 
 -- nobody writes in a chain without them
-pub not_left : (t : ℕ) (c : List (ℕ × ℤ)) → writes_in t (without t c) ≡ false
+pub not_left : (t : ℕ) (c : List (ℕ × ℤ)) → writes_in t (chain_without t c) ≡ false
 not_left t c = writers_left t t c ∙ ap (λ b. not b && writes_in t c) (eq-eqb t t refl)
 
 -- who writes in a chain of two parts
@@ -53,7 +53,7 @@ writers_joined u (w ∷ c) d = ap (λ b. nat_eq w.0 u || b) (writers_joined u c 
 
 -- who writes in a chain after a write
 pub writers_after : (t u : ℕ) (v : ℤ) (c : List (ℕ × ℤ)) → writes_in u (write_last t v c) ≡ (writes_in u c || nat_eq t u)
-writers_after t u v c = writers_joined u (without t c) ((t, v) ∷ [])
+writers_after t u v c = writers_joined u (chain_without t c) ((t, v) ∷ [])
     ∙ (ap (λ b. b || (nat_eq t u || false)) (writers_left t u c) ∙ go (nat_eq t u) refl (nat_eq u t) refl (writes_in u c))
   where
     go : (a : Bool) → nat_eq t u ≡ a → (b : Bool) → nat_eq u t ≡ b → (d : Bool) → ((not b && d) || (a || false)) ≡ (d || a)
@@ -118,16 +118,16 @@ module _ (t : ℕ) (writes : List LiveWrite) (i : ℕ) (w : LiveWrite) (short : 
   live_own own k = live_next k ∙ ap (λ b. is_live t k (take i writes) || (b && key_eq w.key k)) (eq-eqb w.by t own)
 
   -- t's own leaves its key's chain without it
-  pub undo_more : w.by ≡ t → (k : Key) (opening before after : List (ℕ × ℤ)) → after ≡ cond (key_eq w.key k) (without t before) before
-      → before ≡ cond (is_live t k (take i writes)) (without t opening) opening
-      → after ≡ cond (is_live t k (take (i + 1) writes)) (without t opening) opening
+  pub undo_more : w.by ≡ t → (k : Key) (opening before after : List (ℕ × ℤ)) → after ≡ cond (key_eq w.key k) (chain_without t before) before
+      → before ≡ cond (is_live t k (take i writes)) (chain_without t opening) opening
+      → after ≡ cond (is_live t k (take (i + 1) writes)) (chain_without t opening) opening
   undo_more own k opening before after one so_far = one
-      ∙ (ap (λ c. cond (key_eq w.key k) (without t c) c) so_far
-      ∙ (go (key_eq w.key k) (is_live t k (take i writes)) ∙ sym (ap (λ b. cond b (without t opening) opening) (live_own own k))))
+      ∙ (ap (λ c. cond (key_eq w.key k) (chain_without t c) c) so_far
+      ∙ (go (key_eq w.key k) (is_live t k (take i writes)) ∙ sym (ap (λ b. cond b (chain_without t opening) opening) (live_own own k))))
     where
-      go : (e d : Bool) → cond e (without t (cond d (without t opening) opening)) (cond d (without t opening) opening) ≡ cond (d || e)
-          (without t opening) opening
-      go true true = left_whole t (without t opening) (not_left t opening)
+      go : (e d : Bool) → cond e (chain_without t (cond d (chain_without t opening) opening)) (cond d (chain_without t opening) opening) ≡ cond (d || e)
+          (chain_without t opening) opening
+      go true true = left_whole t (chain_without t opening) (not_left t opening)
       go true false = refl
       go false true = refl
       go false false = refl
@@ -135,21 +135,21 @@ module _ (t : ℕ) (writes : List LiveWrite) (i : ℕ) (w : LiveWrite) (short : 
   -- and makes its value the committed one
   pub settle_more : w.by ≡ t → (k : Key) (chain opening : List (ℕ × ℤ)) (committed before after : Option ℤ)
       → after ≡ cond (key_eq w.key k) (option_or (value_in t chain) before) before
-      → chain ≡ cond (is_live t k (take i writes)) (without t opening) opening
+      → chain ≡ cond (is_live t k (take i writes)) (chain_without t opening) opening
       → before ≡ cond (is_live t k (take i writes)) (option_or (value_in t opening) committed) committed
       → after ≡ cond (is_live t k (take (i + 1) writes)) (option_or (value_in t opening) committed) committed
   settle_more own k chain opening committed before after one left so_far = one
       ∙ (ap (λ c. cond (key_eq w.key k) (option_or (value_in t c) before) before) left
-      ∙ (ap (λ s. cond (key_eq w.key k) (option_or (value_in t (cond (is_live t k (take i writes)) (without t opening) opening)) s) s)
+      ∙ (ap (λ s. cond (key_eq w.key k) (option_or (value_in t (cond (is_live t k (take i writes)) (chain_without t opening) opening)) s) s)
       so_far ∙ (go (key_eq w.key k) (is_live t k (take i writes))
       ∙ sym (ap (λ b. cond b (option_or (value_in t opening) committed) committed) (live_own own k)))))
     where
       final : Option ℤ
       final = option_or (value_in t opening) committed
 
-      go : (e d : Bool) → cond e (option_or (value_in t (cond d (without t opening) opening)) (cond d final committed))
+      go : (e d : Bool) → cond e (option_or (value_in t (cond d (chain_without t opening) opening)) (cond d final committed))
           (cond d final committed) ≡ cond (d || e) final committed
-      go true true = ap (λ o. option_or o final) (no_value t (without t opening) (not_left t opening))
+      go true true = ap (λ o. option_or o final) (no_value t (chain_without t opening) (not_left t opening))
       go true false = refl
       go false true = refl
       go false false = refl
@@ -157,8 +157,8 @@ module _ (t : ℕ) (writes : List LiveWrite) (i : ℕ) (w : LiveWrite) (short : 
 -- on what an end leaves
 
 -- who doesn't write in the chain leaves it as it is
-pub undone : (t : ℕ) (b : Bool) (opening after : List (ℕ × ℤ)) → b ≡ writes_in t opening → after ≡ cond b (without t opening) opening
-    → after ≡ without t opening
+pub undone : (t : ℕ) (b : Bool) (opening after : List (ℕ × ℤ)) → b ≡ writes_in t opening → after ≡ cond b (chain_without t opening) opening
+    → after ≡ chain_without t opening
 undone t true opening after is left = left
 undone t false opening after is left = left ∙ sym (left_whole t opening (sym is))
 
@@ -172,7 +172,7 @@ settled_once t false opening committed after is left = left ∙ sym (ap (λ o. o
 
 -- once t's are gone from the list and from the chain, they tell the same
 pub live_ended : (t u : ℕ) (k : Key) (writes left : List LiveWrite) (opening after : List (ℕ × ℤ))
-    → is_live u k writes ≡ writes_in u opening → left ≡ filter (not_by t) writes → after ≡ without t opening
+    → is_live u k writes ≡ writes_in u opening → left ≡ filter (not_by t) writes → after ≡ chain_without t opening
     → is_live u k left ≡ writes_in u after
 live_ended t u k writes left opening after are gone out = ap (is_live u k) gone
     ∙ (live_left t u k writes ∙ (ap (λ b. not (nat_eq u t) && b) are ∙ (sym (writers_left t u opening) ∙ sym (ap (writes_in u) out))))

@@ -9,7 +9,7 @@ use Rattle.std.specs.List.{filter}
 use Rattle.std.specs.Option.{option_or}
 use Rattle.sgt_model.specs.Numbers.{IsValue}
 use Rattle.sgt_model.specs.Contents.{Key, key_eq}
-use Rattle.sgt_model.specs.Chains.{without, write_last, value_in, writes_in}
+use Rattle.sgt_model.specs.Chains.{chain_without, write_last, value_in, writes_in}
 use Rattle.sgt_model.proofs.Stores.{key_eq-true}
 use Rattle.sgt_records.specs.declared.write.Write.{Write}
 use Rattle.sgt_records.specs.Settleds.{has_record}
@@ -31,25 +31,25 @@ fewer f g (w ∷ c) = go (g w) (f w) refl (fewer f g c)
     go false false e h = h
 
 -- who had one value has one still
-pub once_without : (t u : ℕ) (c : List (ℕ × ℤ)) → IsOnceIn u c → IsOnceIn u (without t c)
+pub once_without : (t u : ℕ) (c : List (ℕ × ℤ)) → IsOnceIn u c → IsOnceIn u (chain_without t c)
 once_without t u c h = let le = fewer (λ w. nat_eq w.0 u) (λ w. not (nat_eq w.0 t)) c in omega arith
 
 -- t's own value is gone
-none_left : (t : ℕ) (c : List (ℕ × ℤ)) → filter (λ w. nat_eq w.0 t) (without t c) ≡ []
+none_left : (t : ℕ) (c : List (ℕ × ℤ)) → filter (λ w. nat_eq w.0 t) (chain_without t c) ≡ []
 none_left t [] = refl
 none_left t (w ∷ c) = go (nat_eq w.0 t) refl (none_left t c)
   where
-    go : (b : Bool) → nat_eq w.0 t ≡ b → filter (λ w. nat_eq w.0 t) (without t c) ≡ []
-        → filter (λ w. nat_eq w.0 t) (cond (not b) (w ∷ without t c) (without t c)) ≡ []
+    go : (b : Bool) → nat_eq w.0 t ≡ b → filter (λ w. nat_eq w.0 t) (chain_without t c) ≡ []
+        → filter (λ w. nat_eq w.0 t) (cond (not b) (w ∷ chain_without t c) (chain_without t c)) ≡ []
     go true e h = h
-    go false e h = ap (λ b. cond b (w ∷ filter (λ w. nat_eq w.0 t) (without t c)) (filter (λ w. nat_eq w.0 t) (without t c))) e ∙ h
+    go false e h = ap (λ b. cond b (w ∷ filter (λ w. nat_eq w.0 t) (chain_without t c)) (filter (λ w. nat_eq w.0 t) (chain_without t c))) e ∙ h
 
 -- and so after a write
 pub once_written : (t : ℕ) (v : ℤ) (u : ℕ) (c : List (ℕ × ℤ)) → IsOnceIn u c → IsOnceIn u (write_last t v c)
-once_written t v u c h = subst (λ l. length l ≤ 1) (sym (filter-append (λ w. nat_eq w.0 u) (without t c) ((t, v) ∷ []))) (go (cases_eq t u))
+once_written t v u c h = subst (λ l. length l ≤ 1) (sym (filter-append (λ w. nat_eq w.0 u) (chain_without t c) ((t, v) ∷ []))) (go (cases_eq t u))
   where
-    go : (t ≡ u) ⊎ (t ≢ u) → length (filter (λ w. nat_eq w.0 u) (without t c) ++ cond (nat_eq t u) ((t, v) ∷ []) []) ≤ 1
-    go (inl e) = rw (eq-eqb t u e, subst (λ z. filter (λ w. nat_eq w.0 u) (without z c) ≡ []) (sym e) (none_left u c)) (omega arith)
+    go : (t ≡ u) ⊎ (t ≢ u) → length (filter (λ w. nat_eq w.0 u) (chain_without t c) ++ cond (nat_eq t u) ((t, v) ∷ []) []) ≤ 1
+    go (inl e) = rw (eq-eqb t u e, subst (λ z. filter (λ w. nat_eq w.0 u) (chain_without z c) ≡ []) (sym e) (none_left u c)) (omega arith)
     go (inr n) = rw (ne_eqb t u n, append-nil) (once_without t u c h)
 
 -- what is left is no longer
@@ -62,12 +62,12 @@ few_filtered f (w ∷ c) = go (f w) (few_filtered f c)
     go false h = omega (arith, h)
 
 -- and where t had a value there is room
-pub fewer_left : (t : ℕ) (c : List (ℕ × ℤ)) → writes_in t c ≡ true → length (without t c) < length c
+pub fewer_left : (t : ℕ) (c : List (ℕ × ℤ)) → writes_in t c ≡ true → length (chain_without t c) < length c
 fewer_left t [] h = absurd (true≢false (sym h))
 fewer_left t (w ∷ c) h = go (nat_eq w.0 t) (few_filtered (λ w. not (nat_eq w.0 t)) c) (fewer_left t c) h
   where
-    go : (b : Bool) → length (without t c) ≤ length c → (writes_in t c ≡ true → length (without t c) < length c)
-        → (b || writes_in t c) ≡ true → length (cond (not b) (w ∷ without t c) (without t c)) < suc (length c)
+    go : (b : Bool) → length (chain_without t c) ≤ length c → (writes_in t c ≡ true → length (chain_without t c) < length c)
+        → (b || writes_in t c) ≡ true → length (cond (not b) (w ∷ chain_without t c) (chain_without t c)) < suc (length c)
     go true le less e = omega (arith, le)
     go false le less e = omega (arith, less e)
 
@@ -76,8 +76,8 @@ pub few_written : (t : ℕ) (v : ℤ) (c : List (ℕ × ℤ)) → length c ≤ 3
     → length (write_last t v c) ≤ 32
 few_written t v c few room = go (writes_in t c) refl
   where
-    longer : length (write_last t v c) ≡ length (without t c) + 1
-    longer = length-append (without t c) ((t, v) ∷ [])
+    longer : length (write_last t v c) ≡ length (chain_without t c) + 1
+    longer = length-append (chain_without t c) ((t, v) ∷ [])
 
     go : (b : Bool) → writes_in t c ≡ b → length (write_last t v c) ≤ 32
     go true e = let less = fewer_left t c e in omega (arith, longer)
@@ -94,12 +94,12 @@ abbrev pub not_this : ℕ → Key → Write → Bool
 not_this t k w = not (nat_eq w.by t) || not (key_eq w.key k)
 
 -- the chain of what is left without t's writes
-pub chain_left : (t : ℕ) (writes : List Write) (k : Key) → chain_in (filter (not_by t) writes) k ≡ without t (chain_in writes k)
+pub chain_left : (t : ℕ) (writes : List Write) (k : Key) → chain_in (filter (not_by t) writes) k ≡ chain_without t (chain_in writes k)
 chain_left t [] k = refl
 chain_left t (w ∷ writes) k = go (key_eq w.key k) (nat_eq w.by t) refl refl (chain_left t writes k)
   where
-    go : (a b : Bool) → key_eq w.key k ≡ a → nat_eq w.by t ≡ b → chain_in (filter (not_by t) writes) k ≡ without t (chain_in writes k)
-        → chain_in (cond (not b) (w ∷ filter (not_by t) writes) (filter (not_by t) writes)) k ≡ without t
+    go : (a b : Bool) → key_eq w.key k ≡ a → nat_eq w.by t ≡ b → chain_in (filter (not_by t) writes) k ≡ chain_without t (chain_in writes k)
+        → chain_in (cond (not b) (w ∷ filter (not_by t) writes) (filter (not_by t) writes)) k ≡ chain_without t
         (cond a ((w.by, w.value) ∷ chain_in writes k) (chain_in writes k))
     go true true e f h = rw f h
     go true false e f h = rw (e, f) (ap (λ c. (w.by, w.value) ∷ c) h)
@@ -118,15 +118,15 @@ chain_joined (w ∷ xs) ys k = go (key_eq w.key k) (chain_joined xs ys k)
     go false h = h
 
 -- the chain of the key that is written loses t's value
-own_chain : (t : ℕ) (writes : List Write) (k : Key) → chain_in (filter (not_this t k) writes) k ≡ without t (chain_in writes k)
+own_chain : (t : ℕ) (writes : List Write) (k : Key) → chain_in (filter (not_this t k) writes) k ≡ chain_without t (chain_in writes k)
 own_chain t [] k = refl
 own_chain t (w ∷ writes) k = go (key_eq w.key k) (nat_eq w.by t) refl refl (own_chain t writes k)
   where
     rest : List Write
     rest = filter (not_this t k) writes
 
-    go : (a b : Bool) → key_eq w.key k ≡ a → nat_eq w.by t ≡ b → chain_in rest k ≡ without t (chain_in writes k)
-        → chain_in (cond (not b || not a) (w ∷ rest) rest) k ≡ without t (cond a ((w.by, w.value) ∷ chain_in writes k) (chain_in writes k))
+    go : (a b : Bool) → key_eq w.key k ≡ a → nat_eq w.by t ≡ b → chain_in rest k ≡ chain_without t (chain_in writes k)
+        → chain_in (cond (not b || not a) (w ∷ rest) rest) k ≡ chain_without t (cond a ((w.by, w.value) ∷ chain_in writes k) (chain_in writes k))
     go true true e f h = rw f h
     go true false e f h = rw (e, f) (ap (λ c. (w.by, w.value) ∷ c) h)
     go false true e f h = rw e h
@@ -170,7 +170,7 @@ chain_written t key v writes k = chain_joined (filter (not_this t key) writes) (
     go : (b : Bool) → key_eq key k ≡ b → chain_in (filter (not_this t key) writes) k ++ cond b ((t, v) ∷ []) [] ≡ cond b
         (write_last t v (chain_in writes k)) (chain_in writes k)
     go true e =
-        ap (λ c. c ++ (t, v) ∷ []) (subst (λ (j : Key). chain_in (filter (not_this t j) writes) k ≡ without t (chain_in writes k))
+        ap (λ c. c ++ (t, v) ∷ []) (subst (λ (j : Key). chain_in (filter (not_this t j) writes) k ≡ chain_without t (chain_in writes k))
         (sym (key_eq-true key k e)) (own_chain t writes k))
     go false e = append-nil (chain_in (filter (not_this t key) writes) k) ∙ other_chain t key writes k e
 

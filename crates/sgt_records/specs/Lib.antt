@@ -3,5 +3,5 @@ pub mod Validity
 pub mod Settleds
 pub mod Pendings
 pub mod PendingChains
-pub mod Places
+pub mod Slots
 pub mod LiveWrites

@@ -7,7 +7,7 @@ use Rattle.sgt_model.specs.Chains.{writes_in}
 use Rattle.sgt_records.specs.declared.chain.Chain.{Chain}
 use Rattle.sgt_records.specs.declared.live_write.LiveWrite.{LiveWrite}
 use Rattle.sgt_records.specs.declared.record.Record.{Record}
-use Rattle.sgt_records.specs.Places.{key_chain}
+use Rattle.sgt_records.specs.Slots.{key_chain}
 
 -- t has written the key
 abbrev pub is_live : ℕ → Key → List LiveWrite → Bool

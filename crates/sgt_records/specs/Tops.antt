@@ -21,7 +21,7 @@ IsTop (Settled v) last settled = (last ≡ None) × (settled ≡ Some v)
 IsTop Nothing last settled = (last ≡ None) × (settled ≡ None)
 
 -- the value found, if there is one
-abbrev pub value_of : Top → Option ℤ
-value_of (Pending t v) = Some v
-value_of (Settled v) = Some v
-value_of Nothing = None
+abbrev pub value_of_top : Top → Option ℤ
+value_of_top (Pending t v) = Some v
+value_of_top (Settled v) = Some v
+value_of_top Nothing = None

@@ -1,6 +1,6 @@
 ghost use Rattle.std.specs.Prelude.{◌≡◌, ◌<◌, None, false, length, nat_eq, [], ◌∷◌};
 ghost use Rattle.std.specs.List.{last_or, position_from};
-ghost use Rattle.sgt_model.specs.Chains.{without, write_last, value_in, writes_in};
+ghost use Rattle.sgt_model.specs.Chains.{chain_without, write_last, value_in, writes_in};
 ghost use Rattle.sgt_records.specs.Validity.{IsChain};
 
 use arrayvec::ArrayVec;
@@ -48,15 +48,15 @@ impl Chain {
     pub fn take_out(&mut self, t: Tid) -> Option<i64>
         requires chain { IsChain self.old.writes.items }
         ensures value { result ≡ value_in t self.old.writes.items }
-        ensures left { self.new.writes.items ≡ without t self.old.writes.items }
+        ensures left { self.new.writes.items ≡ chain_without t self.old.writes.items }
     {
-        let at = self.place_of(t)?;
+        let at = self.index_of(t)?;
         let (_, value) = self.writes.remove(at);
         Some(value)
     }
 
     // Where t's value stands.
-    fn place_of(&self, t: Tid) -> Option<usize>
+    fn index_of(&self, t: Tid) -> Option<usize>
         ensures { result ≡ position_from (λ w. nat_eq w.0 t) 0 self.now.writes.items }
     {
         self.writes.iter().position(|write| write.0 == t)

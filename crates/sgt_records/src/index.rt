@@ -5,10 +5,10 @@ ghost use Rattle.std.proofs.Props.{props};
 ghost use Rattle.sgt_model.specs.Numbers.{IsValue};
 ghost use Rattle.sgt_model.specs.Contents.{Key as K, key_eq};
 ghost use Rattle.sgt_model.specs.Databases.{contents_of, IsByKey};
-ghost use Rattle.sgt_model.specs.Chains.{without, write_last, value_in, writes_in};
-ghost use Rattle.sgt_records.specs.Tops.{top_of, value_of};
+ghost use Rattle.sgt_model.specs.Chains.{chain_without, write_last, value_in, writes_in};
+ghost use Rattle.sgt_records.specs.Tops.{top_of, value_of_top};
 ghost use Rattle.sgt_records.specs.LiveWrites.{is_live};
-ghost use Rattle.sgt_records.specs.Places.{key_chain, committed_of, is_kept, IsIndex};
+ghost use Rattle.sgt_records.specs.Slots.{key_chain, committed_of, is_kept, IsIndex};
 
 use crate::chain::Chain;
 use crate::live_write::LiveWrite;
@@ -20,7 +20,7 @@ use std::alloc::Global;
 use std::collections::BTreeMap;
 
 /// The records by key, and the chains of those that live transactions have written. A chain that is empty is dropped, and
-/// its place in the slab is used again.
+/// its slot in the slab is used again.
 #[derive(Drop)]
 pub struct Index {
     pub records: BTreeMap<Key, Record>,
@@ -47,7 +47,7 @@ impl Index {
     /// What a look at the key finds.
     pub fn top(&self, key: Key) -> Top
         ensures top { result ≡ top_of (key_chain self.now.records self.now.chains key) (committed_of self.now.records key) }
-        ensures in_range { IfSome (value_of result) IsValue }
+        ensures in_range { IfSome (value_of_top result) IsValue }
     {
         match self.records.get(&key) {
             Some(record) => record.top(&self.chains),
@@ -104,7 +104,7 @@ impl Index {
     /// Takes t's value out of the key's chain.
     pub fn undo(&mut self, t: Tid, key: Key)
         ensures chain { (k : K) → key_chain self.new.records self.new.chains k
-            ≡ cond (key_eq key k) (without t (key_chain self.old.records self.old.chains k))
+            ≡ cond (key_eq key k) (chain_without t (key_chain self.old.records self.old.chains k))
             (key_chain self.old.records self.old.chains k) }
         ensures settled { (k : K) → committed_of self.new.records k ≡ committed_of self.old.records k }
     {
@@ -116,7 +116,7 @@ impl Index {
     /// Takes t's value out of the key's chain, and makes it the committed one.
     pub fn settle(&mut self, t: Tid, key: Key)
         ensures chain { (k : K) → key_chain self.new.records self.new.chains k
-            ≡ cond (key_eq key k) (without t (key_chain self.old.records self.old.chains k))
+            ≡ cond (key_eq key k) (chain_without t (key_chain self.old.records self.old.chains k))
             (key_chain self.old.records self.old.chains k) }
         ensures settled { (k : K) → committed_of self.new.records k
             ≡ cond (key_eq key k)
@@ -131,7 +131,7 @@ impl Index {
     /// Takes t's values out of the chains of the keys that it has written.
     pub fn undo_all(&mut self, writes: &[LiveWrite], t: Tid)
         ensures chain { (k : K) → key_chain self.new.records self.new.chains k
-            ≡ cond (is_live t k writes.now) (without t (key_chain self.old.records self.old.chains k))
+            ≡ cond (is_live t k writes.now) (chain_without t (key_chain self.old.records self.old.chains k))
             (key_chain self.old.records self.old.chains k) }
         ensures settled { (k : K) → committed_of self.new.records k ≡ committed_of self.old.records k }
     {
@@ -145,7 +145,7 @@ impl Index {
     /// Takes t's values out of the chains of the keys that it has written, and makes them the committed ones.
     pub fn settle_all(&mut self, writes: &[LiveWrite], t: Tid)
         ensures chain { (k : K) → key_chain self.new.records self.new.chains k
-            ≡ cond (is_live t k writes.now) (without t (key_chain self.old.records self.old.chains k))
+            ≡ cond (is_live t k writes.now) (chain_without t (key_chain self.old.records self.old.chains k))
             (key_chain self.old.records self.old.chains k) }
         ensures settled { (k : K) → committed_of self.new.records k
             ≡ cond (is_live t k writes.now)

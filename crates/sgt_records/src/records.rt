@@ -4,10 +4,10 @@ ghost use Rattle.std.specs.Option.{option_or};
 ghost use Rattle.sgt_model.specs.Numbers.{IsValue};
 ghost use Rattle.sgt_model.specs.Contents.{Key as K, key_eq};
 ghost use Rattle.sgt_model.specs.Databases.{contents_of, IsByKey};
-ghost use Rattle.sgt_model.specs.Chains.{without, write_last, value_in, writes_in};
+ghost use Rattle.sgt_model.specs.Chains.{chain_without, write_last, value_in, writes_in};
 ghost use Rattle.sgt_model.specs.ChainOrder.{IsFirstIn, IsLastIn};
 ghost use Rattle.sgt_model.specs.StoredValues.{HoldValues};
-ghost use Rattle.sgt_records.specs.Tops.{top_of, IsTop, value_of};
+ghost use Rattle.sgt_records.specs.Tops.{top_of, IsTop, value_of_top};
 ghost use Rattle.sgt_records.specs.Validity.{IsChain};
 
 use crate::top::Top;
@@ -34,7 +34,7 @@ pub trait Records: Drop + Send {
     fn top(&self, key: Key) -> Top
         ensures top { result ≡ top_of (chain self.now key) (settled self.now key) }
         ensures cases { IsTop result (last_or None (chain self.now key)) (settled self.now key) }
-        ensures in_range { IfSome (value_of result) IsValue };
+        ensures in_range { IfSome (value_of_top result) IsValue };
 
     /// Takes the room that the next write of the key needs. `NoMemory` where a growth was refused.
     fn reserve(&mut self, key: Key) -> Result<(), NoMemory>
@@ -57,13 +57,13 @@ pub trait Records: Drop + Send {
     /// Makes the values of t, each the first of its chain, the committed ones. This takes no memory.
     fn settle(&mut self, t: Tid)
         requires first { (k : K) → IsFirstIn t (chain self.old k) }
-        ensures chain { (k : K) → chain self.new k ≡ without t (chain self.old k) }
+        ensures chain { (k : K) → chain self.new k ≡ chain_without t (chain self.old k) }
         ensures settled { (k : K) → settled self.new k
             ≡ option_or (value_in t (chain self.old k)) (settled self.old k) };
 
     /// Takes the values of t out of every chain. All else stays, also what was written over them. This takes no memory.
     fn undo(&mut self, t: Tid)
-        ensures chain { (k : K) → chain self.new k ≡ without t (chain self.old k) }
+        ensures chain { (k : K) → chain self.new k ≡ chain_without t (chain self.old k) }
         ensures settled { (k : K) → settled self.new k ≡ settled self.old k };
 
     /// The committed value of the key, or none.

@@ -15,7 +15,7 @@ use std::alloc::Global;
 /// written; `build` and `all` go once through the index.
 ///
 /// A chain holds 32 writes, which takes 520 bytes, so a record has one only while a live transaction has written it: it is
-/// made by the first write, and is dropped with the last one. Its place in the slab then serves the next chain, so there
+/// made by the first write, and is dropped with the last one. Its slot in the slab then serves the next chain, so there
 /// are never more chains than live transactions have written keys.
 #[derive(Drop)]
 pub struct SlabRecords {
@@ -28,7 +28,7 @@ impl Records for SlabRecords {
     ghost use Rattle.std.specs.Prelude.{◌≡◌, true, ◌<◌};
     ghost use Rattle.std.specs.Vec.{vec_len, vec_capacity};
     ghost use Rattle.slab.specs.Slab.{HasRoomFor};
-    ghost use Rattle.sgt_records.specs.Places.{key_chain, committed_of, is_kept};
+    ghost use Rattle.sgt_records.specs.Slots.{key_chain, committed_of, is_kept};
 
     ghost chain = { λ r k. key_chain r.index.records r.index.chains k };
 

@@ -1,5 +1,5 @@
 ghost use Rattle.std.specs.Prelude.{◌≡◌};
-ghost use Rattle.sgt_records.specs.Tops.{value_of};
+ghost use Rattle.sgt_records.specs.Tops.{value_of_top};
 
 use sgt_model::Tid;
 
@@ -17,7 +17,7 @@ pub enum Top {
 impl Top {
     /// The value that the look finds, if there is one.
     pub fn value(self) -> Option<i64>
-        ensures { result ≡ value_of self }
+        ensures { result ≡ value_of_top self }
     {
         match self {
             Top::Pending(_, value) | Top::Settled(value) => Some(value),

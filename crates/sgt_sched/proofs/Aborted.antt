@@ -18,7 +18,7 @@ use Rattle.sgt_model.specs.FallsIn.{FallsIn}
 use Rattle.sgt_model.specs.declared.kind.Kind.{Kind}
 use Rattle.sgt_model.specs.declared.reply.Cause.TheVariants as cause
 use Rattle.sgt_model.specs.Blocks.{Blocks}
-use Rattle.sgt_model.specs.CallEffects.{AbortsIn, RefusesIn}
+use Rattle.sgt_model.specs.CallEffects.{AbortsIn, AbortsByCycleIn}
 use Rattle.sgt_model.specs.Soundness.{Sound}
 use Rattle.sgt_model.proofs.Facts.{member_from}
 use Rattle.sgt_model.proofs.Removals.{removes_then}
@@ -98,7 +98,7 @@ still_node t why fell u before now d node apart stays =
       both true false true h f g = absurd (g refl)
       both true false false h f g = refl
 
--- what stands at a place is no one of those before it
+-- what stands at an out is no one of those before it
 got : (l : List ℕ) (i u : ℕ) → i < length l → u ≡ get_or l i u → Member u l
 got [] i u within at = absurd (omega (arith, within))
 got (x ∷ l) zero u within at = inl at
@@ -133,9 +133,9 @@ aborts t why fell items i before after same all falls drops = record {
   drops = subst (λ l. Drops t why l before after) (take_all i items all ∙ same) drops;
 }
 
--- an access that is blocked is refused, by an abort with that walk
+-- an access that is blocked is rejected, by an abort with that walk
 pub refuses : (t : ℕ) (k : Key) (kind : Kind) (rest walk : List ℕ) (before : State) (r : Reply) (after : State) → walk ≡ t ∷ rest
-    → Blocks before t k kind rest → AbortsIn t (cause.Cycle walk) before r after → RefusesIn t k kind before r after
+    → Blocks before t k kind rest → AbortsIn t (cause.Cycle walk) before r after → AbortsByCycleIn t k kind before r after
 refuses t k kind rest walk before r after is blocks aborts = record {
   rest = rest;
   blocks = blocks;

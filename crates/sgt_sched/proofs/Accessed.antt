@@ -16,7 +16,7 @@ use Rattle.sgt_model.specs.Soundness.{Sound}
 use Rattle.sgt_model.specs.Changes.{Notes}
 use Rattle.sgt_model.proofs.Stores.{key_eq-refl}
 use Rattle.sgt_cycle.specs.Walk.{Walk, NoWalk}
-use Rattle.sgt_records.specs.Tops.{top_from, value_of}
+use Rattle.sgt_records.specs.Tops.{top_from, value_of_top}
 use Rattle.sgt_sched.specs.LiveList.{numbers, progress_at, changed}
 use Rattle.sgt_sched.specs.SchedulerView.{SchedulerView, state_of, IsAlong, IsKept}
 use Rattle.sgt_sched.specs.Endings.{IsBlocked}
@@ -72,10 +72,10 @@ read_added (Some w) s t reads u v = both (nat_eq w.0 t) refl where
   )
 
 -- what a look finds, as the state tells it
-pub value_of-from : (o : Option (ℕ × ℤ)) (s : Option ℤ) → value_of (top_from o s) ≡ top_value o s
-value_of-from None None = refl
-value_of-from None (Some v) = refl
-value_of-from (Some w) s = refl
+pub value_of_top-from : (o : Option (ℕ × ℤ)) (s : Option ℤ) → value_of_top (top_from o s) ≡ top_value o s
+value_of_top-from None None = refl
+value_of_top-from None (Some v) = refl
+value_of_top-from (Some w) s = refl
 
 -- of the same parts that are seen as others the rivals are the same
 pub rivals_seen : {R A G : Type 0} (list : A → List ListedAccess) (before now : SchedulerView R A G) → before ≡ now

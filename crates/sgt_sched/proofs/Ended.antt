@@ -12,7 +12,7 @@ use Rattle.sgt_model.specs.State.{Has}
 use Rattle.sgt_model.specs.Changes.{Removes}
 use Rattle.sgt_model.proofs.Counted.{filter-same}
 use Rattle.sgt_model.proofs.SoundCalls.{sound_removes}
-use Rattle.sgt_sched.specs.LiveList.{numbers, without}
+use Rattle.sgt_sched.specs.LiveList.{numbers, others_live}
 use Rattle.sgt_sched.specs.SchedulerView.{SchedulerView, fate_at, state_of, IsAlong, IsKept}
 use Rattle.sgt_sched.specs.Steps.{unread}
 use Rattle.sgt_sched.proofs.Lists.{nat_eq-swap, numbers-without, progress_at-without, fate_at-set, rising-filter}
@@ -57,7 +57,7 @@ unread-kept t (p ∷ rest) u v h f g = both (not (nat_eq p.0 t) && not (nat_eq p
 module _ {R A G : Type 0} {chain : R → Key → List (ℕ × ℤ)} {settled : R → Key → Option ℤ} {list : A → List ListedAccess}
     {nodes : G → ℕ → Bool} {pairs : G → ℕ → ℕ → Bool} {before : SchedulerView R A G} (kept : IsKept chain settled list nodes pairs before)
     (t : ℕ) (live_t : nodes before.graph t ≡ true) (f : Fate) (records : R) (accesses : A) (graph : G)
-    (chain_is : (k : Key) → chain records k ≡ chains.without t (chain before.records k))
+    (chain_is : (k : Key) → chain records k ≡ chains.chain_without t (chain before.records k))
     (list_is : list accesses ≡ forgotten t (list before.accesses))
     (nodes_are : (u : ℕ) → nodes graph u ≡ (nodes before.graph u && not (nat_eq t u)))
     (pairs_are : (u v : ℕ) → pairs graph u v ≡ (pairs before.graph u v && (not (nat_eq t u) && not (nat_eq t v)))) where
@@ -69,7 +69,7 @@ module _ {R A G : Type 0} {chain : R → Key → List (ℕ × ℤ)} {settled : R
     records = records;
     accesses = accesses;
     graph = graph;
-    live = without t before.live;
+    live = others_live t before.live;
     read_from = unread t before.read_from;
     fates = slice_set before.fates t (Some f);
   }
@@ -133,7 +133,7 @@ module _ {R A G : Type 0} {chain : R → Key → List (ℕ × ℤ)} {settled : R
           )) (ap not e)
 
   -- the same, of the parts as they were computed
-  module _ (live : List (ℕ × Progress)) (read_from : List (ℕ × ℕ)) (fates : List (Option Fate)) (live_is : live ≡ without t before.live)
+  module _ (live : List (ℕ × Progress)) (read_from : List (ℕ × ℕ)) (fates : List (Option Fate)) (live_is : live ≡ others_live t before.live)
       (reads_are : read_from ≡ unread t before.read_from) (fates_are : fates ≡ slice_set before.fates t (Some f)) where
     -- the parts after the end, as they were computed
     abbrev pub after_parts : SchedulerView R A G

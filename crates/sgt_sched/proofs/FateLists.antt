@@ -5,7 +5,7 @@ use Rattle.sgt_model.specs.declared.reply.Cause.TheVariants as cause
 use Rattle.sgt_model.specs.declared.reply.Fate.TheVariants as fate
 use Rattle.sgt_sched.specs.declared.fates.End.{End}
 use Rattle.sgt_sched.specs.declared.fates.End.TheVariants as end
-use Rattle.sgt_sched.specs.FateList.{AreKept, HasWalk, HaveWalks, fate_of, fates_of, live_in, live_among}
+use Rattle.sgt_sched.specs.FateList.{AreKept, HasWalk, HaveWalks, fate_of_end, fates_of_ends, live_in, live_among}
 use Rattle.sgt_sched.specs.SchedulerView.{fate_at}
 
 has-more : (m n : ℕ) → m ≤ n → (e : End) → HasWalk m e → HasWalk n e
@@ -14,9 +14,9 @@ has-more m n le end.Committed h = tt
 has-more m n le end.Quit h = tt
 has-more m n le (end.Asked code) h = tt
 has-more m n le (end.Fell first) h = tt
-has-more m n le (end.Cycle place) h = omega (arith, le, h)
+has-more m n le (end.Cycle index) h = omega (arith, le, h)
 
--- more walks keep the places
+-- more walks keep the indices
 pub have-more : (m n : ℕ) → m ≤ n → (ends : List End) → HaveWalks m ends → HaveWalks n ends
 have-more m n le [] h = tt
 have-more m n le (e ∷ ends) h = (has-more m n le e h.0, have-more m n le ends h.1)
@@ -26,22 +26,22 @@ pub have-added : (n : ℕ) (ends : List End) → HaveWalks n ends → HaveWalks 
 have-added n [] h = (tt, tt)
 have-added n (e ∷ ends) h = (h.0, have-added n ends h.1)
 
--- an end with its place
+-- an end with its index
 pub have-set : (n : ℕ) (ends : List End) (t : ℕ) (e : End) → HaveWalks n ends → HasWalk n e → HaveWalks n (slice_set ends t e)
 have-set n [] t e h own = tt
 have-set n (x ∷ ends) zero e h own = (own, h.1)
 have-set n (x ∷ ends) (suc t) e h own = (h.0, have-set n ends t e h.1 own)
 
--- the place of a cycle's end
-pub place_within : (n : ℕ) (ends : List End) (t place : ℕ) → HaveWalks n ends → slice_get ends t ≡ Some (end.Cycle place) → place < n
-place_within n [] t place h is = absurd (cc)
-place_within n (end.Live ∷ ends) zero place h is = absurd (cc)
-place_within n (end.Committed ∷ ends) zero place h is = absurd (cc)
-place_within n (end.Quit ∷ ends) zero place h is = absurd (cc)
-place_within n (end.Asked code ∷ ends) zero place h is = absurd (cc)
-place_within n (end.Fell first ∷ ends) zero place h is = absurd (cc)
-place_within n (end.Cycle p ∷ ends) zero place h is = let same : p ≡ place = cc in omega (arith, h.0, same)
-place_within n (e ∷ ends) (suc t) place h is = place_within n ends t place h.1 is
+-- the index of a cycle's end
+pub index_within : (n : ℕ) (ends : List End) (t index : ℕ) → HaveWalks n ends → slice_get ends t ≡ Some (end.Cycle index) → index < n
+index_within n [] t index h is = absurd (cc)
+index_within n (end.Live ∷ ends) zero index h is = absurd (cc)
+index_within n (end.Committed ∷ ends) zero index h is = absurd (cc)
+index_within n (end.Quit ∷ ends) zero index h is = absurd (cc)
+index_within n (end.Asked code ∷ ends) zero index h is = absurd (cc)
+index_within n (end.Fell first ∷ ends) zero index h is = absurd (cc)
+index_within n (end.Cycle p ∷ ends) zero index h is = let same : p ≡ index = cc in omega (arith, h.0, same)
+index_within n (e ∷ ends) (suc t) index h is = index_within n ends t index h.1 is
 
 -- a start is one more that is live
 pub live-added : (ends : List End) → live_among (ends ++ end.Live ∷ []) ≡ live_among ends + 1
@@ -49,7 +49,7 @@ live-added [] = refl
 live-added (e ∷ ends) = omega (arith, live-added ends)
 
 -- and an end one less
-pub live-set : (walks : List (List ℕ)) (ends : List End) (t : ℕ) (e : End) → slice_get (fates_of walks ends) t ≡ Some None → live_in e ≡ 0
+pub live-set : (walks : List (List ℕ)) (ends : List End) (t : ℕ) (e : End) → slice_get (fates_of_ends walks ends) t ≡ Some None → live_in e ≡ 0
     → live_among (slice_set ends t e) + 1 ≡ live_among ends
 live-set walks [] t e h z = absurd (cc)
 live-set walks (end.Live ∷ ends) zero e h z = omega (arith, z)
@@ -57,45 +57,45 @@ live-set walks (end.Committed ∷ ends) zero e h z = absurd (cc)
 live-set walks (end.Quit ∷ ends) zero e h z = absurd (cc)
 live-set walks (end.Asked code ∷ ends) zero e h z = absurd (cc)
 live-set walks (end.Fell first ∷ ends) zero e h z = absurd (cc)
-live-set walks (end.Cycle place ∷ ends) zero e h z = absurd (cc)
+live-set walks (end.Cycle index ∷ ends) zero e h z = absurd (cc)
 live-set walks (x ∷ ends) (suc t) e h z = let rest = live-set walks ends t e h z in omega (arith, rest)
 
 -- who has or had no fate was started
-pub started : (walks : List (List ℕ)) (ends : List End) (t : ℕ) → slice_get (fates_of walks ends) t ≡ Some None → t < length ends
+pub started : (walks : List (List ℕ)) (ends : List End) (t : ℕ) → slice_get (fates_of_ends walks ends) t ≡ Some None → t < length ends
 started walks [] t h = absurd (cc)
 started walks (e ∷ ends) zero h = omega arith
 started walks (e ∷ ends) (suc t) h = let rest = started walks ends t h in omega (arith, rest)
 
 fate-kept : (before after : List (List ℕ)) → AreKept before after → (e : End) → HasWalk (length before) e
-    → fate_of after e ≡ fate_of before e
+    → fate_of_end after e ≡ fate_of_end before e
 fate-kept before after k end.Live h = refl
 fate-kept before after k end.Committed h = refl
 fate-kept before after k end.Quit h = refl
 fate-kept before after k (end.Asked code) h = refl
 fate-kept before after k (end.Fell first) h = refl
-fate-kept before after k (end.Cycle place) h = ap (λ w. Some (fate.Aborted (cause.Cycle w))) (k.same place h)
+fate-kept before after k (end.Cycle index) h = ap (λ w. Some (fate.Aborted (cause.Cycle w))) (k.same index h)
 
 -- an end sets the fate of one, and keeps those of the others
 pub fates-set : (before after : List (List ℕ)) (ends : List End) (t : ℕ) (e : End) → AreKept before after → HaveWalks (length before) ends
-    → fates_of after (slice_set ends t e) ≡ slice_set (fates_of before ends) t (fate_of after e)
+    → fates_of_ends after (slice_set ends t e) ≡ slice_set (fates_of_ends before ends) t (fate_of_end after e)
 fates-set before after [] t e k h = refl
-fates-set before after (x ∷ ends) zero e k h = ap (λ l. fate_of after e ∷ l) (kept ends h.1) where
-  kept : (ends : List End) → HaveWalks (length before) ends → fates_of after ends ≡ fates_of before ends
+fates-set before after (x ∷ ends) zero e k h = ap (λ l. fate_of_end after e ∷ l) (kept ends h.1) where
+  kept : (ends : List End) → HaveWalks (length before) ends → fates_of_ends after ends ≡ fates_of_ends before ends
   kept [] h = refl
-  kept (x ∷ ends) h = ap (λ f. f ∷ fates_of after ends) (fate-kept before after k x h.0) ∙ ap (λ l. fate_of before x ∷ l) (kept ends h.1)
-fates-set before after (x ∷ ends) (suc t) e k h = ap (λ f. f ∷ fates_of after (slice_set ends t e)) (fate-kept before after k x h.0)
-    ∙ ap (λ l. fate_of before x ∷ l) (fates-set before after ends t e k h.1)
+  kept (x ∷ ends) h = ap (λ f. f ∷ fates_of_ends after ends) (fate-kept before after k x h.0) ∙ ap (λ l. fate_of_end before x ∷ l) (kept ends h.1)
+fates-set before after (x ∷ ends) (suc t) e k h = ap (λ f. f ∷ fates_of_ends after (slice_set ends t e)) (fate-kept before after k x h.0)
+    ∙ ap (λ l. fate_of_end before x ∷ l) (fates-set before after ends t e k h.1)
 
 -- the fate of one that an end was found of
 pub fate_at-found : (walks : List (List ℕ)) (ends : List End) (t : ℕ) (e : End) → slice_get ends t ≡ Some e
-    → fate_at (fates_of walks ends) t ≡ fate_of walks e
+    → fate_at (fates_of_ends walks ends) t ≡ fate_of_end walks e
 fate_at-found walks [] t e is = absurd (cc)
-fate_at-found walks (x ∷ ends) zero e is = let same : x ≡ e = cc in ap (fate_of walks) same
+fate_at-found walks (x ∷ ends) zero e is = let same : x ≡ e = cc in ap (fate_of_end walks) same
 fate_at-found walks (x ∷ ends) (suc t) e is = fate_at-found walks ends t e is
 
--- what stands at a place, whatever were read past the end
-pub read-any : (walks : List (List ℕ)) (place : ℕ) (d e : List ℕ) → place < length walks
-    → slice_index_or walks place d ≡ slice_index_or walks place e
-read-any [] place d e h = absurd (omega (arith, h))
+-- what stands at an index, whatever were read past the end
+pub read-any : (walks : List (List ℕ)) (index : ℕ) (d e : List ℕ) → index < length walks
+    → slice_index_or walks index d ≡ slice_index_or walks index e
+read-any [] index d e h = absurd (omega (arith, h))
 read-any (w ∷ walks) zero d e h = refl
-read-any (w ∷ walks) (suc place) d e h = read-any walks place d e (omega (arith, h))
+read-any (w ∷ walks) (suc index) d e h = read-any walks index d e (omega (arith, h))

@@ -4,7 +4,7 @@ use Rattle.std.proofs.lemmas.Bool.{false_from_ne_true, eqb-true, eqb-false, eq-e
 use Rattle.sgt_model.specs.declared.reply.Fate.{Fate}
 use Rattle.sgt_model.specs.Walks.{Member, Rising, Distinct}
 use Rattle.sgt_sched.specs.LiveProgress.{Progress}
-use Rattle.sgt_sched.specs.LiveList.{numbers, progress_at, changed, without}
+use Rattle.sgt_sched.specs.LiveList.{numbers, progress_at, changed, others_live}
 use Rattle.sgt_sched.specs.SchedulerView.{fate_at}
 
 -- numbers
@@ -82,27 +82,27 @@ progress_at-own t f (r ∷ rest) m = both (nat_eq r.0 t) refl (progress_at-own t
 -- progress that is dropped
 
 -- dropping one drops its number
-pub numbers-without : (t : ℕ) (live : List (ℕ × Progress)) → numbers (without t live) ≡ filter (λ u. not (nat_eq t u)) (numbers live)
+pub numbers-without : (t : ℕ) (live : List (ℕ × Progress)) → numbers (others_live t live) ≡ filter (λ u. not (nat_eq t u)) (numbers live)
 numbers-without t [] = refl
-numbers-without t (r ∷ rest) = ap (λ b. numbers (cond (not b) (r ∷ without t rest) (without t rest))) (nat_eq-swap r.0 t)
+numbers-without t (r ∷ rest) = ap (λ b. numbers (cond (not b) (r ∷ others_live t rest) (others_live t rest))) (nat_eq-swap r.0 t)
     ∙ both (nat_eq t r.0) (numbers-without t rest) where
-      both : (b : Bool) → numbers (without t rest) ≡ filter (λ u. not (nat_eq t u)) (numbers rest)
-          → numbers (cond (not b) (r ∷ without t rest) (without t rest)) ≡ cond (not b) (r.0 ∷ filter (λ u. not (nat_eq t u)) (numbers rest))
+      both : (b : Bool) → numbers (others_live t rest) ≡ filter (λ u. not (nat_eq t u)) (numbers rest)
+          → numbers (cond (not b) (r ∷ others_live t rest) (others_live t rest)) ≡ cond (not b) (r.0 ∷ filter (λ u. not (nat_eq t u)) (numbers rest))
           (filter (λ u. not (nat_eq t u)) (numbers rest))
       both true h = h
       both false h = ap (λ l. r.0 ∷ l) h
 
 -- and keeps the progress of the others
-pub progress_at-without : (t u : ℕ) (live : List (ℕ × Progress)) → nat_eq t u ≡ false → progress_at (without t live) u ≡ progress_at live u
+pub progress_at-without : (t u : ℕ) (live : List (ℕ × Progress)) → nat_eq t u ≡ false → progress_at (others_live t live) u ≡ progress_at live u
 progress_at-without t u [] h = refl
 progress_at-without t u (r ∷ rest) h = both (nat_eq r.0 t) refl (progress_at-without t u rest h) where
-  both : (b : Bool) → nat_eq r.0 t ≡ b → progress_at (without t rest) u ≡ progress_at rest u
-      → progress_at (without t (r ∷ rest)) u ≡ progress_at (r ∷ rest) u
+  both : (b : Bool) → nat_eq r.0 t ≡ b → progress_at (others_live t rest) u ≡ progress_at rest u
+      → progress_at (others_live t (r ∷ rest)) u ≡ progress_at (r ∷ rest) u
   both true e rec =
       let no : nat_eq r.0 u ≡ false = ap (λ x. nat_eq x u) (eqb-true r.0 t e) ∙ h in
-      ap (λ b. progress_at (cond (not b) (r ∷ without t rest) (without t rest)) u) e
+      ap (λ b. progress_at (cond (not b) (r ∷ others_live t rest) (others_live t rest)) u) e
       ∙ (rec ∙ sym (ap (λ b. cond b r.1 (progress_at rest u)) no))
-  both false e rec = ap (λ b. progress_at (cond (not b) (r ∷ without t rest) (without t rest)) u) e
+  both false e rec = ap (λ b. progress_at (cond (not b) (r ∷ others_live t rest) (others_live t rest)) u) e
       ∙ ap (λ c. cond (nat_eq r.0 u) r.1 c) rec
 
 -- fates

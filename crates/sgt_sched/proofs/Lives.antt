@@ -20,7 +20,7 @@ pub record IsFirst (t : ℕ) (live : List (ℕ × Progress)) (i : ℕ) (r : ℕ 
   pub own_progress : progress_at live t ≡ r.1
   pub change : (f : Progress → Progress) → slice_set live i (r.0, f r.1) ≡ changed t f live
 
--- what stands at the first place of t
+-- what stands at the first index of t
 pub first_at : (t : ℕ) (live : List (ℕ × Progress)) (i : ℕ) (r : ℕ × Progress) → position_or_len (has_number t) live ≡ i
     → slice_get live i ≡ Some r → IsFirst t live i r
 first_at t [] i r e at = absurd (cc)
@@ -40,7 +40,7 @@ first_at t (q ∷ rest) (suc i) r e at =
       change = λ f. ap (λ l. q ∷ l) (rec.change f) ∙ sym (ap (λ c. cond c ((q.0, f q.1) ∷ rest) (q ∷ changed t f rest)) b.0);
     }
 
--- a place that was found, or not
+-- an index that was found, or not
 pub placed : (n len i : ℕ) → cond (nat_lt n len) (Some n) None ≡ Some i → n ≡ i
 placed n len i e = both (nat_lt n len) e where
   both : (b : Bool) → cond b (Some n) None ≡ Some i → n ≡ i
@@ -61,9 +61,9 @@ found_at t rows seen i r same found read =
     first_at t seen i r at (slice_get_read seen (length seen) i r refl
     (within (position_or_len (has_number t) seen) (length seen) i (sym found)) (subst (λ l. r ≡ get_or l i r) same read))
 
--- a live one has a place
-pub has_place : (t : ℕ) (live : List (ℕ × Progress)) → Member t (numbers live) → position (has_number t) live ≡ None → ⊥
-has_place t live m missing = absurd (omega (arith, before_end t live m, missed _ (length live) missing)) where
+-- a live one has an index
+pub has_index : (t : ℕ) (live : List (ℕ × Progress)) → Member t (numbers live) → position (has_number t) live ≡ None → ⊥
+has_index t live m missing = absurd (omega (arith, before_end t live m, missed _ (length live) missing)) where
   before_end : (t : ℕ) (live : List (ℕ × Progress)) → Member t (numbers live) → position_or_len (has_number t) live < length live
   before_end t [] m = absurd m
   before_end t (q ∷ rest) m = both (nat_eq q.0 t) refl (before_end t rest) m where
@@ -80,7 +80,7 @@ has_place t live m missing = absurd (omega (arith, before_end t live m, missed _
     both true h = absurd (let f : None ≡ Some n = sym e ∙ ap (λ c. cond c (Some n) None) h in cc)
     both false h = ltb-false n len h
 
--- the change at that place, of a list that was seen as another
+-- the change at that index, of a list that was seen as another
 pub changed_at : (t : ℕ) (rows seen : List (ℕ × Progress)) (i : ℕ) (r s : ℕ × Progress) (f : Progress → Progress) → rows ≡ seen
     → s ≡ (r.0, f r.1) → IsFirst t seen i r → slice_set rows i s ≡ changed t f seen
 changed_at t rows seen i r s f same is first = ap (λ l. slice_set l i s) same ∙ (ap (slice_set seen i) is ∙ first.change f)

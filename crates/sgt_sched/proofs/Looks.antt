@@ -17,11 +17,11 @@ use Rattle.sgt_model.specs.CallEffects.{MakesLook, MakesStore}
 use Rattle.sgt_model.proofs.Conditions.{may_write, chain_room}
 use Rattle.sgt_model.proofs.SoundCalls.{sound_look, sound_store}
 use Rattle.sgt_cycle.specs.Walk.{NoWalk}
-use Rattle.sgt_records.specs.Tops.{top_from, value_of}
-use Rattle.sgt_sched.specs.LiveList.{progress_at, changed, looked, stored}
+use Rattle.sgt_records.specs.Tops.{top_from, value_of_top}
+use Rattle.sgt_sched.specs.LiveList.{progress_at, changed, with_look, with_store}
 use Rattle.sgt_sched.specs.SchedulerView.{SchedulerView, state_of, IsKept}
 use Rattle.sgt_sched.specs.Steps.{with_source}
-use Rattle.sgt_sched.proofs.Accessed.{not_blocked, notes, own_progress_is, kept_access, read_added, value_of-from}
+use Rattle.sgt_sched.proofs.Accessed.{not_blocked, notes, own_progress_is, kept_access, read_added, value_of_top-from}
 
 module _ {R A G : Type 0} {chain : R → Key → List (ℕ × ℤ)} {settled : R → Key → Option ℤ} {list : A → List ListedAccess}
     {nodes : G → ℕ → Bool} {pairs : G → ℕ → ℕ → Bool} {before now : SchedulerView R A G} (seen : before ≡ now)
@@ -32,8 +32,8 @@ module _ {R A G : Type 0} {chain : R → Key → List (ℕ × ℤ)} {settled : R
       (list_is : list accesses ≡ list before.accesses ++ record { by = t; key = k; kind = Look } ∷ [])
       (nodes_are : (u : ℕ) → nodes graph u ≡ nodes before.graph u)
       (pairs_are : (u v : ℕ) → (pairs graph u v ≡ true) ↔ ((pairs before.graph u v ≡ true) ⊎ ((v ≡ t) × Member u rivals)))
-      (value_is : value ≡ value_of (top_from (last_or None (chain before.records k)) (settled before.records k)))
-      (live_is : live ≡ changed t (looked value) before.live)
+      (value_is : value ≡ value_of_top (top_from (last_or None (chain before.records k)) (settled before.records k)))
+      (live_is : live ≡ changed t (with_look value) before.live)
       (reads_are : read_from ≡ with_source (top_from (last_or None (chain before.records k)) (settled before.records k)) t
       before.read_from) where
     -- the parts after the look
@@ -55,7 +55,7 @@ module _ {R A G : Type 0} {chain : R → Key → List (ℕ × ℤ)} {settled : R
       records = before.records;
       accesses = accesses;
       graph = graph;
-      live = changed t (looked value) before.live;
+      live = changed t (with_look value) before.live;
       read_from = with_source
           (top_from (last_or None (chain before.records k)) (settled before.records k)) t before.read_from;
       fates = before.fates;
@@ -73,7 +73,7 @@ module _ {R A G : Type 0} {chain : R → Key → List (ℕ × ℤ)} {settled : R
     }
 
     found_is : value ≡ found (state_of chain settled list nodes pairs before) k
-    found_is = value_is ∙ value_of-from (last_or None (chain before.records k)) (settled before.records k)
+    found_is = value_is ∙ value_of_top-from (last_or None (chain before.records k)) (settled before.records k)
 
     looks : LooksAt t k (state_of chain settled list nodes pairs before)
         (state_of chain settled list nodes pairs (record {
@@ -82,18 +82,18 @@ module _ {R A G : Type 0} {chain : R → Key → List (ℕ × ℤ)} {settled : R
           records = before.records;
           accesses = accesses;
           graph = graph;
-          live = changed t (looked value) before.live;
+          live = changed t (with_look value) before.live;
           read_from = with_source
               (top_from (last_or None (chain before.records k)) (settled before.records k)) t before.read_from;
           fates = before.fates;
         }))
     looks = record {
-      notes = notes kept t live_t k Look rivals exact before.records accesses graph (looked value)
+      notes = notes kept t live_t k Look rivals exact before.records accesses graph (with_look value)
           (with_source (top_from (last_or None (chain before.records k)) (settled before.records k)) t before.read_from)
           (λ j. refl) list_is nodes_are pairs_are;
       chain = λ j. refl;
       read_from = λ u v. read_added (last_or None (chain before.records k)) (settled before.records k) t before.read_from u v;
-      own_left = ap left_kept (own_progress_is kept t live_t k Look rivals exact before.records accesses graph (looked value)
+      own_left = ap left_kept (own_progress_is kept t live_t k Look rivals exact before.records accesses graph (with_look value)
           (with_source (top_from (last_or None (chain before.records k)) (settled before.records k)) t before.read_from)
           (λ j. refl) list_is nodes_are pairs_are)
           ∙ ap (λ v. left.after_look v (left_kept (progress_at before.live t))) found_is;
@@ -102,7 +102,7 @@ module _ {R A G : Type 0} {chain : R → Key → List (ℕ × ℤ)} {settled : R
     -- what holds at every moment holds after it
     pub kept_look : IsKept chain settled list nodes pairs after_look
     kept_look = subst (IsKept chain settled list nodes pairs) is_after
-        (kept_access kept t live_t k Look rivals exact before.records accesses graph (looked value)
+        (kept_access kept t live_t k Look rivals exact before.records accesses graph (with_look value)
         (with_source (top_from (last_or None (chain before.records k)) (settled before.records k)) t before.read_from)
         (λ j. refl) list_is nodes_are pairs_are
         (kept.along t live_t)
@@ -134,7 +134,7 @@ module _ {R A G : Type 0} {chain : R → Key → List (ℕ × ℤ)} {settled : R
         (list_is : list accesses ≡ list before.accesses ++ record { by = t; key = k; kind = Store } ∷ [])
         (nodes_are : (u : ℕ) → nodes graph u ≡ nodes before.graph u)
         (pairs_are : (u v : ℕ) → (pairs graph u v ≡ true) ↔ ((pairs before.graph u v ≡ true) ⊎ ((v ≡ t) × Member u rivals)))
-        (live_is : live ≡ changed t stored before.live) where
+        (live_is : live ≡ changed t with_store before.live) where
       -- the parts after the store
       abbrev pub after_store : SchedulerView R A G
       after_store = record {
@@ -154,7 +154,7 @@ module _ {R A G : Type 0} {chain : R → Key → List (ℕ × ℤ)} {settled : R
         records = records;
         accesses = accesses;
         graph = graph;
-        live = changed t stored before.live;
+        live = changed t with_store before.live;
         read_from = before.read_from;
         fates = before.fates;
       } ≡ after_store
@@ -176,23 +176,23 @@ module _ {R A G : Type 0} {chain : R → Key → List (ℕ × ℤ)} {settled : R
             records = records;
             accesses = accesses;
             graph = graph;
-            live = changed t stored before.live;
+            live = changed t with_store before.live;
             read_from = before.read_from;
             fates = before.fates;
           }))
       stores = record {
-        notes = notes kept t live_t k Store rivals exact records accesses graph stored before.read_from settled_is list_is nodes_are
+        notes = notes kept t live_t k Store rivals exact records accesses graph with_store before.read_from settled_is list_is nodes_are
             pairs_are;
         chain = chain_is;
         read_from = λ u w. ((λ h. h), (λ h. h));
-        own_left = ap left_kept (own_progress_is kept t live_t k Store rivals exact records accesses graph stored before.read_from
+        own_left = ap left_kept (own_progress_is kept t live_t k Store rivals exact records accesses graph with_store before.read_from
             settled_is list_is nodes_are pairs_are);
       }
 
       -- what holds at every moment holds after it
       pub kept_store : IsKept chain settled list nodes pairs after_store
       kept_store = subst (IsKept chain settled list nodes pairs) store_is
-          (kept_access kept t live_t k Store rivals exact records accesses graph stored before.read_from settled_is list_is nodes_are
+          (kept_access kept t live_t k Store rivals exact records accesses graph with_store before.read_from settled_is list_is nodes_are
           pairs_are
           (kept.along t live_t)
           (sound_store before.limits.live _ _ kept.sound t k v live_t stores.notes stores.chain stores.read_from))

@@ -9,7 +9,7 @@ use Rattle.sgt_model.specs.Left.{next_left}
 use Rattle.sgt_model.specs.State.{State}
 use Rattle.sgt_model.specs.CallEffects.{IfOpen, StepOn, StepEffect, CallEffect}
 use Rattle.sgt_sched.specs.declared.brief.Brief.{Brief}
-use Rattle.sgt_sched.specs.Briefs.{told, InBrief}
+use Rattle.sgt_sched.specs.Briefs.{in_full, InBrief}
 
 -- what is done to one that was started and has not ended
 pub if_unended : (b : Bool) (ended : Option Fate) (before : State) (r : Reply) (after : State) (X : Type 0) → b ≡ true → ended ≡ None → X
@@ -24,9 +24,9 @@ steps_on t before r after n begun none next done = if_unended _ _ before r after
     (subst (λ m. StepOn t m before r after) next done)
 
 -- what is told in short, of a call that does more
-pub in_brief : {effect more : State → Reply → State → Type 0} {place : Reply} {before after : State} {b : Brief}
-    → (effect before (told b place) after → more before (told b place) after) → InBrief effect place before b after
-    → InBrief more place before b after
+pub in_brief : {effect more : State → Reply → State → Type 0} {out : Reply} {before after : State} {b : Brief}
+    → (effect before (in_full b out) after → more before (in_full b out) after) → InBrief effect out before b after
+    → InBrief more out before b after
 in_brief also done = record { does = also done.does; short = done.short }
 
 -- a call on an event, which is this one

@@ -6,19 +6,19 @@ use Rattle.sgt_sched.specs.declared.brief.Brief.{Brief}
 use Rattle.sgt_sched.specs.declared.brief.Brief.TheVariants as brief
 
 -- the reply, where what is placed is this one
-abbrev pub told : Brief → Reply → Reply
-told (brief.Started t) r = reply.Started t
-told brief.NoProcedure r = reply.NoProcedure
-told brief.BadArgs r = reply.BadArgs
-told brief.Spent r = reply.Spent
-told brief.Full r = reply.Full
-told brief.Unknown r = reply.Unknown
-told (brief.Looked k v) r = reply.Looked k v
-told (brief.Wrote k v) r = reply.Wrote k v
-told brief.Ended r = reply.Ended
-told brief.NotEnded r = reply.NotEnded
-told (brief.Waits t) r = reply.Waits t
-told brief.Placed r = r
+abbrev pub in_full : Brief → Reply → Reply
+in_full (brief.Started t) r = reply.Started t
+in_full brief.NoProcedure r = reply.NoProcedure
+in_full brief.BadArgs r = reply.BadArgs
+in_full brief.Spent r = reply.Spent
+in_full brief.Full r = reply.Full
+in_full brief.Unknown r = reply.Unknown
+in_full (brief.Looked k v) r = reply.Looked k v
+in_full (brief.Wrote k v) r = reply.Wrote k v
+in_full brief.Ended r = reply.Ended
+in_full brief.NotEnded r = reply.NotEnded
+in_full (brief.Waits t) r = reply.Waits t
+in_full brief.Placed r = r
 
 -- the reply holds lists
 abbrev pub HoldsLists : Reply → Type 0
@@ -33,10 +33,10 @@ IsShort brief.Placed r = HoldsLists r
 IsShort _ r = Unit {0}
 
 -- the effect, with the reply that a short one stands for
-pub record InBrief (effect : State → Reply → State → Type 0) (place : Reply) (before : State) (b : Brief) (after : State) : Type 0 where
-  pub does : effect before (told b place) after
-  pub short : IsShort b place
+pub record InBrief (effect : State → Reply → State → Type 0) (out : Reply) (before : State) (b : Brief) (after : State) : Type 0 where
+  pub does : effect before (in_full b out) after
+  pub short : IsShort b out
 
 -- the same, whatever is placed
 abbrev pub Unplaced : (State → Reply → State → Type 0) → State → Brief → State → Type 0
-Unplaced effect before b after = (place : Reply) → InBrief effect place before b after
+Unplaced effect before b after = (out : Reply) → InBrief effect out before b after

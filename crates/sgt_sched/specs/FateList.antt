@@ -13,28 +13,28 @@ pub record FateList : Type 0 where
   pub walk_room : ℕ
 
 -- there is room for one more start
-abbrev pub IsReady : FateList → Type 0
-IsReady f = (0 < f.end_room) × (0 < f.walk_room)
+abbrev pub HasStartRoom : FateList → Type 0
+HasStartRoom f = (0 < f.end_room) × (0 < f.walk_room)
 
 -- the fate that an end stands for
-abbrev pub fate_of : List (List ℕ) → End → Option Fate
-fate_of walks end.Live = None
-fate_of walks end.Committed = Some fate.Committed
-fate_of walks end.Quit = Some (fate.Aborted cause.Quit)
-fate_of walks (end.Asked code) = Some (fate.Aborted (cause.Asked code))
-fate_of walks (end.Fell first) = Some (fate.Fell first)
-fate_of walks (end.Cycle place) = Some (fate.Aborted (cause.Cycle (slice_index_or walks place [])))
+abbrev pub fate_of_end : List (List ℕ) → End → Option Fate
+fate_of_end walks end.Live = None
+fate_of_end walks end.Committed = Some fate.Committed
+fate_of_end walks end.Quit = Some (fate.Aborted cause.Quit)
+fate_of_end walks (end.Asked code) = Some (fate.Aborted (cause.Asked code))
+fate_of_end walks (end.Fell first) = Some (fate.Fell first)
+fate_of_end walks (end.Cycle index) = Some (fate.Aborted (cause.Cycle (slice_index_or walks index [])))
 
 -- the fates that ends stand for
-abbrev pub fates_of : List (List ℕ) → List End → List (Option Fate)
-fates_of walks ends = map (fate_of walks) ends
+abbrev pub fates_of_ends : List (List ℕ) → List End → List (Option Fate)
+fates_of_ends walks ends = map (fate_of_end walks) ends
 
--- the place of an end is that of a walk
+-- the index of an end is that of a walk
 abbrev pub HasWalk : ℕ → End → Type 0
-HasWalk count (end.Cycle place) = place < count
+HasWalk count (end.Cycle index) = index < count
 HasWalk count _ = Unit {0}
 
--- the places of the ends are those of walks
+-- the indices of the ends are those of walks
 abbrev pub HaveWalks : ℕ → List End → Type 0
 HaveWalks count [] = Unit {0}
 HaveWalks count (e ∷ ends) = HasWalk count e × HaveWalks count ends
@@ -42,7 +42,7 @@ HaveWalks count (e ∷ ends) = HasWalk count e × HaveWalks count ends
 -- the walks stand where they stood, perhaps with others behind them
 pub record AreKept (before after : List (List ℕ)) : Type 0 where
   pub count : length before ≤ length after
-  pub same : (place : ℕ) → place < length before → slice_index_or after place [] ≡ slice_index_or before place []
+  pub same : (index : ℕ) → index < length before → slice_index_or after index [] ≡ slice_index_or before index []
 
 -- one where it is live, else none
 abbrev pub live_in : End → ℕ
@@ -54,8 +54,8 @@ abbrev pub live_among : List End → ℕ
 live_among [] = 0
 live_among (e ∷ ends) = live_in e + live_among ends
 
--- each place is that of a walk; as many are live as are counted; the walks have room for one of each live transaction; there
--- are at most as many walks as transactions that ended, whose number fits the place
+-- each index is that of a walk; as many are live as are counted; the walks have room for one of each live transaction; there
+-- are at most as many walks as transactions that ended, whose number fits the index
 pub record IsFateList (ends : List End) (walks : List (List ℕ)) (live capacity : ℕ) : Type 0 where
   pub placed : HaveWalks (length walks) ends
   pub counted : live_among ends ≡ live

@@ -22,12 +22,12 @@ progress_at [] t = started 0 (record { args = 0; body = empty }) []
 progress_at (r ∷ rest) t = cond (nat_eq r.0 t) r.1 (progress_at rest t)
 
 -- a look found this
-abbrev pub looked : Option ℤ → Progress → Progress
-looked value c = record { procedure = c.procedure; cursor = (c.cursor.0, after_look value c.cursor.1) }
+abbrev pub with_look : Option ℤ → Progress → Progress
+with_look value c = record { procedure = c.procedure; cursor = (c.cursor.0, after_look value c.cursor.1) }
 
 -- a store was made
-abbrev pub stored : Progress → Progress
-stored c = record { procedure = c.procedure; cursor = (c.cursor.0, after_store c.cursor.1) }
+abbrev pub with_store : Progress → Progress
+with_store c = record { procedure = c.procedure; cursor = (c.cursor.0, after_store c.cursor.1) }
 
 -- t's progress is changed
 abbrev pub changed : ℕ → (Progress → Progress) → List (ℕ × Progress) → List (ℕ × Progress)
@@ -35,5 +35,5 @@ changed t change [] = []
 changed t change (r ∷ rest) = cond (nat_eq r.0 t) ((r.0, change r.1) ∷ rest) (r ∷ changed t change rest)
 
 -- the others
-abbrev pub without : ℕ → List (ℕ × Progress) → List (ℕ × Progress)
-without t live = filter (λ (r : ℕ × Progress). not (has_number t r)) live
+abbrev pub others_live : ℕ → List (ℕ × Progress) → List (ℕ × Progress)
+others_live t live = filter (λ (r : ℕ × Progress). not (has_number t r)) live

@@ -44,8 +44,8 @@ module _ {R A G : Type 0} {r : RecordsGhosts R} {a : AccessesGhosts A} {g : Grap
     pub kept : Keeps old new
 
   -- t was aborted, as a walk leads from it to one of these, and the reply placed; or none does, and nothing has changed
-  pub record AbortsInCycle (t : ℕ) (rivals : List ℕ) (old : Sched R A G r a g) (place : Reply) (aborted : Bool) (placed : Reply)
+  pub record AbortsInCycle (t : ℕ) (rivals : List ℕ) (old : Sched R A G r a g) (out : Reply) (aborted : Bool) (placed : Reply)
       (new : Sched R A G r a g) : Type 0 where
     pub closes : IsTrue aborted → AbortsByWalk t rivals (state old) placed (state new)
-    pub free : aborted ≡ false → (new ≡ old) × (placed ≡ place) × NoWalk (state old).pairs t rivals
+    pub free : aborted ≡ false → (new ≡ old) × (placed ≡ out) × NoWalk (state old).pairs t rivals
     pub kept : Keeps old new

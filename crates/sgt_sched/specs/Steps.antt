@@ -8,14 +8,14 @@ use Rattle.sgt_records.specs.declared.top.Top.{Top}
 use Rattle.sgt_records.specs.declared.top.Top.TheVariants as top
 
 -- the reply to an event of a transaction that is not live: by whether it was started, and how it ended
-abbrev pub IsClosedBy : Bool → Option Fate → Reply → Type 0
-IsClosedBy false ended r = r ≡ reply.Unknown
-IsClosedBy true (Some f) r = r ≡ reply.Over f
-IsClosedBy true None r = ⊥
+abbrev pub IsNotLiveBy : Bool → Option Fate → Reply → Type 0
+IsNotLiveBy false ended r = r ≡ reply.Unknown
+IsNotLiveBy true (Some f) r = r ≡ reply.Over f
+IsNotLiveBy true None r = ⊥
 
 -- t is not live in the state, and an event of it is answered so
-abbrev pub IsClosed : State → ℕ → Reply → Type 0
-IsClosed c t r = IsClosedBy (nat_lt t c.starts) (c.fates t) r
+abbrev pub IsNotLive : State → ℕ → Reply → Type 0
+IsNotLive c t r = IsNotLiveBy (nat_lt t c.starts) (c.fates t) r
 
 -- t was started, and has not ended
 pub record IsUnended (c : State) (t : ℕ) : Type 0 where

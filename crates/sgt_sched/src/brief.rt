@@ -1,11 +1,11 @@
 ghost use Rattle.std.specs.Prelude.{◌≡◌, ◌≢◌};
 ghost use Rattle.sgt_model.specs.declared.reply.Reply.{Reply as Answer};
 ghost use Rattle.sgt_sched.specs.declared.brief.Brief.TheVariants.{Placed};
-ghost use Rattle.sgt_sched.specs.Briefs.{told, IsShort};
+ghost use Rattle.sgt_sched.specs.Briefs.{in_full, IsShort};
 
 use sgt_model::{Key, Reply, Tid};
 
-/// A reply in short. A reply that holds lists is large: it is written once, into a place of the caller's, and only said to
+/// A reply in short. A reply that holds lists is large: it is written once, where the caller says, and only said to
 /// stand there.
 #[derive(Debug, Drop, PartialEq, Eq)]
 pub enum Brief {
@@ -20,7 +20,7 @@ pub enum Brief {
     Ended,
     NotEnded,
     Waits(Tid),
-    /// The reply stands in the place: it is `Over`, `Committed` or `Aborted`.
+    /// The reply stands in `out`: it is `Over`, `Committed` or `Aborted`.
     Placed,
 }
 
@@ -28,7 +28,7 @@ impl Brief {
     /// A reply in short, where what is placed stands in the reply itself.
     #[inline(always)]
     pub fn of(reply: &Reply) -> Brief
-        ensures reply { told result reply.now ≡ reply.now }
+        ensures reply { in_full result reply.now ≡ reply.now }
         ensures short { IsShort result reply.now }
     {
         match reply {
@@ -53,12 +53,12 @@ impl Brief {
         }
     }
 
-    /// The reply in full, where what is placed stands in this place. This takes no memory.
-    pub fn reply(&self, place: &Reply) -> Reply
-        ensures { result ≡ told self.now place.now }
+    /// The reply in full, where what is placed stands in `out`. This takes no memory.
+    pub fn reply(&self, out: &Reply) -> Reply
+        ensures { result ≡ in_full self.now out.now }
     {
         match self {
-            Brief::Placed => place.copied(),
+            Brief::Placed => out.copied(),
             _ => self.short(),
         }
     }
@@ -67,7 +67,7 @@ impl Brief {
     #[inline(always)]
     pub fn short(&self) -> Reply
         requires { self.now ≢ Placed }
-        ensures { (place : Answer) → result ≡ told self.now place }
+        ensures { (out : Answer) → result ≡ in_full self.now out }
     {
         match self {
             Brief::Started(t) => Reply::Started(*t),

@@ -1,5 +1,5 @@
 ghost use Rattle.std.specs.Prelude.{◌≡◌, ◌+◌, ◌<◌, ◌≤◌, ◌^◌, [], ◌∷◌, ◌++◌, length, Some, None, OnOk, slice_get, slice_set, vec_len, vec_capacity};
-ghost use Rattle.sgt_sched.specs.FateList.{AreKept, HasWalk, IsReady, fate_of, live_in};
+ghost use Rattle.sgt_sched.specs.FateList.{AreKept, HasWalk, HasStartRoom, fate_of_end, live_in};
 ghost use Rattle.sgt_sched.specs.SchedulerView.{fate_at};
 
 use sgt_model::{Cause, Fate, NoMemory, Tid, Tids};
@@ -19,7 +19,7 @@ pub enum End {
     Asked(u16),
     /// By a cascading abort, which started with this transaction.
     Fell(Tid),
-    /// By an abort: its step would have closed a cycle. The walk has this place in the list of walks.
+    /// By an abort: its step would have closed a cycle. The walk has this index in the list of walks.
     Cycle(u32),
 }
 
@@ -35,12 +35,12 @@ pub struct Fates {
 impl Model for Fates {
     ghost use Rattle.std.specs.Prelude.{◌-◌, ◌+◌};
     ghost use Rattle.std.specs.Vec.{vec_len, vec_capacity};
-    ghost use Rattle.sgt_sched.specs.FateList.{FateList, IsFateList, fates_of};
+    ghost use Rattle.sgt_sched.specs.FateList.{FateList, IsFateList, fates_of_ends};
 
     ghost Value = { FateList };
 
     ghost view = { λ f. record {
-      fates = fates_of f.walks.items f.ends.items;
+      fates = fates_of_ends f.walks.items f.ends.items;
       end_room = vec_capacity f.ends - vec_len f.ends;
       walk_room = vec_capacity f.walks - (vec_len f.walks + f.live);
     } };
@@ -70,7 +70,7 @@ impl Fates {
     /// Makes room for one more start, and for its end. `NoMemory` where a growth was refused. The fates stay.
     pub fn reserve(&mut self) -> Result<(), NoMemory>
         ensures same { self.new.fates ≡ self.old.fates }
-        ensures ready { OnOk result (IsReady self.new) }
+        ensures ready { OnOk result (HasStartRoom self.new) }
     {
         self.ends.reserve(1)?;
         self.walks.reserve(self.live + 1)?;
@@ -79,7 +79,7 @@ impl Fates {
 
     /// Adds a transaction that was just started, as the last. This takes no memory.
     pub fn start(&mut self)
-        requires ready { IsReady self.old }
+        requires ready { HasStartRoom self.old }
         requires few { length self.old.fates < 2 ^ 32 }
         ensures { self.new.fates ≡ self.old.fates ++ None ∷ [] }
     {
@@ -107,8 +107,8 @@ impl Fates {
             Some(End::Quit) => Some(Fate::Aborted(Cause::Quit)),
             Some(End::Asked(code)) => Some(Fate::Aborted(Cause::Asked(*code))),
             Some(End::Fell(first)) => Some(Fate::Fell(*first)),
-            Some(End::Cycle(place)) => {
-                let walk = &self.walks[*place as usize];
+            Some(End::Cycle(index)) => {
+                let walk = &self.walks[*index as usize];
                 Some(Fate::Aborted(Cause::Cycle(walk.copied())))
             }
         }
@@ -119,7 +119,7 @@ impl Fates {
 fn end_of(walks: &mut Vec<Tids>, fate: &Fate) -> End
     requires room { vec_len walks.old < vec_capacity walks.old }
     requires few { length walks.old.items < 2 ^ 32 }
-    ensures fate { fate_of walks.new.items result ≡ Some fate.now }
+    ensures fate { fate_of_end walks.new.items result ≡ Some fate.now }
     ensures ended { live_in result ≡ 0 }
     ensures placed { HasWalk (length walks.new.items) result }
     ensures stay { AreKept walks.old.items walks.new.items }
@@ -132,9 +132,9 @@ fn end_of(walks: &mut Vec<Tids>, fate: &Fate) -> End
         Fate::Aborted(Cause::Quit) => End::Quit,
         Fate::Aborted(Cause::Asked(code)) => End::Asked(*code),
         Fate::Aborted(Cause::Cycle(walk)) => {
-            let place = walks.len() as u32;
+            let index = walks.len() as u32;
             walks.push_reserved(walk.copied());
-            End::Cycle(place)
+            End::Cycle(index)
         }
     }
 }

@@ -1,5 +1,5 @@
 ghost use Rattle.std.specs.Prelude.{◌≡◌};
-ghost use Rattle.sgt_sched.specs.LiveList.{without};
+ghost use Rattle.sgt_sched.specs.LiveList.{others_live};
 ghost use Rattle.sgt_sched.specs.Steps.{unread};
 
 use crate::live::Live;
@@ -7,7 +7,7 @@ use sgt_model::Tid;
 
 /// Takes a transaction that has ended out of the live ones and the reads, source or reader. This takes no memory.
 pub fn leave(live: &mut Live, read_from: &mut Vec<(Tid, Tid)>, t: Tid)
-    ensures live { live.new ≡ without t live.old }
+    ensures live { live.new ≡ others_live t live.old }
     ensures read_from { read_from.new.items ≡ unread t read_from.old.items }
 {
     live.remove(t);

@@ -1,7 +1,7 @@
 ghost use Rattle.std.specs.Prelude.{◌≡◌, ◌≤◌, [], ◌∷◌, ◌++◌, length, OnOk, OnErr, position, find};
 ghost use Rattle.std.specs.Option.{option_copied};
 ghost use Rattle.sgt_model.specs.Walks.{Member};
-ghost use Rattle.sgt_sched.specs.LiveList.{numbers, has_number, progress_at, looked, stored, changed, without};
+ghost use Rattle.sgt_sched.specs.LiveList.{numbers, has_number, progress_at, with_look, with_store, changed, others_live};
 ghost use Rattle.sgt_sched.specs.SchedulerView.{IsAlong};
 
 use crate::running::Running;
@@ -84,10 +84,10 @@ impl Live {
     pub fn look(&mut self, t: Tid, procedures: &[Checked], value: Option<i64>)
         requires live { Member t (numbers self.old) }
         requires along { IsAlong procedures.now (progress_at self.old t) }
-        ensures { self.new ≡ changed t (looked value) self.old }
+        ensures { self.new ≡ changed t (with_look value) self.old }
     {
-        match self.place(t) {
-            Some(place) => self.running[place].look(procedures, value),
+        match self.index(t) {
+            Some(index) => self.running[index].look(procedures, value),
             None => unreachable!(),
         }
     }
@@ -96,23 +96,23 @@ impl Live {
     pub fn store(&mut self, t: Tid, procedures: &[Checked])
         requires live { Member t (numbers self.old) }
         requires along { IsAlong procedures.now (progress_at self.old t) }
-        ensures { self.new ≡ changed t stored self.old }
+        ensures { self.new ≡ changed t with_store self.old }
     {
-        match self.place(t) {
-            Some(place) => self.running[place].store(procedures),
+        match self.index(t) {
+            Some(index) => self.running[index].store(procedures),
             None => unreachable!(),
         }
     }
 
     /// Drops the transaction, which has ended. This takes no memory.
     pub fn remove(&mut self, t: Tid)
-        ensures { self.new ≡ without t self.old }
+        ensures { self.new ≡ others_live t self.old }
     {
         self.running.retain(|running| running.tid != t);
     }
 
-    // The place of the transaction, if it is live.
-    fn place(&self, t: Tid) -> Option<usize>
+    // The index of the transaction, if it is live.
+    fn index(&self, t: Tid) -> Option<usize>
         ensures { result ≡ position (has_number t) self.now }
     {
         self.running.iter().position(|running| running.tid == t)

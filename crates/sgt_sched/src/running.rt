@@ -1,7 +1,7 @@
 ghost use Rattle.std.specs.Prelude.{◌≡◌};
 ghost use Rattle.sgt_model.specs.Left.{next_left};
 ghost use Rattle.sgt_proc.specs.Nexts.{seen, StoresValue};
-ghost use Rattle.sgt_sched.specs.LiveList.{looked, stored};
+ghost use Rattle.sgt_sched.specs.LiveList.{with_look, with_store};
 ghost use Rattle.sgt_sched.specs.LiveProgress.{left_kept};
 ghost use Rattle.sgt_sched.specs.SchedulerView.{IsAlong};
 
@@ -51,7 +51,7 @@ impl Running {
     /// Goes on behind a look, which found this.
     pub fn look(&mut self, procedures: &[Checked], value: Option<i64>)
         requires along { IsAlong procedures.now self.old.1 }
-        ensures { self.new ≡ (self.old.0, looked value self.old.1) }
+        ensures { self.new ≡ (self.old.0, with_look value self.old.1) }
     {
         let checked = self.checked(procedures);
         self.cursor.looked(checked, value);
@@ -60,7 +60,7 @@ impl Running {
     /// Goes on behind a store.
     pub fn store(&mut self, procedures: &[Checked])
         requires along { IsAlong procedures.now self.old.1 }
-        ensures { self.new ≡ (self.old.0, stored self.old.1) }
+        ensures { self.new ≡ (self.old.0, with_store self.old.1) }
     {
         let checked = self.checked(procedures);
         self.cursor.stored(checked);

@@ -10,12 +10,12 @@ ghost use Rattle.sgt_model.specs.NewState.{IsNew};
 ghost use Rattle.sgt_model.specs.State.{State};
 ghost use Rattle.sgt_model.specs.Walks.{AtMost, Rising};
 ghost use Rattle.sgt_proc.specs.Nexts.{seen, StoresValue};
-ghost use Rattle.sgt_sched.specs.Briefs.{told, InBrief, IsShort};
+ghost use Rattle.sgt_sched.specs.Briefs.{in_full, InBrief, IsShort};
 ghost use Rattle.sgt_model.specs.Questions.{is_ending};
 ghost use Rattle.sgt_sched.specs.Endings.{EndsOne};
 ghost use Rattle.sgt_sched.specs.SchedulerView.{IsKept, view};
 ghost use Rattle.sgt_sched.specs.KeptProp.{IsKept-prop};
-ghost use Rattle.sgt_sched.specs.Steps.{IsClosed, IsUnended};
+ghost use Rattle.sgt_sched.specs.Steps.{IsNotLive, IsUnended};
 
 mod abort;
 mod commit;
@@ -38,9 +38,9 @@ use std::alloc::Global;
 ///
 /// A step looks at one key or stores one. Each other live transaction that has accessed the key, where one of the two
 /// accesses stores, has to commit first: a pair leads from it to the one that steps. Where these pairs would close a cycle,
-/// the step is refused and its transaction aborts (Bernstein, Hadzilacos and Goodman 1987, chapter 4). A look finds the
+/// the step is rejected and its transaction aborts (Bernstein, Hadzilacos and Goodman 1987, chapter 4). A look finds the
 /// last value that is not undone, committed or not; an abort takes out the transaction's own values, and takes along those
-/// that have read from it (chapter 2). A commit waits for the transaction's live predecessors, so commit order agrees with
+/// that have read from it (chapter 1). A commit waits for the transaction's live predecessors, so commit order agrees with
 /// the order of conflicts (Durner and Neumann, ICDE 2019).
 ///
 /// Of a transaction that has ended it keeps how it ended, and nothing else. So what a call costs grows with what the live
@@ -75,7 +75,7 @@ impl<R: Records, A: Accesses, G: Graph> Sched<R, A, G> {
         ensures new { IfOk result (λ s. IsNew (contents_of opening.now) (state s)) }
         ensures procedures { IfOk result (λ s. (parts s).procedures ≡ procedures.items) }
         ensures limits { IfOk result (λ s. (parts s).limits ≡ limits) }
-        ensures refused { (result ≡ Err MakeError.BadLimits) ↔ (¬ AreInRange limits) }
+        ensures bad_limits { (result ≡ Err MakeError.BadLimits) ↔ (¬ AreInRange limits) }
     {
         if !limits.are_in_range() {
             return Err(MakeError::BadLimits);
@@ -93,19 +93,19 @@ impl<R: Records, A: Accesses, G: Graph> Sched<R, A, G> {
     }
 
     /// Makes the call that an event stands for: starts, steps, commits or quits. The reply is told in short: one that holds
-    /// lists is written into the place.
+    /// lists is written into `out`.
     ///
     /// `NoMemory` where a growth was refused; then nothing has changed. An event that ends a live transaction takes no memory.
-    pub fn answer(&mut self, event: &Event, place: &mut Reply) -> Result<Brief, NoMemory>
-        ensures done { Tries (InBrief (CallEffect (rules_of self.old) event.now) place.new) self.old result self.new }
-        ensures place { OnErr result (place.new ≡ place.old) }
+    pub fn answer(&mut self, event: &Event, out: &mut Reply) -> Result<Brief, NoMemory>
+        ensures done { Tries (InBrief (CallEffect (rules_of self.old) event.now) out.new) self.old result self.new }
+        ensures out { OnErr result (out.new ≡ out.old) }
         ensures no_memory { EndsOne event.now (state self.old) → IsOk result }
     {
         match event {
             Event::Start { procedure, args } => self.answer_start(*procedure, args),
-            Event::Step(t) => self.answer_step(*t, place),
-            Event::Commit(t) => Ok(self.answer_commit(*t, place)),
-            Event::Quit(t) => Ok(self.answer_quit(*t, place)),
+            Event::Step(t) => self.answer_step(*t, out),
+            Event::Commit(t) => Ok(self.answer_commit(*t, out)),
+            Event::Quit(t) => Ok(self.answer_quit(*t, out)),
         }
     }
 
@@ -174,14 +174,14 @@ impl<R: Records, A: Accesses, G: Graph> Sched<R, A, G> {
     }
 
     // What an event of a transaction that is not live is answered.
-    fn closed(&self, t: Tid, place: &mut Reply) -> Brief
+    fn answer_not_live(&self, t: Tid, out: &mut Reply) -> Brief
         requires not_live { IsUnended (state self.now) t → ⊥ }
-        ensures closed { IsClosed (state self.now) t (told result place.new) }
-        ensures short { IsShort result place.new }
+        ensures not_live { IsNotLive (state self.now) t (in_full result out.new) }
+        ensures short { IsShort result out.new }
     {
         match self.fates.get(t) {
             Some(fate) => {
-                *place = Reply::Over(fate);
+                *out = Reply::Over(fate);
                 Brief::Placed
             }
             None => Brief::Unknown,

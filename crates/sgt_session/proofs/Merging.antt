@@ -6,8 +6,8 @@ use Rattle.std.proofs.lemmas.List.Sums.{sum_by-cons}
 use Rattle.std.proofs.lemmas.Bool.Decides.{nat_tests}
 use Rattle.sgt_model.specs.declared.entry.Entry.{Entry}
 use Rattle.sgt_session.specs.declared.receipt.Receipt.{Receipt}
-use Rattle.sgt_session.specs.Receipts.{receipt_of, entry_of, Stands}
-use Rattle.sgt_session.specs.Accounts.{named, Rises, Accounts}
+use Rattle.sgt_session.specs.Receipts.{receipt_of, entry_of, ReceiptStands}
+use Rattle.sgt_session.specs.Accounts.{named, Rises, AccountsForHistory}
 
 -- the entries from number n on are what is left of the sessions, taken one by one
 abbrev pub Merge : ℕ → List Entry → List (List Receipt) → Type 0
@@ -86,8 +86,8 @@ above_or n p le = grind arith
 test_later : (n p : ℕ) → n < p → ◌≡◌ {A = ℕ} (cond (nat_eq n p) 1 0) 0
 test_later n p lt = let f : (nat_eq n p) ≡ false = grind (arith, nat_tests) in rw f refl
 
-standing : (history : List Entry) (rs : List Receipt) → Good 0 history rs → All (λ r. Stands history r) rs
-standing history rs g = each_all (λ r. Stands history r) rs (each_map (λ r. (0 ≤ r.number) × (slice_get history (r.number - 0) ≡ Some (entry_of r))) (λ r. Stands history r) (λ r h. (let z : r.number - 0 ≡ r.number = omega arith in subst (λ (k : ℕ). slice_get history k ≡ Some (entry_of r)) z h.1)) rs g.1)
+standing : (history : List Entry) (rs : List Receipt) → Good 0 history rs → All (λ r. ReceiptStands history r) rs
+standing history rs g = each_all (λ r. ReceiptStands history r) rs (each_map (λ r. (0 ≤ r.number) × (slice_get history (r.number - 0) ≡ Some (entry_of r))) (λ r. ReceiptStands history r) (λ r h. (let z : r.number - 0 ≡ r.number = omega arith in subst (λ (k : ℕ). slice_get history k ≡ Some (entry_of r)) z h.1)) rs g.1)
 
 counted : (p : ℕ) (rs : List Receipt) (r : Receipt) (rest : List Receipt) → rs ≡ r ∷ rest → count_by (λ x. nat_eq x.number p) rs ≡ cond (nat_eq r.number p) 1 0 + count_by (λ x. nat_eq x.number p) rest
 counted p rs r rest is = ap (λ xs. count_by (λ x. nat_eq x.number p) xs) is ∙ sum_by-cons (λ (x : Receipt). cond (nat_eq x.number p) 1 0) r rest
@@ -177,7 +177,7 @@ checks_next history S n at i e c is lt le get =
       omega (arith, t.2, c.1),
     )
 
-pub checks_last : (history : List Entry) (S : List (List Receipt)) (at : List ℕ) → Checked history S (length history) at → length history ≡ sum_by length S → Accounts history S
+pub checks_last : (history : List Entry) (S : List (List Receipt)) (at : List ℕ) → Checked history S (length history) at → length history ≡ sum_by length S → AccountsForHistory history S
 checks_last history S at c sum =
     let none : total (left at S) ≡ 0 = omega (arith, c.1, totals S, sum) in
     let over : drop (length history) history ≡ [] = drop-length history in
@@ -185,7 +185,7 @@ checks_last history S at c sum =
     let g = good 0 history S m in
     record {
       counted = sum;
-      stands = each_all (λ rs. All (λ r. Stands history r) rs) S (each_map (Good 0 history) (λ rs. All (λ r. Stands history r) rs) (standing history) S g);
+      stands = each_all (λ rs. All (λ r. ReceiptStands history r) rs) S (each_map (Good 0 history) (λ rs. All (λ r. ReceiptStands history r) rs) (standing history) S g);
       once = λ p lt. named_once p 0 history S m (omega arith) (omega arith);
       rises = each_all Rises S (each_map (Good 0 history) Rises (λ rs h. h.0) S g);
     }

@@ -8,17 +8,17 @@ use Rattle.sgt_model.specs.declared.event.Event.TheVariants.{Start, Step, Commit
 use Rattle.sgt_model.specs.declared.reply.Reply.{Reply}
 use Rattle.sgt_session.specs.declared.receipt.Receipt.{Receipt}
 use Rattle.sgt_model.specs.Questions.{started_number, started_in, tells_end}
-use Rattle.sgt_session.specs.Own.{with_one, without, is_open, open_by, open_from, open_of, places}
+use Rattle.sgt_session.specs.Own.{with_one, open_without, is_open, open_by, open_from, open_of, room_needed}
 
 -- one is taken out
-pub without-few : (t : ℕ) (own : List ℕ) → length (without (Some t) own) ≤ length own
-without-few t [] = omega arith
-without-few t (u ∷ own) = grind (arith, without-few t own)
+pub open_without-few : (t : ℕ) (own : List ℕ) → length (open_without (Some t) own) ≤ length own
+open_without-few t [] = omega arith
+open_without-few t (u ∷ own) = grind (arith, open_without-few t own)
 
 -- one that is there is taken out
-pub without-fewer : (t : ℕ) (own : List ℕ) → is_open t own ≡ true → length (without (Some t) own) < length own
-without-fewer t [] some = absurd cc
-without-fewer t (u ∷ own) some = grind (arith, without-few t own, without-fewer t own)
+pub open_without-fewer : (t : ℕ) (own : List ℕ) → is_open t own ≡ true → length (open_without (Some t) own) < length own
+open_without-fewer t [] some = absurd cc
+open_without-fewer t (u ∷ own) some = grind (arith, open_without-few t own, open_without-fewer t own)
 
 -- one is added, if any
 pub with_one-few : (s : Option ℕ) (own : List ℕ) → length (with_one s own) ≤ length own + 1
@@ -26,20 +26,20 @@ with_one-few None own = omega arith
 with_one-few (Some t) own = omega (arith, length-append own (t ∷ []))
 
 -- one may be taken out
-without_if-few : (b : Bool) (t : ℕ) (own : List ℕ) → 1 + length (without (cond b (Some t) None) own) ≤ length own + 1
-without_if-few true t own = (let h = without-few t own in omega (arith, h))
+without_if-few : (b : Bool) (t : ℕ) (own : List ℕ) → 1 + length (open_without (cond b (Some t) None) own) ≤ length own + 1
+without_if-few true t own = (let h = open_without-few t own in omega (arith, h))
 without_if-few false t own = omega arith
 
-quit-few : (b : Bool) (t : ℕ) (own : List ℕ) → is_open t own ≡ b → 1 + length (without (Some t) own) ≤ cond b (length own) (length own + 1)
-quit-few true t own is = (let h = without-fewer t own is in omega (arith, h))
-quit-few false t own is = (let h = without-few t own in omega (arith, h))
+quit-few : (b : Bool) (t : ℕ) (own : List ℕ) → is_open t own ≡ b → 1 + length (open_without (Some t) own) ≤ cond b (length own) (length own + 1)
+quit-few true t own is = (let h = open_without-fewer t own is in omega (arith, h))
+quit-few false t own is = (let h = open_without-few t own in omega (arith, h))
 
 -- so much room is enough, whatever the reply
-pub places-enough : (e : Event) (own : List ℕ) (r : Reply) → 1 + length (open_by own e r) ≤ places e own
-places-enough (Start p args) own r = (let h = with_one-few (started_number r) own in omega (arith, h))
-places-enough (Step t) own r = without_if-few (tells_end r) t own
-places-enough (Commit t) own r = without_if-few (tells_end r) t own
-places-enough (Quit t) own r = quit-few (is_open t own) t own refl
+pub room_needed-enough : (e : Event) (own : List ℕ) (r : Reply) → 1 + length (open_by own e r) ≤ room_needed e own
+room_needed-enough (Start p args) own r = (let h = with_one-few (started_number r) own in omega (arith, h))
+room_needed-enough (Step t) own r = without_if-few (tells_end r) t own
+room_needed-enough (Commit t) own r = without_if-few (tells_end r) t own
+room_needed-enough (Quit t) own r = quit-few (is_open t own) t own refl
 
 -- there is room for one that is started
 pub started-room : (e : Event) (own : List ℕ) (r : Reply) (capacity : ℕ) → length own ≤ capacity → ((p : ℕ) (args : _) → e ≡ Start p args → length own + 1 ≤ capacity) → length (with_one (started_in e r) own) ≤ capacity

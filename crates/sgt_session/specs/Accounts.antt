@@ -3,7 +3,7 @@ use Rattle.std.specs.Prelude.{◌≡◌, ℕ, ◌+◌, ◌<◌, nat_eq, List, []
 use Rattle.std.specs.List.{sum_by}
 use Rattle.sgt_model.specs.declared.entry.Entry.{Entry}
 use Rattle.sgt_session.specs.declared.receipt.Receipt.{Receipt}
-use Rattle.sgt_session.specs.Receipts.{Stands}
+use Rattle.sgt_session.specs.Receipts.{ReceiptStands}
 
 -- how often the number is one of the receipts of all sessions
 abbrev pub named : ℕ → List (List Receipt) → ℕ
@@ -17,8 +17,8 @@ Rises (r ∷ rs) = All (λ s. r.number < s.number) rs × Rises rs
 
 -- the receipts of the sessions are the entries of the history, oldest first, each once, and those of a session rise in the
 -- order of its calls
-pub record Accounts (history : List Entry) (sessions : List (List Receipt)) : Type 0 where
+pub record AccountsForHistory (history : List Entry) (sessions : List (List Receipt)) : Type 0 where
   pub counted : length history ≡ sum_by length sessions
-  pub stands : All (λ rs. All (λ r. Stands history r) rs) sessions
+  pub stands : All (λ rs. All (λ r. ReceiptStands history r) rs) sessions
   pub once : (p : ℕ) → p < length history → named p sessions ≡ 1
   pub rises : All Rises sessions

@@ -14,13 +14,13 @@ with_one None own = own
 with_one (Some t) own = own ++ t ∷ []
 
 -- without this one, if there is one
-abbrev pub without : Option ℕ → List ℕ → List ℕ
-without None own = own
-without (Some t) own = filter (λ u. not (nat_eq u t)) own
+abbrev pub open_without : Option ℕ → List ℕ → List ℕ
+open_without None own = own
+open_without (Some t) own = filter (λ u. not (nat_eq u t)) own
 
 -- those that are open after an event and its reply
 abbrev pub open_by : List ℕ → Event → Reply → List ℕ
-open_by own e r = without (over_in e r) (with_one (started_in e r) own)
+open_by own e r = open_without (over_in e r) (with_one (started_in e r) own)
 
 -- those that are open after more receipts
 abbrev pub open_from : List ℕ → List Receipt → List ℕ
@@ -37,8 +37,8 @@ is_open t own = list_any (λ u. nat_eq u t) own
 
 -- how many receipts there has to be room for: that of the event, and one of an end of each that is open after it. A quit of an
 -- open one uses the room of its end
-abbrev pub places : Event → List ℕ → ℕ
-places (Start p args) own = length own + 2
-places (Step t) own = length own + 1
-places (Commit t) own = length own + 1
-places (Quit t) own = cond (is_open t own) (length own) (length own + 1)
+abbrev pub room_needed : Event → List ℕ → ℕ
+room_needed (Start p args) own = length own + 2
+room_needed (Step t) own = length own + 1
+room_needed (Commit t) own = length own + 1
+room_needed (Quit t) own = cond (is_open t own) (length own) (length own + 1)

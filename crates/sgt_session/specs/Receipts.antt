@@ -5,7 +5,7 @@ use Rattle.sgt_model.specs.declared.entry.Entry.{Entry}
 use Rattle.sgt_model.specs.Questions.{is_wait}
 use Rattle.sgt_session.specs.declared.receipt.Receipt.{Receipt}
 
--- the receipt of the entry at a place
+-- the receipt of the entry of this number
 abbrev pub receipt_of : ℕ → Entry → Receipt
 receipt_of number e = record { number = number; event = e.event; reply = e.reply }
 
@@ -14,8 +14,8 @@ abbrev pub entry_of : Receipt → Entry
 entry_of r = record { event = r.event; reply = r.reply }
 
 -- the receipt's entry stands in the history, at its number
-abbrev pub Stands : List Entry → Receipt → Type 0
-Stands history r = slice_get history r.number ≡ Some (entry_of r)
+abbrev pub ReceiptStands : List Entry → Receipt → Type 0
+ReceiptStands history r = slice_get history r.number ≡ Some (entry_of r)
 
 -- a commit of t that has to wait
 abbrev pub IsWaitOf : ℕ → Receipt → Type 0

@@ -1,6 +1,6 @@
 ghost use Rattle.std.specs.Prelude.{◌≡◌, ◌+◌, ◌^◌, ◌<◌, ◌≤◌, IsTrue, [], length, Some, IfSome, slice_get, slice_index, slice_index_or};
 ghost use Rattle.std.specs.List.{sum_by};
-ghost use Rattle.sgt_session.specs.Accounts.{Accounts};
+ghost use Rattle.sgt_session.specs.Accounts.{AccountsForHistory};
 ghost use Rattle.sgt_session.specs.Receipts.{receipt_of};
 
 use crate::named::Named;
@@ -11,7 +11,7 @@ use sgt_model::Entry;
 /// Whether the receipts are the entries, each once, in the order of each session's calls.
 pub fn accounts<N: Named>(history: &[Entry], sessions: &[Session<N>]) -> bool
     requires { (length sessions.now ≤ 64) × (length history.now ≡ sum_by length sessions.now) }
-    ensures { IsTrue result → Accounts history.now sessions.now }
+    ensures { IsTrue result → AccountsForHistory history.now sessions.now }
 {
     let mut at = [0usize; 64];
     for p in 0..history.len() {
@@ -31,7 +31,7 @@ fn owner<N: Named>(
     entry: &Entry,
 ) -> Option<usize>
     requires { length sessions.now ≤ 64 }
-    ensures place { IfSome result (λ i. i < length sessions.now) }
+    ensures index { IfSome result (λ i. i < length sessions.now) }
     ensures receipt { IfSome result (λ i.
         slice_get (slice_index_or sessions.now i []) (slice_index at.now i) ≡ Some (receipt_of number entry.now)) }
     ensures fits { IfSome result (λ i. slice_index at.now i + 1 < 2 ^ 64) }
@@ -44,7 +44,7 @@ fn owner<N: Named>(
     None
 }
 
-/// Whether the receipt at this place is the entry's.
+/// Whether the receipt of this index is the entry's.
 fn is_next(receipts: &[Receipt], at: usize, number: u64, entry: &Entry) -> bool
     ensures receipt { IsTrue result → slice_get receipts.now at ≡ Some (receipt_of number entry.now) }
     ensures fits { IsTrue result → at + 1 < 2 ^ 64 }

@@ -1,7 +1,7 @@
 ghost use Rattle.std.specs.Prelude.{◌≡◌, IfOk, IfErr, length, reverse};
 ghost use Rattle.sgt_model.specs.Legality.{Legal};
 ghost use Rattle.sgt_engine.specs.EngineView.{setting_of};
-ghost use Rattle.sgt_session.specs.Accounts.{Accounts};
+ghost use Rattle.sgt_session.specs.Accounts.{AccountsForHistory};
 ghost use Rattle.sgt_session.specs.Closing.{Held};
 
 use crate::accounts::accounts;
@@ -48,7 +48,7 @@ impl<N: Named, R: Records, A: Accesses, G: Graph> Shared<N, R, A, G> {
         ensures legal { IfOk result (λ c. Legal N.setting c.engine.past) }
         ensures sessions { IfOk result (λ c. c.sessions.items ≡ sessions.items) }
         ensures all { IfOk result (λ c. length c.sessions.items ≡ N.sessions) }
-        ensures accounts { IfOk result (λ c. Accounts (reverse c.engine.past) c.sessions.items) }
+        ensures accounts { IfOk result (λ c. AccountsForHistory (reverse c.engine.past) c.sessions.items) }
         ensures held { IfErr result (λ e. Held e sessions.items N.sessions) }
     {
         let mut sessions = sessions;

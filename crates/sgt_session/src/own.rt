@@ -4,7 +4,7 @@ ghost use Rattle.std.specs.Vec.{vec_len, vec_capacity};
 ghost use Rattle.sgt_model.specs.declared.event.Event.TheVariants.{Quit};
 ghost use Rattle.sgt_model.specs.declared.reply.Reply.{Reply as Answer};
 ghost use Rattle.sgt_model.specs.Questions.{started_in, over_in};
-ghost use Rattle.sgt_session.specs.Own.{with_one, without, open_by, is_open, places};
+ghost use Rattle.sgt_session.specs.Own.{with_one, open_without, open_by, is_open, room_needed};
 
 use crate::receipt::Receipt;
 use sgt_model::{Event, NoMemory, Tid};
@@ -13,7 +13,7 @@ use sgt_model::{Event, NoMemory, Tid};
 /// each transaction that is open after it. A quit of an open one has it, and takes no memory.
 ///
 /// `NoMemory` where a growth was refused.
-pub fn make_room(
+pub fn make_receipt_room(
     receipts: &mut Vec<Receipt>,
     own: &mut Vec<Tid>,
     event: &Event,
@@ -30,7 +30,7 @@ pub fn make_room(
         length (with_one (started_in event.now r) own.old.items) ≤ vec_capacity own.new) }
     ensures quits { (t : ℕ) → event.now ≡ Quit t → is_open t own.old.items ≡ true → IsOk result }
 {
-    receipts.reserve(places(event, own.as_slice()))?;
+    receipts.reserve(room_needed(event, own.as_slice()))?;
     if matches!(event, Event::Start { .. }) {
         own.reserve(1)?;
     }
@@ -38,8 +38,8 @@ pub fn make_room(
 }
 
 /// How many receipts there has to be room for.
-fn places(event: &Event, own: &[Tid]) -> usize
-    ensures { result ≡ places event.now own.now }
+fn room_needed(event: &Event, own: &[Tid]) -> usize
+    ensures { result ≡ room_needed event.now own.now }
 {
     match event {
         Event::Start { .. } => own.len() + 2,
@@ -76,7 +76,7 @@ fn add_started(own: &mut Vec<Tid>, receipt: &Receipt)
 
 /// Takes out the transaction that a receipt tells to have ended, if it does.
 fn drop_ended(own: &mut Vec<Tid>, receipt: &Receipt)
-    ensures { own.new.items ≡ without (over_in receipt.now.event receipt.now.reply) own.old.items }
+    ensures { own.new.items ≡ open_without (over_in receipt.now.event receipt.now.reply) own.old.items }
 {
     if let Some(t) = receipt.event.over(&receipt.reply) {
         own.retain(|u| *u != t);

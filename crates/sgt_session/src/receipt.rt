@@ -5,7 +5,7 @@ ghost use Rattle.sgt_session.specs.Receipts.{receipt_of};
 use sgt_model::{Entry, Event, Reply};
 use sgt_sched::Brief;
 
-/// What a session was told of one call: the entry of the history that the call is, and its place there, counted from 0.
+/// What a session was told of one call: the entry of the history that the call is, and its number there, counted from 0.
 #[derive(Debug, Drop, PartialEq, Eq)]
 pub struct Receipt {
     pub number: u64,
@@ -35,8 +35,8 @@ pub(crate) fn file_newest(receipts: &mut Vec<Receipt>, history: &[Entry])
     ensures count { vec_len receipts.new ≡ vec_len receipts.old + 1 }
     ensures capacity { vec_capacity receipts.new ≡ vec_capacity receipts.old }
 {
-    let place = history.len() - 1;
-    file(receipts, place as u64, &history[place]);
+    let index = history.len() - 1;
+    file(receipts, index as u64, &history[index]);
 }
 
 // Files the receipt of an entry.

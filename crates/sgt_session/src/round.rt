@@ -69,7 +69,7 @@ impl<N: Named, R: Records, A: Accesses, G: Graph> Round<N, R, A, G> {
             × (vec_len receipts.new ≡ vec_len receipts.old + 1)) }
         ensures parts { mine.new.parts ≡ mine.old.parts }
         ensures capacity { vec_capacity receipts.new ≡ vec_capacity receipts.old }
-        ensures refused { OnErr result ((self.new ≡ self.old) × (mine.new ≡ mine.old) × (receipts.new ≡ receipts.old)) }
+        ensures unchanged { OnErr result ((self.new ≡ self.old) × (mine.new ≡ mine.old) × (receipts.new ≡ receipts.old)) }
         ensures quits { (t : ℕ) → event ≡ Quit t → live self.old.past t ≡ true → IsOk result }
     {
         self.engine.answer(event)?;

@@ -6,7 +6,7 @@ ghost use Rattle.sgt_model.specs.Questions.{is_wait};
 ghost use Rattle.sgt_session.specs.Receipts.{IsWaitOf};
 
 use crate::named::Named;
-use crate::own::{make_room, note};
+use crate::own::{make_receipt_room, note};
 use crate::receipt::Receipt;
 use crate::shared::Shared;
 use crate::touch::touch;
@@ -28,7 +28,7 @@ pub struct Session<N: Named> {
     share: Share<N>,
     receipts: Vec<Receipt>,
     own: Vec<Tid>,
-    /// The place up to which the receipts' room was touched.
+    /// How far the receipts' room was touched.
     touched: usize,
 }
 
@@ -190,7 +190,7 @@ impl<N: Named> Session<N> {
             (λ _. (r : Receipt) × (r.event ≡ event) × (self.new ≡ self.old ++ r ∷ []))
             (λ _. self.new ≡ self.old) }
     {
-        make_room(&mut self.receipts, &mut self.own, &event)?;
+        make_receipt_room(&mut self.receipts, &mut self.own, &event)?;
         let mut round = shared.starters.lock(rt, &shared.round, &event);
         round.apply(event, &mut self.share, &mut self.receipts)?;
         let receipt = &self.receipts[self.receipts.len() - 1];

@@ -8,7 +8,7 @@ use sgt_model::{Event, Reply, Tid};
 /// The room of how many receipts is touched at a time: some 21 MB.
 const AT_ONCE: usize = 65_536;
 
-/// Writes once to the room of the next receipts, so far as there is some, and tells the place up to which it did.
+/// Writes once to the room of the next receipts, so far as there is some, and tells how far it did.
 ///
 /// The system gives a page its memory when it is first written to. Receipts are filed under the engine's lock, so without this
 /// all threads would wait for that memory; here each gets its own, at the same time as the others.
@@ -17,7 +17,7 @@ pub fn touch(receipts: &mut Vec<Receipt>) -> usize
     ensures receipts { receipts.new.items ≡ receipts.old.items }
     ensures count { vec_len receipts.new ≡ vec_len receipts.old }
     ensures capacity { vec_capacity receipts.new ≡ vec_capacity receipts.old }
-    ensures place { result ≡ min (vec_capacity receipts.old) (vec_len receipts.old + 65536) }
+    ensures index { result ≡ min (vec_capacity receipts.old) (vec_len receipts.old + 65536) }
 {
     let held = receipts.len();
     let end = receipts.capacity().min(held.saturating_add(AT_ONCE));

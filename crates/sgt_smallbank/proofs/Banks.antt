@@ -9,17 +9,17 @@ use Rattle.sgt_model.specs.Meaning.{is, over, both, compared, wrong, with_value,
 use Rattle.sgt_smallbank.specs.Texts.{balance, deposit_checking, transact_saving, amalgamate, write_check}
 use Rattle.sgt_smallbank.specs.Tables.{saving, checking}
 use Rattle.sgt_model.specs.StoredValues.{HoldValues}
-use Rattle.sgt_smallbank.specs.Arithmetic.{refused_if, found, in_range, now_has, bank, SerialIsBank}
+use Rattle.sgt_smallbank.specs.Arithmetic.{refused_if, if_present, in_range, now_has, bank, SerialIsBank}
 use Rattle.sgt_smallbank.proofs.Values.{Decides-is_value}
 
 -- ---- single steps
 
-found_at : (o : Option ℤ) (code : ℕ) (go : ℤ → Run) (m : Contents) (next : ℤ → Outcome) → ((v : ℤ) → o ≡ Some v → serial (go v) m ≡ next v) → serial (if_found code o go) m ≡ found code o next
+found_at : (o : Option ℤ) (code : ℕ) (go : ℤ → Run) (m : Contents) (next : ℤ → Outcome) → ((v : ℤ) → o ≡ Some v → serial (go v) m ≡ next v) → serial (if_found code o go) m ≡ if_present code o next
 found_at None code go m next then = refl
 found_at (Some v) code go m next then = then v refl
 
 -- a look at what is a key
-look_step : (fits : Bool) (k : Key) (code : ℕ) (go : ℤ → Run) (m : Contents) (next : ℤ → Outcome) → fits ≡ true → ((v : ℤ) → m k ≡ Some v → serial (go v) m ≡ next v) → serial (cond fits (looks k (λ o. if_found code o go)) wrong) m ≡ found code (m k) next
+look_step : (fits : Bool) (k : Key) (code : ℕ) (go : ℤ → Run) (m : Contents) (next : ℤ → Outcome) → fits ≡ true → ((v : ℤ) → m k ≡ Some v → serial (go v) m ≡ next v) → serial (cond fits (looks k (λ o. if_found code o go)) wrong) m ≡ if_present code (m k) next
 look_step fits k code go m next e then = rw e (found_at (m k) code go m next then)
 
 -- a store of a value in what is a key

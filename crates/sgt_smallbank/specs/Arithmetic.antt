@@ -16,9 +16,9 @@ abbrev pub refused_if : Bool → ℕ → Outcome → Outcome
 refused_if test code go = cond test (Asked code) go
 
 -- goes on with what stands there, or is refused with the code where nothing stands
-abbrev pub found : ℕ → Option ℤ → (ℤ → Outcome) → Outcome
-found code None go = Asked code
-found code (Some v) go = go v
+abbrev pub if_present : ℕ → Option ℤ → (ℤ → Outcome) → Outcome
+if_present code None go = Asked code
+if_present code (Some v) go = go v
 
 -- goes on with the number, or is refused with 1000 where it is no value
 abbrev pub in_range : ℤ → (ℤ → Outcome) → Outcome
@@ -31,9 +31,9 @@ now_has m balance new = Done (new ∷ []) (put_in m balance new)
 -- Balance answers the sum of saving and checking
 abbrev pub balance_outcome : ℤ → Contents → Outcome
 balance_outcome name m =
-    found 1 (m (account name)) (λ customer.
-    found 5 (m (saving customer)) (λ s.
-    found 5 (m (checking customer)) (λ c.
+    if_present 1 (m (account name)) (λ customer.
+    if_present 5 (m (saving customer)) (λ s.
+    if_present 5 (m (checking customer)) (λ c.
     in_range (s +ℤ c) (λ sum.
     Done (sum ∷ []) m))))
 
@@ -41,16 +41,16 @@ balance_outcome name m =
 abbrev pub deposit_checking_outcome : ℤ → ℤ → Contents → Outcome
 deposit_checking_outcome name amount m =
     refused_if (int_lt amount (pos 0)) 2 (
-    found 1 (m (account name)) (λ customer.
-    found 5 (m (checking customer)) (λ c.
+    if_present 1 (m (account name)) (λ customer.
+    if_present 5 (m (checking customer)) (λ c.
     in_range (c +ℤ amount) (λ new.
     now_has m (checking customer) new))))
 
 -- TransactSaving adds an amount to the saving, which may not become negative
 abbrev pub transact_saving_outcome : ℤ → ℤ → Contents → Outcome
 transact_saving_outcome name amount m =
-    found 1 (m (account name)) (λ customer.
-    found 5 (m (saving customer)) (λ s.
+    if_present 1 (m (account name)) (λ customer.
+    if_present 5 (m (saving customer)) (λ s.
     in_range (s +ℤ amount) (λ new.
     refused_if (int_lt new (pos 0)) 3 (
     now_has m (saving customer) new))))
@@ -64,12 +64,12 @@ emptied m customer = put_in (put_in m (saving customer) (pos 0)) (checking custo
 abbrev pub amalgamate_outcome : ℤ → ℤ → Contents → Outcome
 amalgamate_outcome from to m =
     refused_if (int_eq from to) 4 (
-    found 1 (m (account from)) (λ giver.
-    found 1 (m (account to)) (λ taker.
-    found 5 (m (saving giver)) (λ s.
-    found 5 (m (checking giver)) (λ c.
+    if_present 1 (m (account from)) (λ giver.
+    if_present 1 (m (account to)) (λ taker.
+    if_present 5 (m (saving giver)) (λ s.
+    if_present 5 (m (checking giver)) (λ c.
     in_range (s +ℤ c) (λ sum.
-    found 5 (emptied m giver (checking taker)) (λ had.
+    if_present 5 (emptied m giver (checking taker)) (λ had.
     in_range (had +ℤ sum) (λ new.
     Done (sum ∷ []) (put_in (emptied m giver) (checking taker) new)))))))))
 
@@ -78,9 +78,9 @@ amalgamate_outcome from to m =
 abbrev pub write_check_outcome : ℤ → ℤ → Contents → Outcome
 write_check_outcome name amount m =
     refused_if (int_lt amount (pos 0)) 2 (
-    found 1 (m (account name)) (λ customer.
-    found 5 (m (saving customer)) (λ s.
-    found 5 (m (checking customer)) (λ c.
+    if_present 1 (m (account name)) (λ customer.
+    if_present 5 (m (saving customer)) (λ s.
+    if_present 5 (m (checking customer)) (λ c.
     in_range (s +ℤ c) (λ sum.
     in_range (c -ℤ amount) (λ left.
     cond (int_lt sum amount)

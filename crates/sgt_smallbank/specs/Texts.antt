@@ -87,6 +87,6 @@ write_check = record {
       empty))))));
 }
 
--- the five, each with the number of its place
+-- the five, each by its number
 abbrev pub procedures : List Program
 procedures = balance ∷ deposit_checking ∷ transact_saving ∷ amalgamate ∷ write_check ∷ []

@@ -15,7 +15,7 @@ use std::alloc::Global;
 /// How many procedures SmallBank has. They are numbered from 0, and those of an opening from here.
 pub const PROCEDURES: u16 = 5;
 
-/// The five procedures, each with the number of its place: Balance, DepositChecking, TransactSaving, Amalgamate and
+/// The five procedures, each by its number: Balance, DepositChecking, TransactSaving, Amalgamate and
 /// WriteCheck. Only memory can be wanting.
 pub fn procedures(alloc: Global) -> Result<Vec<Checked>, NoMemory>
     ensures texts { IfOk result (λ list. list.items ≡ procedures) }

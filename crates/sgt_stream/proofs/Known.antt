@@ -3,7 +3,7 @@ use Rattle.std.proofs.Common.{◌≡◌, ℕ, ◌+◌, ◌≤◌, List, ◌++◌
 use Rattle.std.specs.Prelude.{Result, Ok, Err, OnErr, Option, None, Some, Bool, true, false, is_some, ◌⊎◌, if◌then◌else◌}
 use Rattle.std.proofs.lemmas.Grind.{common_steps}
 use Rattle.sgt_stream.specs.Lines.{has_break}
-use Rattle.sgt_stream.specs.Intake.{Intake, left, AtRest, IsReady, has_whole_line}
+use Rattle.sgt_stream.specs.Intake.{Intake, bytes_left, AtRest, IsReady, has_whole_line}
 use Rattle.std.proofs.lemmas.Bool.{true≢false}
 use Rattle.sgt_stream.proofs.Breaks.{found-none, found-is}
 use Rattle.std.proofs.lemmas.List.{take-append-drop}
@@ -21,7 +21,7 @@ pub held-same : (held held' : List ℕ) → take (length held) held' ≡ held �
 held-same held held' kept count = grind (arith, common_steps)
 
 -- a read leaves the bytes of lines not given as they were
-pub keeps-read : (i : Intake) (ended' : Bool) (held' : List ℕ) (rest rest' : Option (List ℕ)) → i.ended ≡ false → ended' ≡ false → take (length i.held) held' ≡ i.held → Consumes rest rest' (drop (length i.held) held') → Keeps (left i rest) (if ended' then Some held' else prepend_known held' rest')
+pub keeps-read : (i : Intake) (ended' : Bool) (held' : List ℕ) (rest rest' : Option (List ℕ)) → i.ended ≡ false → ended' ≡ false → take (length i.held) held' ≡ i.held → Consumes rest rest' (drop (length i.held) held') → Keeps (bytes_left i rest) (if ended' then Some held' else prepend_known held' rest')
 keeps-read i ended' held' rest rest' going going' kept came = rw (going, going') (keeps-more i.held held' rest rest' kept came)
 
 -- where the source has ended, what is held is the last line

@@ -28,12 +28,12 @@ abbrev pub come : Intake → ℕ
 come i = (16777216 - i.within) + length i.held
 
 -- the bytes of lines not given yet, where they are known: those held, and those that the source has still to give
-abbrev pub left : Intake → Option (List ℕ) → Option (List ℕ)
-left i rest = if i.ended then Some i.held else prepend_known i.held rest
+abbrev pub bytes_left : Intake → Option (List ℕ) → Option (List ℕ)
+bytes_left i rest = if i.ended then Some i.held else prepend_known i.held rest
 
 -- the cut of these bytes
 abbrev pub cut_left : Intake → Option (List ℕ) → Option Cut
-cut_left i rest = option_map (cut_within i.within) (left i rest)
+cut_left i rest = option_map (cut_within i.within) (bytes_left i rest)
 
 -- known lines are this one and then these
 abbrev pub Gives : Option Cut → List ℕ → Option Cut → Type 0

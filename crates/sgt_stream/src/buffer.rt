@@ -110,7 +110,7 @@ impl Buffer {
     }
 }
 
-/// Reads once, into the bytes from one place up to another.
+/// Reads once, into the bytes from one index up to another.
 fn read_between<S: Source>(
     source: &mut S,
     bytes: &mut [u8],

@@ -1,7 +1,7 @@
 ghost use Rattle.std.specs.Prelude.{◌≡◌, ◌≢◌, ℕ, if◌then◌else◌, IsTrue, IsFalse, true, false, IfOk, IfErr, OnOk, OnErr, OnSome, None, Some, min, [], ◌++◌, ◌+◌, ◌-◌, ◌^◌, ◌<◌, ◌≤◌, ◌↔◌, length, take, drop};
 ghost use Rattle.std.specs.Io.KnownBytes.{Consumes, Keeps};
 ghost use Rattle.sgt_stream.specs.Lines.{has_break, whole_lines, IsBreak, AtEnd};
-ghost use Rattle.sgt_stream.specs.Intake.{before_input, has_whole_line, left, work, IsReady, IsGiven, IsLong, cut_left, Gives, EndsAs, Explains, taken, come};
+ghost use Rattle.sgt_stream.specs.Intake.{before_input, has_whole_line, bytes_left, work, IsReady, IsGiven, IsLong, cut_left, Gives, EndsAs, Explains, taken, come};
 
 use crate::buffer::Buffer;
 use crate::fault::Fault;
@@ -120,13 +120,13 @@ impl Lines {
         ensures number { IfOk result (λ more.
             self.new.number ≡ (if more then self.old.number + 1 else self.old.number)) }
         ensures taken { IfOk result (λ more. IsTrue more → Consumes
-            (left self.old (S.rest source.old)) (left self.new (S.rest source.new))
+            (bytes_left self.old (S.rest source.old)) (bytes_left self.new (S.rest source.new))
             (taken self.new)) }
         ensures nearer { IfOk result (λ more. IsTrue more → self.new.within < self.old.within) }
         ensures unbroken { IfOk result (λ more. IsTrue more → has_break self.new.line ≡ false) }
         ensures short { IfOk result (λ more. IsTrue more → length self.new.line ≤ 65536) }
         ensures kept { result ≡ Err Fault.Reading →
-            Keeps (left self.old (S.rest source.old)) (left self.new (S.rest source.new)) }
+            Keeps (bytes_left self.old (S.rest source.old)) (bytes_left self.new (S.rest source.new)) }
         ensures no_line { result ≡ Err Fault.Reading → whole_lines self.new.held ≡ [] }
         ensures come { S.given source.new + come self.old ≤ S.given source.old + come self.new }
         ensures few { come self.new ≤ 16777217 }
@@ -150,7 +150,7 @@ impl Lines {
         ensures number { self.new.number ≡ self.old.number }
         ensures same { self.new.within ≡ self.old.within }
         ensures bytes { Keeps
-            (left self.old (S.rest source.old)) (left self.new (S.rest source.new)) }
+            (bytes_left self.old (S.rest source.old)) (bytes_left self.new (S.rest source.new)) }
         ensures come { S.given source.new + come self.old ≤ S.given source.old + come self.new }
         ensures few { come self.new ≤ 16777217 }
         ensures nearer { OnOk result (work self.new < work self.old) }
@@ -174,7 +174,7 @@ impl Lines {
         ensures number { self.new.number ≡ self.old.number }
         ensures within { self.new.within ≡ self.old.within }
         ensures bytes { Keeps
-            (left self.old (S.rest source.old)) (left self.new (S.rest source.new)) }
+            (bytes_left self.old (S.rest source.old)) (bytes_left self.new (S.rest source.new)) }
         ensures come { S.given source.new + come self.old ≤ S.given source.old + come self.new }
         ensures ready { OnOk result (IsReady self.new) }
         ensures fault { IfErr result (λ f.

@@ -1,6 +1,8 @@
 //! Commits that have to wait: of a call, and of two sessions at once.
 
-use crate::bank::{BALANCE, Bank, DEPOSIT_CHECKING, SharedBank, TRANSACT_SAVING, new_bank, start};
+use crate::engine::{
+    BALANCE, DEPOSIT_CHECKING, ListEngine, SharedEngine, TRANSACT_SAVING, new_engine, start,
+};
 use crate::sessions::{Play, Told, is_raised, is_told, lets_others_call, makes_three_steps, run};
 use sgt_model::{Event, Reply, Tid};
 use sgt_session::{Named, Session};
@@ -19,7 +21,7 @@ const NAPS: u32 = 20_000;
 /// receipt; then both are committed.
 fn asks_behind_own<N: Named, W: Wait>(
     rt: &W,
-    shared: &SharedBank<N>,
+    shared: &SharedEngine<N>,
     session: &mut Session<N>,
 ) -> Option<()> {
     let first = makes_three_steps(rt, shared, session, start(DEPOSIT_CHECKING, &[1, 100]))?;
@@ -34,7 +36,7 @@ fn asks_behind_own<N: Named, W: Wait>(
 
 pub fn asks_at_once<N: Named, W: Wait>(
     rt: &W,
-    shared: &SharedBank<N>,
+    shared: &SharedEngine<N>,
     sessions: &mut [Session<N>],
 ) {
     if let Some(session) = sessions.first_mut() {
@@ -60,7 +62,7 @@ fn naps() {
 /// and the second once both wait again.
 fn puts_in_twice<N: Named, W: Wait>(
     rt: &W,
-    shared: &SharedBank<N>,
+    shared: &SharedEngine<N>,
     session: &mut Session<N>,
     signs: &Signs,
 ) -> Option<()> {
@@ -81,7 +83,7 @@ fn puts_in_twice<N: Named, W: Wait>(
 /// Asks for the balance once both are stored, and commits behind them. It has made six calls when it waits.
 fn asks_behind_two<N: Named, W: Wait>(
     rt: &W,
-    shared: &SharedBank<N>,
+    shared: &SharedEngine<N>,
     session: &mut Session<N>,
     has_stored: &AtomicBool,
     has_asked: &AtomicBool,
@@ -99,7 +101,7 @@ fn asks_behind_two<N: Named, W: Wait>(
 /// Three threads, each with a session.
 pub fn puts_and_asks<N: Named + Send + Sync, R: Threads + Wait + Sync>(
     rt: &R,
-    shared: &SharedBank<N>,
+    shared: &SharedEngine<N>,
     sessions: &mut [Session<N>],
 ) {
     let signs = Signs {
@@ -150,10 +152,11 @@ const ASKED_BEHIND_TWO: [Told; 7] = [
 ];
 
 /// Whether these two transactions were told so.
-fn are_told(bank: Option<Bank>, first: (Tid, &[Told]), second: (Tid, &[Told])) -> bool {
-    match bank {
-        Some(bank) => {
-            is_told(bank.history(), first.0, first.1) && is_told(bank.history(), second.0, second.1)
+fn are_told(engine: Option<ListEngine>, first: (Tid, &[Told]), second: (Tid, &[Told])) -> bool {
+    match engine {
+        Some(engine) => {
+            is_told(engine.history(), first.0, first.1)
+                && is_told(engine.history(), second.0, second.1)
         }
         None => false,
     }
@@ -161,19 +164,26 @@ fn are_told(bank: Option<Bank>, first: (Tid, &[Told]), second: (Tid, &[Told])) -
 
 #[test]
 fn a_call_that_has_to_wait_returns_at_once(rt: HostRuntime) -> Result<(), Fail> {
-    let bank = new_bank(rt.alloc())?;
-    let bank = run::<Brand, _>(&rt, rt.alloc(), bank, Blank::new(1), 1, Play::AskAtOnce);
-    assert!(rt; are_told(bank, (Tid(0), &DEPOSITED), (Tid(1), &ASKED_AT_ONCE)));
+    let engine = new_engine(rt.alloc())?;
+    let engine = run::<Brand, _>(&rt, rt.alloc(), engine, Blank::new(1), 1, Play::AskAtOnce);
+    assert!(rt; are_told(engine, (Tid(0), &DEPOSITED), (Tid(1), &ASKED_AT_ONCE)));
     Ok(())
 }
 
 #[test]
 fn an_end_wakes_all_that_wait_for_it(rt: HostRuntime) -> Result<(), Fail> {
-    let bank = new_bank(rt.alloc())?;
-    let bank = run::<Brand, _>(&rt, rt.alloc(), bank, Blank::new(3), 3, Play::AskBehindTwo);
+    let engine = new_engine(rt.alloc())?;
+    let engine = run::<Brand, _>(
+        &rt,
+        rt.alloc(),
+        engine,
+        Blank::new(3),
+        3,
+        Play::AskBehindTwo,
+    );
     assert!(rt;
         are_told(
-            bank,
+            engine,
             (Tid(2), &ASKED_BEHIND_TWO),
             (Tid(3), &ASKED_BEHIND_TWO)
         )

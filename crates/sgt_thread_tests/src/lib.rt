@@ -5,9 +5,9 @@
 #![tactic(auto)]
 
 #[cfg(test)]
-mod bank;
-#[cfg(test)]
 mod commits;
+#[cfg(test)]
+mod engine;
 #[cfg(test)]
 mod feed;
 #[cfg(test)]

@@ -1,7 +1,7 @@
 //! What the outcomes of jobs say of a history: each kind right and wrong.
 
-use crate::bank::{
-    BALANCE, Bank, DEPOSIT_CHECKING, TRANSACT_SAVING, WRITE_CHECK, bank_after, start,
+use crate::engine::{
+    BALANCE, DEPOSIT_CHECKING, ListEngine, TRANSACT_SAVING, WRITE_CHECK, engine_after, start,
 };
 use sgt_dispatch::Job;
 use sgt_model::{Args, Event, NoMemory, Tid};
@@ -11,7 +11,7 @@ use std::alloc::Global;
 /// A procedure with its arguments.
 type Call = (u16, &'static [i64]);
 
-/// What is done at a bank. Of these a try is the longest: a procedure is started, which gives a transaction of this number if
+/// What is done at an engine. Of these a try is the longest: a procedure is started, which gives a transaction of this number if
 /// it is not refused, and makes so many steps.
 #[derive(Clone, Copy)]
 enum Deed {
@@ -105,17 +105,17 @@ fn jobs_of(alloc: Global, calls: &[Call]) -> Result<Vec<Job>, NoMemory> {
 type Case = (&'static [Call], &'static [Told], u32, u32);
 
 /// Whether what is told stands.
-fn stands(alloc: Global, bank: &Bank, case: Case) -> Result<bool, NoMemory> {
+fn stands(alloc: Global, engine: &ListEngine, case: Case) -> Result<bool, NoMemory> {
     let (calls, told, workers, tries) = case;
     let jobs = jobs_of(alloc, calls)?;
     let outcomes = outcomes_of(alloc, told)?;
-    audit(alloc, bank.history(), &jobs, &outcomes, workers, tries)
+    audit(alloc, engine.history(), &jobs, &outcomes, workers, tries)
 }
 
-/// The place of the first case that stands, where none is to stand, or the other way round.
-fn first_wrong(alloc: Global, bank: &Bank, cases: &[Case], right: bool) -> Option<usize> {
+/// The index of the first case that stands, where none is to stand, or the other way round.
+fn first_wrong(alloc: Global, engine: &ListEngine, cases: &[Case], right: bool) -> Option<usize> {
     for (at, case) in cases.iter().enumerate() {
-        if stands(alloc, bank, *case) != Ok(right) {
+        if stands(alloc, engine, *case) != Ok(right) {
             return Some(at);
         }
     }
@@ -125,9 +125,9 @@ fn first_wrong(alloc: Global, bank: &Bank, cases: &[Case], right: bool) -> Optio
 /// Whether after these deeds the first cases stand, and the others don't.
 fn agree(alloc: Global, deeds: &[Deed], right: &[Case], wrong: &[Case]) -> Option<bool> {
     let events = events_of(alloc, deeds).ok()?;
-    let bank = bank_after(alloc, events.as_slice()).ok()?;
-    let first = first_wrong(alloc, &bank, right, true);
-    let second = first_wrong(alloc, &bank, wrong, false);
+    let engine = engine_after(alloc, events.as_slice()).ok()?;
+    let first = first_wrong(alloc, &engine, right, true);
+    let second = first_wrong(alloc, &engine, wrong, false);
     Some(first.is_none() && second.is_none())
 }
 

@@ -2,8 +2,8 @@
 ghost use Rattle.std.specs.Prelude.{◌≡◌, ◌≤◌, []};
 ghost use Rattle.sgt_engine.specs.EngineView.{setting_of};
 
-use crate::bank::{BALANCE, Bank, DEPOSIT_CHECKING, SharedBank, new_bank, start};
 use crate::commits::{asks_at_once, puts_and_asks};
+use crate::engine::{BALANCE, DEPOSIT_CHECKING, ListEngine, SharedEngine, new_engine, start};
 use crate::stress::all_work;
 use sgt_model::{Entry, Event, Reply, Tid};
 use sgt_session::{CloseError, Named, Session, Shared};
@@ -56,7 +56,7 @@ pub fn is_raised(flag: &AtomicBool) -> bool {
 /// Starts a transaction, unless it is refused.
 pub fn starts<N: Named, W: Wait>(
     rt: &W,
-    shared: &SharedBank<N>,
+    shared: &SharedEngine<N>,
     session: &mut Session<N>,
     event: Event,
 ) -> Option<Tid> {
@@ -70,7 +70,7 @@ pub fn starts<N: Named, W: Wait>(
 /// Makes a call, and answers its number.
 pub fn calls<N: Named, W: Wait>(
     rt: &W,
-    shared: &SharedBank<N>,
+    shared: &SharedEngine<N>,
     session: &mut Session<N>,
     event: Event,
 ) -> Option<u64> {
@@ -83,7 +83,7 @@ pub fn calls<N: Named, W: Wait>(
 /// Starts a transaction, and makes three steps.
 pub fn makes_three_steps<N: Named, W: Wait>(
     rt: &W,
-    shared: &SharedBank<N>,
+    shared: &SharedEngine<N>,
     session: &mut Session<N>,
     event: Event,
 ) -> Option<Tid> {
@@ -97,7 +97,7 @@ pub fn makes_three_steps<N: Named, W: Wait>(
 /// Makes steps at the procedure's end, which change nothing, until the other sessions have made so many calls.
 pub fn lets_others_call<N: Named, W: Wait>(
     rt: &W,
-    shared: &SharedBank<N>,
+    shared: &SharedEngine<N>,
     session: &mut Session<N>,
     t: Tid,
     others: u64,
@@ -115,7 +115,7 @@ pub fn lets_others_call<N: Named, W: Wait>(
 /// Deposits 1.00, and commits once the other has asked to commit.
 fn deposits<N: Named, W: Wait>(
     rt: &W,
-    shared: &SharedBank<N>,
+    shared: &SharedEngine<N>,
     session: &mut Session<N>,
     flags: &Flags,
 ) {
@@ -131,7 +131,7 @@ fn deposits<N: Named, W: Wait>(
 /// Asks for the balance once the deposit is stored: it reads the checking from the deposit, and has to commit behind it.
 fn asks<N: Named, W: Wait>(
     rt: &W,
-    shared: &SharedBank<N>,
+    shared: &SharedEngine<N>,
     session: &mut Session<N>,
     flags: &Flags,
 ) {
@@ -147,7 +147,7 @@ fn asks<N: Named, W: Wait>(
 /// Two threads, each with a session.
 fn both_play<N: Named + Send + Sync, R: Threads + Wait + Sync>(
     rt: &R,
-    shared: &SharedBank<N>,
+    shared: &SharedEngine<N>,
     sessions: &mut [Session<N>],
 ) {
     let flags = Flags {
@@ -169,7 +169,7 @@ fn both_play<N: Named + Send + Sync, R: Threads + Wait + Sync>(
 /// A thread for each session, where they do what is played.
 fn play_all<N: Named + Send + Sync, R: Threads + Wait + Sync>(
     rt: &R,
-    shared: &SharedBank<N>,
+    shared: &SharedEngine<N>,
     sessions: &mut [Session<N>],
     play: Play,
 ) {
@@ -183,9 +183,9 @@ fn play_all<N: Named + Send + Sync, R: Threads + Wait + Sync>(
 
 /// Closes without one of the sessions.
 fn close_without_one<N: Named>(
-    shared: SharedBank<N>,
+    shared: SharedEngine<N>,
     sessions: Vec<Session<N>>,
-) -> Option<(SharedBank<N>, Vec<Session<N>>)>
+) -> Option<(SharedEngine<N>, Vec<Session<N>>)>
     requires { N.sessions ≡ N.parts }
 {
     match shared.close(sessions) {
@@ -197,9 +197,9 @@ fn close_without_one<N: Named>(
 /// The last session is kept back while the others close. It joins those that are handed back, and makes one more call.
 fn close_too_early<N: Named, W: Wait>(
     rt: &W,
-    shared: SharedBank<N>,
+    shared: SharedEngine<N>,
     sessions: Vec<Session<N>>,
-) -> Option<(SharedBank<N>, Vec<Session<N>>)>
+) -> Option<(SharedEngine<N>, Vec<Session<N>>)>
     requires { N.sessions ≡ N.parts }
 {
     let mut sessions = sessions;
@@ -213,7 +213,7 @@ fn close_too_early<N: Named, W: Wait>(
 }
 
 /// Closes with all sessions.
-fn close_all<N: Named>(shared: SharedBank<N>, sessions: Vec<Session<N>>) -> Option<Bank>
+fn close_all<N: Named>(shared: SharedEngine<N>, sessions: Vec<Session<N>>) -> Option<ListEngine>
     requires { N.sessions ≡ N.parts }
 {
     match shared.close(sessions) {
@@ -222,22 +222,22 @@ fn close_all<N: Named>(shared: SharedBank<N>, sessions: Vec<Session<N>>) -> Opti
     }
 }
 
-/// So many threads play, each with a session, and leave a bank behind. A close without one of the sessions hands all back, and
+/// So many threads play, each with a session, and leave an engine behind. A close without one of the sessions hands all back, and
 /// one with all of them closes.
 pub fn run<N: Named + Send + Sync, R: Threads + Wait + Sync>(
     rt: &R,
     alloc: Global,
-    bank: Bank,
+    engine: ListEngine,
     blank: Blank,
     threads: u16,
     play: Play,
-) -> Option<Bank>
-    requires setting { setting_of bank ≡ N.setting }
-    requires empty { bank.past ≡ [] }
+) -> Option<ListEngine>
+    requires setting { setting_of engine ≡ N.setting }
+    requires empty { engine.past ≡ [] }
     requires blank { (blank.name ≡ N.name) × (blank.parts ≡ N.parts) × (blank.parts ≡ threads) }
     requires threads { (N.sessions ≡ threads) × (1 ≤ threads) × (threads ≤ 64) }
 {
-    let Ok((shared, mut sessions)) = Shared::<N, _, _, _>::new(alloc, bank, blank, threads) else {
+    let Ok((shared, mut sessions)) = Shared::<N, _, _, _>::new(alloc, engine, blank, threads) else {
         return None;
     };
     play_all(rt, &shared, sessions.as_mut_slice(), play);
@@ -313,11 +313,11 @@ const ASKED: [Told; 6] = [
 ];
 
 /// Whether the two transactions of the threads that met were told so.
-fn have_met(bank: Option<Bank>) -> bool {
-    match bank {
-        Some(bank) => {
-            is_told(bank.history(), Tid(0), DEPOSITED.as_slice())
-                && is_told(bank.history(), Tid(1), ASKED.as_slice())
+fn have_met(engine: Option<ListEngine>) -> bool {
+    match engine {
+        Some(engine) => {
+            is_told(engine.history(), Tid(0), DEPOSITED.as_slice())
+                && is_told(engine.history(), Tid(1), ASKED.as_slice())
         }
         None => false,
     }
@@ -325,8 +325,8 @@ fn have_met(bank: Option<Bank>) -> bool {
 
 #[test]
 fn two_sessions_meet(rt: HostRuntime) -> Result<(), Fail> {
-    let bank = new_bank(rt.alloc())?;
-    let bank = run::<Brand, _>(&rt, rt.alloc(), bank, Blank::new(2), 2, Play::Meet);
-    assert!(rt; have_met(bank));
+    let engine = new_engine(rt.alloc())?;
+    let engine = run::<Brand, _>(&rt, rt.alloc(), engine, Blank::new(2), 2, Play::Meet);
+    assert!(rt; have_met(engine));
     Ok(())
 }

@@ -1,7 +1,7 @@
 //! Many threads on few records: what they leave behind, and the same one after another.
-use crate::bank::{
-    AMALGAMATE, BALANCE, Bank, DEPOSIT_CHECKING, SharedBank, TRANSACT_SAVING, bank_after, new_bank,
-    start,
+use crate::engine::{
+    AMALGAMATE, BALANCE, DEPOSIT_CHECKING, ListEngine, SharedEngine, TRANSACT_SAVING, engine_after,
+    new_engine, start,
 };
 use crate::sessions::{Play, run, starts};
 use sgt_model::{Entry, Event, Key, NoMemory, Reply, Tid};
@@ -34,7 +34,7 @@ fn event_for(x: u64) -> Event {
 /// Lets a transaction go its whole way: to its commit, or until it is aborted or has fallen.
 fn goes<N: Named, W: Wait>(
     rt: &W,
-    shared: &SharedBank<N>,
+    shared: &SharedEngine<N>,
     session: &mut Session<N>,
     t: Tid,
 ) -> Result<(), NoMemory> {
@@ -53,7 +53,12 @@ fn goes<N: Named, W: Wait>(
 }
 
 /// One transaction. Where memory is wanting it is quit, so that nobody waits for it.
-fn runs<N: Named, W: Wait>(rt: &W, shared: &SharedBank<N>, session: &mut Session<N>, event: Event) {
+fn runs<N: Named, W: Wait>(
+    rt: &W,
+    shared: &SharedEngine<N>,
+    session: &mut Session<N>,
+    event: Event,
+) {
     if let Some(t) = starts(rt, shared, session, event) {
         if goes(rt, shared, session, t).is_err() {
             let _ = session.call(rt, shared, Event::Quit(t));
@@ -62,7 +67,12 @@ fn runs<N: Named, W: Wait>(rt: &W, shared: &SharedBank<N>, session: &mut Session
 }
 
 /// 200 transactions, one after another.
-fn works<N: Named, W: Wait>(rt: &W, shared: &SharedBank<N>, session: &mut Session<N>, seat: usize) {
+fn works<N: Named, W: Wait>(
+    rt: &W,
+    shared: &SharedEngine<N>,
+    session: &mut Session<N>,
+    seat: usize,
+) {
     let mut x = drawn(seat as u64);
     for _ in 0..200 {
         x = drawn(x);
@@ -73,7 +83,7 @@ fn works<N: Named, W: Wait>(rt: &W, shared: &SharedBank<N>, session: &mut Sessio
 /// Each session in a thread of its own.
 pub fn all_work<N: Named + Send + Sync, R: Threads + Wait + Sync>(
     rt: &R,
-    shared: &SharedBank<N>,
+    shared: &SharedEngine<N>,
     sessions: &mut [Session<N>],
 ) {
     thread::for_each_mut(
@@ -174,10 +184,10 @@ fn one_after_another(alloc: Global, history: &[Entry]) -> Result<Vec<Event>, NoM
     Ok(events)
 }
 
-/// The committed transactions, one after another at a bank of their own.
-fn alone(alloc: Global, bank: &Bank) -> Option<Bank> {
-    let events = one_after_another(alloc, bank.history()).ok()?;
-    bank_after(alloc, events.as_slice()).ok()
+/// The committed transactions, one after another at an engine of their own.
+fn alone(alloc: Global, engine: &ListEngine) -> Option<ListEngine> {
+    let events = one_after_another(alloc, engine.history()).ok()?;
+    engine_after(alloc, events.as_slice()).ok()
 }
 
 /// The replies of the commits, in their order.
@@ -191,13 +201,21 @@ fn answers_in(alloc: Global, history: &[Entry]) -> Result<Vec<Reply>, NoMemory> 
     Ok(answers)
 }
 
-fn has_same_answers(alloc: Global, bank: &Bank, other: &Bank) -> Result<bool, NoMemory> {
-    Ok(answers_in(alloc, bank.history())? == answers_in(alloc, other.history())?)
+fn has_same_answers(
+    alloc: Global,
+    engine: &ListEngine,
+    other: &ListEngine,
+) -> Result<bool, NoMemory> {
+    Ok(answers_in(alloc, engine.history())? == answers_in(alloc, other.history())?)
 }
 
 /// Whether the committed databases are the same, and what the first holds.
-fn rows_and_held(alloc: Global, bank: &Bank, other: &Bank) -> Result<(bool, i64), NoMemory> {
-    let database = bank.database(alloc)?;
+fn rows_and_held(
+    alloc: Global,
+    engine: &ListEngine,
+    other: &ListEngine,
+) -> Result<(bool, i64), NoMemory> {
+    let database = engine.database(alloc)?;
     let other = other.database(alloc)?;
     Ok((database.rows() == other.rows(), held(database.rows())))
 }
@@ -215,12 +233,12 @@ struct Left {
     surplus: i64,
 }
 
-fn compare(alloc: Global, bank: &Bank, alone: &Bank) -> Option<Left> {
-    let (rows, held) = rows_and_held(alloc, bank, alone).ok()?;
+fn compare(alloc: Global, engine: &ListEngine, alone: &ListEngine) -> Option<Left> {
+    let (rows, held) = rows_and_held(alloc, engine, alone).ok()?;
     Some(Left {
-        starts: starts_in(bank.history()),
-        live: bank.sched().live().len(),
-        answers: has_same_answers(alloc, bank, alone).ok()?,
+        starts: starts_in(engine.history()),
+        live: engine.sched().live().len(),
+        answers: has_same_answers(alloc, engine, alone).ok()?,
         rows,
         surplus: held
             .wrapping_sub(7500)
@@ -228,16 +246,16 @@ fn compare(alloc: Global, bank: &Bank, alone: &Bank) -> Option<Left> {
     })
 }
 
-/// What a bank that was left behind holds, beside the same transactions one after another.
-fn left_in(alloc: Global, bank: Option<Bank>) -> Option<Left> {
-    let bank = bank?;
-    compare(alloc, &bank, &alone(alloc, &bank)?)
+/// What an engine that was left behind holds, beside the same transactions one after another.
+fn left_in(alloc: Global, engine: Option<ListEngine>) -> Option<Left> {
+    let engine = engine?;
+    compare(alloc, &engine, &alone(alloc, &engine)?)
 }
 
 #[test]
 fn eight_threads_on_five_accounts(rt: HostRuntime) -> Result<(), Fail> {
-    let bank = new_bank(rt.alloc())?;
-    let bank = run::<Brand, _>(&rt, rt.alloc(), bank, Blank::new(8), 8, Play::Press);
+    let engine = new_engine(rt.alloc())?;
+    let engine = run::<Brand, _>(&rt, rt.alloc(), engine, Blank::new(8), 8, Play::Press);
     let left = Left {
         starts: 1600,
         live: 0,
@@ -245,6 +263,6 @@ fn eight_threads_on_five_accounts(rt: HostRuntime) -> Result<(), Fail> {
         rows: true,
         surplus: 0,
     };
-    assert!(rt; left_in(rt.alloc(), bank) == Some(left));
+    assert!(rt; left_in(rt.alloc(), engine) == Some(left));
     Ok(())
 }

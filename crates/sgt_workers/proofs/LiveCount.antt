@@ -20,15 +20,15 @@ use Rattle.sgt_model.proofs.Listed.{kept_member}
 use Rattle.sgt_model.proofs.Rises.{live_ones-rise}
 use Rattle.sgt_model.proofs.Room.{begun_below}
 use Rattle.sgt_model.proofs.SomeReply.{begun_has}
-use Rattle.sgt_workers.specs.LiveCount.{started_by, ended_by}
+use Rattle.sgt_workers.specs.LiveCount.{count_started, count_ended}
 use Rattle.sgt_workers.specs.Reports.{FewLive, AllEnded}
 use Rattle.sgt_workers.proofs.Numbers.{is_among, rising_distinct, some_less}
 
-starts_none : (r : Reply) → is_start r ≡ false → started_by r ≡ 0
+starts_none : (r : Reply) → is_start r ≡ false → count_started r ≡ 0
 starts_none (reply.Started t) e = absurd (true≢false e)
 starts_none _ e = refl
 
-ends_no_one : (r : Reply) → EndsNone r → ended_by r ≡ 0
+ends_no_one : (r : Reply) → EndsNone r → count_ended r ≡ 0
 ends_no_one (reply.Committed answers) h = absurd h
 ends_no_one (reply.Aborted why fell) h = absurd h
 ends_no_one _ h = refl
@@ -67,7 +67,7 @@ module _ (past : List Entry) (e : Entry) where
       let fewer = some_less those (live_ones past) once (rising_distinct (live_ones past) (live_ones-rise past)) (λ t m. member_live t (alive t m)) in
       ap (λ l. length l + length those) rest ∙ fewer
 
-  none_lost : is_start e.reply ≡ false → EndsNone e.reply → length (live_ones (e ∷ past)) + ended_by e.reply ≡ length (live_ones past) + started_by e.reply
+  none_lost : is_start e.reply ≡ false → EndsNone e.reply → length (live_ones (e ∷ past)) + count_ended e.reply ≡ length (live_ones past) + count_started e.reply
   none_lost none ends =
       let same = lost [] none (λ t. ap is_some (ends_none-no_end e.event e.reply ends t)) tt (λ t m. absurd m) in
       let a = starts_none e.reply none in
@@ -75,15 +75,15 @@ module _ (past : List Entry) (e : Entry) where
       let zero : length {A = ℕ} [] ≡ 0 = refl in
       omega arith
 
-  one_started : (s : Setting) → Legal s past → e.reply ≡ reply.Started (starts past) → length (live_ones (e ∷ past)) + ended_by e.reply ≡ length (live_ones past) + started_by e.reply
+  one_started : (s : Setting) → Legal s past → e.reply ≡ reply.Started (starts past) → length (live_ones (e ∷ past)) + count_ended e.reply ≡ length (live_ones past) + count_started e.reply
   one_started s legal is =
       let ones : live_ones (e ∷ past) ≡ filter (live (e ∷ past)) (begun past ++ starts past ∷ []) = ap (λ b. filter (live (e ∷ past)) (cond b (begun past ++ starts past ∷ []) (begun past))) (ap is_start is) in
       let both = filter-append (live (e ∷ past)) (begun past) (starts past ∷ []) in
       let old = filter_listed (live (e ∷ past)) (live past) (begun past) (λ t m. as_before t (begun_below past t m)) in
       let new : filter (live (e ∷ past)) (starts past ∷ []) ≡ starts past ∷ [] = ap (λ b. cond b (starts past ∷ []) []) (now_live) in
       let count = ap length (ones ∙ (both ∙ ap₂ (λ a b. a ++ b) old new)) ∙ length-append (live_ones past) (starts past ∷ []) in
-      let a : started_by e.reply ≡ 1 = ap started_by is in
-      let b : ended_by e.reply ≡ 0 = ap ended_by is in
+      let a : count_started e.reply ≡ 1 = ap count_started is in
+      let b : count_ended e.reply ≡ 0 = ap count_ended is in
       let one : length {A = ℕ} (starts past ∷ []) ≡ 1 = refl in
       omega arith
     where
@@ -102,7 +102,7 @@ module _ (past : List Entry) (e : Entry) where
       now_live : live (e ∷ past) (starts past) ≡ true
       now_live = live_is (starts past) ∙ ap₂ (λ a o. a && is_none o) (lt-ltb (starts past) (starts past + 1) (omega arith)) (unstarted-no_fate s past legal (starts past) (omega arith))
 
-  by_effect : (s : Setting) → Legal s past → Effect s past e.event e.reply → length (live_ones (e ∷ past)) + ended_by e.reply ≡ length (live_ones past) + started_by e.reply
+  by_effect : (s : Setting) → Legal s past → Effect s past e.event e.reply → length (live_ones (e ∷ past)) + count_ended e.reply ≡ length (live_ones past) + count_started e.reply
   by_effect s legal (idle i) = none_lost i.no_start i.ends_none
   by_effect s legal (begins b) = one_started s legal b.reply_is
   by_effect s legal (accesses x) = none_lost x.no_start x.ends_none
@@ -110,7 +110,7 @@ module _ (past : List Entry) (e : Entry) where
       let none : is_start e.reply ≡ false = ap is_start c.reply_is in
       let one = lost (c.t ∷ []) none (λ t. ap₂ (λ x y. is_some (ending_in x y t)) c.event_is c.reply_is ∙ commit_gone (nat_eq c.t t)) ((λ m. m), tt) (λ t m. subst (λ u. live past u ≡ true) (sym (only t m)) c.is_live) in
       let a = starts_none e.reply none in
-      let b : ended_by e.reply ≡ 1 = ap ended_by c.reply_is in
+      let b : count_ended e.reply ≡ 1 = ap count_ended c.reply_is in
       let n : length {A = ℕ} (c.t ∷ []) ≡ 1 = refl in
       omega arith
     where
@@ -126,7 +126,7 @@ module _ (past : List Entry) (e : Entry) where
       let u = x.undoing in
       let some = lost (u.t ∷ u.fell) none (λ t. ap is_some (u.ends t) ∙ abort_gone (fate.Aborted u.why) (fate.Fell u.t) (nat_eq u.t t) (is_among u.fell t)) ((λ m. (u.falls.each u.t m).1 refl), rising_distinct u.fell u.falls.rising) (λ t m. those t m) in
       let a = starts_none e.reply none in
-      let b : ended_by e.reply ≡ length u.fell + 1 = ap ended_by x.reply_is in
+      let b : count_ended e.reply ≡ length u.fell + 1 = ap count_ended x.reply_is in
       let n : length (u.t ∷ u.fell) ≡ length u.fell + 1 = omega arith in
       omega arith
     where
@@ -139,17 +139,17 @@ module _ (past : List Entry) (e : Entry) where
       those t (inl same) = subst (λ v. live past v ≡ true) (sym same) x.undoing.is_live
       those t (inr m) = (x.undoing.falls.each t m).0
 
-started_or_ended : (r : Reply) → (started_by r ≡ 0) ⊎ (ended_by r ≡ 0)
+started_or_ended : (r : Reply) → (count_started r ≡ 0) ⊎ (count_ended r ≡ 0)
 started_or_ended (reply.Committed answers) = inl refl
 started_or_ended (reply.Aborted why fell) = inl refl
 started_or_ended _ = inr refl
 
 -- as many are live after an entry as were before it, with the one that it started and without those that it ended
-pub live_count : (s : Setting) (past : List Entry) (e : Entry) → Legal s (e ∷ past) → length (live_ones (e ∷ past)) + ended_by e.reply ≡ length (live_ones past) + started_by e.reply
+pub live_count : (s : Setting) (past : List Entry) (e : Entry) → Legal s (e ∷ past) → length (live_ones (e ∷ past)) + count_ended e.reply ≡ length (live_ones past) + count_started e.reply
 live_count s past e legal = by_effect past e s legal.0 (effect s past e.event e.reply legal.1)
 
 -- an entry ends no more than were live
-pub ends_live : (s : Setting) (past : List Entry) (e : Entry) → Legal s (e ∷ past) → ended_by e.reply ≤ length (live_ones past)
+pub ends_live : (s : Setting) (past : List Entry) (e : Entry) → Legal s (e ∷ past) → count_ended e.reply ≤ length (live_ones past)
 ends_live s past e legal = let n = live_count s past e legal in elim (started_or_ended e.reply) [ inl none ↦ omega arith | inr none ↦ omega arith ]
 
 kept_none : (p : ℕ → Bool) → ((t : ℕ) → p t ≡ false) → (ts : List ℕ) → length (filter p ts) ≡ 0

@@ -11,7 +11,7 @@ use Rattle.sgt_dispatch.specs.declared.job.Job.{Job}
 use Rattle.sgt_workers.specs.declared.outcome.Outcome.{Outcome}
 use Rattle.sgt_workers.specs.declared.outcome.Outcome.TheVariants as outcome
 use Rattle.sgt_model.specs.Questions.{named_by, is_commit, is_ask}
-use Rattle.sgt_workers.specs.Outcomes.{Ends, IsFailed, Stands}
+use Rattle.sgt_workers.specs.Outcomes.{Ends, IsFailed, OutcomeStands}
 use Rattle.sgt_workers.specs.Reports.{entries_of, transaction_at, transactions_of}
 
 module _ (history : List Entry) (tries : ℕ) where
@@ -29,7 +29,7 @@ module _ (history : List Entry) (tries : ℕ) where
   one_entry : (n : ℕ) (e : Entry) → slice_get history n ≡ Some e → All is_entry (n ∷ [])
   one_entry n e there = All-cons is_entry n [] (slice_get_within history n e there) (All-nil is_entry)
 
-  transactions_started : {N : Type 0} (job : Job) (o : Outcome N) → Stands history tries job o → All is_started (transactions_of history o)
+  transactions_started : {N : Type 0} (job : Job) (o : Outcome N) → OutcomeStands history tries job o → All is_started (transactions_of history o)
   transactions_started job (outcome.Done n) h = ended_started is_commit job n h
   transactions_started job (outcome.Asked n) h = ended_started is_ask job n h
   transactions_started job (outcome.Gave attempts) h = All-weaker (IsFailed (reverse history) job) is_started (λ t f. f.is_of.started) attempts.items h.failed
@@ -38,7 +38,7 @@ module _ (history : List Entry) (tries : ℕ) where
   transactions_started job outcome.Untaken h = All-nil is_started
   transactions_started job outcome.NoMemory h = All-nil is_started
 
-  entries_there : {N : Type 0} (job : Job) (o : Outcome N) → Stands history tries job o → All is_entry (entries_of o)
+  entries_there : {N : Type 0} (job : Job) (o : Outcome N) → OutcomeStands history tries job o → All is_entry (entries_of o)
   entries_there job (outcome.Done n) h = one_entry n h.entry h.there
   entries_there job (outcome.Asked n) h = one_entry n h.entry h.there
   entries_there job (outcome.Gave attempts) h = All-nil is_entry
@@ -48,14 +48,14 @@ module _ (history : List Entry) (tries : ℕ) where
   entries_there job outcome.NoMemory h = All-nil is_entry
 
   -- all transactions that are named were started
-  pub all_started : {N : Type 0} (jobs : List Job) (outcomes : List (Outcome N)) → AllZip (Stands history tries) jobs outcomes → All is_started (flat_map (transactions_of history) outcomes)
+  pub all_started : {N : Type 0} (jobs : List Job) (outcomes : List (Outcome N)) → AllZip (OutcomeStands history tries) jobs outcomes → All is_started (flat_map (transactions_of history) outcomes)
   all_started [] [] all = All-nil is_started
   all_started [] (o ∷ outcomes) all = absurd all
   all_started (job ∷ jobs) [] all = absurd all
   all_started (job ∷ jobs) (o ∷ outcomes) all = All-append is_started (transactions_of history o) (flat_map (transactions_of history) outcomes) (transactions_started job o all.0) (all_started jobs outcomes all.1)
 
   -- all entries that are named are there
-  pub all_there : {N : Type 0} (jobs : List Job) (outcomes : List (Outcome N)) → AllZip (Stands history tries) jobs outcomes → All is_entry (flat_map entries_of outcomes)
+  pub all_there : {N : Type 0} (jobs : List Job) (outcomes : List (Outcome N)) → AllZip (OutcomeStands history tries) jobs outcomes → All is_entry (flat_map entries_of outcomes)
   all_there [] [] all = All-nil is_entry
   all_there [] (o ∷ outcomes) all = absurd all
   all_there (job ∷ jobs) [] all = absurd all

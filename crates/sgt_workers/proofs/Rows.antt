@@ -16,7 +16,7 @@ use Rattle.sgt_model.proofs.Effects.{no_start-no_call, effect}
 use Rattle.sgt_model.proofs.Facts.{end-live, live-started, unstarted-no_fate}
 use Rattle.sgt_model.proofs.Room.{starts_or_not}
 use Rattle.sgt_workers.specs.declared.lives.Life.{Life}
-use Rattle.sgt_workers.specs.Places.{starts_as, started_at, ended_at}
+use Rattle.sgt_workers.specs.Spans.{starts_as, started_at, ended_at}
 use Rattle.sgt_workers.specs.Outcomes.{has_failed}
 use Rattle.sgt_workers.specs.Lives.{IsLife, AreLives, life_after, with_started}
 

@@ -8,8 +8,8 @@ use Rattle.sgt_dispatch.specs.declared.job.Job.{Job}
 use Rattle.sgt_workers.specs.declared.bank.Bank.{Bank}
 
 -- what the engine of a bank is made of
-abbrev pub setting_of : Bank → Setting
-setting_of bank = setting (contents_of bank.opening) bank.procedures.items bank.limits
+abbrev pub engine_setting : Bank → Setting
+engine_setting bank = setting (contents_of bank.opening) bank.procedures.items bank.limits
 
 -- how many workers there may be
 abbrev pub AreWorkers : ℕ → Type 0
@@ -23,7 +23,7 @@ AreTries tries = (1 ≤ tries) × (tries ≤ 1000)
 abbrev pub AreLimitsFor : ℕ → Limits → Type 0
 AreLimitsFor workers limits = AreInRange limits × (workers ≤ limits.live)
 
--- each job's number is its place
+-- each job's number is its index
 abbrev pub AreNumbered : List Job → Type 0
 AreNumbered jobs = (i : ℕ) (job : Job) → slice_get jobs i ≡ Some job → job.number ≡ i
 

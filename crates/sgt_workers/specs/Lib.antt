@@ -2,7 +2,7 @@
 pub mod Banks
 pub mod Crews
 -- what the outcomes of jobs say of a history
-pub mod Places
+pub mod Spans
 pub mod Outcomes
 pub mod Reports
 -- what a history says of each transaction, in one table

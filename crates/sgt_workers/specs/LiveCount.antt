@@ -4,12 +4,12 @@ use Rattle.sgt_model.specs.declared.reply.Reply.{Reply}
 use Rattle.sgt_model.specs.declared.reply.Reply.TheVariants as reply
 
 -- one by Started
-abbrev pub started_by : Reply → ℕ
-started_by (reply.Started t) = 1
-started_by _ = 0
+abbrev pub count_started : Reply → ℕ
+count_started (reply.Started t) = 1
+count_started _ = 0
 
 -- one by Committed; by Aborted one, and all that fell with it
-abbrev pub ended_by : Reply → ℕ
-ended_by (reply.Committed answers) = 1
-ended_by (reply.Aborted cause fell) = length fell + 1
-ended_by _ = 0
+abbrev pub count_ended : Reply → ℕ
+count_ended (reply.Committed answers) = 1
+count_ended (reply.Aborted cause fell) = length fell + 1
+count_ended _ = 0

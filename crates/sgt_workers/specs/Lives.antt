@@ -7,7 +7,7 @@ use Rattle.sgt_model.specs.declared.reply.Fate.{Fate}
 use Rattle.sgt_model.specs.Fates.{starts, fate_of}
 use Rattle.sgt_model.specs.Progress.{call_of}
 use Rattle.sgt_workers.specs.declared.lives.Life.{Life}
-use Rattle.sgt_workers.specs.Places.{started_at, ended_at}
+use Rattle.sgt_workers.specs.Spans.{started_at, ended_at}
 use Rattle.sgt_workers.specs.Outcomes.{has_failed}
 
 -- the row says what the history says of t
@@ -30,16 +30,16 @@ pub record AreLives (past : List Entry) (lives : List Life) : Type 0 where
 
 -- the row of one that this entry ended
 abbrev pub ended_life : ℕ → Bool → Life → Life
-ended_life place failed life = record life { ended = Some place; failed = failed }
+ended_life number failed life = record life { ended = Some number; failed = failed }
 
 -- the row after an entry that ended its transaction in this way, if it did
 abbrev pub life_after : ℕ → Option Fate → Life → Life
-life_after place None life = life
-life_after place (Some f) life = ended_life place (has_failed (Some f)) life
+life_after number None life = life
+life_after number (Some f) life = ended_life number (has_failed (Some f)) life
 
 -- the rows after an event that was answered Started
 abbrev pub with_started : ℕ → Event → List Life → List Life
-with_started place (Start p args) lives = lives ++ record { procedure = p; args = args; started = place; ended = None; failed = false } ∷ []
-with_started place (Step t) lives = lives
-with_started place (Commit t) lives = lives
-with_started place (Quit t) lives = lives
+with_started number (Start p args) lives = lives ++ record { procedure = p; args = args; started = number; ended = None; failed = false } ∷ []
+with_started number (Step t) lives = lives
+with_started number (Commit t) lives = lives
+with_started number (Quit t) lives = lives

@@ -13,7 +13,7 @@ use Rattle.sgt_model.specs.Questions.{named_by, is_refusal, is_commit, is_ask}
 use Rattle.sgt_dispatch.specs.declared.job.Job.{Job}
 use Rattle.sgt_workers.specs.declared.outcome.Outcome.{Outcome}
 use Rattle.sgt_workers.specs.declared.outcome.Outcome.TheVariants as outcome
-use Rattle.sgt_workers.specs.Places.{Follows}
+use Rattle.sgt_workers.specs.Spans.{EndsBefore}
 
 -- jobs and their transactions
 
@@ -49,7 +49,7 @@ pub record Ends (is : Reply → Bool) (history : List Entry) (job : Job) (n : �
   pub is_of : IsOf (reverse history) job t
 
 -- entry n is a start with the job's procedure and arguments, and was refused
-pub record IsRefused (history : List Entry) (job : Job) (n : ℕ) : Type 0 where
+pub record StartIsRefused (history : List Entry) (job : Job) (n : ℕ) : Type 0 where
   pub entry : Entry
   pub there : slice_get history n ≡ Some entry
   pub asks : call_at entry.event ≡ Some (call_for job)
@@ -65,14 +65,14 @@ pub record IsFailed (past : List Entry) (job : Job) (t : ℕ) : Type 0 where
 pub record GaveUp (past : List Entry) (tries : ℕ) (job : Job) (attempts : List ℕ) : Type 0 where
   pub as_many : length attempts ≡ tries
   pub failed : All (IsFailed past job) attempts
-  pub in_turn : (k : ℕ) → k + 1 < length attempts → Follows past (slice_index attempts k) (slice_index attempts (k + 1))
+  pub in_turn : (k : ℕ) → k + 1 < length attempts → EndsBefore past (slice_index attempts k) (slice_index attempts (k + 1))
 
 -- what an outcome says of the history and its job
-abbrev pub Stands : {N : Type 0} → List Entry → ℕ → Job → Outcome N → Type 0
-Stands history tries job (outcome.Done n) = Ends is_commit history job n
-Stands history tries job (outcome.Asked n) = Ends is_ask history job n
-Stands history tries job (outcome.Gave attempts) = GaveUp (reverse history) tries job attempts.items
-Stands history tries job (outcome.Refused n) = IsRefused history job n
-Stands history tries job (outcome.Left note) = Unit {0}
-Stands history tries job outcome.Untaken = Unit {0}
-Stands history tries job outcome.NoMemory = Unit {0}
+abbrev pub OutcomeStands : {N : Type 0} → List Entry → ℕ → Job → Outcome N → Type 0
+OutcomeStands history tries job (outcome.Done n) = Ends is_commit history job n
+OutcomeStands history tries job (outcome.Asked n) = Ends is_ask history job n
+OutcomeStands history tries job (outcome.Gave attempts) = GaveUp (reverse history) tries job attempts.items
+OutcomeStands history tries job (outcome.Refused n) = StartIsRefused history job n
+OutcomeStands history tries job (outcome.Left note) = Unit {0}
+OutcomeStands history tries job outcome.Untaken = Unit {0}
+OutcomeStands history tries job outcome.NoMemory = Unit {0}

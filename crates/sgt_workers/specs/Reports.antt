@@ -19,7 +19,7 @@ use Rattle.sgt_workers.specs.declared.outcome.Outcome.{Outcome}
 use Rattle.sgt_workers.specs.declared.report.Report.{Report}
 use Rattle.sgt_workers.specs.declared.outcome.Outcome.TheVariants as outcome
 use Rattle.sgt_model.specs.Questions.{named_by, is_commit, is_quit}
-use Rattle.sgt_workers.specs.Outcomes.{Stands}
+use Rattle.sgt_workers.specs.Outcomes.{OutcomeStands}
 
 -- what is named
 
@@ -88,7 +88,7 @@ AllEnded history = (t : ℕ) → live (reverse history) t ≡ false
 -- one outcome for each job, which says of the history and the job what is so; no transaction and no entry is named twice, by
 -- one outcome or by two; the counts agree; never are more transactions live than there are workers, and at the end none is
 pub record OutcomesStand {N : Type 0} (history : List Entry) (jobs : List Job) (outcomes : List (Outcome N)) (workers tries : ℕ) : Type 0 where
-  pub each : AllZip (Stands history tries) jobs outcomes
+  pub each : AllZip (OutcomeStands history tries) jobs outcomes
   pub transactions_once : Distinct (flat_map (transactions_of history) outcomes)
   pub entries_once : Distinct (flat_map entries_of outcomes)
   pub counts : CountsAgree history outcomes workers

@@ -3,7 +3,7 @@ ghost use Rattle.std.specs.Prelude.{◌≡◌, ◌↔◌, ℕ, ◌+◌, ◌<◌,
 ghost use Rattle.std.specs.List.{All};
 ghost use Rattle.sgt_model.specs.declared.entry.Entry.{Entry as E};
 ghost use Rattle.sgt_workers.specs.Lives.{AreLives};
-ghost use Rattle.sgt_workers.specs.Places.{started_at, ended_at, Follows};
+ghost use Rattle.sgt_workers.specs.Spans.{started_at, ended_at, EndsBefore};
 ghost use Rattle.sgt_workers.specs.Outcomes.{call_for, IsOf, IsFailed, GaveUp};
 
 use crate::lives::Life;
@@ -64,7 +64,7 @@ fn is_failed(lives: &[Life], job: &Job, t: Tid) -> bool
 fn are_in_turn(lives: &[Life], attempts: &[Tid]) -> bool
     ensures { (past : List E) → AreLives past lives.now
         → (IsTrue result ↔ ((k : ℕ) → k + 1 < length attempts.now
-        → Follows past (slice_index attempts.now k) (slice_index attempts.now (k + 1)))) }
+        → EndsBefore past (slice_index attempts.now k) (slice_index attempts.now (k + 1)))) }
 {
     for k in 1..attempts.len() {
         if !follows(lives, attempts[k - 1], attempts[k]) {
@@ -76,7 +76,7 @@ fn are_in_turn(lives: &[Life], attempts: &[Tid]) -> bool
 
 /// Whether the second was started after the first had ended.
 fn follows(lives: &[Life], first: Tid, second: Tid) -> bool
-    ensures { (past : List E) → AreLives past lives.now → (IsTrue result ↔ Follows past first second) }
+    ensures { (past : List E) → AreLives past lives.now → (IsTrue result ↔ EndsBefore past first second) }
 {
     let Some(ended) = ended_at(lives, first) else {
         return false;

@@ -45,7 +45,7 @@ pub fn check(limits: &Limits, jobs: &[Job], workers: u32, tries: u32) -> Result<
     Ok(())
 }
 
-/// Whether each job's number is its place.
+/// Whether each job's number is its index.
 fn are_numbered(jobs: &[Job]) -> bool
     ensures { IsTrue result ↔ AreNumbered jobs.now }
 {

@@ -197,7 +197,7 @@ fn join_all<N: Named, W: Threads>(
 }
 
 /// Joins the passes of the feed one by one, and gives the sessions.
-pub fn settle<N: Named>(
+pub fn join_passes<N: Named>(
     alloc: Global,
     putter: Putter,
     ended: Vec<Ended<N>>,

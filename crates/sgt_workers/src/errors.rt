@@ -12,7 +12,7 @@ pub enum PoolError {
     /// A limit is out of its range, or fewer transactions may be live than there are workers.
     #[error("a limit is out of its range, or fewer may be live than there are workers")]
     BadLimits,
-    /// There are over 1,000,000 jobs, or one has a number that is not its place.
+    /// There are over 1,000,000 jobs, or one has a number that is not its index.
     #[error("the jobs are too many, or not numbered from 0")]
     BadJobs,
     /// A growth was refused.

@@ -2,12 +2,12 @@
 ghost use Rattle.std.specs.Prelude.{◌≡◌, ◌↔◌, ℕ, ◌+◌, ◌<◌, ◌≤◌, ◌^◌, IsTrue, length, reverse};
 ghost use Rattle.sgt_model.specs.Settings.{Setting};
 ghost use Rattle.sgt_model.specs.Legality.{Legal};
-ghost use Rattle.sgt_workers.specs.LiveCount.{started_by, ended_by};
+ghost use Rattle.sgt_workers.specs.LiveCount.{count_started, count_ended};
 ghost use Rattle.sgt_workers.specs.Reports.{FewLive, AllEnded};
 
 use sgt_model::{Entry, Reply};
 
-/// Whether at no place more transactions are live than there are workers, and at the end none is.
+/// Whether after no entry more transactions are live than there are workers, and at the end none is.
 pub fn live_counts_stand(history: &[Entry], workers: u32) -> bool
     requires { (s : Setting) × Legal s (reverse history.now) }
     ensures { IsTrue result ↔ (FewLive history.now workers × AllEnded history.now) }
@@ -25,8 +25,8 @@ pub fn live_counts_stand(history: &[Entry], workers: u32) -> bool
 /// How many are live after a reply.
 fn live_after(live: usize, reply: &Reply) -> usize
     requires few { live < 2 ^ 32 }
-    requires enough { ended_by reply.now ≤ live }
-    ensures { result + ended_by reply.now ≡ live + started_by reply.now }
+    requires enough { count_ended reply.now ≤ live }
+    ensures { result + count_ended reply.now ≡ live + count_started reply.now }
 {
     match reply {
         Reply::Started(_) => live + 1,

@@ -33,36 +33,36 @@ pub fn lives_of(alloc: Global, history: &[Entry]) -> Result<Vec<Life>, NoMemory>
     ensures { IfOk result (λ lives. AreLives (reverse history.now) lives.items) }
 {
     let mut lives = Vec::new(alloc);
-    for place in 0..history.len() {
-        add_entry(&mut lives, place, &history[place])?;
+    for number in 0..history.len() {
+        add_entry(&mut lives, number, &history[number])?;
     }
     Ok(lives)
 }
 
-/// Adds what an entry says, whose place is this.
-fn add_entry(lives: &mut Vec<Life>, place: usize, entry: &Entry) -> Result<(), NoMemory>
+/// Adds what an entry says, whose number is this.
+fn add_entry(lives: &mut Vec<Life>, number: usize, entry: &Entry) -> Result<(), NoMemory>
     ensures { (s : Setting) (past : List E) → LegalReply s past entry.now.event entry.now.reply
-        → Legal s past → length past ≡ place → AreLives past lives.old.items
+        → Legal s past → length past ≡ number → AreLives past lives.old.items
         → OnOk result (AreLives (entry.now ∷ past) lives.new.items) }
 {
     match &entry.reply {
-        Reply::Started(_) => add_started(lives, place, &entry.event),
+        Reply::Started(_) => add_started(lives, number, &entry.event),
         _ => {
-            end_those(lives, place, entry);
+            end_those(lives, number, entry);
             Ok(())
         }
     }
 }
 
 /// Adds the row of the transaction that this event started.
-fn add_started(lives: &mut Vec<Life>, place: usize, event: &Event) -> Result<(), NoMemory>
-    ensures { OnOk result (lives.new.items ≡ with_started place event.now lives.old.items) }
+fn add_started(lives: &mut Vec<Life>, number: usize, event: &Event) -> Result<(), NoMemory>
+    ensures { OnOk result (lives.new.items ≡ with_started number event.now lives.old.items) }
 {
     if let Event::Start { procedure, args } = event {
         lives.push(Life {
             procedure: *procedure,
             args: args.copied(),
-            started: place,
+            started: number,
             ended: None,
             failed: false,
         })?;
@@ -71,56 +71,61 @@ fn add_started(lives: &mut Vec<Life>, place: usize, event: &Event) -> Result<(),
 }
 
 /// Ends the rows of those that this entry ended.
-fn end_those(lives: &mut Vec<Life>, place: usize, entry: &Entry)
+fn end_those(lives: &mut Vec<Life>, number: usize, entry: &Entry)
     ensures rows { (t : ℕ) → slice_get lives.new.items t
-        ≡ option_map (life_after place (ending_in entry.now.event entry.now.reply t)) (slice_get lives.old.items t) }
+        ≡ option_map (life_after number (ending_in entry.now.event entry.now.reply t)) (slice_get lives.old.items t) }
     ensures count { vec_len lives.new ≡ vec_len lives.old }
 {
     match &entry.reply {
-        Reply::Committed(_) => end_subject(lives, place, &entry.event, false),
+        Reply::Committed(_) => end_subject(lives, number, &entry.event, false),
         Reply::Aborted { cause, fell } => {
-            end_fallen(lives, place, fell.as_slice());
-            end_subject(lives, place, &entry.event, matches!(cause, Cause::Cycle(_)));
+            end_fallen(lives, number, fell.as_slice());
+            end_subject(
+                lives,
+                number,
+                &entry.event,
+                matches!(cause, Cause::Cycle(_)),
+            );
         }
         _ => (),
     }
 }
 
 /// Ends the rows of those that fell with this entry.
-fn end_fallen(lives: &mut Vec<Life>, place: usize, fell: &[Tid])
+fn end_fallen(lives: &mut Vec<Life>, number: usize, fell: &[Tid])
     ensures rows { (t : ℕ) → slice_get lives.new.items t
-        ≡ option_map (λ life. cond (list_any (λ u. nat_eq u t) fell.now) (ended_life place true life) life)
+        ≡ option_map (λ life. cond (list_any (λ u. nat_eq u t) fell.now) (ended_life number true life) life)
         (slice_get lives.old.items t) }
     ensures count { vec_len lives.new ≡ vec_len lives.old }
 {
     for t in fell {
-        end_one(lives, place, *t, true);
+        end_one(lives, number, *t, true);
     }
 }
 
 /// Ends the row of the transaction that the event names.
-fn end_subject(lives: &mut Vec<Life>, place: usize, event: &Event, failed: bool)
+fn end_subject(lives: &mut Vec<Life>, number: usize, event: &Event, failed: bool)
     ensures rows { (t : ℕ) → slice_get lives.new.items t
-        ≡ option_map (λ life. cond (concerns event.now t) (ended_life place failed life) life)
+        ≡ option_map (λ life. cond (concerns event.now t) (ended_life number failed life) life)
         (slice_get lives.old.items t) }
     ensures count { vec_len lives.new ≡ vec_len lives.old }
 {
     match event {
         Event::Start { .. } => (),
-        Event::Step(t) | Event::Commit(t) | Event::Quit(t) => end_one(lives, place, *t, failed),
+        Event::Step(t) | Event::Commit(t) | Event::Quit(t) => end_one(lives, number, *t, failed),
     }
 }
 
 /// Ends the row of a transaction.
-fn end_one(lives: &mut Vec<Life>, place: usize, ended: Tid, failed: bool)
+fn end_one(lives: &mut Vec<Life>, number: usize, ended: Tid, failed: bool)
     ensures rows { (t : ℕ) → slice_get lives.new.items t
-        ≡ option_map (λ life. cond (nat_eq ended t) (ended_life place failed life) life)
+        ≡ option_map (λ life. cond (nat_eq ended t) (ended_life number failed life) life)
         (slice_get lives.old.items t) }
     ensures count { vec_len lives.new ≡ vec_len lives.old }
 {
     let at = ended.0 as usize;
     if at < lives.len() {
-        lives[at].ended = Some(place);
+        lives[at].ended = Some(number);
         lives[at].failed = failed;
     }
 }

@@ -67,14 +67,14 @@ fn add_all(named: &mut Vec<u64>, tids: &[Tid]) -> Result<(), NoMemory>
     Ok(())
 }
 
-/// Whether no number comes twice. It marks each in a table of as many places as there may be numbers.
+/// Whether no number comes twice. It marks each in a table with an item for each number that there may be.
 ///
 /// `NoMemory` where that table was refused.
-pub fn none_twice(alloc: Global, numbers: &[u64], places: usize) -> Result<bool, NoMemory>
-    requires { All (λ n. n < places) numbers.now }
+pub fn none_twice(alloc: Global, numbers: &[u64], bound: usize) -> Result<bool, NoMemory>
+    requires { All (λ n. n < bound) numbers.now }
     ensures { IfOk result (λ once. IsTrue once ↔ Distinct numbers.now) }
 {
-    let mut seen = Vec::from_elem(alloc, false, places)?;
+    let mut seen = Vec::from_elem(alloc, false, bound)?;
     for n in numbers {
         let at = *n as usize;
         if seen[at] {

@@ -1,6 +1,6 @@
 use sgt_model::Tid;
 
-/// What became of a job. Entries of the history are named by their places, counted from 0.
+/// What became of a job. Entries of the history are named by their numbers, counted from 0.
 #[derive(Debug, Drop)]
 pub enum Outcome<N> {
     /// This entry committed the job's transaction.

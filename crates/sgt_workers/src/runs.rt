@@ -1,12 +1,12 @@
 ghost use Rattle.std.specs.Prelude.{◌≡◌, ◌↔◌, [], Err, IfOk, IfErr};
 ghost use Rattle.sgt_engine.specs.EngineView.{setting_of as made_with};
 ghost use Rattle.sgt_workers.specs.declared.errors.PoolError.TheVariants as PoolError;
-ghost use Rattle.sgt_workers.specs.Banks.{setting_of, AreWorkers, AreTries, AreLimitsFor, AreJobs};
+ghost use Rattle.sgt_workers.specs.Banks.{engine_setting, AreWorkers, AreTries, AreLimitsFor, AreJobs};
 ghost use Rattle.sgt_workers.specs.Crews.{IsRunError};
 ghost use Rattle.sgt_workers.specs.Reports.{IsReportOf};
 
 use crate::bank::{Bank, check};
-use crate::crew::{run_crew, settle, team_of};
+use crate::crew::{join_passes, run_crew, team_of};
 use crate::errors::PoolError;
 use crate::gate::Gate;
 use crate::outcome::Outcome;
@@ -33,7 +33,7 @@ const CALLS_OF_A_JOB: usize = 8;
 ///
 /// `BadWorkers` where the workers are not from 1 to `MOST_WORKERS`; `BadTries` where the tries are not from 1 to `MOST_TRIES`;
 /// `BadLimits` where a limit is out of its range, or fewer transactions may be live than there are workers; `BadJobs` where
-/// there are over `MOST_JOBS`, or a job's number is not its place. These are tested in this order, before any growth. Then
+/// there are over `MOST_JOBS`, or a job's number is not its index. These are tested in this order, before any growth. Then
 /// `NoMemory` where a growth was refused, to a worker too; `Spawn` where a thread could not be made; and `Mismatch` where the
 /// receipts are not the history's entries, or an outcome does not stand in it.
 pub fn run<R: Records, A: Accesses, G: Graph, T: Gate + Sync, W: Threads + Wait + Sync>(
@@ -45,7 +45,7 @@ pub fn run<R: Records, A: Accesses, G: Graph, T: Gate + Sync, W: Threads + Wait 
     tries: u32,
     gate: &T,
 ) -> Result<Report<T::Note>, PoolError>
-    ensures report { IfOk result (λ r. IsReportOf (setting_of bank) jobs.now workers tries r) }
+    ensures report { IfOk result (λ r. IsReportOf (engine_setting bank) jobs.now workers tries r) }
     ensures bad_workers { (result ≡ Err PoolError.BadWorkers) ↔ (¬ AreWorkers workers) }
     ensures bad_tries { (result ≡ Err PoolError.BadTries) ↔ (AreWorkers workers × (¬ AreTries tries)) }
     ensures bad_limits { (result ≡ Err PoolError.BadLimits)
@@ -72,7 +72,7 @@ fn run_bank<R: Records, A: Accesses, G: Graph, T: Gate + Sync, W: Threads + Wait
     gate: &T,
 ) -> Result<(Engine<R, A, G>, Vec<Outcome<T::Note>>), PoolError>
     requires { AreWorkers workers }
-    ensures setting { IfOk result (λ r. made_with r.0 ≡ setting_of bank) }
+    ensures setting { IfOk result (λ r. made_with r.0 ≡ engine_setting bank) }
     ensures error { IfErr result IsRunError }
 {
     let Bank {
@@ -133,7 +133,7 @@ fn run_named<
         takers,
     )?;
     let (putter, ended) = run_crew(rt, alloc, &shared, gate, &outcomes, jobs, putter, team)?;
-    let sessions = settle(alloc, putter, ended)?;
+    let sessions = join_passes(alloc, putter, ended)?;
     let Ok(
         Closed {
             engine,

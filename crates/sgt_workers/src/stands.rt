@@ -3,7 +3,7 @@ ghost use Rattle.std.specs.Prelude.{◌≡◌, ◌↔◌, ℕ, IsTrue, Option, l
 ghost use Rattle.std.specs.List.{AllZip};
 ghost use Rattle.sgt_workers.specs.Lives.{AreLives};
 ghost use Rattle.sgt_model.specs.Questions.{is_commit, is_ask};
-ghost use Rattle.sgt_workers.specs.Outcomes.{Ends, IsRefused, Stands};
+ghost use Rattle.sgt_workers.specs.Outcomes.{Ends, StartIsRefused, OutcomeStands};
 
 use crate::attempts::gave_up;
 use crate::events::{asks_for, names_one_of};
@@ -21,7 +21,7 @@ pub fn all_stand<N>(
     tries: u32,
 ) -> bool
     requires { AreLives (reverse history.now) lives.now }
-    ensures { IsTrue result ↔ AllZip (Stands history.now tries) jobs.now outcomes.now }
+    ensures { IsTrue result ↔ AllZip (OutcomeStands history.now tries) jobs.now outcomes.now }
 {
     if jobs.len() != outcomes.len() {
         return false;
@@ -37,7 +37,7 @@ pub fn all_stand<N>(
 /// Whether an outcome says what is so.
 fn stands<N>(history: &[Entry], lives: &[Life], job: &Job, outcome: &Outcome<N>, tries: u32) -> bool
     requires { AreLives (reverse history.now) lives.now }
-    ensures { IsTrue result ↔ Stands history.now tries job.now outcome.now }
+    ensures { IsTrue result ↔ OutcomeStands history.now tries job.now outcome.now }
 {
     match outcome {
         Outcome::Done(n) => is_committed(history, lives, job, *n),
@@ -72,7 +72,7 @@ fn is_asked(history: &[Entry], lives: &[Life], job: &Job, n: u64) -> bool
 
 /// Whether entry n refused a start with the job's procedure and arguments.
 fn is_refused(history: &[Entry], job: &Job, n: u64) -> bool
-    ensures { IsTrue result ↔ IsRefused history.now job.now n }
+    ensures { IsTrue result ↔ StartIsRefused history.now job.now n }
 {
     match history.get(n as usize) {
         Some(entry) => entry.reply.is_refusal() && asks_for(&entry.event, job),

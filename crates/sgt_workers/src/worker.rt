@@ -43,7 +43,7 @@ impl<N: Named> Promise<Ended<N>> for SameFeed {
     ghost kept_by = { λ p r. r.stub.feed ≡ p.0.value.feed };
 }
 
-/// Takes jobs and runs them until it takes a stop, or the gate makes it leave. What became of each stands at the job's place
+/// Takes jobs and runs them until it takes a stop, or the gate makes it leave. What became of each stands at the job's number
 /// among the outcomes. A worker that ends leaves its feed at once.
 pub fn work<N: Named, R: Records, A: Accesses, G: Graph, T: Gate, W: Wait>(
     rt: &W,
@@ -88,7 +88,7 @@ pub fn work<N: Named, R: Records, A: Accesses, G: Graph, T: Gate, W: Wait>(
     }
 }
 
-/// Puts the outcome at its job's place.
+/// Puts the outcome at its job's number.
 fn put_outcome<X: Drop, W: Wait>(
     rt: &W,
     outcomes: &Mutex<Vec<Outcome<X>>>,
@@ -96,7 +96,7 @@ fn put_outcome<X: Drop, W: Wait>(
     outcome: Outcome<X>,
 ) {
     let mut outcomes = outcomes.lock(rt);
-    if let Some(place) = outcomes.get_mut(job as usize) {
-        *place = outcome;
+    if let Some(blank) = outcomes.get_mut(job as usize) {
+        *blank = outcome;
     }
 }

@@ -18,16 +18,16 @@ use sgt_records::Records;
 
 impl<R: Records, A: Accesses, G: Graph> Sched<R, A, G> {
     // Aborts a live transaction, and those that have read from it with it.
-    pub(super) fn abort(&mut self, t: Tid, cause: Cause, place: &mut Reply) -> Brief
+    pub(super) fn abort(&mut self, t: Tid, cause: Cause, out: &mut Reply) -> Brief
         requires live { (state self.old).nodes t ≡ true }
-        ensures { Turns (InBrief (AbortsIn t cause) place.new) self.old result self.new }
+        ensures { Turns (InBrief (AbortsIn t cause) out.new) self.old result self.new }
     {
         let fell = self.falling_with(t);
         self.end_aborted(t, Fate::Aborted(cause.copied()));
         for reader in fell.as_slice() {
             self.end_aborted(*reader, Fate::Fell(t));
         }
-        *place = Reply::Aborted { cause, fell };
+        *out = Reply::Aborted { cause, fell };
         Brief::Placed
     }
 

@@ -24,35 +24,35 @@ impl<R: Records, A: Accesses, G: Graph> Sched<R, A, G> {
     pub fn commit(&mut self, t: Tid) -> Reply
         ensures { Turns (CommitEffect t) self.old result self.new }
     {
-        let mut place = Reply::Ended;
-        let brief = self.answer_commit(t, &mut place);
-        brief.reply(&place)
+        let mut out = Reply::Ended;
+        let brief = self.answer_commit(t, &mut out);
+        brief.reply(&out)
     }
 
     // The same, in short.
-    pub(super) fn answer_commit(&mut self, t: Tid, place: &mut Reply) -> Brief
-        ensures { Turns (InBrief (CommitEffect t) place.new) self.old result self.new }
+    pub(super) fn answer_commit(&mut self, t: Tid, out: &mut Reply) -> Brief
+        ensures { Turns (InBrief (CommitEffect t) out.new) self.old result self.new }
     {
         match self.next(t) {
             Some(Next::Ends(answers)) => match decide(&self.graph, t) {
                 Some(first) => Brief::Waits(first),
-                None => self.settle(t, answers, place),
+                None => self.finish_commit(t, answers, out),
             },
             Some(_) => Brief::NotEnded,
-            None => self.closed(t, place),
+            None => self.answer_not_live(t, out),
         }
     }
 
     // Commits a live transaction that has no predecessor.
-    fn settle(&mut self, t: Tid, answers: Answers, place: &mut Reply) -> Brief
+    fn finish_commit(&mut self, t: Tid, answers: Answers, out: &mut Reply) -> Brief
         requires live { (state self.old).nodes t ≡ true }
         requires first { (u : ℕ) → (state self.old).pairs u t ≡ false }
-        ensures { Turns (InBrief (CommitsIn t answers) place.new) self.old result self.new }
+        ensures { Turns (InBrief (CommitsIn t answers) out.new) self.old result self.new }
     {
         finish(&mut self.records, &mut self.accesses, &mut self.graph, t);
         leave(&mut self.live, &mut self.read_from, t);
         self.fates.end(t, &Fate::Committed);
-        *place = Reply::Committed(answers);
+        *out = Reply::Committed(answers);
         Brief::Placed
     }
 

@@ -17,18 +17,18 @@ impl<R: Records, A: Accesses, G: Graph> Sched<R, A, G> {
     pub fn quit(&mut self, t: Tid) -> Reply
         ensures { Turns (QuitEffect t) self.old result self.new }
     {
-        let mut place = Reply::Ended;
-        let brief = self.answer_quit(t, &mut place);
-        brief.reply(&place)
+        let mut out = Reply::Ended;
+        let brief = self.answer_quit(t, &mut out);
+        brief.reply(&out)
     }
 
     // The same, in short.
-    pub(super) fn answer_quit(&mut self, t: Tid, place: &mut Reply) -> Brief
-        ensures { Turns (InBrief (QuitEffect t) place.new) self.old result self.new }
+    pub(super) fn answer_quit(&mut self, t: Tid, out: &mut Reply) -> Brief
+        ensures { Turns (InBrief (QuitEffect t) out.new) self.old result self.new }
     {
         if self.is_live(t) {
-            return self.abort(t, Cause::Quit, place);
+            return self.abort(t, Cause::Quit, out);
         }
-        self.closed(t, place)
+        self.answer_not_live(t, out)
     }
 }

@@ -33,37 +33,37 @@ impl<R: Records, A: Accesses, G: Graph> Sched<R, A, G> {
         ensures done { Tries (StepEffect t) self.old result self.new }
         ensures no_memory { EndsOne (Step t) (state self.old) → IsOk result }
     {
-        let mut place = Reply::Ended;
-        let brief = self.answer_step(t, &mut place)?;
-        Ok(brief.reply(&place))
+        let mut out = Reply::Ended;
+        let brief = self.answer_step(t, &mut out)?;
+        Ok(brief.reply(&out))
     }
 
     // The same, in short.
-    pub(super) fn answer_step(&mut self, t: Tid, place: &mut Reply) -> Result<Brief, NoMemory>
-        ensures done { Tries (InBrief (StepEffect t) place.new) self.old result self.new }
-        ensures place { OnErr result (place.new ≡ place.old) }
+    pub(super) fn answer_step(&mut self, t: Tid, out: &mut Reply) -> Result<Brief, NoMemory>
+        ensures done { Tries (InBrief (StepEffect t) out.new) self.old result self.new }
+        ensures out { OnErr result (out.new ≡ out.old) }
         ensures no_memory { EndsOne (Step t) (state self.old) → IsOk result }
     {
         let Some(next) = self.next(t) else {
-            return Ok(self.closed(t, place));
+            return Ok(self.answer_not_live(t, out));
         };
         match next {
-            Next::Look(key) => self.look(t, key, place),
-            Next::Put(key, value) => self.store(t, key, value, place),
+            Next::Look(key) => self.look(t, key, out),
+            Next::Put(key, value) => self.store(t, key, value, out),
             Next::Ends(_) => Ok(Brief::Ended),
-            Next::Asks(code) => Ok(self.abort_asked(t, code, place)),
+            Next::Asks(code) => Ok(self.abort_asked(t, code, out)),
         }
     }
 
     // Makes a look of a live transaction, or aborts it where the look would close a cycle.
-    fn look(&mut self, t: Tid, key: Key, place: &mut Reply) -> Result<Brief, NoMemory>
+    fn look(&mut self, t: Tid, key: Key, out: &mut Reply) -> Result<Brief, NoMemory>
         requires live { (state self.old).nodes t ≡ true }
-        ensures done { Tries (InBrief (StepOn t (Looks key)) place.new) self.old result self.new }
-        ensures place { OnErr result (place.new ≡ place.old) }
+        ensures done { Tries (InBrief (StepOn t (Looks key)) out.new) self.old result self.new }
+        ensures out { OnErr result (out.new ≡ out.old) }
         ensures no_memory { IsBlocked (state self.old) t key Look → IsOk result }
     {
         let rivals = self.accesses.rivals(t, key, Kind::Look);
-        if self.abort_in_cycle(t, &rivals, place) {
+        if self.abort_in_cycle(t, &rivals, out) {
             return Ok(Brief::Placed);
         }
         let top = self.records.top(key);
@@ -78,15 +78,15 @@ impl<R: Records, A: Accesses, G: Graph> Sched<R, A, G> {
     }
 
     // Makes a store of a live transaction, or aborts it where the store would close a cycle.
-    fn store(&mut self, t: Tid, key: Key, value: i64, place: &mut Reply) -> Result<Brief, NoMemory>
+    fn store(&mut self, t: Tid, key: Key, value: i64, out: &mut Reply) -> Result<Brief, NoMemory>
         requires live { (state self.old).nodes t ≡ true }
         requires in_range { IsValue value }
-        ensures done { Tries (InBrief (StepOn t (Puts key value)) place.new) self.old result self.new }
-        ensures place { OnErr result (place.new ≡ place.old) }
+        ensures done { Tries (InBrief (StepOn t (Puts key value)) out.new) self.old result self.new }
+        ensures out { OnErr result (out.new ≡ out.old) }
         ensures no_memory { IsBlocked (state self.old) t key Store → IsOk result }
     {
         let rivals = self.accesses.rivals(t, key, Kind::Store);
-        if self.abort_in_cycle(t, &rivals, place) {
+        if self.abort_in_cycle(t, &rivals, out) {
             return Ok(Brief::Placed);
         }
         self.records.reserve(key)?;
@@ -100,25 +100,25 @@ impl<R: Records, A: Accesses, G: Graph> Sched<R, A, G> {
 
     // Aborts a live transaction where pairs from these rivals to it would close a cycle, and tells whether it did. Most accesses
     // have no rival.
-    fn abort_in_cycle(&mut self, t: Tid, rivals: &Tids, place: &mut Reply) -> bool
+    fn abort_in_cycle(&mut self, t: Tid, rivals: &Tids, out: &mut Reply) -> bool
         requires live { (state self.old).nodes t ≡ true }
         requires others { (u : ℕ) → Member u rivals.now → ((state self.old).nodes u ≡ true) × (u ≢ t) }
-        ensures { AbortsInCycle t rivals.now self.old place.old result place.new self.new }
+        ensures { AbortsInCycle t rivals.now self.old out.old result out.new self.new }
     {
-        !rivals.is_empty() && self.abort_if_closing(t, rivals, place)
+        !rivals.is_empty() && self.abort_if_closing(t, rivals, out)
     }
 
     // The same, where there are rivals.
     #[inline(never)]
-    fn abort_if_closing(&mut self, t: Tid, rivals: &Tids, place: &mut Reply) -> bool
+    fn abort_if_closing(&mut self, t: Tid, rivals: &Tids, out: &mut Reply) -> bool
         requires live { (state self.old).nodes t ≡ true }
         requires others { (u : ℕ) → Member u rivals.now → ((state self.old).nodes u ≡ true) × (u ≢ t) }
-        ensures { AbortsInCycle t rivals.now self.old place.old result place.new self.new }
+        ensures { AbortsInCycle t rivals.now self.old out.old result out.new self.new }
     {
         match self.graph.test(t, rivals) {
             Verdict::Accepted => false,
             Verdict::Closes(walk) => {
-                self.abort(t, Cause::Cycle(walk), place);
+                self.abort(t, Cause::Cycle(walk), out);
                 true
             }
         }
@@ -126,11 +126,11 @@ impl<R: Records, A: Accesses, G: Graph> Sched<R, A, G> {
 
     // Aborts a live transaction whose procedure asks this code.
     #[inline(never)]
-    fn abort_asked(&mut self, t: Tid, code: u16, place: &mut Reply) -> Brief
+    fn abort_asked(&mut self, t: Tid, code: u16, out: &mut Reply) -> Brief
         requires live { (state self.old).nodes t ≡ true }
-        ensures { Turns (InBrief (AbortsIn t (Asked code)) place.new) self.old result self.new }
+        ensures { Turns (InBrief (AbortsIn t (Asked code)) out.new) self.old result self.new }
     {
-        self.abort(t, Cause::Asked(code), place)
+        self.abort(t, Cause::Asked(code), out)
     }
 
     // Whether the next step would end the transaction.

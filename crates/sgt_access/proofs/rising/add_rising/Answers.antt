@@ -1,20 +1,20 @@
 use Rattle.std.proofs.Common.{subst, sym, inl, inr, Ok, Err, arith}
 use Rattle.sgt_model.specs.Walks.{Member}
-use Rattle.sgt_access.proofs.RisingLists.{IsPlace, search_finds, place_absent, place_rises, member_inserted}
+use Rattle.sgt_access.proofs.RisingLists.{IsIndex, search_finds, index_absent, index_rises, member_inserted}
 use Rattle.sgt_access.proofs.rising.add_rising.Goals as goal
 
 pub insert-requires : goal.insert-requires
 insert-requires c =
-    let place : IsPlace c.args.tids.now.items c.args.t c.in-Err.place =
-    search_finds _ _ _ (Err c.in-Err.place) c.deref.ensures.0 c.requires.rising c.in-Err.ensures.position in
-    (omega arith, (place.within, c.requires.room (place_absent _ _ _ place)))
+    let index : IsIndex c.args.tids.now.items c.args.t c.in-Err.index =
+    search_finds _ _ _ (Err c.in-Err.index) c.deref.ensures.0 c.requires.rising c.in-Err.ensures.position in
+    (omega arith, (index.within, c.requires.room (index_absent _ _ _ index)))
 
 pub returns-in-Err-clause-members : goal.returns-in-Err-clause-members
-returns-in-Err-clause-members c = rw c.insert.ensures.items (member_inserted c.args.tids.now.items c.in-Err.place c.args.t)
+returns-in-Err-clause-members c = rw c.insert.ensures.items (member_inserted c.args.tids.now.items c.in-Err.index c.args.t)
 
 pub returns-in-Err-clause-rising : goal.returns-in-Err-clause-rising
 returns-in-Err-clause-rising c = rw c.insert.ensures.items
-    (place_rises _ _ _ c.requires.rising (search_finds _ _ _ (Err c.in-Err.place) c.deref.ensures.0 c.requires.rising
+    (index_rises _ _ _ c.requires.rising (search_finds _ _ _ (Err c.in-Err.index) c.deref.ensures.0 c.requires.rising
     c.in-Err.ensures.position))
 
 pub returns-in_default-clause-members : goal.returns-in_default-clause-members

@@ -10,4 +10,4 @@ decides None list t some none = ((λ e. cc), λ m. absurd (none refl m))
 decides (Some i) list t some none = ((λ e. subst (λ x. Member x list) some.1 (at_member list i 0 some.0)), λ m. refl)
 
 pub returns : goal.returns
-returns c = rw c.is_some.ensures (decides c.place.result c.args.list.now c.args.t c.place.ensures.some c.place.ensures.none)
+returns c = rw c.is_some.ensures (decides c.index.result c.args.list.now c.args.t c.index.ensures.some c.index.ensures.none)

@@ -1,7 +1,7 @@
 use Rattle.std.proofs.Common.{◌≡◌, ◌<◌, ◌≤◌, ◌+◌, ◌∙◌, ℕ, List, true, [], ◌∷◌, ◌++◌, length, ap, sym, subst, refl, arith, length-append, slice_index, true≢false, IfSome, Option, Some, None}
 use Rattle.std.specs.Prelude.{◌&&◌, not}
 use Rattle.std.proofs.lemmas.Bool.{and_parts, and_from, both_ways, false_from_ne_true}
-use Rattle.sgt_cycle.specs.Places.{is_set, is_bit, places}
+use Rattle.sgt_cycle.specs.Indices.{is_set, is_bit, indices}
 use Rattle.sgt_cycle.specs.Walk.{IsWalk}
 use Rattle.sgt_cycle.proofs.Bits.{none_above}
 use Rattle.sgt_cycle.proofs.RowWalks.{Searching, search_starts, search_fits, search_here, search_push, search_room, search_pop, search_ends, search_none, no_row}
@@ -19,7 +19,7 @@ no_items (x ∷ xs) none = absurd (none (omega arith))
 
 pub loop-here-init : goal.loop-here-init
 loop-here-init c = rw (c.push.ensures.items, c.new-path.ensures)
-    (search_starts c.args.rows.now c.args.source c.args.targets c.complement-fresh.result c.requires.place
+    (search_starts c.args.rows.now c.args.source c.args.targets c.complement-fresh.result c.requires.index
     (λ i low. c.complement-fresh.ensures i low ∙ ap not (c.only.ensures i))
     (λ i high. none_above c.args.targets i c.ranges.targets.fits high)
     (λ i j high. no_row c.args.rows.now i j (omega (arith, c.told-rows)) high))
@@ -44,7 +44,7 @@ returns-then-has-clause-some c =
     let s : Searching c.args.rows.now c.args.source c.args.targets c.loop-here.fresh (path ++ here ∷ []) =
     rw c.in-Some.ensures.items at c.loop-here.invariant in
     let target : is_set c.args.targets here ≡ true = sym (c.if-has.ensures) in
-    found c.from_slice.result (path ++ here ∷ []) (IsWalk (is_bit c.args.rows.now) c.args.source (places c.args.targets))
+    found c.from_slice.result (path ++ here ∷ []) (IsWalk (is_bit c.args.rows.now) c.args.source (indices c.args.targets))
     (rw (c.as_slice.ensures.value, c.push-then-has.ensures.items) at c.from_slice.ensures.items)
     (search_ends c.args.rows.now c.args.source c.args.targets c.loop-here.fresh path here s target)
 
@@ -90,7 +90,7 @@ loop-here-preserved-in-Some-least c =
     rw (c.push-in-Some-least-2.ensures.items, c.push-in-Some-least.ensures.items)
     (search_push c.args.rows.now c.args.source c.args.targets c.loop-here.fresh path here s next c.minus-fresh.result
     c.in-Some-least.ensures.some.0 step both.1
-    (λ i. c.minus-fresh.ensures.places i ∙ ap (λ x. is_set c.loop-here.fresh i && not x) (c.only-in-Some-least.ensures i)))
+    (λ i. c.minus-fresh.ensures.indices i ∙ ap (λ x. is_set c.loop-here.fresh i && not x) (c.only-in-Some-least.ensures i)))
 
 pub loop-here-preserved : goal.loop-here-preserved
 loop-here-preserved c =

@@ -36,7 +36,7 @@ returns-clause-stops g c =
       | then-loop-event-test+in-Err w
           ↦ (let here = slice_get_read c.args.events.now _ c.loop-event.event-index w.event-item.result refl w.loop-event-test.true
           w.event-item.is in stops_refused c.loop-event.engine c.loop-event-test.engine c.loop-event.done c.args.events.now
-          w.copied.result w.apply.result (w.engine-is ∙ w.in-Err.ensures.refused)
+          w.copied.result w.apply.result (w.engine-is ∙ w.in-Err.ensures.unchanged)
           (ap (λ n. slice_get c.args.events.now n) c.loop-event.invariant.done ∙ here ∙ ap Some (sym w.copied.ensures))
           (ap is_ok w.in-Err.is) w.apply.ensures.no_memory)
     ]

@@ -1,14 +1,14 @@
 use Rattle.std.proofs.Common.{List, ◌≡◌, ◌∙◌, ℕ, true, sym, subst, refl, inl, inr, arith}
 use Rattle.std.specs.Prelude.{◌↔◌}
 use Rattle.std.proofs.lemmas.Bool.{or_cases, or_left, or_right, and_parts, and_from, eqb-true, eq-eqb}
-use Rattle.sgt_cycle.specs.Places.{is_set, is_bit}
+use Rattle.sgt_cycle.specs.Indices.{is_set, is_bit}
 use Rattle.sgt_graph.proofs.RowSteps.{closed_next, closed_all}
 use Rattle.sgt_graph.proofs.rows.closure.Goals as goal
 
-pub loop-place-preserved : goal.loop-place-preserved
-loop-place-preserved c =
-    let k : ℕ = c.loop-place.place in
-    let old : List ℕ = c.loop-place.reached in
+pub loop-index-preserved : goal.loop-index-preserved
+loop-index-preserved c =
+    let k : ℕ = c.loop-index.index in
+    let old : List ℕ = c.loop-index.reached in
     let new : List ℕ = c.add.new.rows in
     let from_iff : (i : ℕ) → (is_set c.meeting-from.result i ≡ true) ↔ (is_bit old i k ≡ true) = λ i. (
       (λ h. let (j, link, alone) = (c.meeting-from.ensures i).0 h in
@@ -17,7 +17,7 @@ loop-place-preserved c =
     ) in
     record {
       size = c.add.array_long;
-      closed = closed_next c.args.rows.now k old new c.loop-place.invariant.closed (λ i j. (
+      closed = closed_next c.args.rows.now k old new c.loop-index.invariant.closed (λ i j. (
         (λ h. elim (or_cases (is_bit old i j) _ (sym (c.add.ensures i j) ∙ h)) [
           | inl o ↦ inl o
           | inr n ↦ let both = and_parts (is_set c.meeting-from.result i) _ n in
@@ -32,5 +32,5 @@ loop-place-preserved c =
     }
 
 pub returns : goal.returns
-returns c = closed_all c.args.rows.now c.loop-place.place c.loop-place.reached (omega arith) c.loop-place.invariant.size
-    c.loop-place.invariant.closed
+returns c = closed_all c.args.rows.now c.loop-index.index c.loop-index.reached (omega arith) c.loop-index.invariant.size
+    c.loop-index.invariant.closed

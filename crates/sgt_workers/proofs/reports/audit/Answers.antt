@@ -3,7 +3,7 @@ use Rattle.std.specs.List.{All, AllZip, flat_map}
 use Rattle.sgt_model.specs.Fates.{starts}
 use Rattle.sgt_model.specs.Walks.{Distinct}
 use Rattle.sgt_workers.specs.Lives.{AreLives}
-use Rattle.sgt_workers.specs.Outcomes.{Stands}
+use Rattle.sgt_workers.specs.Outcomes.{OutcomeStands}
 use Rattle.sgt_workers.specs.Reports.{entries_of, transactions_of, CountsAgree, FewLive, AllEnded}
 use Rattle.sgt_workers.proofs.Named.{all_started, all_there}
 use Rattle.sgt_workers.proofs.reports.audit.Goals as goal
@@ -11,7 +11,7 @@ use Rattle.sgt_workers.proofs.reports.audit.Goals as goal
 pub none_twice-requires : goal.none_twice-requires
 none_twice-requires g c =
     let h = c.args.history.now in
-    let stand : IsTrue c.all_stand.result ↔ AllZip (Stands h c.args.tries) c.args.jobs.now c.args.outcomes.now = c.all_stand.ensures in
+    let stand : IsTrue c.all_stand.result ↔ AllZip (OutcomeStands h c.args.tries) c.args.jobs.now c.args.outcomes.now = c.all_stand.ensures in
     let all = all_started h c.args.tries c.args.jobs.now c.args.outcomes.now (stand.0 c.if-not-all_stand.false) in
     let named : c.deref-2.result.now ≡ flat_map (transactions_of h) c.args.outcomes.now = c.deref-2.ensures.value ∙ c.in_ok-transactions.ensures in
     let are : AreLives (reverse h) c.in_ok-lives.lives.items = c.in_ok-lives.ensures in
@@ -21,7 +21,7 @@ none_twice-requires g c =
 pub none_twice-requires-2 : goal.none_twice-requires-2
 none_twice-requires-2 g c =
     let h = c.args.history.now in
-    let stand : IsTrue c.all_stand.result ↔ AllZip (Stands h c.args.tries) c.args.jobs.now c.args.outcomes.now = c.all_stand.ensures in
+    let stand : IsTrue c.all_stand.result ↔ AllZip (OutcomeStands h c.args.tries) c.args.jobs.now c.args.outcomes.now = c.all_stand.ensures in
     let all = all_there h c.args.tries c.args.jobs.now c.args.outcomes.now (stand.0 c.if-not-all_stand.false) in
     let named : c.deref-3.result.now ≡ flat_map entries_of c.args.outcomes.now = c.deref-3.ensures.value ∙ c.in_ok-entries.ensures in
     subst (All (λ n. n < length h)) (sym named) all
@@ -29,7 +29,7 @@ none_twice-requires-2 g c =
 pub returns : goal.returns
 returns g c =
     let h = c.args.history.now in
-    let stand : IsTrue c.all_stand.result ↔ AllZip (Stands h c.args.tries) c.args.jobs.now c.args.outcomes.now = c.all_stand.ensures in
+    let stand : IsTrue c.all_stand.result ↔ AllZip (OutcomeStands h c.args.tries) c.args.jobs.now c.args.outcomes.now = c.all_stand.ensures in
     let transactions : IsTrue c.in_ok-none_twice.field-0 ↔ Distinct c.deref-2.result.now = c.in_ok-none_twice.ensures in
     let entries : IsTrue c.in_ok-none_twice-2.field-0 ↔ Distinct c.deref-3.result.now = c.in_ok-none_twice-2.ensures in
     let named : c.deref-2.result.now ≡ flat_map (transactions_of h) c.args.outcomes.now = c.deref-2.ensures.value ∙ c.in_ok-transactions.ensures in

@@ -4,7 +4,7 @@ use Rattle.std.specs.Result.{is_ok}
 use Rattle.std.specs.Vec.{vec_len, vec_capacity}
 use Rattle.sgt_model.specs.Databases.{contents_of}
 use Rattle.sgt_model.specs.Settings.{setting}
-use Rattle.sgt_sched.specs.Briefs.{told}
+use Rattle.sgt_sched.specs.Briefs.{in_full}
 use Rattle.sgt_sched.specs.Scheduler.{state}
 use Rattle.sgt_engine.specs.EngineView.{setting_of}
 use Rattle.sgt_engine.proofs.Ends.{room_left, ends_seen}
@@ -15,7 +15,7 @@ pub invariant_of-self-2 : goal.invariant_of-self-2
 invariant_of-self-2 g c =
     let s = setting (contents_of c.self.inside.opening) c.self.inside.sched.procedures.items c.self.inside.sched.limits in
     let kept = kept_entry c.calls_simulate.ensures s _ c.self.inside.history.items c.file.new.history.items (state c.self.inside.sched)
-    (state c.answer.new.self) c.args.event (told c.in_ok-brief.brief c.answer.new.place)
+    (state c.answer.new.self) c.args.event (in_full c.in_ok-brief.brief c.answer.new.out)
     (same_setting _ _ _ _ _ c.answer.ensures.done.kept.0 c.answer.ensures.done.kept.1)
     (added _ _ _ _ _ _ c.file.ensures.items c.make_room.ensures.items refl)
     (c.self.invariant.0, c.self.invariant.1) c.in_ok-brief.ensures.done.done.does in
@@ -28,7 +28,7 @@ invariant_of-self-2 g c =
     })
     (setting (contents_of c.self.inside.opening) c.self.inside.sched.procedures.items c.self.inside.sched.limits)
     (reverse c.self.inside.history.items) c.self.invariant.0 (state c.self.inside.sched) c.self.invariant.1 c.args.event
-    (state c.answer.new.self) (told c.in_ok-brief.brief c.answer.new.place) (vec_len c.make_room.new.history)
+    (state c.answer.new.self) (in_full c.in_ok-brief.brief c.answer.new.out) (vec_len c.make_room.new.history)
     (vec_capacity c.make_room.new.history) c.in_ok-brief.ensures.done.done.does c.make_room.ensures.ends
     c.in_ok-make_room.ensures.room in
     (kept.0, kept.1, omega (arith, left, c.file.ensures.len, c.file.ensures.capacity))
@@ -45,12 +45,12 @@ returns-clause-order g c = (c.headline_holds.ensures _ _ (invariant_of-self-2 g 
 pub returns-clause-adds : goal.returns-clause-adds
 returns-clause-adds g c =
     let s = setting (contents_of c.self.inside.opening) c.self.inside.sched.procedures.items c.self.inside.sched.limits in (
-      told c.in_ok-brief.brief c.answer.new.place,
+      in_full c.in_ok-brief.brief c.answer.new.out,
       entry_added c.self.inside.opening _ _ _ _ c.self.inside.history.items c.file.new.history.items c.args.event
-          (told c.in_ok-brief.brief c.answer.new.place) c.args.self.now c.answer.ensures.done.kept.0 c.answer.ensures.done.kept.1
+          (in_full c.in_ok-brief.brief c.answer.new.out) c.args.self.now c.answer.ensures.done.kept.0 c.answer.ensures.done.kept.1
           (added _ _ _ _ _ _ c.file.ensures.items c.make_room.ensures.items refl) c.self.view_is,
       legal_reply c.calls_simulate.ensures s _ (reverse c.self.inside.history.items) _ (state c.self.inside.sched)
-          (state c.answer.new.self) c.args.event (told c.in_ok-brief.brief c.answer.new.place) (ap setting_of c.self.view_is)
+          (state c.answer.new.self) c.args.event (in_full c.in_ok-brief.brief c.answer.new.out) (ap setting_of c.self.view_is)
           (ap (λ e. e.past) c.self.view_is) (c.self.invariant.0, c.self.invariant.1) c.in_ok-brief.ensures.done.done.does,
     )
 
@@ -89,7 +89,7 @@ file-requires g c =
     })
     (setting (contents_of c.self.inside.opening) c.self.inside.sched.procedures.items c.self.inside.sched.limits)
     (reverse c.self.inside.history.items) c.self.invariant.0 (state c.self.inside.sched) c.self.invariant.1 c.args.event
-    (state c.answer.new.self) (told c.in_ok-brief.brief c.answer.new.place) (vec_len c.make_room.new.history)
+    (state c.answer.new.self) (in_full c.in_ok-brief.brief c.answer.new.out) (vec_len c.make_room.new.history)
     (vec_capacity c.make_room.new.history) c.in_ok-brief.ensures.done.done.does c.make_room.ensures.ends
     c.in_ok-make_room.ensures.room in
     omega (arith, left)

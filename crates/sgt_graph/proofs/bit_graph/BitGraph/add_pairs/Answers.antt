@@ -1,14 +1,14 @@
 use Rattle.std.proofs.Common.{◌≡◌, ◌∙◌, ℕ, List, true, false, sym, subst, inl, inr, eqb-true, eq-eqb}
 use Rattle.std.specs.Prelude.{◌⊎◌, ◌↔◌}
 use Rattle.std.proofs.lemmas.Bool.{and_parts, and_from, or_cases, or_left, or_right}
-use Rattle.sgt_cycle.specs.Places.{is_set, is_bit}
+use Rattle.sgt_cycle.specs.Indices.{is_set, is_bit}
 use Rattle.sgt_graph.proofs.BitSteps.{joined_graph}
 use Rattle.sgt_graph.proofs.bit_graph.BitGraph.add_pairs.Goals as goal
 
 pub invariant_of-self : goal.invariant_of-self
 invariant_of-self c =
     let from : ℕ = c.args.from in
-    let p : ℕ = c.args.place in
+    let p : ℕ = c.args.index in
     let pairs : List ℕ = c.self.inside.pairs in
     let reached : List ℕ = c.self.inside.reached in
     let new_is : (i j : ℕ) → (is_bit c.add.new.rows i j ≡ true) ↔ ((is_bit pairs i j ≡ true) ⊎ ((is_set from i ≡ true) × (j ≡ p))) =

@@ -1,6 +1,6 @@
 use Rattle.std.proofs.Common.{◌≡◌, ◌<◌, ◌∙◌, ℕ, Bool, List, true, false, ap, sym, subst, refl, nat_eq, slice_set, true≢false}
 use Rattle.std.specs.Prelude.{◌||◌, not}
-use Rattle.sgt_cycle.specs.Places.{is_set}
+use Rattle.sgt_cycle.specs.Indices.{is_set}
 use Rattle.sgt_graph.specs.BitGraphs.{is_placed, is_pair, IsBitGraph}
 use Rattle.sgt_model.specs.Walks.{AtMost}
 use Rattle.sgt_graph.proofs.BitSteps.{grown, grown_nodes, grown_pairs, no_room}
@@ -22,7 +22,7 @@ unreachable-requires c =
 
 pub invariant_of-self : goal.invariant_of-self
 invariant_of-self c =
-    let p : ℕ = c.in-Some.place in
+    let p : ℕ = c.in-Some.index in
     let low : p < 32 = c.in-Some.ensures.some.0 in
     let vacant : is_set c.self.inside.taken p ≡ false =
     free_there (is_set c.self.inside.taken p) (sym (c.complement.ensures p low) ∙ c.in-Some.ensures.some.1) in
@@ -36,7 +36,7 @@ invariant_of-self c =
 
 pub returns-clause-nodes : goal.returns-clause-nodes
 returns-clause-nodes c u =
-    let p : ℕ = c.in-Some.place in
+    let p : ℕ = c.in-Some.index in
     let low : p < 32 = c.in-Some.ensures.some.0 in
     let vacant : is_set c.self.inside.taken p ≡ false =
     free_there (is_set c.self.inside.taken p) (sym (c.complement.ensures p low) ∙ c.in-Some.ensures.some.1) in
@@ -52,7 +52,7 @@ returns-clause-nodes c u =
 
 pub returns-clause-pairs : goal.returns-clause-pairs
 returns-clause-pairs c u v =
-    let p : ℕ = c.in-Some.place in
+    let p : ℕ = c.in-Some.index in
     let low : p < 32 = c.in-Some.ensures.some.0 in
     let vacant : is_set c.self.inside.taken p ≡ false =
     free_there (is_set c.self.inside.taken p) (sym (c.complement.ensures p low) ∙ c.in-Some.ensures.some.1) in

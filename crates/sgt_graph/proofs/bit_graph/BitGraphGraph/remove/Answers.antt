@@ -9,11 +9,11 @@ returns-in-Some-clause-nodes c u =
     let v : ℕ × List ℕ × List ℕ × List ℕ = c.args.self.now in
     let g : IsBitGraph v.0 v.1 v.2 v.3 =
     subst (λ (v : ℕ × List ℕ × List ℕ × List ℕ). IsBitGraph v.0 v.1 v.2 v.3) c.self.view_is c.self.invariant in
-    let here : is_at v.0 v.1 c.args.t c.in-Some.place ≡ true = subst
-    (λ (v : ℕ × List ℕ × List ℕ × List ℕ). is_at v.0 v.1 c.args.t c.in-Some.place ≡ true) c.self.view_is c.in-Some.ensures.some.1 in
+    let here : is_at v.0 v.1 c.args.t c.in-Some.index ≡ true = subst
+    (λ (v : ℕ × List ℕ × List ℕ × List ℕ). is_at v.0 v.1 c.args.t c.in-Some.index ≡ true) c.self.view_is c.in-Some.ensures.some.1 in
     let after : IsBitGraph c.free.new.self.0 v.1 c.free.new.self.2 c.free.new.self.3 =
     subst (λ x. IsBitGraph c.free.new.self.0 x c.free.new.self.2 c.free.new.self.3) c.free.ensures.tids c.free.ensures.graph in
-    removed_nodes v.0 v.1 v.2 v.3 g c.in-Some.place c.free.new.self.0 c.free.new.self.2 c.free.ensures.taken c.free.ensures.pairs
+    removed_nodes v.0 v.1 v.2 v.3 g c.in-Some.index c.free.new.self.0 c.free.new.self.2 c.free.ensures.taken c.free.ensures.pairs
     c.free.new.self.3 after c.args.t here c.free.new.self.1 c.free.ensures.tids u
 
 pub returns-in-Some-clause-pairs : goal.returns-in-Some-clause-pairs
@@ -21,11 +21,11 @@ returns-in-Some-clause-pairs c u w =
     let v : ℕ × List ℕ × List ℕ × List ℕ = c.args.self.now in
     let g : IsBitGraph v.0 v.1 v.2 v.3 =
     subst (λ (v : ℕ × List ℕ × List ℕ × List ℕ). IsBitGraph v.0 v.1 v.2 v.3) c.self.view_is c.self.invariant in
-    let here : is_at v.0 v.1 c.args.t c.in-Some.place ≡ true = subst
-    (λ (v : ℕ × List ℕ × List ℕ × List ℕ). is_at v.0 v.1 c.args.t c.in-Some.place ≡ true) c.self.view_is c.in-Some.ensures.some.1 in
+    let here : is_at v.0 v.1 c.args.t c.in-Some.index ≡ true = subst
+    (λ (v : ℕ × List ℕ × List ℕ × List ℕ). is_at v.0 v.1 c.args.t c.in-Some.index ≡ true) c.self.view_is c.in-Some.ensures.some.1 in
     let after : IsBitGraph c.free.new.self.0 v.1 c.free.new.self.2 c.free.new.self.3 =
     subst (λ x. IsBitGraph c.free.new.self.0 x c.free.new.self.2 c.free.new.self.3) c.free.ensures.tids c.free.ensures.graph in
-    removed_pairs v.0 v.1 v.2 v.3 g c.in-Some.place c.free.new.self.0 c.free.new.self.2 c.free.ensures.taken c.free.ensures.pairs
+    removed_pairs v.0 v.1 v.2 v.3 g c.in-Some.index c.free.new.self.0 c.free.new.self.2 c.free.ensures.taken c.free.ensures.pairs
     c.free.new.self.3 after c.args.t here c.free.new.self.1 c.free.ensures.tids u w
 
 pub returns-in_default-clause-nodes : goal.returns-in_default-clause-nodes

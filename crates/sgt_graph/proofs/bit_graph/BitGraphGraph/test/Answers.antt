@@ -1,6 +1,6 @@
 use Rattle.std.proofs.Common.{◌≡◌, ℕ, List, true, sym, subst, refl}
 use Rattle.std.proofs.lemmas.Bool.{both_ways}
-use Rattle.sgt_graph.specs.BitGraphs.{is_placed, is_pair, IsPlaceVerdict}
+use Rattle.sgt_graph.specs.BitGraphs.{is_placed, is_pair, IsIndexVerdict}
 use Rattle.sgt_graph.specs.Verdicts.{IsVerdict}
 use Rattle.sgt_graph.proofs.Placed.{placed_at}
 use Rattle.sgt_graph.proofs.BitSteps.{verdict_of}
@@ -16,9 +16,9 @@ pub returns : goal.returns
 returns c = record {
   verdict = subst (λ (v : ℕ × List ℕ × List ℕ × List ℕ). IsVerdict (is_pair v.0 v.1 v.2) c.args.t c.args.preds.now c.verdict.result)
       c.self.view_is
-      (verdict_of c.self.inside.taken c.self.inside.tids c.self.inside.pairs c.self.inside.reached c.self.invariant c.args.t c.in-Some.place
-      c.places_of.result c.args.preds.now c.in-Some.ensures.some.1 c.places_of.ensures (λ u m. (c.requires.preds u m).1)
+      (verdict_of c.self.inside.taken c.self.inside.tids c.self.inside.pairs c.self.inside.reached c.self.invariant c.args.t c.in-Some.index
+      c.indices_of.result c.args.preds.now c.in-Some.ensures.some.1 c.indices_of.ensures (λ u m. (c.requires.preds u m).1)
       c.verdict.result
-      (subst (λ (v : ℕ × List ℕ × List ℕ × List ℕ). IsPlaceVerdict v.1 v.2 v.3 c.in-Some.place c.places_of.result c.verdict.result)
+      (subst (λ (v : ℕ × List ℕ × List ℕ × List ℕ). IsIndexVerdict v.1 v.2 v.3 c.in-Some.index c.indices_of.result c.verdict.result)
       (sym c.self.view_is) c.verdict.ensures));
 }

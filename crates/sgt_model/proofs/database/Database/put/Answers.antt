@@ -1,7 +1,7 @@
 use Rattle.std.proofs.Common.{◌≡◌, None, rules, arith, sym, subst, w64, ◌≤◌, length}
 use Rattle.std.proofs.lemmas.Int.{to_z-of_z}
-use Rattle.sgt_model.specs.Databases.{contents_of, IsByKey, IsPlace}
-use Rattle.sgt_model.proofs.Rows.{set_rows, insert_rows, set_told, insert_told, place_within, value_missing}
+use Rattle.sgt_model.specs.Databases.{contents_of, IsByKey, IsRowIndex}
+use Rattle.sgt_model.proofs.Rows.{set_rows, insert_rows, set_told, insert_told, index_within, value_missing}
 use Rattle.sgt_model.proofs.database.Database.put.Goals as goal
 
 pub invariant_of-self : goal.invariant_of-self
@@ -12,8 +12,8 @@ invariant_of-self c =
 
 pub insert-requires : goal.insert-requires
 insert-requires c =
-    let within : c.in-Err.at ≤ length c.self.inside.rows.items = place_within c.args.key c.self.inside.rows.items c.in-Err.at
-    (subst (λ rows. IsPlace c.args.key rows c.in-Err.at) (sym c.self.view_is) c.in-Err.ensures.0) in
+    let within : c.in-Err.at ≤ length c.self.inside.rows.items = index_within c.args.key c.self.inside.rows.items c.in-Err.at
+    (subst (λ rows. IsRowIndex c.args.key rows c.in-Err.at) (sym c.self.view_is) c.in-Err.ensures.0) in
     omega arith
 
 pub invariant_of-self-in-Continue-1 : goal.invariant_of-self-in-Continue-1

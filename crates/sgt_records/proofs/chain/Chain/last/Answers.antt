@@ -1,5 +1,5 @@
 use Rattle.std.proofs.Common.{rules, ◌≡◌, ◌-◌, Some, length, slice_get, sym, ◌∙◌}
-use Rattle.sgt_records.proofs.ChainPlaces.{last_get}
+use Rattle.sgt_records.proofs.ChainIndices.{last_get}
 use Rattle.sgt_records.proofs.chain.Chain.last.Goals as goal
 
 pub returns-in-Some : goal.returns-in-Some

@@ -1,10 +1,10 @@
 use Rattle.std.proofs.Common.{rules, sym, ◌∙◌, arith, w64, ap, Some, ℕ, ℤ}
 use Rattle.std.proofs.lemmas.Int.{to_z-of_z}
-use Rattle.sgt_records.proofs.ChainPlaces.{not_found, found, at_place, value_at, taken_out, left_whole, no_value}
+use Rattle.sgt_records.proofs.ChainIndices.{not_found, found, at_index, value_at, taken_out, left_whole, no_value}
 use Rattle.sgt_records.proofs.chain.Chain.take_out.Goals as goal
 
 pub remove-value-requires : goal.remove-value-requires
-remove-value-requires c = (omega arith, at_place c.args.t c.args.self.now.writes.items c.in_ok-at.at (found c.args.t _ _ (search rules)))
+remove-value-requires c = (omega arith, at_index c.args.t c.args.self.now.writes.items c.in_ok-at.at (found c.args.t _ _ (search rules)))
 
 pub returns-in_err-at-clause-value : goal.returns-in_err-at-clause-value
 returns-in_err-at-clause-value c = c.from_residual.ensures

@@ -1,6 +1,6 @@
 use Rattle.std.proofs.Common.{sym, ◌∙◌, arith, ap, subst, ◌<◌, length}
 use Rattle.std.specs.Option.{is_some}
-use Rattle.sgt_records.proofs.ChainPlaces.{has_value, room_left}
+use Rattle.sgt_records.proofs.ChainIndices.{has_value, room_left}
 use Rattle.sgt_records.proofs.chain.Chain.write.Goals as goal
 
 pub push-requires : goal.push-requires

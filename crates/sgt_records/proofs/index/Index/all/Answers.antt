@@ -10,7 +10,7 @@ use Rattle.sgt_model.specs.Databases.{key_cmp, contents_of}
 use Rattle.sgt_model.proofs.Rows.{key_order}
 use Rattle.sgt_records.specs.declared.record.Record.{Record}
 use Rattle.sgt_records.proofs.EntriesRead.{given_so_far, value_more, blank_more, all_given}
-use Rattle.sgt_records.proofs.RecordPlaces.{value_there}
+use Rattle.sgt_records.proofs.RecordSlots.{value_there}
 use Rattle.sgt_records.proofs.index.Index.all.Goals as goal
 
 abbrev value : Record → Option ℤ

@@ -1,5 +1,5 @@
 use Rattle.std.proofs.Common.{rules}
-use Rattle.sgt_records.proofs.RecordPlaces.{value_there}
+use Rattle.sgt_records.proofs.RecordSlots.{value_there}
 use Rattle.sgt_records.proofs.index.Index.committed.Goals as goal
 
 pub returns-in-Some-clause-in_range : goal.returns-in-Some-clause-in_range

@@ -5,10 +5,10 @@ use Rattle.std.proofs.lemmas.Option.{slice_get_read}
 use Rattle.sgt_model.specs.Numbers.{IsValue}
 use Rattle.sgt_model.specs.Contents.{key_eq}
 use Rattle.sgt_model.specs.Databases.{Row, contents_of, IsByKey, HasValues}
-use Rattle.sgt_records.specs.Places.{committed_of}
+use Rattle.sgt_records.specs.Slots.{committed_of}
 use Rattle.sgt_records.proofs.RowsRead.{row_more, rows_values}
 use Rattle.sgt_records.proofs.ChainsKept.{chain_empty}
-use Rattle.sgt_records.proofs.RecordPlaces.{committed_told, still_none, index_none}
+use Rattle.sgt_records.proofs.RecordSlots.{committed_told, still_none, index_none}
 use Rattle.sgt_records.proofs.index.Index.of.Goals as goal
 
 pub loop-key-preserved : goal.loop-key-preserved
@@ -26,7 +26,7 @@ loop-key-preserved c =
           ∙ (ap (λ o. cond (key_eq row.0 k) (Some row.1) o) (c.loop-key.invariant.values k)
           ∙ sym (row_more rows c.loop-key.key-index row (subst IsByKey c.rows-key-items.ensures.rows c.rows-key-items.ensures.by_key) at
           k)));
-      none = still_none records c.insert.new.self row.0 c.settled.result c.in_ok-insert.ensures.updates c.settled.ensures.place
+      none = still_none records c.insert.new.self row.0 c.settled.result c.in_ok-insert.ensures.updates c.settled.ensures.slot
           c.loop-key.invariant.none;
     }
 

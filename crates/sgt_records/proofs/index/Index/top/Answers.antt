@@ -3,8 +3,8 @@ use Rattle.std.specs.BTreeMap.{get}
 use Rattle.sgt_model.specs.Numbers.{IsValue}
 use Rattle.sgt_model.specs.Databases.{key_cmp}
 use Rattle.sgt_records.specs.declared.top.Top.{Top}
-use Rattle.sgt_records.specs.Tops.{value_of}
-use Rattle.sgt_records.proofs.RecordPlaces.{chain_there, value_there}
+use Rattle.sgt_records.specs.Tops.{value_of_top}
+use Rattle.sgt_records.proofs.RecordSlots.{chain_there, value_there}
 use Rattle.sgt_records.proofs.ChainsKept.{top_value}
 use Rattle.sgt_records.proofs.index.Index.top.Goals as goal
 
@@ -13,6 +13,6 @@ returns-in-Some-clause-in_range c =
     let records = c.args.self.now.records in
     let chains = c.args.self.now.chains in
     let record_is : get key_cmp records c.args.key ≡ Some c.in-Some.record.now = search rules in
-    subst (λ (found : Top). IfSome (value_of found) IsValue) (sym c.top.ensures)
+    subst (λ (found : Top). IfSome (value_of_top found) IsValue) (sym c.top.ensures)
     (top_value _ _ (chain_there records chains c.args.key c.in-Some.record.now record_is c.args.self.now.is_index)
     (value_there records chains c.args.key c.in-Some.record.now record_is c.args.self.now.is_index))

@@ -2,9 +2,9 @@ use Rattle.std.proofs.Common.{rules, ◌≡◌, Some, sym, subst, ◌∙◌, ℤ
 use Rattle.std.specs.BTreeMap.{get, Updates}
 use Rattle.sgt_model.specs.Numbers.{IsValue}
 use Rattle.sgt_model.specs.Databases.{key_cmp}
-use Rattle.sgt_model.specs.Chains.{without}
+use Rattle.sgt_model.specs.Chains.{chain_without}
 use Rattle.sgt_records.specs.Validity.{IsChain}
-use Rattle.sgt_records.proofs.RecordPlaces.{held_there, chain_there, value_there, place_is, committed_is, index_told, chain_by, committed_same}
+use Rattle.sgt_records.proofs.RecordSlots.{held_there, chain_there, value_there, slot_is, committed_is, index_told, chain_by, committed_same}
 use Rattle.sgt_records.proofs.ChainsKept.{chain_left}
 use Rattle.sgt_records.proofs.index.Index.undo.Goals as goal
 
@@ -29,7 +29,7 @@ invariant_of-self c =
     let value = value_there records chains c.args.key old is c.args.self.now.is_index in
     record {
       is_index = index_told records (c.get_mut.follows.lender new) c.args.key new told chains c.take_out.new.chains c.args.self.now.is_index
-          old.place (place_is records chains c.args.key old is c.args.self.now.is_index) c.take_out.ensures.moves
+          old.slot (slot_is records chains c.args.key old is c.args.self.now.is_index) c.take_out.ensures.moves
           (subst IsChain (sym c.take_out.ensures.left) (chain_left c.args.t _ chain))
           (subst (λ (o : Option ℤ). IfSome o IsValue) (sym c.take_out.ensures.committed) value);
     }
@@ -43,8 +43,8 @@ returns-in-Some-clause-chain c =
     let is : get key_cmp records c.args.key ≡ Some old = search rules in
     let told : Updates key_cmp records (c.get_mut.follows.lender new) c.args.key (Some new) =
     (c.get_mut.follows.holds new).3 (search rules) in
-    chain_by records (c.get_mut.follows.lender new) c.args.key new told chains c.take_out.new.chains c.args.self.now.is_index old.place
-    (place_is records chains c.args.key old is c.args.self.now.is_index) c.take_out.ensures.moves (without c.args.t)
+    chain_by records (c.get_mut.follows.lender new) c.args.key new told chains c.take_out.new.chains c.args.self.now.is_index old.slot
+    (slot_is records chains c.args.key old is c.args.self.now.is_index) c.take_out.ensures.moves (chain_without c.args.t)
     c.take_out.ensures.left
 
 pub returns-in-Some-clause-settled : goal.returns-in-Some-clause-settled

@@ -1,7 +1,7 @@
 use Rattle.std.proofs.Common.{◌≡◌, ◌≢◌, cond, ap, sym, ◌∙◌}
 use Rattle.std.proofs.lemmas.Bool.{eqb-true, eqb-false}
-use Rattle.sgt_model.specs.Chains.{without}
-use Rattle.sgt_records.specs.Places.{key_chain}
+use Rattle.sgt_model.specs.Chains.{chain_without}
+use Rattle.sgt_records.specs.Slots.{key_chain}
 use Rattle.sgt_records.proofs.LiveWritesLeft.{undo_more, live_other}
 use Rattle.sgt_records.proofs.index.Index.undo_all.Goals as goal
 use Rattle.sgt_records.proofs.index.Index.undo_all.Goals.{then-eq, else-eq}
@@ -24,7 +24,7 @@ loop-write-preserved c =
           rw b.self-is record {
             chain =
                 λ k. c.loop-write.invariant.chain k ∙ ap (λ d. cond d
-                (without c.args.t (key_chain c.args.self.now.records c.args.self.now.chains k))
+                (chain_without c.args.t (key_chain c.args.self.now.records c.args.self.now.chains k))
                 (key_chain c.args.self.now.records c.args.self.now.chains k))
                 (sym (live_other c.args.t writes at w c.loop-write-test.true c.write-item.is other k));
             settled = c.loop-write.invariant.settled;

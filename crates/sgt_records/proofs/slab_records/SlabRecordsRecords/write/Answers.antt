@@ -1,6 +1,6 @@
 use Rattle.std.proofs.Common.{rules, ◌≡◌, true}
 use Rattle.sgt_model.specs.Chains.{writes_in}
-use Rattle.sgt_records.specs.Places.{key_chain}
+use Rattle.sgt_records.specs.Slots.{key_chain}
 use Rattle.sgt_records.proofs.LiveWritesLeft.{live_added, live_again}
 use Rattle.sgt_records.proofs.slab_records.SlabRecordsRecords.write.Goals as goal
 

@@ -2,42 +2,42 @@ use Rattle.std.proofs.Common.{◌≡◌, arith, Some, None, refl, ap, ◌∙◌,
 use Rattle.std.specs.Prelude.{slice_get}
 use Rattle.std.proofs.lemmas.List.{length-set}
 use Rattle.sgt_sched.specs.declared.fates.End.TheVariants as end
-use Rattle.sgt_sched.specs.FateList.{fates_of}
+use Rattle.sgt_sched.specs.FateList.{fates_of_ends}
 use Rattle.sgt_sched.proofs.FateLists.{fates-set, have-more, have-set, live-set, started}
 use Rattle.sgt_sched.proofs.fates.Fates.end.Goals as goal
 
 pub end_of-end-requires-clause-room : goal.end_of-end-requires-clause-room
 end_of-end-requires-clause-room c =
-    let here : slice_get (fates_of c.self.inside.walks.items c.self.inside.ends.items) c.args.t ≡ Some None = ap
+    let here : slice_get (fates_of_ends c.self.inside.walks.items c.self.inside.ends.items) c.args.t ≡ Some None = ap
     (λ f. slice_get f.fates c.args.t) c.self.view_is ∙ c.requires.live in
     let less = live-set c.self.inside.walks.items c.self.inside.ends.items c.args.t end.Quit here refl in
     omega (arith, less, c.self.invariant.counted, c.self.invariant.room)
 
 pub end_of-end-requires-clause-few : goal.end_of-end-requires-clause-few
 end_of-end-requires-clause-few c =
-    let here : slice_get (fates_of c.self.inside.walks.items c.self.inside.ends.items) c.args.t ≡ Some None = ap
+    let here : slice_get (fates_of_ends c.self.inside.walks.items c.self.inside.ends.items) c.args.t ≡ Some None = ap
     (λ f. slice_get f.fates c.args.t) c.self.view_is ∙ c.requires.live in
     let less = live-set c.self.inside.walks.items c.self.inside.ends.items c.args.t end.Quit here refl in
     omega (arith, less, c.self.invariant.counted, c.self.invariant.ended, c.self.invariant.few)
 
 pub overflow_sub-self : goal.overflow_sub-self
 overflow_sub-self c =
-    let here : slice_get (fates_of c.self.inside.walks.items c.self.inside.ends.items) c.args.t ≡ Some None = ap
+    let here : slice_get (fates_of_ends c.self.inside.walks.items c.self.inside.ends.items) c.args.t ≡ Some None = ap
     (λ f. slice_get f.fates c.args.t) c.self.view_is ∙ c.requires.live in
     let less = live-set c.self.inside.walks.items c.self.inside.ends.items c.args.t end.Quit here refl in
     omega (arith, less, c.self.invariant.counted)
 
 pub index_mut-requires : goal.index_mut-requires
 index_mut-requires c =
-    let here : slice_get (fates_of c.self.inside.walks.items c.self.inside.ends.items) c.t.inside.0 ≡ Some None = ap
-    (λ t. slice_get (fates_of c.self.inside.walks.items c.self.inside.ends.items) t) c.t.view_is
+    let here : slice_get (fates_of_ends c.self.inside.walks.items c.self.inside.ends.items) c.t.inside.0 ≡ Some None = ap
+    (λ t. slice_get (fates_of_ends c.self.inside.walks.items c.self.inside.ends.items) t) c.t.view_is
     ∙ ap (λ f. slice_get f.fates c.args.t) c.self.view_is ∙ c.requires.live in
     omega (arith, started c.self.inside.walks.items c.self.inside.ends.items c.t.inside.0 here)
 
 pub invariant_of-self : goal.invariant_of-self
 invariant_of-self c =
-    let here : slice_get (fates_of c.self.inside.walks.items c.self.inside.ends.items) c.t.inside.0 ≡ Some None = ap
-    (λ t. slice_get (fates_of c.self.inside.walks.items c.self.inside.ends.items) t) c.t.view_is
+    let here : slice_get (fates_of_ends c.self.inside.walks.items c.self.inside.ends.items) c.t.inside.0 ≡ Some None = ap
+    (λ t. slice_get (fates_of_ends c.self.inside.walks.items c.self.inside.ends.items) t) c.t.view_is
     ∙ ap (λ f. slice_get f.fates c.args.t) c.self.view_is ∙ c.requires.live in
     let less = live-set c.self.inside.walks.items c.self.inside.ends.items c.t.inside.0 c.end_of-end.result here
     c.end_of-end.ensures.ended in
@@ -55,6 +55,6 @@ pub returns : goal.returns
 returns c =
     fates-set c.self.inside.walks.items c.end_of-end.new.walks.items c.self.inside.ends.items c.t.inside.0 c.end_of-end.result
     c.end_of-end.ensures.stay c.self.invariant.placed
-    ∙ ap (λ f. slice_set (fates_of c.self.inside.walks.items c.self.inside.ends.items) c.t.inside.0 f) c.end_of-end.ensures.fate
-    ∙ ap (λ t. slice_set (fates_of c.self.inside.walks.items c.self.inside.ends.items) t (Some c.args.fate.now)) c.t.view_is
+    ∙ ap (λ f. slice_set (fates_of_ends c.self.inside.walks.items c.self.inside.ends.items) c.t.inside.0 f) c.end_of-end.ensures.fate
+    ∙ ap (λ t. slice_set (fates_of_ends c.self.inside.walks.items c.self.inside.ends.items) t (Some c.args.fate.now)) c.t.view_is
     ∙ ap (λ l. slice_set l.fates c.args.t (Some c.args.fate.now)) c.self.view_is

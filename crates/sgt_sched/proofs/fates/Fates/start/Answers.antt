@@ -1,7 +1,7 @@
 use Rattle.std.proofs.Common.{arith, length, [], ◌∷◌, ap}
 use Rattle.std.proofs.lemmas.List.{length-append, length-map}
 use Rattle.sgt_sched.specs.declared.fates.End.TheVariants as end
-use Rattle.sgt_sched.specs.FateList.{fate_of}
+use Rattle.sgt_sched.specs.FateList.{fate_of_end}
 use Rattle.sgt_sched.proofs.FateLists.{have-added, live-added}
 use Rattle.sgt_sched.proofs.fates.Fates.start.Goals as goal
 
@@ -11,7 +11,7 @@ invariant_of-self c =
     let more = live-added c.self.inside.ends.items in
     let ready = ap (λ f. f.walk_room) c.self.view_is in
     let begun = ap (λ f. length f.fates) c.self.view_is in
-    let shown = length-map c.self.inside.ends.items (fate_of c.self.inside.walks.items) in
+    let shown = length-map c.self.inside.ends.items (fate_of_end c.self.inside.walks.items) in
     rw c.push_reserved.ensures.items (record {
       placed = have-added _ c.self.inside.ends.items c.self.invariant.placed;
       counted = omega (arith, more, c.self.invariant.counted);

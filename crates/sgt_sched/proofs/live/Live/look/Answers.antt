@@ -1,20 +1,20 @@
 use Rattle.std.proofs.Common.{sym, subst}
-use Rattle.sgt_sched.specs.LiveList.{looked}
+use Rattle.sgt_sched.specs.LiveList.{with_look}
 use Rattle.sgt_sched.specs.SchedulerView.{IsAlong}
-use Rattle.sgt_sched.proofs.Lives.{found_at, changed_at, has_place}
+use Rattle.sgt_sched.proofs.Lives.{found_at, changed_at, has_index}
 use Rattle.sgt_sched.proofs.live.Live.look.Goals as goal
 
 pub unreachable-requires : goal.unreachable-requires
-unreachable-requires c = has_place c.args.t c.args.self.now c.requires.live (sym c.in-None.ensures)
+unreachable-requires c = has_index c.args.t c.args.self.now c.requires.live (sym c.in-None.ensures)
 
 pub look-requires : goal.look-requires
 look-requires c = record {
-  along = subst (IsAlong c.args.procedures.now) (found_at c.args.t c.self.inside.running.items c.args.self.now c.in-Some.place
+  along = subst (IsAlong c.args.procedures.now) (found_at c.args.t c.self.inside.running.items c.args.self.now c.in-Some.index
       c.index_mut.result.now c.self.view_is c.in-Some.ensures c.index_mut.ensures.value).own_progress c.requires.along;
 }
 
 pub returns : goal.returns
-returns c = changed_at c.args.t c.self.inside.running.items c.args.self.now c.in-Some.place c.index_mut.result.now _
-    (looked c.args.value) c.self.view_is c.look.ensures
-    (found_at c.args.t c.self.inside.running.items c.args.self.now c.in-Some.place c.index_mut.result.now c.self.view_is c.in-Some.ensures
+returns c = changed_at c.args.t c.self.inside.running.items c.args.self.now c.in-Some.index c.index_mut.result.now _
+    (with_look c.args.value) c.self.view_is c.look.ensures
+    (found_at c.args.t c.self.inside.running.items c.args.self.now c.in-Some.index c.index_mut.result.now c.self.view_is c.in-Some.ensures
     c.index_mut.ensures.value)

@@ -1,6 +1,6 @@
 use Rattle.std.proofs.Common.{rules}
 use Rattle.std.proofs.lemmas.Result.{IfOk-weaker}
-use Rattle.sgt_sched.specs.Briefs.{told}
+use Rattle.sgt_sched.specs.Briefs.{in_full}
 use Rattle.sgt_sched.proofs.Stepped.{called, in_brief}
 use Rattle.sgt_sched.specs.Scheduler.{state, rules_of}
 use Rattle.sgt_sched.proofs.sched.Sched.answer.Goals as goal
@@ -17,7 +17,7 @@ returns-in-Start-clause-done g c = record {
 pub returns-in-Step-clause-done : goal.returns-in-Step-clause-done
 returns-in-Step-clause-done g c = record {
   done = IfOk-weaker c.answer_step.result _ _
-      (λ b done. in_brief (called (rules_of c.args.self.now) (state c.args.self.now) (told b c.answer_step.new.place)
+      (λ b done. in_brief (called (rules_of c.args.self.now) (state c.args.self.now) (in_full b c.answer_step.new.out)
       (state c.answer_step.new.self) c.args.event.now _ c.in-Step.is) done) c.answer_step.ensures.done.done;
   refused = search rules;
   kept = search rules;
@@ -26,7 +26,7 @@ returns-in-Step-clause-done g c = record {
 pub returns-in-Commit-clause-done : goal.returns-in-Commit-clause-done
 returns-in-Commit-clause-done g c = record {
   done = in_brief
-      (called (rules_of c.args.self.now) (state c.args.self.now) (told c.answer_commit.result c.answer_commit.new.place)
+      (called (rules_of c.args.self.now) (state c.args.self.now) (in_full c.answer_commit.result c.answer_commit.new.out)
       (state c.answer_commit.new.self) c.args.event.now _ c.in-Commit.is) c.answer_commit.ensures.turn;
   refused = search rules;
   kept = search rules;

@@ -1,6 +1,6 @@
 use Rattle.std.proofs.Common.{rules, inl, inr, ap, sym, subst, ◌∙◌, ◌++◌, ◌∷◌, []}
 use Rattle.sgt_model.specs.declared.kind.Kind.TheVariants.{Look}
-use Rattle.sgt_records.specs.Tops.{value_of}
+use Rattle.sgt_records.specs.Tops.{value_of_top}
 use Rattle.sgt_sched.specs.LiveList.{progress_at}
 use Rattle.sgt_sched.specs.Briefs.{HoldsLists}
 use Rattle.sgt_sched.specs.SchedulerView.{IsAlong}
@@ -47,7 +47,7 @@ invariant_of-self-2 g c =
           (c.note.ensures.noted ∙ ap (λ l. l ++ record { by = c.args.t; key = c.args.key; kind = Look } ∷ []) c.reserve.ensures.same)
           c.follow.ensures.nodes
           c.follow.ensures.pairs
-          (c.value-value.ensures ∙ ap value_of c.top-top.ensures.top) c.look.ensures
+          (c.value-value.ensures ∙ ap value_of_top c.top-top.ensures.top) c.look.ensures
           (c.note_read.ensures ∙ ap (with_source c.top-top.result c.args.t) c.reserve-2.ensures.items
           ∙ ap (λ top. with_source top c.args.t c.abort_in_cycle.new.self.read_from.items) c.top-top.ensures.top);
     }
@@ -82,7 +82,7 @@ returns-clause-done g c =
             (c.note.ensures.noted ∙ ap (λ l. l ++ record { by = c.args.t; key = c.args.key; kind = Look } ∷ []) c.reserve.ensures.same)
             c.follow.ensures.nodes
             c.follow.ensures.pairs
-            (c.value-value.ensures ∙ ap value_of c.top-top.ensures.top) c.look.ensures
+            (c.value-value.ensures ∙ ap value_of_top c.top-top.ensures.top) c.look.ensures
             (c.note_read.ensures ∙ ap (with_source c.top-top.result c.args.t) c.reserve-2.ensures.items
             ∙ ap (λ top. with_source top c.args.t c.abort_in_cycle.new.self.read_from.items) c.top-top.ensures.top));
         short = tt;

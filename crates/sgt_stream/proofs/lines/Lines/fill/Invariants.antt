@@ -1,13 +1,13 @@
 use Rattle.std.proofs.Common.{◌≡◌, ◌≤◌, ◌+◌}
 use Rattle.std.specs.Io.KnownBytes.{Keeps}
-use Rattle.sgt_stream.specs.Intake.{left, come, IsReady, work}
+use Rattle.sgt_stream.specs.Intake.{bytes_left, come, IsReady, work}
 use Rattle.sgt_stream.proofs.lines.Lines.fill.Given as goal
 
 abbrev pub invariant-loop-self : goal.invariant-loop-self
 invariant-loop-self g l = record {
   number : l.self.number ≡ l.fn.self.number;
   within : l.self.within ≡ l.fn.self.within;
-  bytes : Keeps (left l.fn.self (g.S.Source.rest l.fn.source)) (left l.self (g.S.Source.rest l.source));
+  bytes : Keeps (bytes_left l.fn.self (g.S.Source.rest l.fn.source)) (bytes_left l.self (g.S.Source.rest l.source));
   counted : g.S.Source.given l.source + come l.fn.self ≤ g.S.Source.given l.fn.source + come l.self;
   untouched : IsReady l.fn.self → (l.self ≡ l.fn.self) × (l.source ≡ l.fn.source);
   well : g.S.Source.failures l.source ≡ g.S.Source.failures l.fn.source;

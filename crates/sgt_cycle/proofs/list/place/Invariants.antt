@@ -1,6 +1,0 @@
-use Rattle.std.proofs.Common.{take}
-use Rattle.sgt_model.specs.Walks.{Member}
-use Rattle.sgt_cycle.proofs.list.place.Given as goal
-
-abbrev pub invariant-loop-i : goal.invariant-loop-i
-invariant-loop-i l = Member l.t (take l.i l.list) → ⊥

@@ -1,5 +1,0 @@
-use Rattle.sgt_cycle.proofs.Bits.{common_set}
-use Rattle.sgt_cycle.proofs.places.common.Goals as goal
-
-pub returns : goal.returns
-returns c i = common_set c.args.set c.args.other i

@@ -1,5 +1,0 @@
-use Rattle.sgt_cycle.proofs.Bits.{complement_set}
-use Rattle.sgt_cycle.proofs.places.complement.Goals as goal
-
-pub returns : goal.returns
-returns c i low = complement_set c.args.set i c.ranges.set.fits low

@@ -1,5 +1,0 @@
-use Rattle.sgt_cycle.proofs.Bits.{joined_set}
-use Rattle.sgt_cycle.proofs.places.joined.Goals as goal
-
-pub returns : goal.returns
-returns c i = joined_set c.args.set c.args.other i

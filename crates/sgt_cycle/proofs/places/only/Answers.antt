@@ -1,6 +1,0 @@
-use Rattle.std.proofs.Common.{arith}
-use Rattle.sgt_cycle.proofs.Bits.{only_set}
-use Rattle.sgt_cycle.proofs.places.only.Goals as goal
-
-pub returns : goal.returns
-returns c i = only_set c.args.place i (omega arith)

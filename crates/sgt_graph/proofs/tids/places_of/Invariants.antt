@@ -1,8 +1,0 @@
-use Rattle.std.proofs.Common.{◌≡◌, true, slice_index}
-use Rattle.sgt_model.specs.Walks.{Member}
-use Rattle.sgt_cycle.specs.Places.{is_set}
-use Rattle.sgt_graph.proofs.RowSteps.{Found}
-use Rattle.sgt_graph.proofs.tids.places_of.Given as goal
-
-abbrev pub invariant-loop-place : goal.invariant-loop-place
-invariant-loop-place l = Found (λ i. (is_set l.taken i ≡ true) × Member (slice_index l.tids i) l.among) l.place l.found

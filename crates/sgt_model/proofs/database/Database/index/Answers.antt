@@ -1,0 +1,31 @@
+use Rattle.std.proofs.Common.{arith, ◌∙◌, sym, subst, ◌≤◌}
+use Rattle.sgt_model.specs.Databases.{IsByKey}
+use Rattle.sgt_model.proofs.Rows.{key_lt-derived, read_at, low_moves, high_moves, index_from}
+use Rattle.sgt_model.proofs.database.Database.index.Goals as goal
+
+pub loop-low-preserved-then-lt : goal.loop-low-preserved-then-lt
+loop-low-preserved-then-lt c = record {
+  ordered = omega arith;
+  within = c.loop-low.invariant.within;
+  below = low_moves c.args.self.now _ c.index.result.now c.args.key (subst IsByKey c.self.view_is c.self.invariant.0)
+      (read_at c.self.inside.rows.items c.args.self.now _ c.index.result.now c.self.view_is (omega arith) c.index.ensures)
+      (sym (key_lt-derived c.index.result.now.0 c.args.key) ∙ sym c.lt.ensures ∙ c.if-lt.true);
+  above = c.loop-low.invariant.above;
+}
+
+pub loop-low-preserved : goal.loop-low-preserved
+loop-low-preserved c = record {
+  ordered = omega arith;
+  within = omega arith;
+  below = c.loop-low.invariant.below;
+  above = high_moves c.args.self.now _ c.index.result.now c.args.key (subst IsByKey c.self.view_is c.self.invariant.0)
+      (read_at c.self.inside.rows.items c.args.self.now _ c.index.result.now c.self.view_is (omega arith) c.index.ensures)
+      (sym (key_lt-derived c.index.result.now.0 c.args.key) ∙ sym c.lt.ensures ∙ c.if-lt.false);
+}
+
+pub returns : goal.returns
+returns c =
+    let low : c.loop-low.low ≤ c.loop-low.high = c.loop-low.invariant.ordered in
+    let met : c.loop-low.high ≤ c.loop-low.low = omega arith in
+    index_from c.args.key c.args.self.now c.loop-low.low (omega arith) c.loop-low.invariant.below
+    (λ i r h. c.loop-low.invariant.above i r (omega arith))

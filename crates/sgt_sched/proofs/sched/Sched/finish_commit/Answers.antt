@@ -1,0 +1,51 @@
+use Rattle.std.proofs.Common.{rules, refl, ◌∙◌, sym}
+use Rattle.std.proofs.lemmas.Bool.{true≢false}
+use Rattle.sgt_model.specs.declared.reply.Fate.TheVariants as fate
+use Rattle.sgt_model.proofs.Conditions.{may_settle}
+use Rattle.sgt_sched.proofs.Ended.{kept_after, removes_after, fates_after}
+use Rattle.sgt_sched.proofs.sched.Sched.finish_commit.Goals as goal
+
+pub finish-requires : goal.finish-requires
+finish-requires g c = (
+  c.type_bounds.send-R,
+  (
+    c.type_bounds.send-A,
+    (
+      c.type_bounds.send-G,
+      may_settle c.args.self.now.limits.live _ c.args.self.now.kept.sound c.args.t
+          (λ u h. true≢false (sym h ∙ c.requires.first u)),
+    ),
+  ),
+)
+
+pub invariant_of-self : goal.invariant_of-self
+invariant_of-self g c =
+    record {
+      kept = kept_after c.args.self.now.kept c.args.t c.requires.live fate.Committed c.finish.new.records c.finish.new.accesses
+          c.finish.new.graph c.finish.ensures.chain c.finish.ensures.accesses c.finish.ensures.nodes c.finish.ensures.pairs
+          c.leave.new.live c.leave.new.read_from.items _ c.leave.ensures.live c.leave.ensures.read_from c.end.ensures;
+    }
+
+pub returns : goal.returns
+returns g c =
+    let node = c.requires.live in
+    let fates_are = c.end.ensures in
+    record {
+      turn = record {
+        does = record {
+          first = λ u h. true≢false (sym h ∙ c.requires.first u);
+          reply = refl;
+          settles = record {
+            removes = removes_after c.args.self.now.kept c.args.t node fate.Committed c.finish.new.records c.finish.new.accesses
+                c.finish.new.graph c.finish.ensures.chain c.finish.ensures.accesses c.finish.ensures.nodes c.finish.ensures.pairs
+                c.leave.new.live c.leave.new.read_from.items _ c.leave.ensures.live c.leave.ensures.read_from fates_are;
+            settled = λ k. c.finish.ensures.settled k;
+            fates = fates_after c.args.self.now.kept c.args.t node fate.Committed c.finish.new.records c.finish.new.accesses
+                c.finish.new.graph c.finish.ensures.chain c.finish.ensures.accesses c.finish.ensures.nodes c.finish.ensures.pairs
+                c.leave.new.live c.leave.new.read_from.items _ c.leave.ensures.live c.leave.ensures.read_from fates_are;
+          };
+        };
+        short = tt;
+      };
+      kept = search rules;
+    }

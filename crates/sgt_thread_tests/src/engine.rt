@@ -1,0 +1,73 @@
+//! An engine with SmallBank's procedures, for the tests to share.
+ghost use Rattle.std.specs.Prelude.{◌≡◌, [], IfOk};
+
+use sgt_access::OneList;
+use sgt_engine::{Engine, run_list};
+use sgt_graph::PairGraph;
+use sgt_model::{Args, Database, Event, Limits, MakeError};
+use sgt_records::ListRecords;
+use sgt_session::Shared;
+use sgt_smallbank::{Account, opening, procedures};
+use std::alloc::Global;
+
+pub type ListEngine = Engine<ListRecords, OneList, PairGraph>;
+
+pub type SharedEngine<N> = Shared<N, ListRecords, OneList, PairGraph>;
+
+pub const BALANCE: u16 = 0;
+
+pub const DEPOSIT_CHECKING: u16 = 1;
+
+pub const TRANSACT_SAVING: u16 = 2;
+
+pub const AMALGAMATE: u16 = 3;
+
+pub const WRITE_CHECK: u16 = 4;
+
+const LIMITS: Limits = Limits {
+    live: 32,
+    begins: 4_000_000_000,
+};
+
+/// The account of this name. All accounts begin alike.
+fn account(name: i64) -> Account {
+    Account {
+        name,
+        customer: name.wrapping_add(100),
+        saving: 500,
+        checking: 1000,
+    }
+}
+
+/// Five accounts, of the names 1 to 5.
+fn five_accounts(alloc: Global) -> Result<Database, MakeError> {
+    let accounts = [account(1), account(2), account(3), account(4), account(5)];
+    match opening(alloc, &accounts) {
+        Ok(database) => Ok(database),
+        Err(_) => Err(MakeError::NoMemory),
+    }
+}
+
+/// An engine with the five accounts, where nothing was done yet.
+pub fn new_engine(alloc: Global) -> Result<ListEngine, MakeError>
+    ensures { IfOk result (λ engine. engine.past ≡ []) }
+{
+    let database = five_accounts(alloc)?;
+    let procedures = procedures(alloc)?;
+    Engine::new(alloc, database, procedures, LIMITS)
+}
+
+/// An engine with the five accounts, where these events were done.
+pub fn engine_after(alloc: Global, events: &[Event]) -> Result<ListEngine, MakeError> {
+    let database = five_accounts(alloc)?;
+    let procedures = procedures(alloc)?;
+    Ok(run_list(alloc, database, procedures, LIMITS, events)?.engine)
+}
+
+/// The start of a procedure, with at most four arguments.
+pub fn start(procedure: u16, args: &[i64]) -> Event {
+    Event::Start {
+        procedure,
+        args: Args::from_slice(args).unwrap_or(Args::new()),
+    }
+}

@@ -1,9 +1,0 @@
-use Rattle.std.proofs.Common.{◌≡◌, ◌+◌, ◌≤◌, All, length, vec_len, vec_capacity}
-use Rattle.sgt_workers.proofs.crew.settle.Given as goal
-
-abbrev pub invariant-loop-one : goal.invariant-loop-one
-invariant-loop-one g l =
-    (goal.iterator-loop-one g).can_next l.one-iterator × (goal.iterator-loop-one g).is_finite l.one-iterator
-    × All (λ e. e.stub.feed ≡ l.putter.feed) l.one-iterator.rest.items
-    × (vec_len l.sessions + length l.one-iterator.rest.items ≡ vec_len l.fn.ended)
-    × (vec_len l.fn.ended ≤ vec_capacity l.sessions)
