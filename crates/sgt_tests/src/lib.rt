@@ -7,6 +7,8 @@
 #[cfg(test)]
 mod engine;
 #[cfg(test)]
+mod first_use;
+#[cfg(test)]
 mod formats;
 #[cfg(test)]
 mod procedures;
