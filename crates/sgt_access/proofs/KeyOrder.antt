@@ -113,7 +113,8 @@ pub parted_before : (xs : List ListedAccess) (k : Key) → AreInKeyOrder xs → 
 parted_before xs k sorted i j d le short h =
     less_below _ _ (searchable_from_sorted key_order (λ (a : ListedAccess). a.key) xs k sorted i j d le short) h
 
-pub parted_through : (xs : List ListedAccess) (k : Key) → AreInKeyOrder xs → IsPartitionedBy (λ (a : ListedAccess). is_le (key_cmp a.key k)) xs
+pub parted_through : (xs : List ListedAccess) (k : Key) → AreInKeyOrder xs
+    → IsPartitionedBy (λ (a : ListedAccess). is_le (key_cmp a.key k)) xs
 parted_through xs k sorted i j d le short h =
     at_most_below _ _ (searchable_from_sorted key_order (λ (a : ListedAccess). a.key) xs k sorted i j d le short) h
 

@@ -21,40 +21,55 @@ abbrev pub Fails : ℕ → Option (List ℕ) → Fault → Type 0
 Fails workers rest f = IfSome rest (λ bytes. InputFails workers bytes f)
 
 -- there is no line 1
-pub fails-empty : (workers : ℕ) (i : Intake) (rest : Option (List ℕ)) (ending : Ending) (f : Fault) → i ≡ before_input → EndsAs ending (cut_left i rest) → no_opening ending ≡ Err f → Fails workers rest f
+pub fails-empty : (workers : ℕ) (i : Intake) (rest : Option (List ℕ)) (ending : Ending) (f : Fault) → i ≡ before_input
+    → EndsAs ending (cut_left i rest) → no_opening ending ≡ Err f → Fails workers rest f
 fails-empty workers i None ending f start ends is = tt
 fails-empty workers i (Some bytes) ending f start ends is =
-    subst (λ (c : Cut). LinesFail workers c.given c.ending f) (sym (subst (λ (j : Intake). EndsAs ending (cut_left j (Some bytes))) start ends)) is
+    subst (λ (c : Cut). LinesFail workers c.given c.ending f)
+    (sym (subst (λ (j : Intake). EndsAs ending (cut_left j (Some bytes))) start ends)) is
 
 -- line 1 is refused
-pub fails-refused : (workers : ℕ) (i : Intake) (rest : Option (List ℕ)) (line : List ℕ) (new : Option Cut) (e : OpeningError) (f : Fault) → i ≡ before_input → Gives (cut_left i rest) line new → Refuses workers line e → e ≢ opening_error.NoMemory → f ≡ fault_of_opening e → Fails workers rest f
+pub fails-refused : (workers : ℕ) (i : Intake) (rest : Option (List ℕ)) (line : List ℕ) (new : Option Cut) (e : OpeningError)
+    (f : Fault) → i ≡ before_input → Gives (cut_left i rest) line new → Refuses workers line e → e ≢ opening_error.NoMemory
+    → f ≡ fault_of_opening e → Fails workers rest f
 fails-refused workers i None line new e f start gives refuses known is = tt
-fails-refused workers i (Some bytes) line None e f start gives refuses known is = absurd (subst (λ (j : Intake). Gives (cut_left j (Some bytes)) line None) start gives)
+fails-refused workers i (Some bytes) line None e f start gives refuses known is =
+    absurd (subst (λ (j : Intake). Gives (cut_left j (Some bytes)) line None) start gives)
 fails-refused workers i (Some bytes) line (Some c) e f start gives refuses known is =
-    let gives' : Gives (cut_left before_input (Some bytes)) line (Some c) = subst (λ (j : Intake). Gives (cut_left j (Some bytes)) line (Some c)) start gives in
+    let gives' : Gives (cut_left before_input (Some bytes)) line (Some c) =
+    subst (λ (j : Intake). Gives (cut_left j (Some bytes)) line (Some c)) start gives in
     subst (λ (ls : List (List ℕ)). LinesFail workers ls (cut bytes).ending f) (sym gives'.0)
     (inl (record { error = e; refuses = refuses; known = known; fault_is = is }))
 
 -- line 1 opens, and a later one is at fault
-pub fails-behind : (workers : ℕ) (i : Intake) (rest : Option (List ℕ)) (line : List ℕ) (new : Option Cut) (o : Opening) (f : Fault) → i ≡ before_input → Gives (cut_left i rest) line new → Opens workers line o → EndsWith 2 (Err f) new → Fails workers rest f
+pub fails-behind : (workers : ℕ) (i : Intake) (rest : Option (List ℕ)) (line : List ℕ) (new : Option Cut) (o : Opening) (f : Fault)
+    → i ≡ before_input → Gives (cut_left i rest) line new → Opens workers line o → EndsWith 2 (Err f) new → Fails workers rest f
 fails-behind workers i None line new o f start gives opens ends = tt
-fails-behind workers i (Some bytes) line None o f start gives opens ends = absurd (subst (λ (j : Intake). Gives (cut_left j (Some bytes)) line None) start gives)
+fails-behind workers i (Some bytes) line None o f start gives opens ends =
+    absurd (subst (λ (j : Intake). Gives (cut_left j (Some bytes)) line None) start gives)
 fails-behind workers i (Some bytes) line (Some c) o f start gives opens ends =
-    let gives' : Gives (cut_left before_input (Some bytes)) line (Some c) = subst (λ (j : Intake). Gives (cut_left j (Some bytes)) line (Some c)) start gives in
+    let gives' : Gives (cut_left before_input (Some bytes)) line (Some c) =
+    subst (λ (j : Intake). Gives (cut_left j (Some bytes)) line (Some c)) start gives in
     subst (λ (ls : List (List ℕ)). LinesFail workers ls (cut bytes).ending f) (sym gives'.0)
     (inr (record { opening = o; opens = opens; ends = ap (λ (e : Ending). end_of job_at 2 c.given e) gives'.1 ∙ ends }))
 
 -- line 1 opens, and the later ones ask for jobs
-pub asks-all : (workers : ℕ) (i : Intake) (rest : Option (List ℕ)) (line : List ℕ) (new : Option Cut) (o : Opening) (jobs : List Job) → i ≡ before_input → Gives (cut_left i rest) line new → Opens workers line o → IfSome new (λ c. (jobs ≡ numbered 0 (spelled job_at 2 c.given)) × (end_of job_at 2 c.given c.ending ≡ Ok tt)) → IfSome rest (λ bytes. InputAsks workers bytes o jobs)
+pub asks-all : (workers : ℕ) (i : Intake) (rest : Option (List ℕ)) (line : List ℕ) (new : Option Cut) (o : Opening)
+    (jobs : List Job) → i ≡ before_input → Gives (cut_left i rest) line new → Opens workers line o
+    → IfSome new (λ c. (jobs ≡ numbered 0 (spelled job_at 2 c.given)) × (end_of job_at 2 c.given c.ending ≡ Ok tt))
+    → IfSome rest (λ bytes. InputAsks workers bytes o jobs)
 asks-all workers i None line new o jobs start gives opens asks = tt
-asks-all workers i (Some bytes) line None o jobs start gives opens asks = absurd (subst (λ (j : Intake). Gives (cut_left j (Some bytes)) line None) start gives)
+asks-all workers i (Some bytes) line None o jobs start gives opens asks =
+    absurd (subst (λ (j : Intake). Gives (cut_left j (Some bytes)) line None) start gives)
 asks-all workers i (Some bytes) line (Some c) o jobs start gives opens asks =
-    let gives' : Gives (cut_left before_input (Some bytes)) line (Some c) = subst (λ (j : Intake). Gives (cut_left j (Some bytes)) line (Some c)) start gives in
+    let gives' : Gives (cut_left before_input (Some bytes)) line (Some c) =
+    subst (λ (j : Intake). Gives (cut_left j (Some bytes)) line (Some c)) start gives in
     subst (λ (ls : List (List ℕ)). LinesAsk workers ls (cut bytes).ending o jobs) (sym gives'.0)
     (record { opens = opens; jobs_are = asks.0; no_fault = ap (λ (e : Ending). end_of job_at 2 c.given e) gives'.1 ∙ asks.1 })
 
 -- line 1 is too long, or the input is
-pub fails-long : (workers : ℕ) (i : Intake) (rest : Option (List ℕ)) (f : Fault) → i ≡ before_input → Explains f i.number (cut_left i rest) → IsOfInput f → Fails workers rest f
+pub fails-long : (workers : ℕ) (i : Intake) (rest : Option (List ℕ)) (f : Fault) → i ≡ before_input → Explains f i.number
+    (cut_left i rest) → IsOfInput f → Fails workers rest f
 fails-long workers i rest (fault.LongLine n) start explained exact =
     let one : n ≡ 1 = explained.0 ∙ ap (λ (j : Intake). j.number + 1) start in
     fails-empty workers i rest AtLongLine (fault.LongLine n) start explained.1 (ap (λ k. Err (fault.LongLine k)) (sym one))

@@ -47,8 +47,10 @@ all-run (outcome.Asked n ∷ os) taken memory = all-cons (outcome.Asked n) os tt
 all-run (outcome.Gave attempts ∷ os) taken memory = all-cons (outcome.Gave attempts) os tt (all-run os taken memory)
 all-run (outcome.Refused n ∷ os) taken memory = all-cons (outcome.Refused n) os tt (all-run os taken memory)
 all-run (outcome.Left note ∷ os) taken memory = absurd (no-note note)
-all-run (outcome.Untaken ∷ os) taken memory = let one_more : 1 + count_by is_untaken os ≡ 0 = sym (sum_by-cons (λ (o : Outcome Infallible). cond (is_untaken o) 1 0) outcome.Untaken os) ∙ taken in absurd (omega (arith, one_more))
-all-run (outcome.NoMemory ∷ os) taken memory = let one_more : 1 + count_by is_no_memory os ≡ 0 = sym (sum_by-cons (λ (o : Outcome Infallible). cond (is_no_memory o) 1 0) outcome.NoMemory os) ∙ memory in absurd (omega (arith, one_more))
+all-run (outcome.Untaken ∷ os) taken memory = let one_more : 1 + count_by is_untaken os ≡ 0 = sym
+    (sum_by-cons (λ (o : Outcome Infallible). cond (is_untaken o) 1 0) outcome.Untaken os) ∙ taken in absurd (omega (arith, one_more))
+all-run (outcome.NoMemory ∷ os) taken memory = let one_more : 1 + count_by is_no_memory os ≡ 0 = sym
+    (sum_by-cons (λ (o : Outcome Infallible). cond (is_no_memory o) 1 0) outcome.NoMemory os) ∙ memory in absurd (omega (arith, one_more))
 
 -- all is taken where no worker has left
 all-taken : (workers left untaken : ℕ) → 1 ≤ workers → left ≡ 0 → (0 < untaken → left ≡ workers) → untaken ≡ 0
@@ -56,16 +58,21 @@ all-taken workers left zero some none full = refl
 all-taken workers left (suc untaken) some none full = absurd (omega (arith, some, none, full (omega arith)))
 
 -- each job of a report without notes was run
-pub each-run : (os : List (Outcome Infallible)) (workers : ℕ) → 1 ≤ workers → count_by is_no_memory os ≡ 0 → (0 < count_by is_untaken os → count_by is_left os ≡ workers) → All HasRun os
+pub each-run : (os : List (Outcome Infallible)) (workers : ℕ) → 1 ≤ workers → count_by is_no_memory os ≡ 0
+    → (0 < count_by is_untaken os → count_by is_left os ≡ workers) → All HasRun os
 each-run os workers some memory full = all-run os (all-taken workers _ _ some (none-left os) full) memory
 
 -- the first line of an input of jobs opens
-opens-first : (workers : ℕ) (ls : List (List ℕ)) (ending : Ending) (o : Opening) (jobs : List Job) → LinesAsk workers ls ending o jobs → (line : List ℕ) × Opens workers line o
+opens-first : (workers : ℕ) (ls : List (List ℕ)) (ending : Ending) (o : Opening) (jobs : List Job)
+    → LinesAsk workers ls ending o jobs → (line : List ℕ) × Opens workers line o
 opens-first workers [] ending o jobs asks = absurd asks
 opens-first workers (line ∷ later) ending o jobs asks = (line, asks.opens)
 
 -- the text of jobs that were run is a report
-pub is-report : OpenedIsBank → (workers tries : ℕ) (rest : Option (List ℕ)) (o : Opening) (jobs : List Job) (history : List Entry) (outcomes : List (Outcome Infallible)) (rows : List Row) (out : List ℕ) → IfSome rest (λ bytes. InputAsks workers bytes o jobs) → AreRun o jobs workers tries history outcomes rows → out ≡ report_text history outcomes rows → IfSome rest (λ bytes. IsReport workers tries bytes out)
+pub is-report : OpenedIsBank → (workers tries : ℕ) (rest : Option (List ℕ)) (o : Opening) (jobs : List Job) (history : List Entry)
+    (outcomes : List (Outcome Infallible)) (rows : List Row) (out : List ℕ) → IfSome rest (λ bytes. InputAsks workers bytes o jobs)
+    → AreRun o jobs workers tries history outcomes rows → out ≡ report_text history outcomes rows
+    → IfSome rest (λ bytes. IsReport workers tries bytes out)
 is-report bank workers tries None o jobs history outcomes rows out asks run text = tt
 is-report bank workers tries (Some bytes) o jobs history outcomes rows out asks run text =
     let opens = opens-first workers (cut bytes).given (cut bytes).ending o jobs asks in

@@ -30,7 +30,8 @@ in_order (e ∷ later) = told_in e.reply ++ in_order later
 
 told-append : (past before : List Entry) → told (past ++ before) ≡ told past ++ told before
 told-append [] before = refl
-told-append (e ∷ past) before = ap (λ l. told_in e.reply ++ l) (told-append past before) ∙ sym (append_assoc (told_in e.reply) (told past) (told before))
+told-append (e ∷ past) before = ap (λ l. told_in e.reply ++ l) (told-append past before)
+    ∙ sym (append_assoc (told_in e.reply) (told past) (told before))
 
 -- an entry tells one result at most
 told-one : (r : Reply) → reverse (told_in r ++ []) ≡ told_in r
@@ -48,7 +49,8 @@ told-in-order (e ∷ later) =
     ∙ ap (λ l. told_in e.reply ++ l) (told-in-order later)
 
 -- a commit is a call, and is told
-count-step : (past : List Entry) (event : Event) (r : Reply) → length (committed_calls past) ≡ length (told past) → length (committed_call_in past event r ++ committed_calls past) ≡ length (told_in r ++ told past)
+count-step : (past : List Entry) (event : Event) (r : Reply) → length (committed_calls past) ≡ length (told past)
+    → length (committed_call_in past event r ++ committed_calls past) ≡ length (told_in r ++ told past)
 count-step past event (reply.Committed answers) same = ap suc same
 count-step past event r same = same
 
@@ -59,15 +61,18 @@ committed-told (e ∷ past) = count-step past e.event e.reply (committed-told pa
 
 committed-in-order : (history : List Entry) (n : ℕ) → committed_before history n ≡ length (in_order (take n history))
 committed-in-order history n =
-    committed-told (reverse (take n history)) ∙ sym (length-reverse (told (reverse (take n history)))) ∙ ap length (told-in-order (take n history))
+    committed-told (reverse (take n history)) ∙ sym (length-reverse (told (reverse (take n history))))
+    ∙ ap length (told-in-order (take n history))
 
 -- one entry on
-skip : (r : Reply) (all before : List RunResult) → slice_get (told_in r ++ all) (length (told_in r ++ before)) ≡ slice_get all (length before)
+skip : (r : Reply) (all before : List RunResult) → slice_get (told_in r ++ all) (length (told_in r ++ before)) ≡ slice_get all
+    (length before)
 skip (reply.Committed answers) all before = refl
 skip r all before = refl
 
 -- what a commit told stands behind what was told before
-told-at : (history : List Entry) (n : ℕ) (e : Entry) (answers : List ℤ) → slice_get history n ≡ Some e → e.reply ≡ reply.Committed answers → slice_get (in_order history) (length (in_order (take n history))) ≡ Some (GaveAnswers answers)
+told-at : (history : List Entry) (n : ℕ) (e : Entry) (answers : List ℤ) → slice_get history n ≡ Some e
+    → e.reply ≡ reply.Committed answers → slice_get (in_order history) (length (in_order (take n history))) ≡ Some (GaveAnswers answers)
 told-at [] n e answers at is = absurd (none-some e at)
 told-at (x ∷ later) zero e answers at is =
     ap (λ r. slice_get (told_in r ++ in_order later) 0) (ap (λ (y : Entry). y.reply) (same_Some x e at) ∙ is)
@@ -75,7 +80,9 @@ told-at (x ∷ later) (suc n) e answers at is =
     skip x.reply (in_order later) (in_order (take n later)) ∙ told-at later n e answers at is
 
 -- the words of a commit tell the result that stands there
-commit-words : (s : Setting) (history : List Entry) (n : ℕ) (e : Entry) (r : Reply) → IsSerializable s (reverse history) → slice_get history n ≡ Some e → e.reply ≡ r → is_commit r ≡ true → result_words (slice_get (serial_results s history) (committed_before history n)) ≡ commit_words r
+commit-words : (s : Setting) (history : List Entry) (n : ℕ) (e : Entry) (r : Reply) → IsSerializable s (reverse history)
+    → slice_get history n ≡ Some e → e.reply ≡ r → is_commit r ≡ true
+    → result_words (slice_get (serial_results s history) (committed_before history n)) ≡ commit_words r
 commit-words s history n e (reply.Committed answers) replay at is commits =
     ap result_words (
     ap (λ l. slice_get (reverse l) (committed_before history n)) replay.answers
@@ -86,12 +93,16 @@ commit-words s history n e (reply.Committed answers) replay at is commits =
 commit-words s history n e r replay at is commits = absurd (false≢true commits)
 
 -- the words of an outcome that stands in the history
-words-same : {N : Type 0} → (s : Setting) (history : List Entry) (tries : ℕ) (job : Job) (o : Outcome N) → IsSerializable s (reverse history) → OutcomeStands history tries job o → serial_words s history o ≡ outcome_words history o
+words-same : {N : Type 0} → (s : Setting) (history : List Entry) (tries : ℕ) (job : Job) (o : Outcome N)
+    → IsSerializable s (reverse history) → OutcomeStands history tries job o → serial_words s history o ≡ outcome_words history o
 words-same s history tries job (outcome.Done n) replay stands =
-    commit-words s history n stands.entry stands.entry.reply replay stands.there refl stands.reply_is ∙ ap (words_at commit_words) (sym stands.there)
+    commit-words s history n stands.entry stands.entry.reply replay stands.there refl stands.reply_is ∙ ap (words_at commit_words)
+    (sym stands.there)
 words-same s history tries job o replay stands = refl
 
-lines-same : {N : Type 0} → (s : Setting) (history : List Entry) (tries number : ℕ) (jobs : List Job) (os : List (Outcome N)) → IsSerializable s (reverse history) → AllZip (OutcomeStands history tries) jobs os → serial_lines number s history os ≡ outcome_lines number history os
+lines-same : {N : Type 0} → (s : Setting) (history : List Entry) (tries number : ℕ) (jobs : List Job) (os : List (Outcome N))
+    → IsSerializable s (reverse history) → AllZip (OutcomeStands history tries) jobs os
+    → serial_lines number s history os ≡ outcome_lines number history os
 lines-same s history tries number [] [] replay stand = refl
 lines-same s history tries number [] (o ∷ os) replay stand = absurd stand
 lines-same s history tries number (job ∷ jobs) [] replay stand = absurd stand
@@ -100,5 +111,8 @@ lines-same s history tries number (job ∷ jobs) (o ∷ os) replay stand =
     ∙ ap (λ lines. outcome_line number (outcome_words history o) ++ lines) (lines-same s history tries (number + 1) jobs os replay stand.1)
 
 -- the text of a report whose outcomes stand in its history is what the serial run tells
-pub text-same : {N : Type 0} → (s : Setting) (history : List Entry) (tries : ℕ) (jobs : List Job) (os : List (Outcome N)) (rows : List Row) → IsSerializable s (reverse history) → AllZip (OutcomeStands history tries) jobs os → report_text history os rows ≡ serial_text s history os rows
-text-same s history tries jobs os rows replay stand = ap (λ lines. lines ++ database_text rows) (sym (lines-same s history tries 0 jobs os replay stand))
+pub text-same : {N : Type 0} → (s : Setting) (history : List Entry) (tries : ℕ) (jobs : List Job) (os : List (Outcome N))
+    (rows : List Row) → IsSerializable s (reverse history) → AllZip (OutcomeStands history tries) jobs os
+    → report_text history os rows ≡ serial_text s history os rows
+text-same s history tries jobs os rows replay stand = ap (λ lines. lines ++ database_text rows)
+    (sym (lines-same s history tries 0 jobs os replay stand))

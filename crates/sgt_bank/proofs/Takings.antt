@@ -19,7 +19,8 @@ length-snoc [] c = refl
 length-snoc (x ∷ xs) c = grind (arith, length-snoc xs c)
 
 -- and one job more
-pub numbered-snoc : (n : ℕ) (cs : List JobCall) (c : JobCall) → numbered n (cs ++ c ∷ []) ≡ numbered n cs ++ record { number = n + length cs; procedure = c.procedure; args = c.args } ∷ []
+pub numbered-snoc : (n : ℕ) (cs : List JobCall) (c : JobCall)
+    → numbered n (cs ++ c ∷ []) ≡ numbered n cs ++ record { number = n + length cs; procedure = c.procedure; args = c.args } ∷ []
 numbered-snoc n [] c = grind (arith)
 numbered-snoc n (x ∷ xs) c = grind (arith, numbered-snoc (n + 1) xs c)
 
@@ -34,13 +35,9 @@ numbered-at n [] i job at = absurd (none-some job at)
 numbered-at n (c ∷ cs) zero job at = ap (λ (j : Job). j.number) (sym (same_Some _ job at)) ∙ omega arith
 numbered-at n (c ∷ cs) (suc i) job at = numbered-at (n + 1) cs i job at ∙ omega arith
 
--- before the first line
-pub asked-none : (a : Option Cut) → Asked a [] a
-asked-none None = tt
-asked-none (Some a) = (refl, refl)
-
 -- one more line that asks for a call
-pub asked-next : (a b d : Option Cut) (cs : List JobCall) (c : JobCall) → length cs < 1000000 → Asked a cs b → Asks b c d → Asked a (cs ++ c ∷ []) d
+pub asked-next : (a b d : Option Cut) (cs : List JobCall) (c : JobCall) → length cs < 1000000 → Asked a cs b → Asks b c d
+    → Asked a (cs ++ c ∷ []) d
 asked-next None b d cs c few first next = tt
 asked-next (Some a) None d cs c few first next = absurd first
 asked-next (Some a) (Some b) None cs c few first next = next
@@ -54,31 +51,28 @@ asked-next (Some a) (Some b) (Some d) cs c few first (line, given, asks, ending)
     ∙ ap (λ n. c ∷ spelled job_at n d.given) count in
     let more : end_of job_at (length cs + 2) b.given b.ending ≡ end_of job_at (length (cs ++ c ∷ []) + 2) d.given d.ending =
     ap (λ g. end_of job_at (length cs + 2) g b.ending) given ∙ ap (λ r. or_later r (end_of job_at (length cs + 2 + 1) d.given b.ending)) at
-    ∙ ap (λ e. end_of job_at (length cs + 2 + 1) d.given e) ending ∙ ap (λ n. end_of job_at n d.given d.ending) count in
-    (first.0 ∙ ap (λ l. cs ++ l) later ∙ sym (append_assoc cs (c ∷ []) (spelled job_at (length (cs ++ c ∷ []) + 2) d.given)), first.1 ∙ more)
+    ∙ ap (λ e. end_of job_at (length cs + 2 + 1) d.given e) ending ∙ ap (λ n. end_of job_at n d.given d.ending) count in (
+      first.0 ∙ ap (λ l. cs ++ l) later ∙ sym (append_assoc cs (c ∷ []) (spelled job_at (length (cs ++ c ∷ []) + 2) d.given)),
+      first.1 ∙ more,
+    )
 
 -- one more than may be asked for
-pub asked-many : (a b d : Option Cut) (cs : List JobCall) (c : JobCall) → length cs ≡ 1000000 → Asked a cs b → Asks b c d → EndsWith 2 (Err fault.TooManyJobs) a
+pub asked-many : (a b d : Option Cut) (cs : List JobCall) (c : JobCall) → length cs ≡ 1000000 → Asked a cs b → Asks b c d
+    → EndsWith 2 (Err fault.TooManyJobs) a
 asked-many None b d cs c many first next = tt
 asked-many (Some a) None d cs c many first next = absurd first
 asked-many (Some a) (Some b) None cs c many first next = absurd next
 asked-many (Some a) (Some b) (Some d) cs c many first (line, given, asks, ending) =
     let full : nat_le (length cs + 2) 1000001 ≡ false = rw many refl in
-    let at : job_at (length cs + 2) line ≡ Err fault.TooManyJobs = ap (λ r. unless_too_many (length cs + 2) (at_line (length cs + 2) r)) asks
+    let at : job_at (length cs + 2) line ≡ Err fault.TooManyJobs =
+    ap (λ r. unless_too_many (length cs + 2) (at_line (length cs + 2) r)) asks
     ∙ ap (λ t. if t then Ok c else Err fault.TooManyJobs) full in
-    first.1 ∙ ap (λ g. end_of job_at (length cs + 2) g b.ending) given ∙ ap (λ r. or_later r (end_of job_at (length cs + 2 + 1) d.given b.ending)) at
+    first.1 ∙ ap (λ g. end_of job_at (length cs + 2) g b.ending) given
+    ∙ ap (λ r. or_later r (end_of job_at (length cs + 2 + 1) d.given b.ending)) at
 
 -- the next line is at fault
-pub asked-fault : (a b : Option Cut) (cs : List JobCall) (n : ℕ) (end : End) → n ≡ length cs + 2 → Asked a cs b → EndsWith n end b → EndsWith 2 end a
+pub asked-fault : (a b : Option Cut) (cs : List JobCall) (n : ℕ) (end : End) → n ≡ length cs + 2 → Asked a cs b → EndsWith n end b
+    → EndsWith 2 end a
 asked-fault None b cs n end at first next = tt
 asked-fault (Some a) None cs n end at first next = absurd first
 asked-fault (Some a) (Some b) cs n end at first next = first.1 ∙ ap (λ k. end_of job_at k b.given b.ending) (sym at) ∙ next
-
--- there is no line more
-pub asked-all : (a b : Option Cut) (cs : List JobCall) (jobs : List Job) → jobs ≡ numbered 0 cs → Asked a cs b → EndsAs AtEnd b → IfSome a (λ c. (jobs ≡ numbered 0 (spelled job_at 2 c.given)) × (end_of job_at 2 c.given c.ending ≡ Ok tt))
-asked-all None b cs jobs are first next = tt
-asked-all (Some a) None cs jobs are first next = absurd first
-asked-all (Some a) (Some b) cs jobs are first next = (
-  are ∙ ap (numbered 0) (sym (first.0 ∙ ap (λ (c : Cut). cs ++ spelled job_at (length cs + 2) c.given) next ∙ append-nil cs)),
-  first.1 ∙ ap (λ (c : Cut). end_of job_at (length cs + 2) c.given c.ending) next,
-)

@@ -25,8 +25,10 @@ TookOf gone _ log = IsSubsequence log.taken gone × All (λ taken. IsSubsequence
 abbrev IsSpent : ℕ → Log → Type 0
 IsSpent _ log = log.parts ≡ 0 → (log.taken ≡ []) × (log.joined ≡ [])
 
-all_append : (lists : List (List Item)) (gone more : List Item) → All (λ taken. IsSubsequence taken gone) lists → All (λ taken. IsSubsequence taken (gone ++ more)) lists
-all_append lists gone more all = All-weaker (λ taken. IsSubsequence taken gone) (λ taken. IsSubsequence taken (gone ++ more)) (λ taken s. IsSubsequence-append taken gone more s) lists all
+all_append : (lists : List (List Item)) (gone more : List Item) → All (λ taken. IsSubsequence taken gone) lists
+    → All (λ taken. IsSubsequence taken (gone ++ more)) lists
+all_append lists gone more all = All-weaker (λ taken. IsSubsequence taken gone) (λ taken. IsSubsequence taken (gone ++ more))
+    (λ taken s. IsSubsequence-append taken gone more s) lists all
 
 took_more : (gone more : List Item) (number : ℕ) (log : Log) → TookOf gone number log → TookOf (gone ++ more) number log
 took_more gone more number log took = (IsSubsequence-append log.taken gone more took.0, all_append log.joined gone more took.1)
@@ -42,7 +44,8 @@ feed_begins = record {
   spent = EachLog-one IsSpent first_log (λ _. (refl, refl));
 }
 
-pub put_keeps : (room k : ℕ) (log : Log) (item : Item) → log.is_putter ≡ true → Pushes IsFifo room k log item (λ new. new ≡ record log { put = log.put ++ item ∷ [] })
+pub put_keeps : (room k : ℕ) (log : Log) (item : Item) → log.is_putter ≡ true → Pushes IsFifo room k log item
+    (λ new. new ≡ record log { put = log.put ++ item ∷ [] })
 put_keeps room k log item is_putter held logs _ fifo at =
     let new : Log = record log { put = log.put ++ item ∷ [] } in
     let mine = fifo.put k log at is_putter in (
@@ -61,7 +64,8 @@ put_keeps room k log item is_putter held logs _ fifo at =
       refl,
     )
 
-pub take_keeps : (k : ℕ) (log : Log) → log.is_putter ≡ false → 0 < log.parts → Pops IsFifo k log (λ item new. new ≡ record log { taken = log.taken ++ item ∷ [] })
+pub take_keeps : (k : ℕ) (log : Log) → log.is_putter ≡ false → 0 < log.parts
+    → Pops IsFifo k log (λ item new. new ≡ record log { taken = log.taken ++ item ∷ [] })
 take_keeps k log takes some_part item held logs fifo at =
     let new : Log = record log { taken = log.taken ++ item ∷ [] } in
     let gone : List Item = fifo.gone ++ item ∷ [] in
@@ -73,9 +77,18 @@ take_keeps k log takes some_part item held logs fifo at =
         parts = omega (arith, sum_by-set_log (λ l. l.parts) logs k log new at, fifo.parts);
         put = EachLog-set (PutIs fifo.putter (gone ++ held)) logs k new (λ puts. absurd (true≢false (sym puts ∙ takes)))
             (λ j other _ at' puts. (let p = fifo.put j other at' puts in (p.0, p.1 ∙ sym (append_assoc fifo.gone (item ∷ []) held))));
-        order = EachLog-set (TookOf gone) logs k new (IsSubsequence-push log.taken fifo.gone item mine.0, all_append log.joined fifo.gone (item ∷ []) mine.1)
+        order = EachLog-set (TookOf gone) logs k new (
+          IsSubsequence-push log.taken fifo.gone item mine.0,
+          all_append log.joined fifo.gone (item ∷ []) mine.1,
+        )
             (λ j other _ at'. took_more fifo.gone (item ∷ []) j other (fifo.order j other at'));
-        once = λ weigh. omega (arith, sum_by-set_log (weight_of weigh) logs k log new at, fifo.once weigh, sum_by-append weigh log.taken (item ∷ []), sum_by-append weigh fifo.gone (item ∷ []));
+        once = λ weigh. omega (
+          arith,
+          sum_by-set_log (weight_of weigh) logs k log new at,
+          fifo.once weigh,
+          sum_by-append weigh log.taken (item ∷ []),
+          sum_by-append weigh fifo.gone (item ∷ []),
+        );
         spent = EachLog-set IsSpent logs k new (λ none. absurd (omega (arith, none, some_part))) (λ j other _ at'. fifo.spent j other at');
       },
       refl,
@@ -87,12 +100,24 @@ cut_keeps k log enough held logs fifo at =
     let rest : List Log = set logs k left in record {
       putter = fifo.putter;
       gone = fifo.gone;
-      parts = omega (arith, sum_by-set_log (λ l. l.parts) logs k log left at, sum_by-push_log (λ l. l.parts) rest taker_log, fifo.parts, enough);
+      parts = omega (
+        arith,
+        sum_by-set_log (λ l. l.parts) logs k log left at,
+        sum_by-push_log (λ l. l.parts) rest taker_log,
+        fifo.parts,
+        enough,
+      );
       put = EachLog-push (PutIs fifo.putter (fifo.gone ++ held)) rest taker_log (λ j puts. absurd (true≢false (sym puts)))
           (EachLog-set (PutIs fifo.putter (fifo.gone ++ held)) logs k left (fifo.put k log at) (λ j other _ at'. fifo.put j other at'));
-      order = EachLog-push (TookOf fifo.gone) rest taker_log (λ j. (IsSubsequence-nil fifo.gone, λ k d within. absurd (omega (arith, within))))
+      order = EachLog-push (TookOf fifo.gone) rest taker_log
+          (λ j. (IsSubsequence-nil fifo.gone, λ k d within. absurd (omega (arith, within))))
           (EachLog-set (TookOf fifo.gone) logs k left (fifo.order k log at) (λ j other _ at'. fifo.order j other at'));
-      once = λ weigh. omega (arith, sum_by-set_log (weight_of weigh) logs k log left at, sum_by-push_log (weight_of weigh) rest taker_log, fifo.once weigh);
+      once = λ weigh. omega (
+        arith,
+        sum_by-set_log (weight_of weigh) logs k log left at,
+        sum_by-push_log (weight_of weigh) rest taker_log,
+        fifo.once weigh,
+      );
       spent = EachLog-push IsSpent rest taker_log (λ j none. (refl, refl))
           (EachLog-set IsSpent logs k left (λ none. absurd (omega (arith, none, enough))) (λ j other _ at'. fifo.spent j other at'));
     }
@@ -105,12 +130,21 @@ join_keeps k log o other some_part takes none held logs fifo at apart at' =
     let was : get_elem? logs o ≡ some other = ⊎_elim (λ x. absurd (apart x.0)) (λ x. x.1) (at_set logs k o both other at') in record {
       putter = fifo.putter;
       gone = fifo.gone;
-      parts = omega (arith, sum_by-set_log (λ l. l.parts) logs k log both at, sum_by-set_log (λ l. l.parts) joined o other spent_log at', fifo.parts);
+      parts = omega (
+        arith,
+        sum_by-set_log (λ l. l.parts) logs k log both at,
+        sum_by-set_log (λ l. l.parts) joined o other spent_log at',
+        fifo.parts,
+      );
       put = EachLog-set (PutIs fifo.putter (fifo.gone ++ held)) joined o spent_log (λ puts. absurd (true≢false (sym puts)))
-          (λ j u _ e. EachLog-set (PutIs fifo.putter (fifo.gone ++ held)) logs k both (fifo.put k log at) (λ j u _ e. fifo.put j u e) j u e);
+          (λ j u _ e. EachLog-set (PutIs fifo.putter (fifo.gone ++ held)) logs k both (fifo.put k log at)
+          (λ j u _ e. fifo.put j u e) j u e);
       order = EachLog-set (TookOf fifo.gone) joined o spent_log (IsSubsequence-nil fifo.gone, λ k d within. absurd (omega (arith, within)))
-          (λ j u _ e. EachLog-set (TookOf fifo.gone) logs k both
-          ((fifo.order k log at).0, All-push (λ taken. IsSubsequence taken fifo.gone) log.joined other.taken (fifo.order k log at).1 (fifo.order o other was).0)
+          (λ j u _ e. EachLog-set (TookOf fifo.gone) logs k both (
+            (fifo.order k log at).0,
+            All-push (λ taken. IsSubsequence taken fifo.gone) log.joined other.taken (fifo.order k log at).1
+                (fifo.order o other was).0,
+          )
           (λ j u _ e. fifo.order j u e) j u e);
       once = λ weigh. omega (
         arith,
@@ -122,12 +156,14 @@ join_keeps k log o other some_part takes none held logs fifo at apart at' =
         fifo.once weigh,
       );
       spent = EachLog-set IsSpent joined o spent_log (λ _. (refl, refl))
-          (λ j u _ e. EachLog-set IsSpent logs k both (λ none. absurd (omega (arith, none, some_part))) (λ j u _ e. fifo.spent j u e) j u e);
+          (λ j u _ e. EachLog-set IsSpent logs k both (λ none. absurd (omega (arith, none, some_part)))
+          (λ j u _ e. fifo.spent j u e) j u e);
     }
 
 spent_weight : (weigh : Item → ℕ) (number : ℕ) (log : Log) → IsSpent number log → log.parts ≡ 0 → weight_of weigh log ≡ 0
 spent_weight weigh number log spent none =
-    let s = spent none in omega (arith, ap (λ (l : List Item). sum_by weigh l) s.0, ap (λ (l : List (List Item)). sum_by (sum_by weigh) l) s.1)
+    let s = spent none in
+    omega (arith, ap (λ (l : List Item). sum_by weigh l) s.0, ap (λ (l : List (List Item)). sum_by (sum_by weigh) l) s.1)
 
 -- what the putter learns
 pub putter_learns : (k : ℕ) (log : Log) → log.is_putter ≡ true → log.taken ≡ [] → Learns IsFifo k log (IsTold log)
@@ -137,7 +173,11 @@ putter_learns k log is_putter none held logs fifo at = record {
     gone = fifo.gone;
     first_out = (fifo.put k log at is_putter).1;
     order = (fifo.order k log at).1;
-    once = λ test. (let weigh : Item → ℕ = λ x. cond (test x) 1 0 in omega (arith, sum_by-has_log (weight_of weigh) logs k log at, fifo.once weigh));
+    once = λ test. (let weigh : Item → ℕ = λ x. cond (test x) 1 0 in omega (
+      arith,
+      sum_by-has_log (weight_of weigh) logs k log at,
+      fifo.once weigh,
+    ));
     whole = λ all test. (
         let weigh : Item → ℕ = λ x. cond (test x) 1 0 in
         let nothing = λ (j : ℕ) (other : Log) (e : get_elem? logs j ≡ some other). spent_weight weigh j other (fifo.spent j other e) in

@@ -50,7 +50,8 @@ live-no_fate : (past : List Entry) (t : ℕ) → live past t ≡ true → fate_o
 live-no_fate past t alive = no_fate (fate_of past t) (and_parts (nat_lt t (starts past)) (is_none (fate_of past t)) alive).1
 
 -- a start ends nothing
-start_quiet : (limits : Limits) (begun living : ℕ) (taken : Option ℕ) (args : List ℤ) → is_ending (taken_reply limits begun living taken args) ≡ false
+start_quiet : (limits : Limits) (begun living : ℕ) (taken : Option ℕ) (args : List ℤ)
+    → is_ending (taken_reply limits begun living taken args) ≡ false
 start_quiet limits begun living None args = refl
 start_quiet limits begun living (Some count) args = fits (args_fit count args) where
   full : (b : Bool) → is_ending (cond b reply.Full (reply.Started begun)) ≡ false
@@ -110,7 +111,8 @@ module _ (laws : StateLaws) (s : Setting) (past : List Entry) (legal : Legal s p
 
   commit_ends : (t : ℕ) (n : Next) (r : Reply) → CommitReply past t n r → is_ending r ≡ true → CommitEnds t n c
   commit_ends t (Ends answers) r (inl x) e = absurd (quiet r _ x.is refl e)
-  commit_ends t (Ends answers) r (inr x) e = λ u p. let pair = (i.pairs u t).0 p in x.none_live u (record { is_live = pair.first_live; pair = pair.pair })
+  commit_ends t (Ends answers) r (inr x) e = λ u p. let pair = (i.pairs u t).0 p in
+      x.none_live u (record { is_live = pair.first_live; pair = pair.pair })
   commit_ends t (Looks k) r x e = absurd (quiet r _ x refl e)
   commit_ends t (Puts k v) r x e = absurd (quiet r _ x refl e)
   commit_ends t (Asks code) r x e = absurd (quiet r _ x refl e)
@@ -119,7 +121,8 @@ module _ (laws : StateLaws) (s : Setting) (past : List Entry) (legal : Legal s p
   next_same t l = sym (laws.nexts s past legal c i t l)
 
   pub legal_ends : (event : Event) (r : Reply) → LegalReply s past event r → is_ending r ≡ true → EndsOne event c
-  legal_ends (Start p args) r x e = absurd (quiet r _ x (start_quiet s.rules.limits (starts past) (length (live_ones past)) (takes s.rules p) args) e)
+  legal_ends (Start p args) r x e =
+      absurd (quiet r _ x (start_quiet s.rules.limits (starts past) (length (live_ones past)) (takes s.rules p) args) e)
   legal_ends (Step t) r x e =
       let o = opened r _ (nat_lt t (starts past)) (fate_of past t) x e in
       let l = live_from past t o.0 o.1 in

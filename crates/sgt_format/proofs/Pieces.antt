@@ -5,7 +5,9 @@ use Rattle.std.proofs.lemmas.Grind.{flat_map-append}
 use Rattle.std.specs.List.{flat_map}
 
 -- the text of one item more
-pub one_more : {X : Type 0} (spelled : X → List ℕ) (start before after text : List ℕ) (items shown : List X) (i : ℕ) (d : X) → shown ≡ items → i < length shown → before ≡ start ++ flat_map spelled (take i items) → after ≡ before ++ text → text ≡ spelled (get_or shown i d) → after ≡ start ++ flat_map spelled (take (i + 1) items)
+pub one_more : {X : Type 0} (spelled : X → List ℕ) (start before after text : List ℕ) (items shown : List X) (i : ℕ) (d : X)
+    → shown ≡ items → i < length shown → before ≡ start ++ flat_map spelled (take i items) → after ≡ before ++ text
+    → text ≡ spelled (get_or shown i d) → after ≡ start ++ flat_map spelled (take (i + 1) items)
 one_more spelled start before after text items shown i d same within so_far more is =
     more
     ∙ ap (λ l. l ++ text) so_far
@@ -19,5 +21,7 @@ one_more spelled start before after text items shown i d same within so_far more
         ∙ ap (λ l. flat_map spelled (take i shown) ++ l) (append-nil (spelled (get_or shown i d)) ∙ sym is)
 
 -- the same in two pieces
-pub two_more : (before between after first second : List ℕ) → between ≡ before ++ first → after ≡ between ++ second → after ≡ before ++ (first ++ second)
-two_more before between after first second to_between to_after = to_after ∙ ap (λ l. l ++ second) to_between ∙ append_assoc before first second
+pub two_more : (before between after first second : List ℕ) → between ≡ before ++ first → after ≡ between ++ second
+    → after ≡ before ++ (first ++ second)
+two_more before between after first second to_between to_after = to_after ∙ ap (λ l. l ++ second) to_between
+    ∙ append_assoc before first second

@@ -15,13 +15,15 @@ use Rattle.sgt_format.specs.declared.errors.OpeningError.{OpeningError}
 use Rattle.sgt_format.specs.declared.opening.Opening.{Opening}
 use Rattle.sgt_format.specs.declared.errors.OpeningError.TheVariants.{NotJson, BadLine, BadLimits, BadOpening, ProcShape, ProcFlaw, NoMemory}
 
-longer : {A : Type 0} (first : Option A) (rest : Option (List A)) (found : List A) (n : ℕ) → ((others : List A) → rest ≡ Some others → length others ≡ n) → option_and_then (λ a. option_map (λ others. a ∷ others) rest) first ≡ Some found → length found ≡ suc n
+longer : {A : Type 0} (first : Option A) (rest : Option (List A)) (found : List A) (n : ℕ) → ((others : List A) → rest ≡ Some others
+    → length others ≡ n) → option_and_then (λ a. option_map (λ others. a ∷ others) rest) first ≡ Some found → length found ≡ suc n
 longer None rest found n same e = absurd (cc)
 longer (Some a) None found n same e = absurd (cc)
 longer (Some a) (Some others) found n same e = grind (arith, same others refl)
 
 -- what stands for the trees is as many
-pub length-each : {A : Type 0} (meaning : Data → Option A) (trees : List Data) (found : List A) → each meaning trees ≡ Some found → length found ≡ length trees
+pub length-each : {A : Type 0} (meaning : Data → Option A) (trees : List Data) (found : List A) → each meaning trees ≡ Some found
+    → length found ≡ length trees
 length-each meaning [] found e = grind arith
 length-each meaning (tree ∷ trees) found e = longer (meaning tree) (each meaning trees) found (length trees) (length-each meaning trees) e
 
@@ -40,7 +42,8 @@ not_two trees other = by_numbers (each whole trees) refl
     by_numbers (Some numbers) same = pair_from-length numbers (λ two. other (grind (arith, length-each whole trees numbers same)))
 
 pub no_pair : (tree : Data) (values : List Value) → Some (map view values) ≡ list tree → length values ≢ 2 → None ≡ pair tree
-no_pair tree values is other = sym (ap (λ o. option_and_then pair_from (option_and_then (each whole) o)) (sym is) ∙ not_two (map view values) (λ two. other (sym (length-map values view) ∙ two)))
+no_pair tree values is other = sym (ap (λ o. option_and_then pair_from (option_and_then (each whole) o)) (sym is)
+    ∙ not_two (map view values) (λ two. other (sym (length-map values view) ∙ two)))
 
 -- a list of more or fewer than four is no account
 pub account_from-length : (numbers : List ℤ) → length numbers ≢ 4 → account_from numbers ≡ None
@@ -59,7 +62,8 @@ not_four trees other = by_numbers (each whole trees) refl
     by_numbers (Some numbers) same = account_from-length numbers (λ four. other (grind (arith, length-each whole trees numbers same)))
 
 pub no_account : (tree : Data) (values : List Value) → Some (map view values) ≡ list tree → length values ≢ 4 → None ≡ account_in tree
-no_account tree values is other = sym (ap (λ o. option_and_then account_from (option_and_then (each whole) o)) (sym is) ∙ not_four (map view values) (λ four. other (sym (length-map values view) ∙ four)))
+no_account tree values is other = sym (ap (λ o. option_and_then account_from (option_and_then (each whole) o)) (sym is)
+    ∙ not_four (map view values) (λ four. other (sym (length-map values view) ∙ four)))
 
 -- an object has as many members as its map has entries
 pub count_members : (members : List (String Global × Value)) → count (members_view members) ≡ length members
@@ -67,7 +71,10 @@ count_members [] = refl
 count_members (m ∷ members) = grind (arith, count_members members)
 
 -- the parts of an object that has them
-pub parts_found : (tree : Data) (members : Members) (limits : ℤ × ℤ) (accounts procedures : List Data) → Some members ≡ as_object tree → count members ≡ 3 → Some limits ≡ option_and_then pair (get (codes "limits") tree) → Some accounts ≡ list_at (codes "accounts") tree → Some procedures ≡ list_at (codes "procedures") tree → Some (limits, accounts, procedures) ≡ parts_in tree
+pub parts_found : (tree : Data) (members : Members) (limits : ℤ × ℤ) (accounts procedures : List Data)
+    → Some members ≡ as_object tree → count members ≡ 3 → Some limits ≡ option_and_then pair (get (codes "limits") tree)
+    → Some accounts ≡ list_at (codes "accounts") tree → Some procedures ≡ list_at (codes "procedures") tree
+    → Some (limits, accounts, procedures) ≡ parts_in tree
 parts_found tree ms limits accounts procedures object three at_limits at_accounts at_procedures =
     sym (ap (option_and_then (λ members. cond (nat_eq (count members) 3) (parts_of tree) None)) (sym object)
     ∙ ap (λ n. cond (nat_eq n 3) (parts_of tree) None) three
@@ -76,10 +83,13 @@ parts_found tree ms limits accounts procedures object three at_limits at_account
     ∙ ap (λ o. all_three (Some limits) (Some accounts) o) (sym at_procedures))
 
 -- the sheet of a line
-pub sheet_found : (line : List ℕ) (tree : Data) (limits : ℤ × ℤ) (trees procedures : List Data) (accounts : List Account) → Some tree ≡ tree_of line → Some (limits, trees, procedures) ≡ parts_in tree → Some accounts ≡ each account_in trees → sheet_of line ≡ Some (record { limits = limits; accounts = accounts; procedures = procedures })
+pub sheet_found : (line : List ℕ) (tree : Data) (limits : ℤ × ℤ) (trees procedures : List Data) (accounts : List Account)
+    → Some tree ≡ tree_of line → Some (limits, trees, procedures) ≡ parts_in tree → Some accounts ≡ each account_in trees
+    → sheet_of line ≡ Some (record { limits = limits; accounts = accounts; procedures = procedures })
 sheet_found line tree limits trees procedures accounts at_line at_tree at_trees = rw (← at_line) (rw (← at_tree) (rw (← at_trees) refl))
 
-refused_sheet : (least : ℕ) (line : List ℕ) (sheet : Sheet) (error : OpeningError) → sheet_of line ≡ Some sheet → RefusesSheet least sheet error → Refuses least line error
+refused_sheet : (least : ℕ) (line : List ℕ) (sheet : Sheet) (error : OpeningError) → sheet_of line ≡ Some sheet
+    → RefusesSheet least sheet error → Refuses least line error
 refused_sheet least line sheet NotJson shape is = absurd is
 refused_sheet least line sheet BadLine shape is = absurd is
 refused_sheet least line sheet BadLimits shape is = (sheet, shape, is)
@@ -89,6 +99,7 @@ refused_sheet least line sheet (ProcFlaw number flaw) shape is = (sheet, shape, 
 refused_sheet least line sheet NoMemory shape is = tt
 
 -- what gives an opening or not is refused as what the line says is
-pub refused_line : (least : ℕ) (line : List ℕ) (sheet : Sheet) (result : Result Opening OpeningError) → sheet_of line ≡ Some sheet → IfErr result (RefusesSheet least sheet) → IfErr result (Refuses least line)
+pub refused_line : (least : ℕ) (line : List ℕ) (sheet : Sheet) (result : Result Opening OpeningError) → sheet_of line ≡ Some sheet
+    → IfErr result (RefusesSheet least sheet) → IfErr result (Refuses least line)
 refused_line least line sheet (Ok opening) shape is = tt
 refused_line least line sheet (Err error) shape is = refused_sheet least line sheet error shape is

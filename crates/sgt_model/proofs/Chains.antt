@@ -106,7 +106,8 @@ pub value_in-without : (t : ℕ) (c : List (ℕ × ℤ)) → value_in t (chain_w
 value_in-without t [] = refl
 value_in-without t (w ∷ c) = go (nat_eq w.0 t) refl (value_in-without t c)
   where
-    go : (b : Bool) → nat_eq w.0 t ≡ b → value_in t (chain_without t c) ≡ None → value_in t (cond (not b) (w ∷ chain_without t c) (chain_without t c)) ≡ None
+    go : (b : Bool) → nat_eq w.0 t ≡ b → value_in t (chain_without t c) ≡ None
+        → value_in t (cond (not b) (w ∷ chain_without t c) (chain_without t c)) ≡ None
     go true e h = h
     go false e h = ap (λ b. cond b (Some w.1) (value_in t (chain_without t c))) e ∙ h
 

@@ -73,7 +73,8 @@ one_abort past t why r q a b = a.is ∙ (ap (λ l. reply.Aborted why l) (same_fa
 -- steps
 
 one_access : (past : List Entry) (t : ℕ) (k : Key) (kind : Kind) (given r q : Reply)
-    → AbortsByCycle past t k kind r ⊎ Makes past t k kind given r → AbortsByCycle past t k kind q ⊎ Makes past t k kind given q → SameButWalk r q
+    → AbortsByCycle past t k kind r ⊎ Makes past t k kind given r → AbortsByCycle past t k kind q ⊎ Makes past t k kind given q
+    → SameButWalk r q
 one_access past t k kind given r q (inl a) (inl b) = inr (record {
   walk = t ∷ a.rest;
   other_walk = t ∷ b.rest;

@@ -144,7 +144,8 @@ below_less j k [] h below = tt
 below_less j k (r ∷ rows) h below = (key_lt-trans j k r.0 h below.0, below_less j k rows h below.1)
 
 -- the row at the key's index says the key's value
-pub contents_at : (k : Key) (rows : List Row) (n : ℕ) → IsByKey rows → IsRowIndex k rows n → contents_of rows k ≡ value_if (slice_get rows n) k
+pub contents_at : (k : Key) (rows : List Row) (n : ℕ) → IsByKey rows → IsRowIndex k rows n → contents_of rows k ≡ value_if
+    (slice_get rows n) k
 contents_at k [] zero rising index = refl
 contents_at k [] (suc n) rising index = absurd index
 contents_at k (r ∷ rows) zero rising index = both (key_eq r.0 k) refl where

@@ -125,7 +125,8 @@ module _ (t : ℕ) (writes : List LiveWrite) (i : ℕ) (w : LiveWrite) (short : 
       ∙ (ap (λ c. cond (key_eq w.key k) (chain_without t c) c) so_far
       ∙ (go (key_eq w.key k) (is_live t k (take i writes)) ∙ sym (ap (λ b. cond b (chain_without t opening) opening) (live_own own k))))
     where
-      go : (e d : Bool) → cond e (chain_without t (cond d (chain_without t opening) opening)) (cond d (chain_without t opening) opening) ≡ cond (d || e)
+      go : (e d : Bool) → cond e (chain_without t (cond d (chain_without t opening) opening))
+          (cond d (chain_without t opening) opening) ≡ cond (d || e)
           (chain_without t opening) opening
       go true true = left_whole t (chain_without t opening) (not_left t opening)
       go true false = refl

@@ -42,11 +42,13 @@ none_left t (w ∷ c) = go (nat_eq w.0 t) refl (none_left t c)
     go : (b : Bool) → nat_eq w.0 t ≡ b → filter (λ w. nat_eq w.0 t) (chain_without t c) ≡ []
         → filter (λ w. nat_eq w.0 t) (cond (not b) (w ∷ chain_without t c) (chain_without t c)) ≡ []
     go true e h = h
-    go false e h = ap (λ b. cond b (w ∷ filter (λ w. nat_eq w.0 t) (chain_without t c)) (filter (λ w. nat_eq w.0 t) (chain_without t c))) e ∙ h
+    go false e h =
+        ap (λ b. cond b (w ∷ filter (λ w. nat_eq w.0 t) (chain_without t c)) (filter (λ w. nat_eq w.0 t) (chain_without t c))) e ∙ h
 
 -- and so after a write
 pub once_written : (t : ℕ) (v : ℤ) (u : ℕ) (c : List (ℕ × ℤ)) → IsOnceIn u c → IsOnceIn u (write_last t v c)
-once_written t v u c h = subst (λ l. length l ≤ 1) (sym (filter-append (λ w. nat_eq w.0 u) (chain_without t c) ((t, v) ∷ []))) (go (cases_eq t u))
+once_written t v u c h = subst (λ l. length l ≤ 1) (sym (filter-append (λ w. nat_eq w.0 u) (chain_without t c) ((t, v) ∷ [])))
+    (go (cases_eq t u))
   where
     go : (t ≡ u) ⊎ (t ≢ u) → length (filter (λ w. nat_eq w.0 u) (chain_without t c) ++ cond (nat_eq t u) ((t, v) ∷ []) []) ≤ 1
     go (inl e) = rw (eq-eqb t u e, subst (λ z. filter (λ w. nat_eq w.0 u) (chain_without z c) ≡ []) (sym e) (none_left u c)) (omega arith)
@@ -126,7 +128,8 @@ own_chain t (w ∷ writes) k = go (key_eq w.key k) (nat_eq w.by t) refl refl (ow
     rest = filter (not_this t k) writes
 
     go : (a b : Bool) → key_eq w.key k ≡ a → nat_eq w.by t ≡ b → chain_in rest k ≡ chain_without t (chain_in writes k)
-        → chain_in (cond (not b || not a) (w ∷ rest) rest) k ≡ chain_without t (cond a ((w.by, w.value) ∷ chain_in writes k) (chain_in writes k))
+        → chain_in (cond (not b || not a) (w ∷ rest) rest) k ≡ chain_without t (cond a ((w.by, w.value) ∷ chain_in writes k)
+        (chain_in writes k))
     go true true e f h = rw f h
     go true false e f h = rw (e, f) (ap (λ c. (w.by, w.value) ∷ c) h)
     go false true e f h = rw e h

@@ -49,7 +49,8 @@ live-added [] = refl
 live-added (e ∷ ends) = omega (arith, live-added ends)
 
 -- and an end one less
-pub live-set : (walks : List (List ℕ)) (ends : List End) (t : ℕ) (e : End) → slice_get (fates_of_ends walks ends) t ≡ Some None → live_in e ≡ 0
+pub live-set : (walks : List (List ℕ)) (ends : List End) (t : ℕ) (e : End) → slice_get (fates_of_ends walks ends) t ≡ Some None
+    → live_in e ≡ 0
     → live_among (slice_set ends t e) + 1 ≡ live_among ends
 live-set walks [] t e h z = absurd (cc)
 live-set walks (end.Live ∷ ends) zero e h z = omega (arith, z)
@@ -82,7 +83,8 @@ fates-set before after [] t e k h = refl
 fates-set before after (x ∷ ends) zero e k h = ap (λ l. fate_of_end after e ∷ l) (kept ends h.1) where
   kept : (ends : List End) → HaveWalks (length before) ends → fates_of_ends after ends ≡ fates_of_ends before ends
   kept [] h = refl
-  kept (x ∷ ends) h = ap (λ f. f ∷ fates_of_ends after ends) (fate-kept before after k x h.0) ∙ ap (λ l. fate_of_end before x ∷ l) (kept ends h.1)
+  kept (x ∷ ends) h = ap (λ f. f ∷ fates_of_ends after ends) (fate-kept before after k x h.0) ∙ ap (λ l. fate_of_end before x ∷ l)
+      (kept ends h.1)
 fates-set before after (x ∷ ends) (suc t) e k h = ap (λ f. f ∷ fates_of_ends after (slice_set ends t e)) (fate-kept before after k x h.0)
     ∙ ap (λ l. fate_of_end before x ∷ l) (fates-set before after ends t e k h.1)
 

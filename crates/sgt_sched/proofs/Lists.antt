@@ -87,13 +87,15 @@ numbers-without t [] = refl
 numbers-without t (r ∷ rest) = ap (λ b. numbers (cond (not b) (r ∷ others_live t rest) (others_live t rest))) (nat_eq-swap r.0 t)
     ∙ both (nat_eq t r.0) (numbers-without t rest) where
       both : (b : Bool) → numbers (others_live t rest) ≡ filter (λ u. not (nat_eq t u)) (numbers rest)
-          → numbers (cond (not b) (r ∷ others_live t rest) (others_live t rest)) ≡ cond (not b) (r.0 ∷ filter (λ u. not (nat_eq t u)) (numbers rest))
+          → numbers (cond (not b) (r ∷ others_live t rest) (others_live t rest)) ≡ cond (not b)
+          (r.0 ∷ filter (λ u. not (nat_eq t u)) (numbers rest))
           (filter (λ u. not (nat_eq t u)) (numbers rest))
       both true h = h
       both false h = ap (λ l. r.0 ∷ l) h
 
 -- and keeps the progress of the others
-pub progress_at-without : (t u : ℕ) (live : List (ℕ × Progress)) → nat_eq t u ≡ false → progress_at (others_live t live) u ≡ progress_at live u
+pub progress_at-without : (t u : ℕ) (live : List (ℕ × Progress)) → nat_eq t u ≡ false
+    → progress_at (others_live t live) u ≡ progress_at live u
 progress_at-without t u [] h = refl
 progress_at-without t u (r ∷ rest) h = both (nat_eq r.0 t) refl (progress_at-without t u rest h) where
   both : (b : Bool) → nat_eq r.0 t ≡ b → progress_at (others_live t rest) u ≡ progress_at rest u

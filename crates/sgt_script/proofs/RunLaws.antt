@@ -19,7 +19,8 @@ use Rattle.sgt_script.specs.Scripts.{RunHistory, Closing, RunOutput, Script, Scr
 use Rattle.sgt_script.specs.RunLaws.{line_telling, results_left, replies_telling, IsSerialText, RunLaws}
 
 -- one more reply, which tells what it tells
-tells-one : (r : Reply) (past : List Entry) → replies_telling (told past) past ≡ replies past → replies_telling (results_left (told_in r ++ told past) r) past ++ line_telling (told_in r ++ told past) r ≡ replies past ++ text r
+tells-one : (r : Reply) (past : List Entry) → replies_telling (told past) past ≡ replies past
+    → replies_telling (results_left (told_in r ++ told past) r) past ++ line_telling (told_in r ++ told past) r ≡ replies past ++ text r
 tells-one (reply.Committed answers) past before = ap (λ l. l ++ text (reply.Committed answers)) before
 tells-one r past before = ap (λ l. l ++ text r) before
 
@@ -33,15 +34,18 @@ closing-same : (m n : Contents) (end : End) (last : List ℕ) → ((k : Key) →
 closing-same m n (Ok done) last same (rows, by_key, contents, is) = (rows, by_key, (λ k. contents k ∙ sym (same k)), is)
 closing-same m n (Err fault) last same is = is
 
-serial-text : (run : RunHistory) (later : List (List ℕ)) (ending : Ending) (out : List ℕ) (end : End) → RunOutput run later ending out end → IsSerializable run.setting run.past → IsSerialText run out end
+serial-text : (run : RunHistory) (later : List (List ℕ)) (ending : Ending) (out : List ℕ) (end : End)
+    → RunOutput run later ending out end → IsSerializable run.setting run.past → IsSerialText run out end
 serial-text run later ending out end output replay = record {
   last = output.last;
   closing = closing-same _ _ end output.last replay.database output.closing;
-  text = output.text ∙ ap (λ l. l ++ output.last) (sym (tells run.past) ∙ ap (λ results. replies_telling results run.past) (sym replay.answers));
+  text = output.text ∙ ap (λ l. l ++ output.last) (sym (tells run.past) ∙ ap (λ results. replies_telling results run.past)
+      (sym replay.answers));
 }
 
 module _ (headline : HeadlineHolds) (bank : OpenedIsBank) where
-  run-laws : (ls : List (List ℕ)) (ending : Ending) (run : Option RunHistory) (out : List ℕ) (end : End) → ScriptOf ls ending run out end → IfSome run (λ r. RunLaws r out end)
+  run-laws : (ls : List (List ℕ)) (ending : Ending) (run : Option RunHistory) (out : List ℕ) (end : End)
+      → ScriptOf ls ending run out end → IfSome run (λ r. RunLaws r out end)
   run-laws [] ending None out end s = tt
   run-laws [] ending (Some run) out end s = absurd s
   run-laws (l ∷ ls) ending None out end s = tt
@@ -59,6 +63,10 @@ module _ (headline : HeadlineHolds) (bank : OpenedIsBank) where
       }
 
   -- what a run wrote, with its laws beside it
-  pub with-laws : (rest held held' : Option (List ℕ)) (end : End) → IfSome rest (λ bytes. (run : Option RunHistory) × (out : List ℕ) × Appends held held' out × Script bytes run out end) → IfSome rest (λ bytes. (run : Option RunHistory) × (out : List ℕ) × Appends held held' out × Script bytes run out end × IfSome run (λ r. RunLaws r out end))
+  pub with-laws : (rest held held' : Option (List ℕ)) (end : End)
+      → IfSome rest (λ bytes. (run : Option RunHistory) × (out : List ℕ) × Appends held held' out × Script bytes run out end)
+      → IfSome rest (λ bytes. (run : Option RunHistory) × (out : List ℕ) × Appends held held' out × Script bytes run out end
+      × IfSome run (λ r. RunLaws r out end))
   with-laws None held held' end wrote = tt
-  with-laws (Some bytes) held held' end (run, out, appended, script) = (run, out, appended, script, run-laws (cut bytes).given (cut bytes).ending run out end script)
+  with-laws (Some bytes) held held' end (run, out, appended, script) =
+      (run, out, appended, script, run-laws (cut bytes).given (cut bytes).ending run out end script)

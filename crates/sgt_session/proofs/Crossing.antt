@@ -35,7 +35,13 @@ module _ (R A G : RattleType) (r : records.Ghosts R.Denot) (a : accesses.Ghosts 
   sched_send sr sa sg = search (sendable, crosses, expr.crosses, statement.crosses, live_send, fates_send) depth 40
 
   engine_send : IsSend R → IsSend A → IsSend G → IsSend (Engine.the_field R A G r a g).row
-  engine_send sr sa sg = let s = sched_send sr sa sg in search (sendable, crosses, entry.the_field_send, reply.the_field_send, database_send) depth 40
+  engine_send sr sa sg = let s = sched_send sr sa sg in search (
+    sendable,
+    crosses,
+    entry.the_field_send,
+    reply.the_field_send,
+    database_send,
+  ) depth 40
 
   module _ (N : RattleType) (n : named.Ghosts N.Denot) (l : ledger.Ghosts N.Denot) where
     round_send : IsSend N → IsSend R → IsSend A → IsSend G → IsSend (Round.the_field N R A G n l r a g).row

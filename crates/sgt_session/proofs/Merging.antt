@@ -37,12 +37,14 @@ each_all P [] e k d lt = absurd (omega arith)
 each_all P (x ∷ xs) e zero d lt = e.0
 each_all P (x ∷ xs) e (suc k) d lt = each_all P xs e.1 k d (omega arith)
 
-each_empty : {A : Type 0} (P : List A → Type 0) → P [] → (S : List (List A)) → ((k : ℕ) (rs : List A) → slice_get S k ≡ Some rs → rs ≡ []) → Each P S
+each_empty : {A : Type 0} (P : List A → Type 0) → P [] → (S : List (List A)) → ((k : ℕ) (rs : List A) → slice_get S k ≡ Some rs
+    → rs ≡ []) → Each P S
 each_empty P p [] h = tt
 each_empty P p (rs ∷ S) h = (subst P (sym (h 0 rs refl)) p, each_empty P p S (λ k. h (suc k)))
 
 -- from a list with one element replaced
-each_unset : {A : Type 0} (P Q : A → Type 0) (S : List A) (i : ℕ) (x y : A) → slice_get S i ≡ Some x → ((u : A) → P u → Q u) → (P y → Q x) → Each P (set S i y) → Each Q S
+each_unset : {A : Type 0} (P Q : A → Type 0) (S : List A) (i : ℕ) (x y : A) → slice_get S i ≡ Some x → ((u : A) → P u → Q u)
+    → (P y → Q x) → Each P (set S i y) → Each Q S
 each_unset P Q [] i x y at f g e = absurd cc
 each_unset P Q (z ∷ S) zero x y at f g e = (let same : z ≡ x = cc in subst Q (sym same) (g e.0), each_map P Q f S e.1)
 each_unset P Q (z ∷ S) (suc i) x y at f g e = (f z e.0, each_unset P Q S i x y at f g e.1)
@@ -51,7 +53,8 @@ each_unset P Q (z ∷ S) (suc i) x y at f g e = (f z e.0, each_unset P Q S i x y
 abbrev Good : ℕ → List Entry → List Receipt → Type 0
 Good n es rs = Rises rs × Each (λ r. (n ≤ r.number) × (slice_get es (r.number - n) ≡ Some (entry_of r))) rs
 
-later : (n : ℕ) (e : Entry) (es : List Entry) (r : Receipt) → (n + 1 ≤ r.number) × (slice_get es (r.number - (n + 1)) ≡ Some (entry_of r)) → (n ≤ r.number) × (slice_get (e ∷ es) (r.number - n) ≡ Some (entry_of r))
+later : (n : ℕ) (e : Entry) (es : List Entry) (r : Receipt) → (n + 1 ≤ r.number) × (slice_get es (r.number - (n + 1)) ≡ Some
+    (entry_of r)) → (n ≤ r.number) × (slice_get (e ∷ es) (r.number - n) ≡ Some (entry_of r))
 later n e es r h = (omega (arith, h.0), let is : r.number - n ≡ suc (r.number - (n + 1)) = omega (arith, h.0) in rw is h.1)
 
 here : (n : ℕ) (e : Entry) (es : List Entry) → slice_get (e ∷ es) (n - n) ≡ Some e
@@ -60,10 +63,23 @@ here n e es = let is : n - n ≡ 0 = omega arith in rw is refl
 pub good : (n : ℕ) (es : List Entry) (S : List (List Receipt)) → Merge n es S → Each (Good n es) S
 good n [] S m = each_empty (Good n []) (tt, tt) S m
 good n (e ∷ es) S m = each_unset (Good (n + 1) es) (Good n (e ∷ es)) S m.0 (receipt_of n e ∷ m.1) m.1 m.2
-    (λ rs g. (g.0, each_map (λ r. (n + 1 ≤ r.number) × (slice_get es (r.number - (n + 1)) ≡ Some (entry_of r))) (λ r. (n ≤ r.number) × (slice_get (e ∷ es) (r.number - n) ≡ Some (entry_of r))) (later n e es) rs g.1))
+    (λ rs g. (
+      g.0,
+      each_map (λ r. (n + 1 ≤ r.number) × (slice_get es (r.number - (n + 1)) ≡ Some (entry_of r)))
+          (λ r. (n ≤ r.number) × (slice_get (e ∷ es) (r.number - n) ≡ Some (entry_of r))) (later n e es) rs g.1,
+    ))
     (λ g. (
-      (each_all (λ s. n < s.number) m.1 (each_map (λ r. (n + 1 ≤ r.number) × (slice_get es (r.number - (n + 1)) ≡ Some (entry_of r))) (λ s. n < s.number) (λ r h. omega (arith, h.0)) m.1 g.1), g.0),
-      ((omega arith, here n e es), each_map (λ r. (n + 1 ≤ r.number) × (slice_get es (r.number - (n + 1)) ≡ Some (entry_of r))) (λ r. (n ≤ r.number) × (slice_get (e ∷ es) (r.number - n) ≡ Some (entry_of r))) (later n e es) m.1 g.1),
+      (
+        each_all (λ s. n < s.number) m.1
+            (each_map (λ r. (n + 1 ≤ r.number) × (slice_get es (r.number - (n + 1)) ≡ Some (entry_of r))) (λ s. n < s.number)
+            (λ r h. omega (arith, h.0)) m.1 g.1),
+        g.0,
+      ),
+      (
+        (omega arith, here n e es),
+        each_map (λ r. (n + 1 ≤ r.number) × (slice_get es (r.number - (n + 1)) ≡ Some (entry_of r)))
+            (λ r. (n ≤ r.number) × (slice_get (e ∷ es) (r.number - n) ≡ Some (entry_of r))) (later n e es) m.1 g.1,
+      ),
     ))
     (good (n + 1) es (set S m.0 m.1) m.3)
 
@@ -87,12 +103,17 @@ test_later : (n p : ℕ) → n < p → ◌≡◌ {A = ℕ} (cond (nat_eq n p) 1 
 test_later n p lt = let f : (nat_eq n p) ≡ false = grind (arith, nat_tests) in rw f refl
 
 standing : (history : List Entry) (rs : List Receipt) → Good 0 history rs → All (λ r. ReceiptStands history r) rs
-standing history rs g = each_all (λ r. ReceiptStands history r) rs (each_map (λ r. (0 ≤ r.number) × (slice_get history (r.number - 0) ≡ Some (entry_of r))) (λ r. ReceiptStands history r) (λ r h. (let z : r.number - 0 ≡ r.number = omega arith in subst (λ (k : ℕ). slice_get history k ≡ Some (entry_of r)) z h.1)) rs g.1)
+standing history rs g = each_all (λ r. ReceiptStands history r) rs
+    (each_map (λ r. (0 ≤ r.number) × (slice_get history (r.number - 0) ≡ Some (entry_of r))) (λ r. ReceiptStands history r)
+    (λ r h. (let z : r.number - 0 ≡ r.number = omega arith in subst (λ (k : ℕ). slice_get history k ≡ Some (entry_of r)) z h.1)) rs g.1)
 
-counted : (p : ℕ) (rs : List Receipt) (r : Receipt) (rest : List Receipt) → rs ≡ r ∷ rest → count_by (λ x. nat_eq x.number p) rs ≡ cond (nat_eq r.number p) 1 0 + count_by (λ x. nat_eq x.number p) rest
-counted p rs r rest is = ap (λ xs. count_by (λ x. nat_eq x.number p) xs) is ∙ sum_by-cons (λ (x : Receipt). cond (nat_eq x.number p) 1 0) r rest
+counted : (p : ℕ) (rs : List Receipt) (r : Receipt) (rest : List Receipt) → rs ≡ r ∷ rest
+    → count_by (λ x. nat_eq x.number p) rs ≡ cond (nat_eq r.number p) 1 0 + count_by (λ x. nat_eq x.number p) rest
+counted p rs r rest is = ap (λ xs. count_by (λ x. nat_eq x.number p) xs) is
+    ∙ sum_by-cons (λ (x : Receipt). cond (nat_eq x.number p) 1 0) r rest
 
-named_unset : (p : ℕ) (S : List (List Receipt)) (i : ℕ) (r : Receipt) (rest : List Receipt) → slice_get S i ≡ Some (r ∷ rest) → named p S ≡ cond (nat_eq r.number p) 1 0 + named p (set S i rest)
+named_unset : (p : ℕ) (S : List (List Receipt)) (i : ℕ) (r : Receipt) (rest : List Receipt) → slice_get S i ≡ Some (r ∷ rest)
+    → named p S ≡ cond (nat_eq r.number p) 1 0 + named p (set S i rest)
 named_unset p [] i r rest at = absurd cc
 named_unset p (rs ∷ S) zero r rest at = (let c = counted p rs r rest cc in omega (arith, c))
 named_unset p (rs ∷ S) (suc i) r rest at = (let h = named_unset p S i r rest at in omega (arith, h))
@@ -122,8 +143,10 @@ pub named_once : (p n : ℕ) (es : List Entry) (S : List (List Receipt)) → Mer
 named_once p n [] S m low high = absurd (omega arith)
 named_once p n (e ∷ es) S m low high =
     let s = named_unset p S m.0 (receipt_of n e) m.1 m.2 in
-    ⊎_elim (λ (lt : n < p). let r = named_once p (n + 1) es (set S m.0 m.1) m.3 (omega arith) (omega arith) in let t = test_later n p lt in omega (arith, r, s, t))
-    (λ (is : p ≡ n). let r = none_below p (n + 1) es (set S m.0 m.1) m.3 (omega arith) in let t : ◌≡◌ {A = ℕ} (cond (nat_eq n p) 1 0) 1 = rw is (test_yes n) in omega (arith, r, s, t))
+    ⊎_elim (λ (lt : n < p). let r = named_once p (n + 1) es (set S m.0 m.1) m.3 (omega arith) (omega arith) in
+    let t = test_later n p lt in omega (arith, r, s, t))
+    (λ (is : p ≡ n). let r = none_below p (n + 1) es (set S m.0 m.1) m.3 (omega arith) in
+    let t : ◌≡◌ {A = ℕ} (cond (nat_eq n p) 1 0) 1 = rw is (test_yes n) in omega (arith, r, s, t))
     (above_or n p low)
 
 pub totals : (S : List (List Receipt)) → total S ≡ sum_by length S
@@ -144,7 +167,8 @@ begins zero (rs ∷ S) le = absurd (omega arith)
 begins (suc k) (rs ∷ S) le = ap (λ T. rs ∷ T) (begins k S (omega arith))
 
 -- one receipt more is taken
-pub takes : (at : List ℕ) (S : List (List Receipt)) (i : ℕ) (r : Receipt) → i < length S → length S ≤ length at → slice_get (slice_index_or S i []) (slice_index at i) ≡ Some r
+pub takes : (at : List ℕ) (S : List (List Receipt)) (i : ℕ) (r : Receipt) → i < length S → length S ≤ length at
+    → slice_get (slice_index_or S i []) (slice_index at i) ≡ Some r
     → (slice_get (left at S) i ≡ Some (r ∷ drop (slice_index at i + 1) (slice_index_or S i [])))
     × (left (set at i (slice_index at i + 1)) S ≡ set (left at S) i (drop (slice_index at i + 1) (slice_index_or S i [])))
     × (total (left (set at i (slice_index at i + 1)) S) + 1 ≡ total (left at S))
@@ -167,25 +191,34 @@ pub checks_first : (history : List Entry) (S : List (List Receipt)) → length S
 checks_first history S le =
     let b = begins 64 S le in ((λ m. subst (λ (T : List (List Receipt)). Merge 0 history T) b m), omega (arith, ap total b))
 
-pub checks_next : (history : List Entry) (S : List (List Receipt)) (n : ℕ) (at : List ℕ) (i : ℕ) (e : Entry) → Checked history S n at → slice_get history n ≡ Some e → i < length S → length S ≤ length at
-    → slice_get (slice_index_or S i []) (slice_index at i) ≡ Some (receipt_of n e) → Checked history S (n + 1) (set at i (slice_index at i + 1))
+pub checks_next : (history : List Entry) (S : List (List Receipt)) (n : ℕ) (at : List ℕ) (i : ℕ) (e : Entry)
+    → Checked history S n at → slice_get history n ≡ Some e → i < length S → length S ≤ length at
+    → slice_get (slice_index_or S i []) (slice_index at i) ≡ Some (receipt_of n e) → Checked history S (n + 1)
+    (set at i (slice_index at i + 1))
 checks_next history S n at i e c is lt le get =
     let t = takes at S i (receipt_of n e) lt le get in
     let d = dropped history n e is in (
-      (λ m. c.0 (subst (λ (es : List Entry). Merge n es (left at S)) (sym d)
-          (i, drop (slice_index at i + 1) (slice_index_or S i []), t.0, subst (λ (T : List (List Receipt)). Merge (n + 1) (drop (n + 1) history) T) t.1 m))),
+      (λ m. c.0 (subst (λ (es : List Entry). Merge n es (left at S)) (sym d) (
+        i,
+        drop (slice_index at i + 1) (slice_index_or S i []),
+        t.0,
+        subst (λ (T : List (List Receipt)). Merge (n + 1) (drop (n + 1) history) T) t.1 m,
+      ))),
       omega (arith, t.2, c.1),
     )
 
-pub checks_last : (history : List Entry) (S : List (List Receipt)) (at : List ℕ) → Checked history S (length history) at → length history ≡ sum_by length S → AccountsForHistory history S
+pub checks_last : (history : List Entry) (S : List (List Receipt)) (at : List ℕ) → Checked history S (length history) at
+    → length history ≡ sum_by length S → AccountsForHistory history S
 checks_last history S at c sum =
     let none : total (left at S) ≡ 0 = omega (arith, c.1, totals S, sum) in
     let over : drop (length history) history ≡ [] = drop-length history in
-    let m : Merge 0 history S = c.0 (subst (λ (es : List Entry). Merge (length history) es (left at S)) (sym over) (ends (length history) (left at S) none)) in
+    let m : Merge 0 history S = c.0 (subst (λ (es : List Entry). Merge (length history) es (left at S)) (sym over)
+    (ends (length history) (left at S) none)) in
     let g = good 0 history S m in
     record {
       counted = sum;
-      stands = each_all (λ rs. All (λ r. ReceiptStands history r) rs) S (each_map (Good 0 history) (λ rs. All (λ r. ReceiptStands history r) rs) (standing history) S g);
+      stands = each_all (λ rs. All (λ r. ReceiptStands history r) rs) S
+          (each_map (Good 0 history) (λ rs. All (λ r. ReceiptStands history r) rs) (standing history) S g);
       once = λ p lt. named_once p 0 history S m (omega arith) (omega arith);
       rises = each_all Rises S (each_map (Good 0 history) Rises (λ rs h. h.0) S g);
     }

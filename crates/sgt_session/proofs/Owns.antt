@@ -30,7 +30,8 @@ without_if-few : (b : Bool) (t : ℕ) (own : List ℕ) → 1 + length (open_with
 without_if-few true t own = (let h = open_without-few t own in omega (arith, h))
 without_if-few false t own = omega arith
 
-quit-few : (b : Bool) (t : ℕ) (own : List ℕ) → is_open t own ≡ b → 1 + length (open_without (Some t) own) ≤ cond b (length own) (length own + 1)
+quit-few : (b : Bool) (t : ℕ) (own : List ℕ) → is_open t own ≡ b → 1 + length (open_without (Some t) own) ≤ cond b (length own)
+    (length own + 1)
 quit-few true t own is = (let h = open_without-fewer t own is in omega (arith, h))
 quit-few false t own is = (let h = open_without-few t own in omega (arith, h))
 
@@ -41,23 +42,20 @@ room_needed-enough (Step t) own r = without_if-few (tells_end r) t own
 room_needed-enough (Commit t) own r = without_if-few (tells_end r) t own
 room_needed-enough (Quit t) own r = quit-few (is_open t own) t own refl
 
--- there is room for one that is started
-pub started-room : (e : Event) (own : List ℕ) (r : Reply) (capacity : ℕ) → length own ≤ capacity → ((p : ℕ) (args : _) → e ≡ Start p args → length own + 1 ≤ capacity) → length (with_one (started_in e r) own) ≤ capacity
-started-room (Start p args) own r capacity fits more = (let h = with_one-few (started_number r) own in let m = more p args refl in omega (arith, h, m))
-started-room (Step t) own r capacity fits more = fits
-started-room (Commit t) own r capacity fits more = fits
-started-room (Quit t) own r capacity fits more = fits
-
-open_from-append : (own : List ℕ) (rs : List Receipt) (r : Receipt) → open_from own (rs ++ r ∷ []) ≡ open_by (open_from own rs) r.event r.reply
+open_from-append : (own : List ℕ) (rs : List Receipt) (r : Receipt) → open_from own (rs ++ r ∷ []) ≡ open_by
+    (open_from own rs) r.event r.reply
 open_from-append own [] r = refl
 open_from-append own (x ∷ rs) r = open_from-append (open_by own x.event x.reply) rs r
 
 -- after one receipt more
-pub noted : (old new : List Receipt) (own own' : List ℕ) (r : Receipt) → own ≡ open_of old → new ≡ old ++ r ∷ [] → own' ≡ open_by own r.event r.reply → own' ≡ open_of new
+pub noted : (old new : List Receipt) (own own' : List ℕ) (r : Receipt) → own ≡ open_of old → new ≡ old ++ r ∷ []
+    → own' ≡ open_by own r.event r.reply → own' ≡ open_of new
 noted old new own own' r is longer then = rw (then, is, longer) (sym (open_from-append [] old r))
 
 -- there is room for the ends of those that are open after it
-pub fits : (own own' : List ℕ) (e : Event) (r : Receipt) (len len' count capacity capacity' : ℕ) → own' ≡ own → r.event ≡ e → ((x : Reply) → len + 1 + length (open_by own e x) ≤ capacity) → len' ≡ len + 1 → count ≡ length (open_by own' r.event r.reply) → capacity' ≡ capacity → len' + count ≤ capacity'
+pub fits : (own own' : List ℕ) (e : Event) (r : Receipt) (len len' count capacity capacity' : ℕ) → own' ≡ own → r.event ≡ e
+    → ((x : Reply) → len + 1 + length (open_by own e x) ≤ capacity) → len' ≡ len + 1 → count ≡ length (open_by own' r.event r.reply)
+    → capacity' ≡ capacity → len' + count ≤ capacity'
 fits own own' e r len len' count capacity capacity' same told room longer counted kept =
     let is : length (open_by own' r.event r.reply) ≡ length (open_by own e r.reply) = rw (same, told) refl in
     let h = room r.reply in

@@ -14,36 +14,45 @@ use Rattle.sgt_smallbank.proofs.Values.{Decides-is_value}
 
 -- ---- single steps
 
-found_at : (o : Option ℤ) (code : ℕ) (go : ℤ → Run) (m : Contents) (next : ℤ → Outcome) → ((v : ℤ) → o ≡ Some v → serial (go v) m ≡ next v) → serial (if_found code o go) m ≡ if_present code o next
+found_at : (o : Option ℤ) (code : ℕ) (go : ℤ → Run) (m : Contents) (next : ℤ → Outcome)
+    → ((v : ℤ) → o ≡ Some v → serial (go v) m ≡ next v) → serial (if_found code o go) m ≡ if_present code o next
 found_at None code go m next then = refl
 found_at (Some v) code go m next then = then v refl
 
 -- a look at what is a key
-look_step : (fits : Bool) (k : Key) (code : ℕ) (go : ℤ → Run) (m : Contents) (next : ℤ → Outcome) → fits ≡ true → ((v : ℤ) → m k ≡ Some v → serial (go v) m ≡ next v) → serial (cond fits (looks k (λ o. if_found code o go)) wrong) m ≡ if_present code (m k) next
+look_step : (fits : Bool) (k : Key) (code : ℕ) (go : ℤ → Run) (m : Contents) (next : ℤ → Outcome) → fits ≡ true
+    → ((v : ℤ) → m k ≡ Some v → serial (go v) m ≡ next v) → serial (cond fits (looks k (λ o. if_found code o go)) wrong) m
+    ≡ if_present code (m k) next
 look_step fits k code go m next e then = rw e (found_at (m k) code go m next then)
 
 -- a store of a value in what is a key
-put_step : (fits is_one : Bool) (k : Key) (v : ℤ) (rest : Run) (m : Contents) (last : Outcome) → fits ≡ true → is_one ≡ true → serial rest (put_in m k v) ≡ last → serial (cond fits (cond is_one (puts k v rest) wrong) wrong) m ≡ last
+put_step : (fits is_one : Bool) (k : Key) (v : ℤ) (rest : Run) (m : Contents) (last : Outcome) → fits ≡ true → is_one ≡ true
+    → serial rest (put_in m k v) ≡ last → serial (cond fits (cond is_one (puts k v rest) wrong) wrong) m ≡ last
 put_step fits is_one k v rest m last e f then = rw (e, f) then
 
 -- a store of 0
-put_zero : (fits : Bool) (k : Key) (rest : Run) (m : Contents) (last : Outcome) → fits ≡ true → serial rest (put_in m k (pos 0)) ≡ last → serial (cond fits (puts k (pos 0) rest) wrong) m ≡ last
+put_zero : (fits : Bool) (k : Key) (rest : Run) (m : Contents) (last : Outcome) → fits ≡ true
+    → serial rest (put_in m k (pos 0)) ≡ last → serial (cond fits (puts k (pos 0) rest) wrong) m ≡ last
 put_zero fits k rest m last e then = rw e then
 
 -- a code asked where a test holds
-ask_step : (test : Bool) (code : ℕ) (rest : Run) (m : Contents) (next : Outcome) → serial rest m ≡ next → serial (cond test (asks code) rest) m ≡ refused_if test code next
+ask_step : (test : Bool) (code : ℕ) (rest : Run) (m : Contents) (next : Outcome) → serial rest m ≡ next
+    → serial (cond test (asks code) rest) m ≡ refused_if test code next
 ask_step true code rest m next then = refl
 ask_step false code rest m next then = then
 
-ranged : (fits : Bool) (z : ℤ) (go : ℤ → Run) (m : Contents) (next : ℤ → Outcome) → (fits ≡ true → serial (go z) m ≡ next z) → serial (with_value (cond fits (is z) over) go) m ≡ cond fits (next z) (Asked 1000)
+ranged : (fits : Bool) (z : ℤ) (go : ℤ → Run) (m : Contents) (next : ℤ → Outcome) → (fits ≡ true → serial (go z) m ≡ next z)
+    → serial (with_value (cond fits (is z) over) go) m ≡ cond fits (next z) (Asked 1000)
 ranged true z go m next then = then refl
 ranged false z go m next then = refl
 
 -- a number that is to be a value
-range_step : (z : ℤ) (go : ℤ → Run) (m : Contents) (next : ℤ → Outcome) → ((x : ℤ) → is_value x ≡ true → serial (go x) m ≡ next x) → serial (with_value (cond (is_value z) (is z) over) go) m ≡ in_range z next
+range_step : (z : ℤ) (go : ℤ → Run) (m : Contents) (next : ℤ → Outcome) → ((x : ℤ) → is_value x ≡ true → serial (go x) m ≡ next x)
+    → serial (with_value (cond (is_value z) (is z) over) go) m ≡ in_range z next
 range_step z go m next then = ranged (is_value z) z go m next (then z)
 
-tested : (fits : Bool) (z y : ℤ) (ys ns : Run) (m : Contents) (f g : Outcome) → serial ys m ≡ f → serial ns m ≡ g → serial (with_test (compared int_lt (cond fits (is z) over) (is y)) ys ns) m ≡ cond fits (cond (int_lt z y) f g) (Asked 1000)
+tested : (fits : Bool) (z y : ℤ) (ys ns : Run) (m : Contents) (f g : Outcome) → serial ys m ≡ f → serial ns m ≡ g
+    → serial (with_test (compared int_lt (cond fits (is z) over) (is y)) ys ns) m ≡ cond fits (cond (int_lt z y) f g) (Asked 1000)
 tested true z y ys ns m f g is_f is_g = which (int_lt z y)
   where
     which : (b : Bool) → serial (cond b ys ns) m ≡ cond b f g
@@ -52,15 +61,23 @@ tested true z y ys ns m f g is_f is_g = which (int_lt z y)
 tested false z y ys ns m f g is_f is_g = refl
 
 -- a number that is to be a value, compared with another
-test_step : (z y : ℤ) (ys ns : Run) (m : Contents) (f g : Outcome) → serial ys m ≡ f → serial ns m ≡ g → serial (with_test (compared int_lt (cond (is_value z) (is z) over) (is y)) ys ns) m ≡ cond (is_value z) (cond (int_lt z y) f g) (Asked 1000)
+test_step : (z y : ℤ) (ys ns : Run) (m : Contents) (f g : Outcome) → serial ys m ≡ f → serial ns m ≡ g
+    → serial (with_test (compared int_lt (cond (is_value z) (is z) over) (is y)) ys ns) m ≡ cond (is_value z)
+    (cond (int_lt z y) f g) (Asked 1000)
 test_step z = tested (is_value z) z
 
-subtracted : (fits : Bool) (z y : ℤ) (go : ℤ → Run) (m : Contents) (next : ℤ → Outcome) → ((x : ℤ) → is_value x ≡ true → serial (go x) m ≡ next x) → serial (with_value (both (λ a b. cond (is_value (a -ℤ b)) (is (a -ℤ b)) over) (cond fits (is z) over) (is y)) go) m ≡ cond fits (in_range (z -ℤ y) next) (Asked 1000)
+subtracted : (fits : Bool) (z y : ℤ) (go : ℤ → Run) (m : Contents) (next : ℤ → Outcome)
+    → ((x : ℤ) → is_value x ≡ true → serial (go x) m ≡ next x)
+    → serial (with_value (both (λ a b. cond (is_value (a -ℤ b)) (is (a -ℤ b)) over) (cond fits (is z) over) (is y)) go) m
+    ≡ cond fits (in_range (z -ℤ y) next) (Asked 1000)
 subtracted true z y go m next then = range_step (z -ℤ y) go m next then
 subtracted false z y go m next then = refl
 
 -- a number less another, both of which are to be values
-subtract_step : (z y : ℤ) (go : ℤ → Run) (m : Contents) (next : ℤ → Outcome) → ((x : ℤ) → is_value x ≡ true → serial (go x) m ≡ next x) → serial (with_value (both (λ a b. cond (is_value (a -ℤ b)) (is (a -ℤ b)) over) (cond (is_value z) (is z) over) (is y)) go) m ≡ in_range z (λ x. in_range (x -ℤ y) next)
+subtract_step : (z y : ℤ) (go : ℤ → Run) (m : Contents) (next : ℤ → Outcome)
+    → ((x : ℤ) → is_value x ≡ true → serial (go x) m ≡ next x)
+    → serial (with_value (both (λ a b. cond (is_value (a -ℤ b)) (is (a -ℤ b)) over) (cond (is_value z) (is z) over) (is y)) go) m
+    ≡ in_range z (λ x. in_range (x -ℤ y) next)
 subtract_step z = subtracted (is_value z) z
 
 -- a range that both branches begin with
@@ -143,19 +160,27 @@ module _ (m : Contents) (hold : HoldValues m) where
       look_step _ _ _ _ m _ (held_value m hold _ customer at) (λ s _.
       look_step _ _ _ _ m _ (held_value m hold _ customer at) (λ c _.
       test_step (s +ℤ c) amount _ _ m _ _
-      (subtract_step (c -ℤ amount) (pos 100) _ m (now_has m (checking customer)) (λ new fits. put_step _ _ _ _ _ m _ (held_value m hold _ customer at) fits refl))
-      (range_step (c -ℤ amount) _ m (now_has m (checking customer)) (λ new fits. put_step _ _ _ _ _ m _ (held_value m hold _ customer at) fits refl))
+      (subtract_step (c -ℤ amount) (pos 100) _ m (now_has m (checking customer))
+      (λ new fits. put_step _ _ _ _ _ m _ (held_value m hold _ customer at) fits refl))
+      (range_step (c -ℤ amount) _ m (now_has m (checking customer))
+      (λ new fits. put_step _ _ _ _ _ m _ (held_value m hold _ customer at) fits refl))
       ∙ ap (λ o. cond (is_value (s +ℤ c)) o (Asked 1000)) (range_first (int_lt (s +ℤ c) amount) (is_value (c -ℤ amount)) _ _ _)))))
   write_check_is (a ∷ b ∷ d ∷ rest) count values = absurd (omega arith)
 
 -- the law, from what it says of each
-along : (n : ℕ) (q p : Program) (args : List ℤ) (m : Contents) → Some q ≡ Some p → (length args ≡ q.args → serial (run_with q args) m ≡ bank n args m) → length args ≡ p.args → serial (run_with p args) m ≡ bank n args m
+along : (n : ℕ) (q p : Program) (args : List ℤ) (m : Contents) → Some q ≡ Some p
+    → (length args ≡ q.args → serial (run_with q args) m ≡ bank n args m) → length args ≡ p.args
+    → serial (run_with p args) m ≡ bank n args m
 along n q p args m same of_q = let e : q ≡ p = cc in subst (λ r. length args ≡ r.args → serial (run_with r args) m ≡ bank n args m) e of_q
 
 pub serial_is_bank : SerialIsBank
 serial_is_bank zero p args m at count values hold = along 0 balance p args m at (λ n. balance_is m hold args n values) count
-serial_is_bank (suc zero) p args m at count values hold = along 1 deposit_checking p args m at (λ n. deposit_checking_is m hold args n values) count
-serial_is_bank (suc (suc zero)) p args m at count values hold = along 2 transact_saving p args m at (λ n. transact_saving_is m hold args n values) count
-serial_is_bank (suc (suc (suc zero))) p args m at count values hold = along 3 amalgamate p args m at (λ n. amalgamate_is m hold args n values) count
-serial_is_bank (suc (suc (suc (suc zero)))) p args m at count values hold = along 4 write_check p args m at (λ n. write_check_is m hold args n values) count
+serial_is_bank (suc zero) p args m at count values hold =
+    along 1 deposit_checking p args m at (λ n. deposit_checking_is m hold args n values) count
+serial_is_bank (suc (suc zero)) p args m at count values hold =
+    along 2 transact_saving p args m at (λ n. transact_saving_is m hold args n values) count
+serial_is_bank (suc (suc (suc zero))) p args m at count values hold =
+    along 3 amalgamate p args m at (λ n. amalgamate_is m hold args n values) count
+serial_is_bank (suc (suc (suc (suc zero)))) p args m at count values hold =
+    along 4 write_check p args m at (λ n. write_check_is m hold args n values) count
 serial_is_bank (suc (suc (suc (suc (suc n))))) p args m at count values hold = absurd cc

@@ -54,16 +54,76 @@ tests_tell p t ManyArguments h = not_over _ _ t.few_arguments h
 tests_tell p t BadLiteral h = not_both _ t.literals h
 
 pub balance_is_flawless : IsFlawless balance
-balance_is_flawless = tests_tell balance (record { registers = refl; set_first = refl; arguments = refl; tables = refl; short = refl; shallow = refl; few_answers = refl; codes = refl; few_arguments = refl; literals = refl })
+balance_is_flawless =
+    tests_tell balance (record {
+      registers = refl;
+      set_first = refl;
+      arguments = refl;
+      tables = refl;
+      short = refl;
+      shallow = refl;
+      few_answers = refl;
+      codes = refl;
+      few_arguments = refl;
+      literals = refl;
+    })
 
 pub deposit_checking_is_flawless : IsFlawless deposit_checking
-deposit_checking_is_flawless = tests_tell deposit_checking (record { registers = refl; set_first = refl; arguments = refl; tables = refl; short = refl; shallow = refl; few_answers = refl; codes = refl; few_arguments = refl; literals = refl })
+deposit_checking_is_flawless =
+    tests_tell deposit_checking (record {
+      registers = refl;
+      set_first = refl;
+      arguments = refl;
+      tables = refl;
+      short = refl;
+      shallow = refl;
+      few_answers = refl;
+      codes = refl;
+      few_arguments = refl;
+      literals = refl;
+    })
 
 pub transact_saving_is_flawless : IsFlawless transact_saving
-transact_saving_is_flawless = tests_tell transact_saving (record { registers = refl; set_first = refl; arguments = refl; tables = refl; short = refl; shallow = refl; few_answers = refl; codes = refl; few_arguments = refl; literals = refl })
+transact_saving_is_flawless =
+    tests_tell transact_saving (record {
+      registers = refl;
+      set_first = refl;
+      arguments = refl;
+      tables = refl;
+      short = refl;
+      shallow = refl;
+      few_answers = refl;
+      codes = refl;
+      few_arguments = refl;
+      literals = refl;
+    })
 
 pub amalgamate_is_flawless : IsFlawless amalgamate
-amalgamate_is_flawless = tests_tell amalgamate (record { registers = refl; set_first = refl; arguments = refl; tables = refl; short = refl; shallow = refl; few_answers = refl; codes = refl; few_arguments = refl; literals = refl })
+amalgamate_is_flawless =
+    tests_tell amalgamate (record {
+      registers = refl;
+      set_first = refl;
+      arguments = refl;
+      tables = refl;
+      short = refl;
+      shallow = refl;
+      few_answers = refl;
+      codes = refl;
+      few_arguments = refl;
+      literals = refl;
+    })
 
 pub write_check_is_flawless : IsFlawless write_check
-write_check_is_flawless = tests_tell write_check (record { registers = refl; set_first = refl; arguments = refl; tables = refl; short = refl; shallow = refl; few_answers = refl; codes = refl; few_arguments = refl; literals = refl })
+write_check_is_flawless =
+    tests_tell write_check (record {
+      registers = refl;
+      set_first = refl;
+      arguments = refl;
+      tables = refl;
+      short = refl;
+      shallow = refl;
+      few_answers = refl;
+      codes = refl;
+      few_arguments = refl;
+      literals = refl;
+    })

@@ -10,5 +10,7 @@ use Rattle.sgt_model.specs.Programs.{test_of, before, block_of}
 use Rattle.sgt_model.proofs.Texts.{before_if}
 
 -- an If whose branches have these statements
-pub before_branches : (c : Cond) (first second : Vec Statement Global) (xs ys : List Statement) → first.items ≡ xs → second.items ≡ ys → (rest : Block) → before (If c first second) rest ≡ choose (test_of c) (block_of xs) (block_of ys) rest
-before_branches c first second xs ys is_first is_second rest = before_if c first second rest ∙ (λ i. choose (test_of c) (block_of (is_first i)) (block_of (is_second i)) rest)
+pub before_branches : (c : Cond) (first second : Vec Statement Global) (xs ys : List Statement) → first.items ≡ xs
+    → second.items ≡ ys → (rest : Block) → before (If c first second) rest ≡ choose (test_of c) (block_of xs) (block_of ys) rest
+before_branches c first second xs ys is_first is_second rest = before_if c first second rest
+    ∙ (λ i. choose (test_of c) (block_of (is_first i)) (block_of (is_second i)) rest)

@@ -56,29 +56,47 @@ same_count a b e = cc
 first_same : (r q : RunResult) (rs qs : List RunResult) → r ∷ rs ≡ q ∷ qs → r ≡ q
 first_same r q rs qs e = cc
 
-module _ (replay_is_serial : ReplayIsSerial) (admitted : CommittedAreAdmitted) (hold_values : ReplaysHoldValues) (opening : Contents) (others : List Program) (limits : Limits) (hold : HoldValues opening) where
+module _ (replay_is_serial : ReplayIsSerial) (admitted : CommittedAreAdmitted) (hold_values : ReplaysHoldValues)
+    (opening : Contents) (others : List Program) (limits : Limits) (hold : HoldValues opening) where
   abbrev the_setting : Setting
   the_setting = bank_setting opening others limits
 
-  agrees : (c : Call) (before : List Call) (answers : List ℤ) → IsAdmitted the_setting c → result_of (serial (run_of the_setting.rules c) (run_in_turn the_setting before).last) ≡ GaveAnswers answers → c.procedure < 5 → bank c.procedure c.args (run_in_turn the_setting before).last ≡ Done answers (run_in_turn the_setting (c ∷ before)).last
+  agrees : (c : Call) (before : List Call) (answers : List ℤ) → IsAdmitted the_setting c
+      → result_of (serial (run_of the_setting.rules c) (run_in_turn the_setting before).last) ≡ GaveAnswers answers
+      → c.procedure < 5 → bank c.procedure c.args (run_in_turn the_setting before).last ≡ Done answers
+      (run_in_turn the_setting (c ∷ before)).last
   agrees c before answers fits gives below =
       let m : Contents = (run_in_turn the_setting before).last in
       let one = one_of_five others c.procedure below in
-      let count : length c.args ≡ one.program.args = sym (same_count one.program.args (length c.args) (sym (ap (λ o. option_map (λ (p : Program). p.args) o) one.of_all) ∙ fits.known)) in
-      let runs : serial (run_of the_setting.rules c) m ≡ serial (run_with one.program c.args) m = ap (λ o. serial (run_if o c.args) m) one.of_all in
-      let banks : serial (run_with one.program c.args) m ≡ bank c.procedure c.args m = serial_is_bank c.procedure one.program c.args m one.of_bank count fits.values (hold_values opening (procedures ++ others) limits before hold) in
+      let count : length c.args ≡ one.program.args =
+      sym (same_count one.program.args (length c.args) (sym (ap (λ o. option_map (λ (p : Program). p.args) o) one.of_all)
+      ∙ fits.known)) in
+      let runs : serial (run_of the_setting.rules c) m ≡ serial (run_with one.program c.args) m =
+      ap (λ o. serial (run_if o c.args) m) one.of_all in
+      let banks : serial (run_with one.program c.args) m ≡ bank c.procedure c.args m =
+      serial_is_bank c.procedure one.program c.args m one.of_bank count fits.values
+      (hold_values opening (procedures ++ others) limits before hold) in
       sym banks ∙ (sym runs ∙ done_with (serial (run_of the_setting.rules c) m) m answers gives)
 
-  at_entry : (past : List Entry) (event : Event) (r : Reply) → AreAdmitted the_setting (committed_call_in past event r ++ committed_calls past) → (run_in_turn the_setting (committed_call_in past event r ++ committed_calls past)).results ≡ told_in r ++ told past → CommitIsBank the_setting past event r
-  at_entry past event (reply.Committed answers) fit told = λ below. agrees (call_of past (subject event)) (committed_calls past) answers fit.1 (first_same _ _ _ _ told) below
+  at_entry : (past : List Entry) (event : Event) (r : Reply) → AreAdmitted the_setting
+      (committed_call_in past event r ++ committed_calls past)
+      → (run_in_turn the_setting (committed_call_in past event r ++ committed_calls past)).results ≡ told_in r ++ told past
+      → CommitIsBank the_setting past event r
+  at_entry past event (reply.Committed answers) fit told = λ below. agrees (call_of past (subject event))
+      (committed_calls past) answers fit.1 (first_same _ _ _ _ told) below
   at_entry past event _ fit told = tt
 
   commits_are_bank : (past : List Entry) → Legal the_setting past → CommitsAreBank the_setting past
   commits_are_bank [] legal = tt
-  commits_are_bank (e ∷ past) legal = (commits_are_bank past legal.0, at_entry past e.event e.reply (admitted the_setting (e ∷ past) legal) (replay_is_serial the_setting (e ∷ past) legal).answers)
+  commits_are_bank (e ∷ past) legal = (
+    commits_are_bank past legal.0,
+    at_entry past e.event e.reply (admitted the_setting (e ∷ past) legal)
+        (replay_is_serial the_setting (e ∷ past) legal).answers,
+  )
 
 pub replay_is_bank : ReplayIsSerial → CommittedAreAdmitted → ReplaysHoldValues → ReplayIsBank
-replay_is_bank serially admitted hold_values opening others limits past hold legal = commits_are_bank serially admitted hold_values opening others limits hold past legal
+replay_is_bank serially admitted hold_values opening others limits past hold legal =
+    commits_are_bank serially admitted hold_values opening others limits hold past legal
 
 -- ---- what accounts open
 
@@ -111,7 +129,8 @@ hold_account m a fits hold =
     hold_put _ (saving_key a) a.saving (is_value-fact a.saving balances.0) (
     hold_put m (name_key a) a.customer (is_value-fact a.customer customer.0) hold))
 
-hold_accounts : (earlier accounts : List Account) (m : Contents) → first_fault earlier accounts ≡ None → HoldValues m → HoldValues (with_accounts m accounts)
+hold_accounts : (earlier accounts : List Account) (m : Contents) → first_fault earlier accounts ≡ None → HoldValues m
+    → HoldValues (with_accounts m accounts)
 hold_accounts earlier [] m none hold = hold
 hold_accounts earlier (a ∷ accounts) m none hold =
     let parts = none_twice (fault_behind earlier a) (first_fault (earlier ++ a ∷ []) accounts) none in

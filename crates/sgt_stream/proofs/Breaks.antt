@@ -39,11 +39,13 @@ no_break-fewer (suc m) (suc n) [] fewer none = refl
 no_break-fewer (suc m) (suc n) (x ∷ xs) fewer none = grind (arith, nat_tests, no_break-fewer m n xs)
 
 -- where no line of the longest kind ends, the bytes begin with a line that is too long
-pub long-none : (within : ℕ) (held : List ℕ) → has_break (take within held) ≡ false → 65536 < length held → 65536 < within → has_break (take 65537 held) ≡ false
+pub long-none : (within : ℕ) (held : List ℕ) → has_break (take within held) ≡ false → 65536 < length held → 65536 < within
+    → has_break (take 65537 held) ≡ false
 long-none within held none long inside = no_break-fewer 65537 within held (omega arith) none
 
 -- and so where the first one ends behind it
-pub long-found : (within n : ℕ) (held : List ℕ) → IsBreak (take within held) (Some n) → 65536 < n → (has_break (take 65537 held) ≡ false) × (65536 < length held) × (65536 < within)
+pub long-found : (within n : ℕ) (held : List ℕ) → IsBreak (take within held) (Some n) → 65536 < n
+    → (has_break (take 65537 held) ≡ false) × (65536 < length held) × (65536 < within)
 long-found within n held at long =
     let inside : n < within = grind (arith, common_steps, at.0) in
     let few : n < length held = grind (arith, common_steps, at.0) in
@@ -56,18 +58,25 @@ no_break-each [] other = refl
 no_break-each (x ∷ xs) other = grind (arith, nat_tests, other 0, no_break-each xs (λ k inside. other (suc k) (suc-le-suc inside)))
 
 -- the first byte 10 behind bytes of which none is 10
-pub break-behind : (front bytes : List ℕ) (found : Option ℕ) → has_break front ≡ false → IsFirstByte (is_byte 10) bytes found → IsBreak (front ++ bytes) (option_map (λ n. length front + n) found)
-break-behind front bytes None none first = no_break-append front bytes none (no_break-each bytes (λ k inside ten. first k (omega arith) inside (eq-eqb _ 10 ten)))
+pub break-behind : (front bytes : List ℕ) (found : Option ℕ) → has_break front ≡ false → IsFirstByte (is_byte 10) bytes found
+    → IsBreak (front ++ bytes) (option_map (λ n. length front + n) found)
+break-behind front bytes None none first =
+    no_break-append front bytes none (no_break-each bytes (λ k inside ten. first k (omega arith) inside (eq-eqb _ 10 ten)))
 break-behind front bytes (Some n) none first = (
   omega (arith, length-append front bytes, first.0.high),
   get_or-append-add front bytes n 0 ∙ eqb-true _ 10 first.1,
-  ap has_break (take-append-add front bytes n) ∙ no_break-append front (take n bytes) none (no_break-each (take n bytes) (λ k inside ten. grind (arith, common_steps, first.0.before k, eq-eqb (get_or bytes k 0) 10))),
+  ap has_break (take-append-add front bytes n) ∙ no_break-append front (take n bytes) none
+      (no_break-each (take n bytes) (λ k inside ten. grind (arith, common_steps, first.0.before k, eq-eqb (get_or bytes k 0) 10))),
 )
 
 -- the same in a part of the bytes
-pub break-within : (bytes : List ℕ) (from within stop : ℕ) (found : Option ℕ) → stop ≡ min within (length bytes) → from ≤ within → from ≤ length bytes → has_break (take from bytes) ≡ false → IsFirstByte (is_byte 10) (take (stop - from) (drop from bytes)) found → IsBreak (take within bytes) (option_map (λ n. from + n) found)
+pub break-within : (bytes : List ℕ) (from within stop : ℕ) (found : Option ℕ) → stop ≡ min within (length bytes) → from ≤ within
+    → from ≤ length bytes → has_break (take from bytes) ≡ false → IsFirstByte (is_byte 10)
+    (take (stop - from) (drop from bytes)) found → IsBreak (take within bytes) (option_map (λ n. from + n) found)
 break-within bytes from within stop found is inside fits none first =
     let size : length (take from bytes) ≡ from = grind (arith, common_steps) in
-    let whole : take from bytes ++ take (stop - from) (drop from bytes) ≡ take within bytes = sym (take-add from (stop - from) bytes) ∙ grind (arith, common_steps) in
+    let whole : take from bytes ++ take (stop - from) (drop from bytes) ≡ take within bytes =
+    sym (take-add from (stop - from) bytes) ∙ grind (arith, common_steps) in
     subst (λ n. IsBreak (take within bytes) (option_map (λ k. n + k) found)) size
-    (subst (λ xs. IsBreak xs (option_map (λ k. length (take from bytes) + k) found)) whole (break-behind (take from bytes) (take (stop - from) (drop from bytes)) found none first))
+    (subst (λ xs. IsBreak xs (option_map (λ k. length (take from bytes) + k) found)) whole
+    (break-behind (take from bytes) (take (stop - from) (drop from bytes)) found none first))

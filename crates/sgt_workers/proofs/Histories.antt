@@ -8,14 +8,17 @@ use Rattle.sgt_model.proofs.Facts.{legal_older}
 
 -- one entry more
 pub one_more : (h : List Entry) (i : ℕ) (e : Entry) → i < length h → e ≡ get_or h i e → reverse (take (i + 1) h) ≡ e ∷ reverse (take i h)
-one_more h i e within is = ap reverse (take_more h i e within) ∙ (reverse-append (take i h) (get_or h i e ∷ []) ∙ ap (λ x. x ∷ reverse (take i h)) (sym is))
+one_more h i e within is = ap reverse (take_more h i e within) ∙ (reverse-append (take i h) (get_or h i e ∷ [])
+    ∙ ap (λ x. x ∷ reverse (take i h)) (sym is))
 
 -- the first entries of a legal history are legal
 pub legal_first : (s : Setting) (h : List Entry) (n : ℕ) → Legal s (reverse h) → Legal s (reverse (take n h))
-legal_first s h n legal = legal_older s (reverse (drop n h)) (reverse (take n h)) (subst (λ l. Legal s l) (ap reverse (sym (take-append-drop n h)) ∙ reverse-append (take n h) (drop n h)) legal)
+legal_first s h n legal = legal_older s (reverse (drop n h)) (reverse (take n h))
+    (subst (λ l. Legal s l) (ap reverse (sym (take-append-drop n h)) ∙ reverse-append (take n h) (drop n h)) legal)
 
 -- so is each after those before it
-pub legal_next : (s : Setting) (h : List Entry) (i : ℕ) (e : Entry) → i < length h → e ≡ get_or h i e → Legal s (reverse h) → Legal s (e ∷ reverse (take i h))
+pub legal_next : (s : Setting) (h : List Entry) (i : ℕ) (e : Entry) → i < length h → e ≡ get_or h i e → Legal s (reverse h)
+    → Legal s (e ∷ reverse (take i h))
 legal_next s h i e within is legal = subst (λ l. Legal s l) (one_more h i e within is) (legal_first s h (i + 1) legal)
 
 pub first_length : (h : List Entry) (i : ℕ) → i ≤ length h → length (reverse (take i h)) ≡ i

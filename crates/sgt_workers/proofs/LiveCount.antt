@@ -41,7 +41,8 @@ module _ (past : List Entry) (e : Entry) where
   still_live : is_start e.reply ≡ false → (t : ℕ) → live (e ∷ past) t ≡ (live past t && not (gone t))
   still_live none t = rw none (go (nat_lt t (starts past)) (ending_in e.event e.reply t))
     where
-      go : (b : Bool) (o : Option Fate) → (b && is_none (option_or o (fate_of past t))) ≡ ((b && is_none (fate_of past t)) && not (is_some o))
+      go : (b : Bool) (o : Option Fate) → (b && is_none (option_or o (fate_of past t))) ≡ ((b && is_none (fate_of past t)) && not
+          (is_some o))
       go false o = refl
       go true (Some f) = out (is_none (fate_of past t))
         where
@@ -55,19 +56,25 @@ module _ (past : List Entry) (e : Entry) where
           stays false = refl
 
   left_live : is_start e.reply ≡ false → live_ones (e ∷ past) ≡ filter (λ t. not (gone t)) (live_ones past)
-  left_live none = ap (λ b. filter (live (e ∷ past)) (cond b (begun past ++ starts past ∷ []) (begun past))) none ∙ (filter-same (live (e ∷ past)) (λ t. live past t && not (gone t)) (begun past) (still_live none) ∙ sym (filter-both (λ t. not (gone t)) (live past) (begun past)))
+  left_live none = ap (λ b. filter (live (e ∷ past)) (cond b (begun past ++ starts past ∷ []) (begun past))) none
+      ∙ (filter-same (live (e ∷ past)) (λ t. live past t && not (gone t)) (begun past) (still_live none)
+      ∙ sym (filter-both (λ t. not (gone t)) (live past) (begun past)))
 
   member_live : (t : ℕ) → live past t ≡ true → Member t (live_ones past)
   member_live t alive = kept_member (live past) t (begun past) alive (begun_has past t (live-started past t alive))
 
   -- those of a list end
-  lost : (those : List ℕ) → is_start e.reply ≡ false → ((t : ℕ) → gone t ≡ is_among those t) → Distinct those → ((t : ℕ) → Member t those → live past t ≡ true) → length (live_ones (e ∷ past)) + length those ≡ length (live_ones past)
+  lost : (those : List ℕ) → is_start e.reply ≡ false → ((t : ℕ) → gone t ≡ is_among those t) → Distinct those
+      → ((t : ℕ) → Member t those → live past t ≡ true) → length (live_ones (e ∷ past)) + length those ≡ length (live_ones past)
   lost those none same once alive =
-      let rest : live_ones (e ∷ past) ≡ filter (λ t. not (is_among those t)) (live_ones past) = left_live none ∙ filter-same (λ t. not (gone t)) (λ t. not (is_among those t)) (live_ones past) (λ t. ap not (same t)) in
-      let fewer = some_less those (live_ones past) once (rising_distinct (live_ones past) (live_ones-rise past)) (λ t m. member_live t (alive t m)) in
+      let rest : live_ones (e ∷ past) ≡ filter (λ t. not (is_among those t)) (live_ones past) =
+      left_live none ∙ filter-same (λ t. not (gone t)) (λ t. not (is_among those t)) (live_ones past) (λ t. ap not (same t)) in
+      let fewer = some_less those (live_ones past) once (rising_distinct (live_ones past) (live_ones-rise past))
+      (λ t m. member_live t (alive t m)) in
       ap (λ l. length l + length those) rest ∙ fewer
 
-  none_lost : is_start e.reply ≡ false → EndsNone e.reply → length (live_ones (e ∷ past)) + count_ended e.reply ≡ length (live_ones past) + count_started e.reply
+  none_lost : is_start e.reply ≡ false → EndsNone e.reply → length (live_ones (e ∷ past)) + count_ended e.reply ≡ length
+      (live_ones past) + count_started e.reply
   none_lost none ends =
       let same = lost [] none (λ t. ap is_some (ends_none-no_end e.event e.reply ends t)) tt (λ t m. absurd m) in
       let a = starts_none e.reply none in
@@ -75,9 +82,11 @@ module _ (past : List Entry) (e : Entry) where
       let zero : length {A = ℕ} [] ≡ 0 = refl in
       omega arith
 
-  one_started : (s : Setting) → Legal s past → e.reply ≡ reply.Started (starts past) → length (live_ones (e ∷ past)) + count_ended e.reply ≡ length (live_ones past) + count_started e.reply
+  one_started : (s : Setting) → Legal s past → e.reply ≡ reply.Started (starts past)
+      → length (live_ones (e ∷ past)) + count_ended e.reply ≡ length (live_ones past) + count_started e.reply
   one_started s legal is =
-      let ones : live_ones (e ∷ past) ≡ filter (live (e ∷ past)) (begun past ++ starts past ∷ []) = ap (λ b. filter (live (e ∷ past)) (cond b (begun past ++ starts past ∷ []) (begun past))) (ap is_start is) in
+      let ones : live_ones (e ∷ past) ≡ filter (live (e ∷ past)) (begun past ++ starts past ∷ []) =
+      ap (λ b. filter (live (e ∷ past)) (cond b (begun past ++ starts past ∷ []) (begun past))) (ap is_start is) in
       let both = filter-append (live (e ∷ past)) (begun past) (starts past ∷ []) in
       let old = filter_listed (live (e ∷ past)) (live past) (begun past) (λ t m. as_before t (begun_below past t m)) in
       let new : filter (live (e ∷ past)) (starts past ∷ []) ≡ starts past ∷ [] = ap (λ b. cond b (starts past ∷ []) []) (now_live) in
@@ -97,18 +106,22 @@ module _ (past : List Entry) (e : Entry) where
       live_is t = ap₂ (λ n o. nat_lt t n && is_none (option_or o (fate_of past t))) more (no_end t)
 
       as_before : (t : ℕ) → t < starts past → live (e ∷ past) t ≡ live past t
-      as_before t less = live_is t ∙ ap (λ a. a && is_none (fate_of past t)) (lt-ltb t (starts past + 1) (omega arith) ∙ sym (lt-ltb t (starts past) less))
+      as_before t less = live_is t ∙ ap (λ a. a && is_none (fate_of past t)) (lt-ltb t (starts past + 1) (omega arith)
+          ∙ sym (lt-ltb t (starts past) less))
 
       now_live : live (e ∷ past) (starts past) ≡ true
-      now_live = live_is (starts past) ∙ ap₂ (λ a o. a && is_none o) (lt-ltb (starts past) (starts past + 1) (omega arith)) (unstarted-no_fate s past legal (starts past) (omega arith))
+      now_live = live_is (starts past) ∙ ap₂ (λ a o. a && is_none o) (lt-ltb (starts past) (starts past + 1) (omega arith))
+          (unstarted-no_fate s past legal (starts past) (omega arith))
 
-  by_effect : (s : Setting) → Legal s past → Effect s past e.event e.reply → length (live_ones (e ∷ past)) + count_ended e.reply ≡ length (live_ones past) + count_started e.reply
+  by_effect : (s : Setting) → Legal s past → Effect s past e.event e.reply
+      → length (live_ones (e ∷ past)) + count_ended e.reply ≡ length (live_ones past) + count_started e.reply
   by_effect s legal (idle i) = none_lost i.no_start i.ends_none
   by_effect s legal (begins b) = one_started s legal b.reply_is
   by_effect s legal (accesses x) = none_lost x.no_start x.ends_none
   by_effect s legal (commits c) =
       let none : is_start e.reply ≡ false = ap is_start c.reply_is in
-      let one = lost (c.t ∷ []) none (λ t. ap₂ (λ x y. is_some (ending_in x y t)) c.event_is c.reply_is ∙ commit_gone (nat_eq c.t t)) ((λ m. m), tt) (λ t m. subst (λ u. live past u ≡ true) (sym (only t m)) c.is_live) in
+      let one = lost (c.t ∷ []) none (λ t. ap₂ (λ x y. is_some (ending_in x y t)) c.event_is c.reply_is
+      ∙ commit_gone (nat_eq c.t t)) ((λ m. m), tt) (λ t m. subst (λ u. live past u ≡ true) (sym (only t m)) c.is_live) in
       let a = starts_none e.reply none in
       let b : count_ended e.reply ≡ 1 = ap count_ended c.reply_is in
       let n : length {A = ℕ} (c.t ∷ []) ≡ 1 = refl in
@@ -124,7 +137,9 @@ module _ (past : List Entry) (e : Entry) where
   by_effect s legal (undoes x) =
       let none : is_start e.reply ≡ false = ap is_start x.reply_is in
       let u = x.undoing in
-      let some = lost (u.t ∷ u.fell) none (λ t. ap is_some (u.ends t) ∙ abort_gone (fate.Aborted u.why) (fate.Fell u.t) (nat_eq u.t t) (is_among u.fell t)) ((λ m. (u.falls.each u.t m).1 refl), rising_distinct u.fell u.falls.rising) (λ t m. those t m) in
+      let some = lost (u.t ∷ u.fell) none (λ t. ap is_some (u.ends t) ∙ abort_gone (fate.Aborted u.why) (fate.Fell u.t)
+      (nat_eq u.t t) (is_among u.fell t)) ((λ m. (u.falls.each u.t m).1 refl), rising_distinct u.fell u.falls.rising)
+      (λ t m. those t m) in
       let a = starts_none e.reply none in
       let b : count_ended e.reply ≡ length u.fell + 1 = ap count_ended x.reply_is in
       let n : length (u.t ∷ u.fell) ≡ length u.fell + 1 = omega arith in
@@ -145,12 +160,16 @@ started_or_ended (reply.Aborted why fell) = inl refl
 started_or_ended _ = inr refl
 
 -- as many are live after an entry as were before it, with the one that it started and without those that it ended
-pub live_count : (s : Setting) (past : List Entry) (e : Entry) → Legal s (e ∷ past) → length (live_ones (e ∷ past)) + count_ended e.reply ≡ length (live_ones past) + count_started e.reply
+pub live_count : (s : Setting) (past : List Entry) (e : Entry) → Legal s (e ∷ past)
+    → length (live_ones (e ∷ past)) + count_ended e.reply ≡ length (live_ones past) + count_started e.reply
 live_count s past e legal = by_effect past e s legal.0 (effect s past e.event e.reply legal.1)
 
 -- an entry ends no more than were live
 pub ends_live : (s : Setting) (past : List Entry) (e : Entry) → Legal s (e ∷ past) → count_ended e.reply ≤ length (live_ones past)
-ends_live s past e legal = let n = live_count s past e legal in elim (started_or_ended e.reply) [ inl none ↦ omega arith | inr none ↦ omega arith ]
+ends_live s past e legal = let n = live_count s past e legal in elim (started_or_ended e.reply) [
+  | inl none ↦ omega arith
+  | inr none ↦ omega arith
+]
 
 kept_none : (p : ℕ → Bool) → ((t : ℕ) → p t ≡ false) → (ts : List ℕ) → length (filter p ts) ≡ 0
 kept_none p none [] = refl
@@ -165,7 +184,8 @@ none_counted past = (λ no_one t. not_live no_one t (live past t) refl, λ none.
     empty (u ∷ ts) t no_one m = absurd (omega arith)
 
     not_live : length (live_ones past) ≡ 0 → (t : ℕ) (b : Bool) → live past t ≡ b → live past t ≡ false
-    not_live no_one t true is = absurd (empty (live_ones past) t no_one (kept_member (live past) t (begun past) is (begun_has past t (live-started past t is))))
+    not_live no_one t true is =
+        absurd (empty (live_ones past) t no_one (kept_member (live past) t (begun past) is (begun_has past t (live-started past t is))))
     not_live no_one t false is = is
 
 take_whole : (n : ℕ) (h : List Entry) → length h ≤ n → take n h ≡ h

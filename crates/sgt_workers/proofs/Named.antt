@@ -23,16 +23,19 @@ module _ (history : List Entry) (tries : ℕ) where
 
   ended_started : (is : Reply → Bool) (job : Job) (n : ℕ) → Ends is history job n → All is_started (transaction_at history n)
   ended_started is job n e =
-      let one : transaction_at history n ≡ e.t ∷ [] = ap (λ o. option_to_list (option_and_then (λ (x : Entry). named_by x.event) o)) e.there ∙ ap option_to_list e.names in
+      let one : transaction_at history n ≡ e.t ∷ [] =
+      ap (λ o. option_to_list (option_and_then (λ (x : Entry). named_by x.event) o)) e.there ∙ ap option_to_list e.names in
       subst (All is_started) (sym one) (All-cons is_started e.t [] e.is_of.started (All-nil is_started))
 
   one_entry : (n : ℕ) (e : Entry) → slice_get history n ≡ Some e → All is_entry (n ∷ [])
   one_entry n e there = All-cons is_entry n [] (slice_get_within history n e there) (All-nil is_entry)
 
-  transactions_started : {N : Type 0} (job : Job) (o : Outcome N) → OutcomeStands history tries job o → All is_started (transactions_of history o)
+  transactions_started : {N : Type 0} (job : Job) (o : Outcome N) → OutcomeStands history tries job o
+      → All is_started (transactions_of history o)
   transactions_started job (outcome.Done n) h = ended_started is_commit job n h
   transactions_started job (outcome.Asked n) h = ended_started is_ask job n h
-  transactions_started job (outcome.Gave attempts) h = All-weaker (IsFailed (reverse history) job) is_started (λ t f. f.is_of.started) attempts.items h.failed
+  transactions_started job (outcome.Gave attempts) h = All-weaker (IsFailed (reverse history) job) is_started
+      (λ t f. f.is_of.started) attempts.items h.failed
   transactions_started job (outcome.Refused n) h = All-nil is_started
   transactions_started job (outcome.Left note) h = All-nil is_started
   transactions_started job outcome.Untaken h = All-nil is_started
@@ -48,15 +51,19 @@ module _ (history : List Entry) (tries : ℕ) where
   entries_there job outcome.NoMemory h = All-nil is_entry
 
   -- all transactions that are named were started
-  pub all_started : {N : Type 0} (jobs : List Job) (outcomes : List (Outcome N)) → AllZip (OutcomeStands history tries) jobs outcomes → All is_started (flat_map (transactions_of history) outcomes)
+  pub all_started : {N : Type 0} (jobs : List Job) (outcomes : List (Outcome N))
+      → AllZip (OutcomeStands history tries) jobs outcomes → All is_started (flat_map (transactions_of history) outcomes)
   all_started [] [] all = All-nil is_started
   all_started [] (o ∷ outcomes) all = absurd all
   all_started (job ∷ jobs) [] all = absurd all
-  all_started (job ∷ jobs) (o ∷ outcomes) all = All-append is_started (transactions_of history o) (flat_map (transactions_of history) outcomes) (transactions_started job o all.0) (all_started jobs outcomes all.1)
+  all_started (job ∷ jobs) (o ∷ outcomes) all = All-append is_started (transactions_of history o)
+      (flat_map (transactions_of history) outcomes) (transactions_started job o all.0) (all_started jobs outcomes all.1)
 
   -- all entries that are named are there
-  pub all_there : {N : Type 0} (jobs : List Job) (outcomes : List (Outcome N)) → AllZip (OutcomeStands history tries) jobs outcomes → All is_entry (flat_map entries_of outcomes)
+  pub all_there : {N : Type 0} (jobs : List Job) (outcomes : List (Outcome N)) → AllZip (OutcomeStands history tries) jobs outcomes
+      → All is_entry (flat_map entries_of outcomes)
   all_there [] [] all = All-nil is_entry
   all_there [] (o ∷ outcomes) all = absurd all
   all_there (job ∷ jobs) [] all = absurd all
-  all_there (job ∷ jobs) (o ∷ outcomes) all = All-append is_entry (entries_of o) (flat_map entries_of outcomes) (entries_there job o all.0) (all_there jobs outcomes all.1)
+  all_there (job ∷ jobs) (o ∷ outcomes) all = All-append is_entry (entries_of o) (flat_map entries_of outcomes)
+      (entries_there job o all.0) (all_there jobs outcomes all.1)

@@ -21,26 +21,23 @@ is_among l u = list_any (λ v. nat_eq v u) l
 
 pub among_member : (u : ℕ) (l : List ℕ) → is_among l u ≡ true → Member u l
 among_member u [] e = absurd (true≢false (sym e))
-among_member u (v ∷ l) e = elim (or_cases (nat_eq v u) (is_among l u) e) [ inl h ↦ inl (sym (eqb-true v u h)) | inr h ↦ inr (among_member u l h) ]
+among_member u (v ∷ l) e = elim (or_cases (nat_eq v u) (is_among l u) e) [
+  | inl h ↦ inl (sym (eqb-true v u h))
+  | inr h ↦ inr (among_member u l h)
+]
 
 pub member_among : (u : ℕ) (l : List ℕ) → Member u l → is_among l u ≡ true
 member_among u [] h = absurd h
 member_among u (v ∷ l) (inl e) = or_left (nat_eq v u) _ (eq-eqb v u (sym e))
 member_among u (v ∷ l) (inr h) = or_right (nat_eq v u) _ (member_among u l h)
 
-pub not_among : (u : ℕ) (l : List ℕ) → (Member u l → ⊥) → is_among l u ≡ false
-not_among u l out = go (is_among l u) refl
-  where
-    go : (b : Bool) → is_among l u ≡ b → b ≡ false
-    go true e = absurd (out (among_member u l e))
-    go false e = refl
-
 -- one more at the end
 pub among_push : (l : List ℕ) (v u : ℕ) → is_among (l ++ v ∷ []) u ≡ (is_among l u || nat_eq v u)
 among_push [] v u = or_false (nat_eq v u)
 among_push (w ∷ l) v u = go (nat_eq w u) (among_push l v u)
   where
-    go : (b : Bool) → is_among (l ++ v ∷ []) u ≡ (is_among l u || nat_eq v u) → (b || is_among (l ++ v ∷ []) u) ≡ ((b || is_among l u) || nat_eq v u)
+    go : (b : Bool) → is_among (l ++ v ∷ []) u ≡ (is_among l u || nat_eq v u)
+        → (b || is_among (l ++ v ∷ []) u) ≡ ((b || is_among l u) || nat_eq v u)
     go true h = refl
     go false h = h
 
@@ -52,7 +49,10 @@ member_pushed t (w ∷ l) v (inr m) = elim (member_pushed t l v m) [ inl k ↦ i
 
 pub distinct_push : (l : List ℕ) (v : ℕ) → Distinct l → (Member v l → ⊥) → Distinct (l ++ v ∷ [])
 distinct_push [] v d out = ((λ m. m), tt)
-distinct_push (w ∷ l) v d out = ((λ m. elim (member_pushed w l v m) [ inl k ↦ d.0 k | inr e ↦ out (inl (sym e)) ]), distinct_push l v d.1 (λ m. out (inr m)))
+distinct_push (w ∷ l) v d out = (
+  (λ m. elim (member_pushed w l v m) [ inl k ↦ d.0 k | inr e ↦ out (inl (sym e)) ]),
+  distinct_push l v d.1 (λ m. out (inr m)),
+)
 
 member_front : (t : ℕ) (l more : List ℕ) → Member t l → Member t (l ++ more)
 member_front t [] more m = absurd m
@@ -97,8 +97,10 @@ one_less : (g : ℕ) (xs : List ℕ) → Distinct xs → Member g xs → length 
 one_less g [] d m = absurd m
 one_less g (x ∷ xs) d m = go (one_less g xs d.1) (nat_eq g x) refl
   where
-    go : (Member g xs → length (without g xs) + 1 ≡ length xs) → (b : Bool) → nat_eq g x ≡ b → length (cond (not b) (x ∷ without g xs) (without g xs)) + 1 ≡ length (x ∷ xs)
-    go rest true e = let same = eqb-true g x e in let all = none_gone g xs (λ k. d.0 (subst (λ y. Member y xs) same k)) in let n = ap length all in omega arith
+    go : (Member g xs → length (without g xs) + 1 ≡ length xs) → (b : Bool) → nat_eq g x ≡ b
+        → length (cond (not b) (x ∷ without g xs) (without g xs)) + 1 ≡ length (x ∷ xs)
+    go rest true e = let same = eqb-true g x e in let all = none_gone g xs (λ k. d.0 (subst (λ y. Member y xs) same k)) in
+        let n = ap length all in omega arith
     go rest false e = let fewer : length (without g xs) + 1 ≡ length xs = rest (later m) in omega arith
       where
         later : Member g (x ∷ xs) → Member g xs
@@ -114,7 +116,8 @@ distinct_kept f (x ∷ xs) d = go (f x) (distinct_kept f xs d.1)
     go false rest = rest
 
 -- of a list without repetition as many are left as it has more than those that are taken out of it
-pub some_less : (gone xs : List ℕ) → Distinct gone → Distinct xs → ((u : ℕ) → Member u gone → Member u xs) → length (filter (λ u. not (is_among gone u)) xs) + length gone ≡ length xs
+pub some_less : (gone xs : List ℕ) → Distinct gone → Distinct xs → ((u : ℕ) → Member u gone → Member u xs)
+    → length (filter (λ u. not (is_among gone u)) xs) + length gone ≡ length xs
 some_less [] xs d e all =
     let n : length (filter (λ u. not (is_among [] u)) xs) ≡ length xs = ap length (keeps xs) in
     let zero : length {A = ℕ} [] ≡ 0 = refl in
@@ -124,9 +127,15 @@ some_less [] xs d e all =
     keeps [] = refl
     keeps (x ∷ xs) = ap (λ l. x ∷ l) (keeps xs)
 some_less (g ∷ gone) xs d e all =
-    let rest : length (filter (λ u. not (is_among gone u)) (without g xs)) + length gone ≡ length (without g xs) = some_less gone (without g xs) d.1 (distinct_kept (λ u. not (nat_eq g u)) xs e) (λ u m. kept_member (λ v. not (nat_eq g v)) u xs (ap not (ne_eqb g u (λ same. d.0 (subst (λ v. Member v gone) (sym same) m)))) (all u (inr m))) in
+    let rest : length (filter (λ u. not (is_among gone u)) (without g xs)) + length gone ≡ length (without g xs) =
+    some_less gone (without g xs) d.1 (distinct_kept (λ u. not (nat_eq g u)) xs e)
+    (λ u m. kept_member (λ v. not (nat_eq g v)) u xs
+    (ap not (ne_eqb g u (λ same. d.0 (subst (λ v. Member v gone) (sym same) m)))) (all u (inr m))) in
     let one = one_less g xs e (all g (inl refl)) in
-    let split : filter (λ u. not (is_among gone u)) (without g xs) ≡ filter (λ u. not (nat_eq g u || is_among gone u)) xs = filter-both (λ u. not (is_among gone u)) (λ u. not (nat_eq g u)) xs ∙ filter-same (λ u. not (nat_eq g u) && not (is_among gone u)) (λ u. not (nat_eq g u || is_among gone u)) xs (λ u. neither (nat_eq g u) (is_among gone u)) in
+    let split : filter (λ u. not (is_among gone u)) (without g xs) ≡ filter (λ u. not (nat_eq g u || is_among gone u)) xs =
+    filter-both (λ u. not (is_among gone u)) (λ u. not (nat_eq g u)) xs
+    ∙ filter-same (λ u. not (nat_eq g u) && not (is_among gone u)) (λ u. not (nat_eq g u || is_among gone u)) xs
+    (λ u. neither (nat_eq g u) (is_among gone u)) in
     let count = ap length split in
     omega arith
   where
@@ -137,8 +146,12 @@ some_less (g ∷ gone) xs d e all =
 -- a table of what is seen
 
 -- one more is marked
-pub marked_more : (seen : List Bool) (l : List ℕ) (x k : ℕ) → x < length seen → get_or seen k false ≡ is_among l k → get_or (set seen x true) k false ≡ is_among (l ++ x ∷ []) k
+pub marked_more : (seen : List Bool) (l : List ℕ) (x k : ℕ) → x < length seen → get_or seen k false ≡ is_among l k
+    → get_or (set seen x true) k false ≡ is_among (l ++ x ∷ []) k
 marked_more seen l x k within so_far = elim (cases_eq k x) [
-  | inl same ↦ subst (λ j. get_or (set seen x true) j false ≡ is_among (l ++ x ∷ []) j) (sym same) (get_or-set_same seen x true false within ∙ sym (among_push l x x ∙ (ap (λ b. is_among l x || b) (eq-eqb x x refl) ∙ or_true (is_among l x))))
-  | inr other ↦ get_or-set_other seen x k true false other ∙ (so_far ∙ sym (among_push l x k ∙ (ap (λ b. is_among l k || b) (ne_eqb x k (λ e. other (sym e))) ∙ or_false (is_among l k))))
+  | inl same ↦ subst (λ j. get_or (set seen x true) j false ≡ is_among (l ++ x ∷ []) j) (sym same)
+      (get_or-set_same seen x true false within
+      ∙ sym (among_push l x x ∙ (ap (λ b. is_among l x || b) (eq-eqb x x refl) ∙ or_true (is_among l x))))
+  | inr other ↦ get_or-set_other seen x k true false other
+      ∙ (so_far ∙ sym (among_push l x k ∙ (ap (λ b. is_among l k || b) (ne_eqb x k (λ e. other (sym e))) ∙ or_false (is_among l k))))
 ]

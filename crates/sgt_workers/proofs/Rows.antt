@@ -34,14 +34,18 @@ no_row f None e = refl
 no_row f (Some old) e = absurd (none-some (f old) (sym e))
 
 -- an entry that starts none, and ends some or none
-pub lives_ended : (s : Setting) (past : List Entry) (e : Entry) (lives after : List Life) → LegalReply s past e.event e.reply → is_start e.reply ≡ false → AreLives past lives → ((t : ℕ) → slice_get after t ≡ option_map (life_after (length past) (ending_in e.event e.reply t)) (slice_get lives t)) → length after ≡ length lives → AreLives (e ∷ past) after
+pub lives_ended : (s : Setting) (past : List Entry) (e : Entry) (lives after : List Life) → LegalReply s past e.event e.reply
+    → is_start e.reply ≡ false → AreLives past lives
+    → ((t : ℕ) → slice_get after t ≡ option_map (life_after (length past) (ending_in e.event e.reply t)) (slice_get lives t))
+    → length after ≡ length lives → AreLives (e ∷ past) after
 lives_ended s past e lives after legal none are rows count = record {
   counted = count ∙ (are.counted ∙ sym (ap (λ b. cond b (starts past + 1) (starts past)) none));
   each = λ t life at.
       let was = was_row (life_after (length past) (ending_in e.event e.reply t)) (slice_get lives t) life (sym (rows t) ∙ at) in
       subst (IsLife (e ∷ past) t) (sym was.2) (row t was.0 (are.each t was.0 was.1));
   none = λ t at.
-      let out : slice_get lives t ≡ None = no_row (life_after (length past) (ending_in e.event e.reply t)) (slice_get lives t) (sym (rows t) ∙ at) in
+      let out : slice_get lives t ≡ None = no_row (life_after (length past) (ending_in e.event e.reply t)) (slice_get lives t)
+      (sym (rows t) ∙ at) in
       let old = are.none t out in
       record { started = not_started t ∙ old.started; ended = not_ended t out (ending_in e.event e.reply t) refl ∙ old.ended };
 }
@@ -52,7 +56,8 @@ lives_ended s past e lives after legal none are rows count = record {
     same_call : (t : ℕ) → call_of (e ∷ past) t ≡ call_of past t
     same_call t = ap (λ o. unwrap_or o (call_of past t)) (no_start-no_call e.event e.reply none t)
 
-    not_ended : (t : ℕ) → slice_get lives t ≡ None → (o : Option Fate) → ending_in e.event e.reply t ≡ o → cond (is_some (ending_in e.event e.reply t)) (Some (length past)) (ended_at past t) ≡ ended_at past t
+    not_ended : (t : ℕ) → slice_get lives t ≡ None → (o : Option Fate) → ending_in e.event e.reply t ≡ o
+        → cond (is_some (ending_in e.event e.reply t)) (Some (length past)) (ended_at past t) ≡ ended_at past t
     not_ended t out None is = ap (λ o. cond (is_some o) (Some (length past)) (ended_at past t)) is
     not_ended t out (Some f) is = absurd (within t out (live-started past t (end-live s past e.event e.reply legal t f is)))
       where
@@ -80,14 +85,20 @@ lives_ended s past e lives after legal none are rows count = record {
         }
 
 -- what stands in a list with one more at the end
-pushed : (lives : List Life) (new : Life) (t : ℕ) (life : Life) → slice_get (lives ++ new ∷ []) t ≡ Some life → ((t < length lives) × (slice_get lives t ≡ Some life)) ⊎ ((t ≡ length lives) × (life ≡ new))
+pushed : (lives : List Life) (new : Life) (t : ℕ) (life : Life) → slice_get (lives ++ new ∷ []) t ≡ Some life
+    → ((t < length lives) × (slice_get lives t ≡ Some life)) ⊎ ((t ≡ length lives) × (life ≡ new))
 pushed [] new zero life at = inr (refl, sym (same_Some new life at))
 pushed [] new (suc t) life at = absurd (none-some life at)
 pushed (x ∷ lives) new zero life at = inl (omega arith, at)
-pushed (x ∷ lives) new (suc t) life at = elim (pushed lives new t life at) [ inl w ↦ inl (let less = w.0 in omega arith, w.1) | inr w ↦ inr (let same = w.0 in omega arith, w.1) ]
+pushed (x ∷ lives) new (suc t) life at = elim (pushed lives new t life at) [
+  | inl w ↦ inl (let less = w.0 in omega arith, w.1)
+  | inr w ↦ inr (let same = w.0 in omega arith, w.1)
+]
 
 -- an entry that starts one
-pub lives_started : (s : Setting) (past : List Entry) (e : Entry) (lives : List Life) → Legal s past → (p : ℕ) (args : List ℤ) → e.event ≡ Start p args → e.reply ≡ reply.Started (starts past) → AreLives past lives → AreLives (e ∷ past) (lives ++ record { procedure = p; args = args; started = length past; ended = None; failed = false } ∷ [])
+pub lives_started : (s : Setting) (past : List Entry) (e : Entry) (lives : List Life) → Legal s past → (p : ℕ) (args : List ℤ)
+    → e.event ≡ Start p args → e.reply ≡ reply.Started (starts past) → AreLives past lives → AreLives (e ∷ past)
+    (lives ++ record { procedure = p; args = args; started = length past; ended = None; failed = false } ∷ [])
 lives_started s past e lives legal p args event_is reply_is are = record {
   counted = length-append lives (new ∷ []) ∙ (ap (λ n. n + 1) are.counted ∙ sym more);
   each = λ t life at. elim (pushed lives new t life at) [
@@ -122,14 +133,17 @@ lives_started s past e lives legal p args event_is reply_is are = record {
     same_fate t = ap (λ o. option_or o (fate_of past t)) (no_end t)
 
     not_started : (t : ℕ) → starts past ≢ t → started_at (e ∷ past) t ≡ started_at past t
-    not_started t other = ap (λ r. cond (starts_as r t) (Some (length past)) (started_at past t)) reply_is ∙ ap (λ b. cond b (Some (length past)) (started_at past t)) (ne_eqb (starts past) t other)
+    not_started t other = ap (λ r. cond (starts_as r t) (Some (length past)) (started_at past t)) reply_is
+        ∙ ap (λ b. cond b (Some (length past)) (started_at past t)) (ne_eqb (starts past) t other)
 
-    call_is : (t : ℕ) → call_of (e ∷ past) t ≡ unwrap_or (cond (nat_eq (starts past) t) (Some (record { procedure = p; args = args })) None) (call_of past t)
+    call_is : (t : ℕ) → call_of (e ∷ past) t ≡ unwrap_or
+        (cond (nat_eq (starts past) t) (Some (record { procedure = p; args = args })) None) (call_of past t)
     call_is t = ap₂ (λ v r. unwrap_or (call_in v r t) (call_of past t)) event_is reply_is
 
     earlier : (t : ℕ) (life : Life) → IsLife past t life → t < starts past → IsLife (e ∷ past) t life
     earlier t life is less = record {
-      call = call_is t ∙ (ap (λ b. unwrap_or (cond b (Some (record { procedure = p; args = args })) None) (call_of past t)) (ne_eqb (starts past) t (λ same. absurd (omega arith))) ∙ is.call);
+      call = call_is t ∙ (ap (λ b. unwrap_or (cond b (Some (record { procedure = p; args = args })) None) (call_of past t))
+          (ne_eqb (starts past) t (λ same. absurd (omega arith))) ∙ is.call);
       started = not_started t (λ same. absurd (omega arith)) ∙ is.started;
       ended = not_ended t ∙ is.ended;
       failed = ap has_failed (same_fate t) ∙ is.failed;
@@ -137,15 +151,21 @@ lives_started s past e lives legal p args event_is reply_is are = record {
 
     own : IsLife (e ∷ past) (starts past) new
     own = record {
-      call = call_is (starts past) ∙ ap (λ b. unwrap_or (cond b (Some (record { procedure = p; args = args })) None) (call_of past (starts past))) (eq-eqb (starts past) (starts past) refl);
-      started = ap (λ r. cond (starts_as r (starts past)) (Some (length past)) (started_at past (starts past))) reply_is ∙ ap (λ b. cond b (Some (length past)) (started_at past (starts past))) (eq-eqb (starts past) (starts past) refl);
-      ended = not_ended (starts past) ∙ (are.none (starts past) (slice_get_past lives (starts past) (let n = are.counted in omega arith))).ended;
+      call = call_is (starts past) ∙ ap (λ b. unwrap_or (cond b (Some (record { procedure = p; args = args })) None)
+          (call_of past (starts past))) (eq-eqb (starts past) (starts past) refl);
+      started = ap (λ r. cond (starts_as r (starts past)) (Some (length past)) (started_at past (starts past))) reply_is
+          ∙ ap (λ b. cond b (Some (length past)) (started_at past (starts past))) (eq-eqb (starts past) (starts past) refl);
+      ended = not_ended (starts past)
+          ∙ (are.none (starts past) (slice_get_past lives (starts past) (let n = are.counted in omega arith))).ended;
       failed = ap has_failed (same_fate (starts past) ∙ unstarted-no_fate s past legal (starts past) (omega arith));
     }
 
 -- an entry that is answered Started
-pub lives_started_by : (s : Setting) (past : List Entry) (e : Entry) (lives : List Life) (t : ℕ) → Legal s past → LegalReply s past e.event e.reply → e.reply ≡ reply.Started t → AreLives past lives → AreLives (e ∷ past) (with_started (length past) e.event lives)
+pub lives_started_by : (s : Setting) (past : List Entry) (e : Entry) (lives : List Life) (t : ℕ) → Legal s past
+    → LegalReply s past e.event e.reply → e.reply ≡ reply.Started t → AreLives past lives → AreLives (e ∷ past)
+    (with_started (length past) e.event lives)
 lives_started_by s past e lives t legal reply_legal is are = elim (starts_or_not (effect s past e.event e.reply reply_legal)) [
-  | inl b ↦ subst (λ v. AreLives (e ∷ past) (with_started (length past) v lives)) (sym b.event_is) (lives_started s past e lives legal b.procedure b.args b.event_is b.reply_is are)
+  | inl b ↦ subst (λ v. AreLives (e ∷ past) (with_started (length past) v lives)) (sym b.event_is)
+      (lives_started s past e lives legal b.procedure b.args b.event_is b.reply_is are)
   | inr not_one ↦ absurd (true≢false (sym (ap is_start is) ∙ not_one))
 ]

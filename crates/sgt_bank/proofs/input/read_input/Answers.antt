@@ -10,7 +10,8 @@ pub returns-in_err-next_line-clause-fault : goal.returns-in_err-next_line-clause
 returns-in_err-next_line-clause-fault g c =
     let failed : c.from_residual-in_err-next_line.result ≡ Err c.in_err-next_line.field-0.0 = search rules in
     subst (λ r. IfErr r (λ f. IsOfInput f → Fails c.args.workers (g.S.Source.rest c.args.source.now) f)) (sym failed)
-    (fails-long c.args.workers c.in_ok-lines.lines (g.S.Source.rest c.args.source.now) _ c.in_ok-lines.ensures c.in_err-next_line.ensures.fault)
+    (fails-long c.args.workers c.in_ok-lines.lines
+    (g.S.Source.rest c.args.source.now) _ c.in_ok-lines.ensures c.in_err-next_line.ensures.fault)
 
 pub returns-then-not-branch-clause-fault : goal.returns-then-not-branch-clause-fault
 returns-then-not-branch-clause-fault g c = λ exact.
@@ -22,17 +23,21 @@ returns-in_err-opening-clause-fault g c =
     subst (λ r. IfErr r (λ f. IsOfInput f → Fails c.args.workers (g.S.Source.rest c.args.source.now) f)) (sym failed)
     (λ exact.
     let explained = c.in_err-opening.ensures.fault exact in
-    fails-refused c.args.workers c.in_ok-lines.lines (g.S.Source.rest c.args.source.now) c.next_line.new.self.line (cut_left c.next_line.new.self (g.S.Source.rest c.next_line.new.source))
+    fails-refused c.args.workers c.in_ok-lines.lines (g.S.Source.rest c.args.source.now) c.next_line.new.self.line
+    (cut_left c.next_line.new.self (g.S.Source.rest c.next_line.new.source))
     explained.0 _ c.in_ok-lines.ensures (search rules) explained.1 explained.2 explained.3)
 
 pub returns-in_err-jobs-clause-fault : goal.returns-in_err-jobs-clause-fault
 returns-in_err-jobs-clause-fault g c =
     let failed : c.from_residual-in_err-jobs.result ≡ Err c.in_err-jobs.field-0.0 = search rules in
     subst (λ r. IfErr r (λ f. IsOfInput f → Fails c.args.workers (g.S.Source.rest c.args.source.now) f)) (sym failed)
-    (λ exact. fails-behind c.args.workers c.in_ok-lines.lines (g.S.Source.rest c.args.source.now) c.next_line.new.self.line (cut_left c.next_line.new.self (g.S.Source.rest c.next_line.new.source))
+    (λ exact. fails-behind c.args.workers c.in_ok-lines.lines (g.S.Source.rest c.args.source.now) c.next_line.new.self.line
+    (cut_left c.next_line.new.self (g.S.Source.rest c.next_line.new.source))
     c.in_ok-opening.opening _ c.in_ok-lines.ensures (search rules) c.in_ok-opening.ensures.opening (c.in_err-jobs.ensures.fault exact))
 
 pub returns-clause-input : goal.returns-clause-input
 returns-clause-input g c =
-    asks-all c.args.workers c.in_ok-lines.lines (g.S.Source.rest c.args.source.now) c.next_line.new.self.line (cut_left c.next_line.new.self (g.S.Source.rest c.next_line.new.source))
-    c.in_ok-opening.opening c.in_ok-jobs.jobs.items c.in_ok-lines.ensures (search rules) c.in_ok-opening.ensures.opening c.in_ok-jobs.ensures.jobs
+    asks-all c.args.workers c.in_ok-lines.lines (g.S.Source.rest c.args.source.now) c.next_line.new.self.line
+    (cut_left c.next_line.new.self (g.S.Source.rest c.next_line.new.source))
+    c.in_ok-opening.opening c.in_ok-jobs.jobs.items c.in_ok-lines.ensures
+    (search rules) c.in_ok-opening.ensures.opening c.in_ok-jobs.ensures.jobs

@@ -10,13 +10,16 @@ pub returns-in_err-call-clause-fault : goal.returns-in_err-call-clause-fault
 returns-in_err-call-clause-fault g c =
     let start = c.loop-jobs.invariant.asked in
     let failed : c.from_residual.result ≡ Err c.in_err-call.field-0.0 = search rules in
-    subst (λ r. IfErr r (λ f. IsOfInput f → EndsWith 2 (Err f) (cut_left c.args.lines.now (g.S.Source.rest c.args.source.now)))) (sym failed)
-    (λ exact. asked-fault _ (cut_left c.loop-jobs.lines (g.S.Source.rest c.loop-jobs.source)) start.0 (c.loop-jobs.lines.number + 1) _ (search (rules, arith)) start.4 (c.in_err-call.ensures.fault exact))
+    subst (λ r. IfErr r (λ f. IsOfInput f → EndsWith 2 (Err f) (cut_left c.args.lines.now (g.S.Source.rest c.args.source.now))))
+    (sym failed)
+    (λ exact. asked-fault _ (cut_left c.loop-jobs.lines (g.S.Source.rest c.loop-jobs.source)) start.0
+    (c.loop-jobs.lines.number + 1) _ (search (rules, arith)) start.4 (c.in_err-call.ensures.fault exact))
 
 pub returns-then-len-eq-MOST_JOBS-clause-fault : goal.returns-then-len-eq-MOST_JOBS-clause-fault
 returns-then-len-eq-MOST_JOBS-clause-fault g c =
     let start = c.loop-jobs.invariant.asked in
-    let asks : Asks (cut_left c.loop-jobs.lines (g.S.Source.rest c.loop-jobs.source)) c.in-Some.call (cut_left c.next_call.new.lines (g.S.Source.rest c.next_call.new.source)) = search rules in
+    let asks : Asks (cut_left c.loop-jobs.lines (g.S.Source.rest c.loop-jobs.source)) c.in-Some.call
+    (cut_left c.next_call.new.lines (g.S.Source.rest c.next_call.new.source)) = search rules in
     let jobs : length c.loop-jobs.jobs.items ≡ length start.0 = ap length start.1 ∙ length-numbered 0 start.0 in
     let count : vec_len c.loop-jobs.jobs ≡ length start.0 = search (rules, jobs) in
     let many : length start.0 ≡ 1000000 = search (rules, arith) in
@@ -32,7 +35,8 @@ overflow_cast-job g c =
 pub loop-jobs-preserved : goal.loop-jobs-preserved
 loop-jobs-preserved g c =
     let start = c.loop-jobs.invariant.asked in
-    let asks : Asks (cut_left c.loop-jobs.lines (g.S.Source.rest c.loop-jobs.source)) c.in-Some.call (cut_left c.next_call.new.lines (g.S.Source.rest c.next_call.new.source)) = search rules in
+    let asks : Asks (cut_left c.loop-jobs.lines (g.S.Source.rest c.loop-jobs.source)) c.in-Some.call
+    (cut_left c.next_call.new.lines (g.S.Source.rest c.next_call.new.source)) = search rules in
     let jobs : length c.loop-jobs.jobs.items ≡ length start.0 = ap length start.1 ∙ length-numbered 0 start.0 in
     let count : vec_len c.loop-jobs.jobs ≡ length start.0 = search (rules, jobs) in
     let few : length start.0 < 1000000 = search (rules, arith) in

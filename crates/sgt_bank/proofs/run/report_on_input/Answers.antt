@@ -6,7 +6,8 @@ use Rattle.sgt_bank.proofs.run.report_on_input.Goals as goal
 
 pub report_text-requires : goal.report_text-requires
 report_text-requires g c =
-    let long : length c.in_ok-report.report.outcomes.items ≡ length c.as_slice.result.now = AllZip-long _ _ _ c.in_ok-report.ensures.report.stand.each in
+    let long : length c.in_ok-report.report.outcomes.items ≡ length c.as_slice.result.now =
+    AllZip-long _ _ _ c.in_ok-report.ensures.report.stand.each in
     search (rules, arith, long, c.in_ok-opening.ensures.numbered.0)
 
 pub returns-clause-report : goal.returns-clause-report

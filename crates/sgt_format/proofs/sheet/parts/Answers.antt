@@ -12,5 +12,6 @@ returns c =
     let entries : length c.in_ok-as_object.field-0.now.entries ≡ 3 = search rules in
     let limits : Some c.in_ok-limits.limits ≡ option_and_then pair (get (codes "limits") (view c.args.tree.now)) = search rules in
     let accounts : Some (map view c.in_ok-accounts.accounts.now) ≡ list_at (codes "accounts") (view c.args.tree.now) = search rules in
-    let procedures : Some (map view c.in_ok-procedures.procedures.now) ≡ list_at (codes "procedures") (view c.args.tree.now) = search rules in
+    let procedures : Some (map view c.in_ok-procedures.procedures.now) ≡ list_at (codes "procedures") (view c.args.tree.now) =
+    search rules in
     parts_found _ _ _ _ _ object (count_members _ ∙ entries) limits accounts procedures

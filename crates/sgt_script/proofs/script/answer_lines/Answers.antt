@@ -11,8 +11,12 @@ loop-gathered-preserved g c =
     record {
       setting = c.answer_line.ensures.setting ∙ c.loop-gathered.invariant.setting;
       legal = c.answer_line.ensures.legal c.loop-gathered.invariant.legal;
-      answered = subst (λ (past : List Entry). Answered (c.args.lines.now.number + 1) (cut_left c.args.lines.now (g.S.Source.rest c.args.source.now)) past (c.answer_line.new.lines.number + 1) (cut_left c.answer_line.new.lines (g.S.Source.rest c.answer_line.new.source))) (sym one.1)
-          (answered-next (c.args.lines.now.number + 1) (c.loop-gathered.lines.number + 1) (c.answer_line.new.lines.number + 1) _ (cut_left c.loop-gathered.lines (g.S.Source.rest c.loop-gathered.source)) _ c.loop-gathered.engine.past one.0 c.loop-gathered.invariant.answered one.3);
+      answered = subst (λ (past : List Entry). Answered (c.args.lines.now.number + 1)
+          (cut_left c.args.lines.now (g.S.Source.rest c.args.source.now)) past (c.answer_line.new.lines.number + 1)
+          (cut_left c.answer_line.new.lines (g.S.Source.rest c.answer_line.new.source))) (sym one.1)
+          (answered-next (c.args.lines.now.number + 1) (c.loop-gathered.lines.number + 1) (c.answer_line.new.lines.number + 1) _
+          (cut_left c.loop-gathered.lines
+          (g.S.Source.rest c.loop-gathered.source)) _ c.loop-gathered.engine.past one.0 c.loop-gathered.invariant.answered one.3);
       written = written-next _ _ _ c.loop-gathered.engine.past _ one.0 _ _ _ c.loop-gathered.invariant.written c.in_ok-flush_before_read.ensures.bytes one.1 one.2;
       counted = search rules;
       few = search rules;

@@ -11,8 +11,10 @@ abbrev pub invariant-loop-gathered : goal.invariant-loop-gathered
 invariant-loop-gathered g l = record {
   setting : setting_of l.engine ≡ setting_of l.fn.engine;
   legal : Legal (setting_of l.engine) l.engine.past;
-  answered : Answered (l.fn.lines.number + 1) (cut_left l.fn.lines (g.S.Source.rest l.fn.source)) l.engine.past (l.lines.number + 1) (cut_left l.lines (g.S.Source.rest l.source));
-  written : (bytes : List ℕ) × Appends (g.T.Sink.held l.fn.sink) (g.T.Sink.held l.sink) bytes × (replies l.engine.past ≡ bytes ++ l.gathered.items);
+  answered : Answered (l.fn.lines.number + 1) (cut_left l.fn.lines (g.S.Source.rest l.fn.source)) l.engine.past (l.lines.number + 1)
+      (cut_left l.lines (g.S.Source.rest l.source));
+  written : (bytes : List ℕ) × Appends (g.T.Sink.held l.fn.sink)
+      (g.T.Sink.held l.sink) bytes × (replies l.engine.past ≡ bytes ++ l.gathered.items);
   counted : g.S.Source.given l.source + come l.fn.lines ≤ g.S.Source.given l.fn.source + come l.lines;
   few : come l.lines ≤ 16777217;
   reading : g.S.Source.failures l.source ≡ g.S.Source.failures l.fn.source;

@@ -9,7 +9,8 @@ use Rattle.sgt_script.proofs.script.run_with.Goals as goal
 pub returns-in_err-next_line-clause-script : goal.returns-in_err-next_line-clause-script
 returns-in_err-next_line-clause-script g c =
     wrote-no-line c.in_ok-lines.lines (g.S.Source.rest c.args.source.now) (g.T.Sink.held c.args.sink.now)
-    c.in_err-next_line.field-0.0 c.from_residual-in_err-next_line.result c.in_ok-lines.ensures (search rules) c.in_err-next_line.ensures.fault
+    c.in_err-next_line.field-0.0 c.from_residual-in_err-next_line.result c.in_ok-lines.ensures
+    (search rules) c.in_err-next_line.ensures.fault
 
 pub returns-then-not-branch-clause-script : goal.returns-then-not-branch-clause-script
 returns-then-not-branch-clause-script g c = λ exact.
@@ -21,11 +22,14 @@ returns-in_err-opening-clause-script g c = λ exact.
     let failed : c.from_residual-in_err-opening.result ≡ Err c.in_err-opening.field-0.0 = search rules in
     let explained = c.in_err-opening.ensures.fault (subst IsExact failed exact) in
     wrote-refused c.in_ok-lines.lines (g.S.Source.rest c.args.source.now) (g.T.Sink.held c.args.sink.now)
-    c.next_line.new.self.line (cut_left c.next_line.new.self (g.S.Source.rest c.next_line.new.source)) explained.0 c.from_residual-in_err-opening.result
+    c.next_line.new.self.line
+    (cut_left c.next_line.new.self (g.S.Source.rest c.next_line.new.source)) explained.0 c.from_residual-in_err-opening.result
     c.in_ok-lines.ensures (search rules) explained.1 explained.2 (failed ∙ ap (λ f. Err f) explained.3)
 
 pub returns-clause-script : goal.returns-clause-script
 returns-clause-script g c = λ exact.
-    wrote-opened c.in_ok-lines.lines (setting_of c.in_ok-engine.engine) (g.S.Source.rest c.args.source.now) (g.T.Sink.held c.args.sink.now) (g.T.Sink.held c.run_opened.new.sink)
-    c.next_line.new.self.line (cut_left c.next_line.new.self (g.S.Source.rest c.next_line.new.source)) c.in_ok-opening.opening c.run_opened.result
+    wrote-opened c.in_ok-lines.lines (setting_of c.in_ok-engine.engine) (g.S.Source.rest c.args.source.now)
+    (g.T.Sink.held c.args.sink.now) (g.T.Sink.held c.run_opened.new.sink)
+    c.next_line.new.self.line
+    (cut_left c.next_line.new.self (g.S.Source.rest c.next_line.new.source)) c.in_ok-opening.opening c.run_opened.result
     c.in_ok-lines.ensures (search rules) c.in_ok-opening.ensures.opening c.in_ok-engine.ensures.setting (c.run_opened.ensures.output exact)

@@ -12,7 +12,10 @@ loop-p-preserved g c =
     let at = c.loop-p.at in
     let below : c.loop-p.p < length history = search rules in (
       search rules,
-      checks_next history c.args.sessions.now c.loop-p.p at c.in-Some.i c.index-history-p.result c.loop-p.invariant.1 (slice_get-get_or history c.loop-p.p c.index-history-p.result below ∙ ap Some (sym c.index-history-p.is)) c.in-Some.ensures.index (omega (arith, c.requires.0, c.loop-p.invariant.0)) c.in-Some.ensures.receipt,
+      checks_next history c.args.sessions.now c.loop-p.p at c.in-Some.i c.index-history-p.result c.loop-p.invariant.1
+          (slice_get-get_or history c.loop-p.p c.index-history-p.result below
+          ∙ ap Some (sym c.index-history-p.is)) c.in-Some.ensures.index
+          (omega (arith, c.requires.0, c.loop-p.invariant.0)) c.in-Some.ensures.receipt,
     )
 
 pub returns : goal.returns

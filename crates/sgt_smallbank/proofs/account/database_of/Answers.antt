@@ -11,4 +11,5 @@ pub loop-account-preserved : goal.loop-account-preserved
 loop-account-preserved c =
     let accounts = c.args.accounts.now in
     let i = c.loop-account.account-index in
-    rows_next (contents_of c.loop-account.database) (contents_of c.put_rows.new.database) accounts i none c.loop-account-test.true c.loop-account.invariant c.in_ok-put_rows.ensures
+    rows_next (contents_of c.loop-account.database)
+    (contents_of c.put_rows.new.database) accounts i none c.loop-account-test.true c.loop-account.invariant c.in_ok-put_rows.ensures

@@ -14,6 +14,9 @@ returns c = λ rest.
     let without : term_of c.in_ok-left.left ≡ diff (reg 2) (arg 1) = search rules in
     let total : term_of c.in_ok-sum.sum ≡ sum (reg 1) (reg 2) = search rules in
     before_branches (Less c.in_ok-sum.sum (Arg 1)) c.in_ok-yes.yes c.in_ok-no.no _ _ first second rest
-    ∙ ap (λ t. choose (less t (arg 1)) (save 3 (term_of c.in_ok-less_penalty.field-0) empty) (save 3 (term_of c.in_ok-left.left) empty) rest) total
-    ∙ ap (λ t. choose (less (sum (reg 1) (reg 2)) (arg 1)) (save 3 t empty) (save 3 (term_of c.in_ok-left.left) empty) rest) c.in_ok-less_penalty.ensures
-    ∙ ap (λ t. choose (less (sum (reg 1) (reg 2)) (arg 1)) (save 3 (diff (diff (reg 2) (arg 1)) (num (pos 100))) empty) (save 3 t empty) rest) without
+    ∙ ap (λ t. choose (less t (arg 1)) (save 3 (term_of c.in_ok-less_penalty.field-0) empty)
+    (save 3 (term_of c.in_ok-left.left) empty) rest) total
+    ∙ ap (λ t. choose (less (sum (reg 1) (reg 2)) (arg 1)) (save 3 t empty)
+    (save 3 (term_of c.in_ok-left.left) empty) rest) c.in_ok-less_penalty.ensures
+    ∙ ap (λ t. choose (less (sum (reg 1) (reg 2)) (arg 1)) (save 3 (diff (diff (reg 2) (arg 1)) (num (pos 100))) empty)
+    (save 3 t empty) rest) without

@@ -4,4 +4,5 @@ use Rattle.sgt_engine.specs.EngineView.{setting_of}
 use Rattle.sgt_thread_tests.proofs.outcomes.stands.Goals as goal
 
 pub audit-requires : goal.audit-requires
-audit-requires c = (setting_of c.args.engine.now, subst (Legal (setting_of c.args.engine.now)) (sym c.history.ensures.entries) c.history.ensures.legal)
+audit-requires c =
+    (setting_of c.args.engine.now, subst (Legal (setting_of c.args.engine.now)) (sym c.history.ensures.entries) c.history.ensures.legal)

@@ -8,4 +8,12 @@ use Rattle.sgt_thread_tests.proofs.sessions.Flags.TheSendSync as flags
 use Rattle.sgt_thread_tests.proofs.sessions.both_play.Goals as goal
 
 pub for_each_mut-requires-sync-F : goal.for_each_mut-requires-sync-F
-for_each_mut-requires-sync-F g c κs within = search (sendable, crosses, shared_sync, records.the_send, accesses.the_send, graph.the_send, flags.the_sync) depth 40
+for_each_mut-requires-sync-F g c κs within = search (
+  sendable,
+  crosses,
+  shared_sync,
+  records.the_send,
+  accesses.the_send,
+  graph.the_send,
+  flags.the_sync,
+) depth 40

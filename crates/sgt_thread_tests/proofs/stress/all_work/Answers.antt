@@ -7,4 +7,11 @@ use Rattle.sgt_session.proofs.Crossing.{shared_sync}
 use Rattle.sgt_thread_tests.proofs.stress.all_work.Goals as goal
 
 pub for_each_mut-requires-sync-F : goal.for_each_mut-requires-sync-F
-for_each_mut-requires-sync-F g c κs within = search (sendable, crosses, shared_sync, records.the_send, accesses.the_send, graph.the_send) depth 40
+for_each_mut-requires-sync-F g c κs within = search (
+  sendable,
+  crosses,
+  shared_sync,
+  records.the_send,
+  accesses.the_send,
+  graph.the_send,
+) depth 40

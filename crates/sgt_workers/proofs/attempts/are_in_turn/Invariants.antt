@@ -5,4 +5,5 @@ use Rattle.sgt_workers.specs.Spans.{EndsBefore}
 use Rattle.sgt_workers.proofs.attempts.are_in_turn.Given as goal
 
 abbrev pub invariant-loop-k : goal.invariant-loop-k
-invariant-loop-k l = (past : List Entry) → AreLives past l.lives → (j : ℕ) → j + 1 < l.k → EndsBefore past (slice_index l.attempts j) (slice_index l.attempts (j + 1))
+invariant-loop-k l = (past : List Entry) → AreLives past l.lives → (j : ℕ) → j + 1 < l.k
+    → EndsBefore past (slice_index l.attempts j) (slice_index l.attempts (j + 1))

@@ -10,7 +10,8 @@ called p args = record { procedure = p; args = args }
 
 pub returns-then-procedure-job : goal.returns-then-procedure-job
 returns-then-procedure-job c =
-    let same : Decides c.eq.result (c.as_slice.result.now ≡ c.as_slice-then-procedure-job.result.now) = slice_eq-Decides Decides-int_eq _ _ _ c.eq.ensures in
+    let same : Decides c.eq.result (c.as_slice.result.now ≡ c.as_slice-then-procedure-job.result.now) =
+    slice_eq-Decides Decides-int_eq _ _ _ c.eq.ensures in
     let mine = c.as_slice.ensures in
     let the_job = c.as_slice-then-procedure-job.ensures in (
       (λ t. ap₂ called (sym c.if-procedure-job.true) (sym the_job ∙ (sym (same.0 t) ∙ mine))),

@@ -9,7 +9,8 @@ pub live_after-live-requires-clause-enough : goal.live_after-live-requires-claus
 live_after-live-requires-clause-enough c =
     let h = c.args.history.now in
     let i = c.loop-entry.entry-index in
-    let n = ends_live c.requires.0 (reverse (take i h)) c.entry-item.result (legal_next c.requires.0 h i c.entry-item.result c.loop-entry-test.true c.entry-item.is c.requires.1) in
+    let n = ends_live c.requires.0 (reverse (take i h)) c.entry-item.result
+    (legal_next c.requires.0 h i c.entry-item.result c.loop-entry-test.true c.entry-item.is c.requires.1) in
     omega arith
 
 pub returns-then-live-workers : goal.returns-then-live-workers
@@ -17,7 +18,8 @@ returns-then-live-workers c =
     let h = c.args.history.now in
     let i = c.loop-entry.entry-index in
     let e = c.entry-item.result in
-    let n = live_count c.requires.0 (reverse (take i h)) e (legal_next c.requires.0 h i e c.loop-entry-test.true c.entry-item.is c.requires.1) in
+    let n = live_count c.requires.0 (reverse (take i h)) e
+    (legal_next c.requires.0 h i e c.loop-entry-test.true c.entry-item.is c.requires.1) in
     let longer = ap (λ past. length (live_ones past)) (one_more h i e c.loop-entry-test.true c.entry-item.is) in
     ((λ t. absurd (false≢true t)), λ both. let f = both.0 (i + 1) in absurd (omega arith))
 
@@ -26,7 +28,8 @@ loop-entry-preserved c =
     let h = c.args.history.now in
     let i = c.loop-entry.entry-index in
     let e = c.entry-item.result in
-    let n = live_count c.requires.0 (reverse (take i h)) e (legal_next c.requires.0 h i e c.loop-entry-test.true c.entry-item.is c.requires.1) in
+    let n = live_count c.requires.0 (reverse (take i h)) e
+    (legal_next c.requires.0 h i e c.loop-entry-test.true c.entry-item.is c.requires.1) in
     let longer = ap (λ past. length (live_ones past)) (one_more h i e c.loop-entry-test.true c.entry-item.is) in
     let now : c.live_after-live.result ≡ length (live_ones (reverse (take (i + 1) h))) = omega arith in
     record {
@@ -36,11 +39,13 @@ loop-entry-preserved c =
         | inl less ↦ c.loop-entry.invariant.before k (omega arith)
         | inr last ↦
             let same : i + 1 ≡ k = omega arith in
-            subst (λ m. length (live_ones (reverse (take m h))) ≤ c.args.workers) same (subst (λ m. m ≤ c.args.workers) now c.if-live-workers.false)
+            subst (λ m. length (live_ones (reverse (take m h))) ≤ c.args.workers) same
+            (subst (λ m. m ≤ c.args.workers) now c.if-live-workers.false)
       ];
     }
 
 pub returns : goal.returns
 returns c =
     let i = c.loop-entry.invariant in
-    at_end c.args.history.now c.loop-entry.entry-index c.args.workers c.loop-entry.live (omega (arith, c.loop-entry-test.false)) i.live i.before
+    at_end c.args.history.now c.loop-entry.entry-index c.args.workers c.loop-entry.live
+    (omega (arith, c.loop-entry-test.false)) i.live i.before

@@ -6,6 +6,7 @@ use Rattle.sgt_workers.proofs.lives.end_fallen.Given as goal
 
 abbrev pub invariant-loop-t : goal.invariant-loop-t
 invariant-loop-t l = record {
-  rows : (u : ℕ) → slice_get l.lives.items u ≡ option_map (λ life. cond (list_any (λ v. nat_eq v u) (take l.t-index l.fell)) (ended_life l.number true life) life) (slice_get l.fn.lives.items u);
+  rows : (u : ℕ) → slice_get l.lives.items u ≡ option_map (λ life. cond (list_any (λ v. nat_eq v u) (take l.t-index l.fell))
+      (ended_life l.number true life) life) (slice_get l.fn.lives.items u);
   count : vec_len l.lives ≡ vec_len l.fn.lives;
 }

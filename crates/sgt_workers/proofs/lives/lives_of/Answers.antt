@@ -9,4 +9,7 @@ loop-number-preserved c =
     let i = c.loop-number.number in
     let e = c.index-history-number.result in
     let legal = legal_next c.requires.0 h i e c.loop-number-test.true c.index-history-number.is c.requires.1 in
-    subst (λ past. AreLives past c.add_entry.new.lives.items) (sym (one_more h i e c.loop-number-test.true c.index-history-number.is)) (c.in_ok-add_entry.ensures c.requires.0 (reverse (take i h)) legal.1 legal.0 (first_length h i (omega arith)) c.loop-number.invariant)
+    subst (λ past. AreLives past c.add_entry.new.lives.items)
+    (sym (one_more h i e c.loop-number-test.true c.index-history-number.is))
+    (c.in_ok-add_entry.ensures c.requires.0 (reverse (take i h)) legal.1 legal.0
+    (first_length h i (omega arith)) c.loop-number.invariant)

@@ -5,5 +5,8 @@ use Rattle.sgt_workers.proofs.report.report_of.Goals as goal
 
 pub audit-requires : goal.audit-requires
 audit-requires g c =
-    let s = setting_of c.args.engine in
-    (s, subst (λ h. Legal s (reverse h)) (sym c.as_slice.ensures.value) (subst (λ past. Legal s past) (sym c.into_past-opening.ensures.entries) c.into_past-opening.ensures.legal))
+    let s = setting_of c.args.engine in (
+      s,
+      subst (λ h. Legal s (reverse h)) (sym c.as_slice.ensures.value)
+          (subst (λ past. Legal s past) (sym c.into_past-opening.ensures.entries) c.into_past-opening.ensures.legal),
+    )

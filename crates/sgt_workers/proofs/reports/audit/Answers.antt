@@ -11,17 +11,21 @@ use Rattle.sgt_workers.proofs.reports.audit.Goals as goal
 pub none_twice-requires : goal.none_twice-requires
 none_twice-requires g c =
     let h = c.args.history.now in
-    let stand : IsTrue c.all_stand.result ↔ AllZip (OutcomeStands h c.args.tries) c.args.jobs.now c.args.outcomes.now = c.all_stand.ensures in
+    let stand : IsTrue c.all_stand.result ↔ AllZip (OutcomeStands h c.args.tries) c.args.jobs.now c.args.outcomes.now =
+    c.all_stand.ensures in
     let all = all_started h c.args.tries c.args.jobs.now c.args.outcomes.now (stand.0 c.if-not-all_stand.false) in
-    let named : c.deref-2.result.now ≡ flat_map (transactions_of h) c.args.outcomes.now = c.deref-2.ensures.value ∙ c.in_ok-transactions.ensures in
+    let named : c.deref-2.result.now ≡ flat_map (transactions_of h) c.args.outcomes.now = c.deref-2.ensures.value
+    ∙ c.in_ok-transactions.ensures in
     let are : AreLives (reverse h) c.in_ok-lives.lives.items = c.in_ok-lives.ensures in
     let count : starts (reverse h) ≡ c.len.result = omega (arith, are.counted, c.in_ok-lives.lives.ok.0, c.len.ensures) in
-    subst (All (λ t. t < c.len.result)) (sym named) (subst (λ (n : ℕ). All (λ t. t < n) (flat_map (transactions_of h) c.args.outcomes.now)) count all)
+    subst (All (λ t. t < c.len.result)) (sym named)
+    (subst (λ (n : ℕ). All (λ t. t < n) (flat_map (transactions_of h) c.args.outcomes.now)) count all)
 
 pub none_twice-requires-2 : goal.none_twice-requires-2
 none_twice-requires-2 g c =
     let h = c.args.history.now in
-    let stand : IsTrue c.all_stand.result ↔ AllZip (OutcomeStands h c.args.tries) c.args.jobs.now c.args.outcomes.now = c.all_stand.ensures in
+    let stand : IsTrue c.all_stand.result ↔ AllZip (OutcomeStands h c.args.tries) c.args.jobs.now c.args.outcomes.now =
+    c.all_stand.ensures in
     let all = all_there h c.args.tries c.args.jobs.now c.args.outcomes.now (stand.0 c.if-not-all_stand.false) in
     let named : c.deref-3.result.now ≡ flat_map entries_of c.args.outcomes.now = c.deref-3.ensures.value ∙ c.in_ok-entries.ensures in
     subst (All (λ n. n < length h)) (sym named) all
@@ -29,10 +33,12 @@ none_twice-requires-2 g c =
 pub returns : goal.returns
 returns g c =
     let h = c.args.history.now in
-    let stand : IsTrue c.all_stand.result ↔ AllZip (OutcomeStands h c.args.tries) c.args.jobs.now c.args.outcomes.now = c.all_stand.ensures in
+    let stand : IsTrue c.all_stand.result ↔ AllZip (OutcomeStands h c.args.tries) c.args.jobs.now c.args.outcomes.now =
+    c.all_stand.ensures in
     let transactions : IsTrue c.in_ok-none_twice.field-0 ↔ Distinct c.deref-2.result.now = c.in_ok-none_twice.ensures in
     let entries : IsTrue c.in_ok-none_twice-2.field-0 ↔ Distinct c.deref-3.result.now = c.in_ok-none_twice-2.ensures in
-    let named : c.deref-2.result.now ≡ flat_map (transactions_of h) c.args.outcomes.now = c.deref-2.ensures.value ∙ c.in_ok-transactions.ensures in
+    let named : c.deref-2.result.now ≡ flat_map (transactions_of h) c.args.outcomes.now = c.deref-2.ensures.value
+    ∙ c.in_ok-transactions.ensures in
     let named_too : c.deref-3.result.now ≡ flat_map entries_of c.args.outcomes.now = c.deref-3.ensures.value ∙ c.in_ok-entries.ensures in
     let counts : IsTrue c.counts_agree.result ↔ CountsAgree h c.args.outcomes.now c.args.workers = c.counts_agree.ensures in
     let lives : IsTrue c.live_counts_stand.result ↔ (FewLive h c.args.workers × AllEnded h) = c.live_counts_stand.ensures in (

@@ -37,7 +37,8 @@ returns-in-Accepted-clause-pairs c =
     subst (λ (v : ℕ × List ℕ × List ℕ × List ℕ). (i : ℕ)
     → (is_set c.indices_of-from.result i ≡ true) ↔ ((is_set v.0 i ≡ true) × Member (slice_index v.1 i) c.args.preds.now)) c.self.view_is
     c.indices_of-from.ensures in
-    inserts v.0 v.1 v.2 v.3 g c.args.t c.in-Some.index c.indices_of-from.result c.args.preds.now here exact (λ u m. (c.requires.preds u m).0)
+    inserts v.0 v.1 v.2 v.3 g c.args.t c.in-Some.index c.indices_of-from.result c.args.preds.now here exact
+    (λ u m. (c.requires.preds u m).0)
     c.verdict-verdict.result c.in-Accepted.is
     c.add_pairs.new.self.0 c.add_pairs.new.self.1 c.add_pairs.new.self.2 c.add_pairs.new.self.3 c.add_pairs.ensures.taken
     c.add_pairs.ensures.tids c.add_pairs.ensures.pairs c.add_pairs.ensures.graph

@@ -44,7 +44,8 @@ returns-in-Some-clause-chain c =
     let told : Updates key_cmp records (c.get_mut.follows.lender new) c.args.key (Some new) =
     (c.get_mut.follows.holds new).3 (search rules) in
     chain_by records (c.get_mut.follows.lender new) c.args.key new told chains c.settle.new.chains c.args.self.now.is_index old.slot
-    (slot_is records chains c.args.key old is c.args.self.now.is_index) c.settle.ensures.moves (chain_without c.args.t) c.settle.ensures.left
+    (slot_is records chains c.args.key old is c.args.self.now.is_index) c.settle.ensures.moves
+    (chain_without c.args.t) c.settle.ensures.left
 
 pub returns-in-Some-clause-settled : goal.returns-in-Some-clause-settled
 returns-in-Some-clause-settled c =

@@ -15,7 +15,8 @@ invariant_of-self c =
     let new = c.settle_all.new.self in
     let left : c.retain.new.self.items ≡ filter (not_by c.args.t) live =
     filter_same _ (not_by c.args.t) _ (λ x b f call. search rules) _ _ c.retain.ensures.filtered in
-    let out : (k : Key) → key_chain new.records new.chains k ≡ chain_without c.args.t (key_chain old.records old.chains k) = λ k. undone c.args.t
+    let out : (k : Key) → key_chain new.records new.chains k ≡ chain_without c.args.t (key_chain old.records old.chains k) =
+    λ k. undone c.args.t
     (is_live c.args.t k c.as_slice.result.now) (key_chain old.records old.chains k) _
     (ap (is_live c.args.t k) c.as_slice.ensures.value ∙ c.args.self.now.are_live c.args.t k) (c.settle_all.ensures.chain k) in
     record { are_live = λ u k. live_ended c.args.t u k live _ _ _ (c.args.self.now.are_live u k) left (out k) }

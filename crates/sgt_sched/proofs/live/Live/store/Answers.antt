@@ -14,6 +14,7 @@ store-requires c = record {
 }
 
 pub returns : goal.returns
-returns c = changed_at c.args.t c.self.inside.running.items c.args.self.now c.in-Some.index c.index_mut.result.now _ with_store c.self.view_is
+returns c =
+    changed_at c.args.t c.self.inside.running.items c.args.self.now c.in-Some.index c.index_mut.result.now _ with_store c.self.view_is
     c.store.ensures (found_at c.args.t c.self.inside.running.items c.args.self.now c.in-Some.index c.index_mut.result.now c.self.view_is
     c.in-Some.ensures c.index_mut.ensures.value)

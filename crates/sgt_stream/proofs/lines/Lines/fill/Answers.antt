@@ -16,7 +16,8 @@ loop-self-preserved g c =
       within = c.read.ensures.same ∙ c.loop-self.invariant.within;
       bytes = keeps-trans _ _ _ c.loop-self.invariant.bytes c.read.ensures.bytes;
       counted = search rules;
-      untouched = λ ready. absurd (not-ready c.loop-self.self none going (subst IsReady (sym (c.loop-self.invariant.untouched ready).0) ready));
+      untouched =
+          λ ready. absurd (not-ready c.loop-self.self none going (subst IsReady (sym (c.loop-self.invariant.untouched ready).0) ready));
       well = search rules;
     }
 
@@ -27,7 +28,8 @@ returns-then-min-gt-LONGEST_LINE-clause-fault g c =
     let inside : 65536 < c.loop-self.self.within = search rules in (
       search rules,
       keeps-ends c.args.self.now.within c.loop-self.self.within _ _ AtLongLine c.loop-self.invariant.bytes c.loop-self.invariant.within
-          (ends-at-long c.loop-self.self (g.S.Source.rest c.loop-self.source) (long-none c.loop-self.self.within c.loop-self.self.held none long inside, long, inside)),
+          (ends-at-long c.loop-self.self (g.S.Source.rest c.loop-self.source)
+          (long-none c.loop-self.self.within c.loop-self.self.held none long inside, long, inside)),
     )
 
 pub returns-then-held-self-clause-fault : goal.returns-then-held-self-clause-fault
@@ -42,5 +44,6 @@ pub returns-clause-ready : goal.returns-clause-ready
 returns-clause-ready g c =
     elim c.loop-self-test.branch [
       | then-loop-self-test+else-not-self w ↦ inr (search rules)
-      | else-loop-self-test w ↦ inl (ap has_whole_line (sym c.self.view_is) ∙ sym (found-is (take c.self.inside.within c.self.inside.buffer.held) _ c.self.invariant.at) ∙ w.loop-self-test.ensures)
+      | else-loop-self-test w ↦ inl (ap has_whole_line (sym c.self.view_is)
+          ∙ sym (found-is (take c.self.inside.within c.self.inside.buffer.held) _ c.self.invariant.at) ∙ w.loop-self-test.ensures)
     ]

@@ -4,4 +4,5 @@ use Rattle.sgt_stream.proofs.Breaks.{found-is}
 use Rattle.sgt_stream.proofs.lines.Lines.has_line.Goals as goal
 
 pub returns : goal.returns
-returns c = c.is_some.ensures ∙ found-is (take c.self.inside.within c.self.inside.buffer.held) _ c.self.invariant.at ∙ ap has_whole_line c.self.view_is
+returns c = c.is_some.ensures ∙ found-is (take c.self.inside.within c.self.inside.buffer.held) _ c.self.invariant.at
+    ∙ ap has_whole_line c.self.view_is

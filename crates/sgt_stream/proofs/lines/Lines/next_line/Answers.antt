@@ -16,7 +16,8 @@ returns-clause-line g c =
 pub returns-clause-fault : goal.returns-clause-fault
 returns-clause-fault g c =
     IfErr-weaker c.give.result _ _
-    (λ f long. subst (λ (e : Fault). Explains e c.args.self.now.number (cut_left c.args.self.now (g.S.Source.rest c.args.source.now))) (sym long.0) (
+    (λ f long. subst (λ (e : Fault). Explains e c.args.self.now.number
+    (cut_left c.args.self.now (g.S.Source.rest c.args.source.now))) (sym long.0) (
       ap (λ n. n + 1) c.fill.ensures.number,
       keeps-ends c.args.self.now.within c.fill.new.self.within _ _ AtLongLine c.fill.ensures.bytes c.fill.ensures.within
           (ends-at-long c.fill.new.self (g.S.Source.rest c.fill.new.source) long.1),
