@@ -2,7 +2,7 @@
 ghost use Rattle.std.specs.Prelude.{◌≡◌, ◌<◌, ℕ, true, [], ◌∷◌};
 ghost use Rattle.sgt_cycle.specs.Links.{is_end};
 
-use sgt_cycle::{is_walk, places, walk, walk_rows};
+use sgt_cycle::{indices, is_walk, walk, walk_rows};
 use sgt_model::{Bounded, Tid, Tids};
 
 #[test]
@@ -36,27 +36,27 @@ fn searches_all_forward_pairs(rt: HostRuntime) {
 #[test]
 fn finds_the_way_by_rows(rt: HostRuntime) {
     let mut rows = [0; 32];
-    rows[0] = places::only(1);
-    rows[1] = places::only(31);
-    rows[31] = places::only(0);
-    let Some(path) = walk_rows(&rows, 0, places::only(31)) else {
+    rows[0] = indices::only(1);
+    rows[1] = indices::only(31);
+    rows[31] = indices::only(0);
+    let Some(path) = walk_rows(&rows, 0, indices::only(31)) else {
         panic!(rt; "no walk");
     };
     assert_eq!(rt; path.as_slice(), [0, 1, 31].as_slice());
-    assert!(rt; walk_rows(&rows, 0, places::only(2)).is_none());
+    assert!(rt; walk_rows(&rows, 0, indices::only(2)).is_none());
 }
 
 #[test]
-fn places_are_put_together_and_taken_out(rt: HostRuntime) {
-    let two = places::joined(places::only(2), places::only(31));
-    assert!(rt; places::has(two, 31) && !places::has(two, 30));
-    assert_eq!(rt; places::least(two), Some(2));
-    assert_eq!(rt; places::minus(two, places::only(2)), places::only(31));
-    assert_eq!(rt; places::common(two, places::only(31)), places::only(31));
+fn indices_are_put_together_and_taken_out(rt: HostRuntime) {
+    let two = indices::joined(indices::only(2), indices::only(31));
+    assert!(rt; indices::has(two, 31) && !indices::has(two, 30));
+    assert_eq!(rt; indices::least(two), Some(2));
+    assert_eq!(rt; indices::minus(two, indices::only(2)), indices::only(31));
+    assert_eq!(rt; indices::common(two, indices::only(31)), indices::only(31));
     assert!(rt;
-        places::meets(two, places::only(2)) && !places::meets(two, places::complement(two))
+        indices::meets(two, indices::only(2)) && !indices::meets(two, indices::complement(two))
     );
-    assert_eq!(rt; places::least(places::minus(two, two)), None);
+    assert_eq!(rt; indices::least(indices::minus(two, two)), None);
 }
 
 /// One number.
