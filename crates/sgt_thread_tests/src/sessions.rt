@@ -105,7 +105,7 @@ pub fn lets_others_call<N: Named, W: Wait>(
     for _ in 0..CALLS {
         let number = calls(rt, shared, session, Event::Step(t)).unwrap_or(u64::MAX);
         let own = session.receipts().len() as u64;
-        if number >= own.saturating_add(others) - 1 {
+        if number.saturating_add(1) >= own.saturating_add(others) {
             break;
         }
         thread::yield_now();
@@ -269,29 +269,34 @@ fn compared(entry: &Entry, t: Tid) -> Option<Told> {
     }
 }
 
-/// Whether this tells once more to wait for the same one. So it is after a wake without cause, which a commit may have.
-fn waits_again(last: Option<Told>, one: Told) -> bool {
-    matches!(one, Told::Waits(_)) && last == Some(one)
+/// Whether the one of this number is this.
+fn is_at(all: &[Told], number: usize, one: &Told) -> bool {
+    match all.get(number) {
+        Some(other) => *other == *one,
+        None => false,
+    }
+}
+
+/// Whether this tells once more to wait for the same one as the last of so many. So it is after a wake without cause, which a
+/// commit may have.
+fn waits_again(all: &[Told], count: usize, one: &Told) -> bool {
+    matches!(one, Told::Waits(_)) && count > 0 && is_at(all, count - 1, one)
 }
 
 /// Whether the transaction was told just this, each wait once or more often.
 pub fn is_told(history: &[Entry], t: Tid, all: &[Told]) -> bool {
-    let mut rest = all;
-    let mut last = None;
+    let mut count: usize = 0;
     for entry in history {
-        let Some(one) = compared(entry, t) else {
-            continue;
-        };
-        if waits_again(last, one) {
-            continue;
+        if let Some(one) = compared(entry, t) {
+            if !waits_again(all, count, &one) {
+                if !is_at(all, count, &one) {
+                    return false;
+                }
+                count = count.saturating_add(1);
+            }
         }
-        match rest.split_first() {
-            Some((first, others)) if *first == one => rest = others,
-            _ => return false,
-        }
-        last = Some(one);
     }
-    rest.is_empty()
+    count == all.len()
 }
 
 const DEPOSITED: [Told; 5] = [
