@@ -1,9 +1,9 @@
-//! Runs scripts and banks as the test command does, and compares: each `NAME.jsonl` has to write what the file `NAME.out` beside it holds.
-//! Below `data` stand the examples, worked rows, and inputs that end in a fault.
+//! Runs scripts and banks, and compares: each `NAME.jsonl` has to write what the file `NAME.out` beside it holds. Below
+//! `data` stand the examples, worked rows, and inputs that end in a fault.
 //!
 //! It tells of each input whether it does, and the fault that it ends in. What it has to tell stands in `stdout`, so one
 //! that is new, gone or wrong stops the test command, which runs it within a copy of `data` and lets it see nothing else, so
-//! the examples at the top of the repository stand there once more; `.ci/run` compares the two. What a bank writes here is the
+//! the examples at the top of the repository stand there once more; `./test` compares the two. What a bank writes here is the
 //! same whichever of its workers comes first.
 #![tactic(auto)]
 

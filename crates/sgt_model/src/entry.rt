@@ -1,5 +1,3 @@
-ghost use Rattle.std.specs.Prelude.{◌≡◌, ◌↔◌, IsTrue};
-
 use crate::event::Event;
 use crate::reply::Reply;
 
@@ -8,13 +6,4 @@ use crate::reply::Reply;
 pub struct Entry {
     pub event: Event,
     pub reply: Reply,
-}
-
-impl Entry {
-    /// Whether both are the same entry.
-    pub fn is_same(&self, other: &Self) -> bool
-        ensures { IsTrue result ↔ (self.now ≡ other.now) }
-    {
-        self.event.is_same(&other.event) && self.reply.is_same(&other.reply)
-    }
 }

@@ -1,5 +1,4 @@
 ghost use Rattle.std.specs.Prelude.{◌≡◌, ◌↔◌, IsTrue};
-ghost use Rattle.sgt_model.specs.Fates.{is_start};
 ghost use Rattle.sgt_model.specs.Questions.{started_number, is_refusal, is_wait, is_commit, is_ask, is_quit, is_ending, tells_end};
 
 use crate::event::Answers;
@@ -77,13 +76,6 @@ impl Cause {
             Cause::Quit => Cause::Quit,
         }
     }
-
-    /// Whether both are the same cause.
-    pub fn is_same(&self, other: &Self) -> bool
-        ensures { IsTrue result ↔ (self.now ≡ other.now) }
-    {
-        self == other
-    }
 }
 
 impl Fate {
@@ -96,13 +88,6 @@ impl Fate {
             Fate::Aborted(cause) => Fate::Aborted(cause.copied()),
             Fate::Fell(first) => Fate::Fell(*first),
         }
-    }
-
-    /// Whether both are the same fate.
-    pub fn is_same(&self, other: &Self) -> bool
-        ensures { IsTrue result ↔ (self.now ≡ other.now) }
-    {
-        self == other
     }
 }
 
@@ -153,13 +138,6 @@ impl Reply {
             Reply::Started(t) => Some(*t),
             _ => None,
         }
-    }
-
-    /// Whether it starts a transaction.
-    pub fn is_start(&self) -> bool
-        ensures { result ≡ is_start self.now }
-    {
-        matches!(self, Reply::Started(_))
     }
 
     /// Whether it is what a start is answered where nothing is started.

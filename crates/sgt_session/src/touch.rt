@@ -17,7 +17,7 @@ pub fn touch(receipts: &mut Vec<Receipt>) -> usize
     ensures receipts { receipts.new.items ≡ receipts.old.items }
     ensures count { vec_len receipts.new ≡ vec_len receipts.old }
     ensures capacity { vec_capacity receipts.new ≡ vec_capacity receipts.old }
-    ensures index { result ≡ min (vec_capacity receipts.old) (vec_len receipts.old + 65536) }
+    ensures touched { result ≡ min (vec_capacity receipts.old) (vec_len receipts.old + 65536) }
 {
     let held = receipts.len();
     let end = receipts.capacity().min(held.saturating_add(AT_ONCE));
