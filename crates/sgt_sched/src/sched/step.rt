@@ -62,15 +62,15 @@ impl<R: Records, A: Accesses, G: Graph> Sched<R, A, G> {
         ensures out { OnErr result (out.new ≡ out.old) }
         ensures no_memory { IsBlocked (state self.old) t key Look → IsOk result }
     {
-        let rivals = self.accesses.rivals(t, key, Kind::Look);
-        if self.abort_in_cycle(t, &rivals, out) {
+        let writers = self.accesses.rivals(t, key, Kind::Look);
+        if self.abort_in_cycle(t, &writers, out) {
             return Ok(Brief::Placed);
         }
         let top = self.records.top(key);
         let value = top.value();
         self.accesses.reserve(key)?;
         self.read_from.reserve(1)?;
-        follow(&mut self.graph, t, &rivals);
+        follow(&mut self.graph, t, &writers);
         self.accesses.note(t, key, Kind::Look);
         note_read(&mut self.read_from, &top, t);
         self.live.look(t, self.procedures.as_slice(), value);

@@ -12,20 +12,20 @@ use Rattle.sgt_sched.specs.Briefs.{HoldsLists}
 use Rattle.sgt_sched.specs.Scheduler.{parts, state}
 use Rattle.sgt_sched.proofs.sched.Sched.look.Goals as goal
 
-pub rivals-rivals-requires : goal.rivals-rivals-requires
-rivals-rivals-requires g c = record { few = rivals_few c.args.self.now.kept }
+pub rivals-writers-requires : goal.rivals-writers-requires
+rivals-writers-requires g c = record { few = rivals_few c.args.self.now.kept }
 
 pub abort_in_cycle-requires-clause-others : goal.abort_in_cycle-requires-clause-others
 abort_in_cycle-requires-clause-others g c = λ κs lives. (rivals_are_nodes c.args.self.now.kept c.args.t c.requires.live c.args.key Look
-    c.rivals-rivals.result c.rivals-rivals.ensures.exact)
+    c.rivals-writers.result c.rivals-writers.ensures.exact)
 
 pub follow-requires-clause-others : goal.follow-requires-clause-others
 follow-requires-clause-others g c =
     let seen = ap parts (c.abort_in_cycle.ensures.free c.if-abort_in_cycle.false).0 in
-    let exact = rivals_seen g.A.Accesses.list _ _ (sym seen) c.args.t c.args.key Look c.rivals-rivals.result c.rivals-rivals.ensures.exact
+    let exact = rivals_seen g.A.Accesses.list _ _ (sym seen) c.args.t c.args.key Look c.rivals-writers.result c.rivals-writers.ensures.exact
     in
     λ κs lives. rivals_are_nodes c.abort_in_cycle.new.self.kept c.args.t
-    (ap (λ p. g.G.Graph.nodes p.graph c.args.t) seen ∙ c.requires.live) c.args.key Look c.rivals-rivals.result exact
+    (ap (λ p. g.G.Graph.nodes p.graph c.args.t) seen ∙ c.requires.live) c.args.key Look c.rivals-writers.result exact
 
 pub look-requires-clause-along : goal.look-requires-clause-along
 look-requires-clause-along g c =
@@ -36,13 +36,13 @@ look-requires-clause-along g c =
 pub invariant_of-self-2 : goal.invariant_of-self-2
 invariant_of-self-2 g c =
     let seen = ap parts (c.abort_in_cycle.ensures.free c.if-abort_in_cycle.false).0 in
-    let exact = rivals_seen g.A.Accesses.list _ _ (sym seen) c.args.t c.args.key Look c.rivals-rivals.result c.rivals-rivals.ensures.exact
+    let exact = rivals_seen g.A.Accesses.list _ _ (sym seen) c.args.t c.args.key Look c.rivals-writers.result c.rivals-writers.ensures.exact
     in
-    let free = free_walk_seen g.G.Graph.pairs _ _ seen c.args.t c.rivals-rivals.result
+    let free = free_walk_seen g.G.Graph.pairs _ _ seen c.args.t c.rivals-writers.result
     (c.abort_in_cycle.ensures.free c.if-abort_in_cycle.false).2 in
     record {
       kept = kept_look seen c.abort_in_cycle.new.self.kept c.args.t
-          (ap (λ p. g.G.Graph.nodes p.graph c.args.t) seen ∙ c.requires.live) c.args.key c.rivals-rivals.result free exact
+          (ap (λ p. g.G.Graph.nodes p.graph c.args.t) seen ∙ c.requires.live) c.args.key c.rivals-writers.result free exact
           c.note.new.self c.follow.new.graph c.look.new.self c.note_read.new.read_from.items c.value-value.result
           (c.note.ensures.noted ∙ ap (λ l. l ++ record { by = c.args.t; key = c.args.key; kind = Look } ∷ []) c.reserve.ensures.same)
           c.follow.ensures.nodes
@@ -59,7 +59,7 @@ returns-then-abort_in_cycle-clause-done g c =
     record {
       done = record {
         does = inl (refuses c.args.t c.args.key Look closes.1.0 closes.0 (state c.args.self.now) _ _ closes.1.1
-            (blocks_from_walk c.args.self.now.kept c.args.t live c.args.key Look c.rivals-rivals.result c.rivals-rivals.ensures.exact
+            (blocks_from_walk c.args.self.now.kept c.args.t live c.args.key Look c.rivals-writers.result c.rivals-writers.ensures.exact
             closes.1.0 closes.1.2) closes.2);
         short = subst HoldsLists (sym closes.2.reply) tt;
       };
@@ -70,14 +70,14 @@ returns-then-abort_in_cycle-clause-done g c =
 pub returns-clause-done : goal.returns-clause-done
 returns-clause-done g c =
     let seen = ap parts (c.abort_in_cycle.ensures.free c.if-abort_in_cycle.false).0 in
-    let exact = rivals_seen g.A.Accesses.list _ _ (sym seen) c.args.t c.args.key Look c.rivals-rivals.result c.rivals-rivals.ensures.exact
+    let exact = rivals_seen g.A.Accesses.list _ _ (sym seen) c.args.t c.args.key Look c.rivals-writers.result c.rivals-writers.ensures.exact
     in
-    let free = free_walk_seen g.G.Graph.pairs _ _ seen c.args.t c.rivals-rivals.result
+    let free = free_walk_seen g.G.Graph.pairs _ _ seen c.args.t c.rivals-writers.result
     (c.abort_in_cycle.ensures.free c.if-abort_in_cycle.false).2 in
     record {
       done = record {
         does = inr (makes_look seen c.abort_in_cycle.new.self.kept c.args.t
-            (ap (λ p. g.G.Graph.nodes p.graph c.args.t) seen ∙ c.requires.live) c.args.key c.rivals-rivals.result free exact
+            (ap (λ p. g.G.Graph.nodes p.graph c.args.t) seen ∙ c.requires.live) c.args.key c.rivals-writers.result free exact
             c.note.new.self c.follow.new.graph c.look.new.self c.note_read.new.read_from.items c.value-value.result
             (c.note.ensures.noted ∙ ap (λ l. l ++ record { by = c.args.t; key = c.args.key; kind = Look } ∷ []) c.reserve.ensures.same)
             c.follow.ensures.nodes
@@ -94,21 +94,21 @@ returns-clause-done g c =
 pub returns-in_err-reserve-clause-no_memory : goal.returns-in_err-reserve-clause-no_memory
 returns-in_err-reserve-clause-no_memory g c =
     let seen = ap parts (c.abort_in_cycle.ensures.free c.if-abort_in_cycle.false).0 in
-    let exact = rivals_seen g.A.Accesses.list _ _ (sym seen) c.args.t c.args.key Look c.rivals-rivals.result c.rivals-rivals.ensures.exact
+    let exact = rivals_seen g.A.Accesses.list _ _ (sym seen) c.args.t c.args.key Look c.rivals-writers.result c.rivals-writers.ensures.exact
     in
-    let free = free_walk_seen g.G.Graph.pairs _ _ seen c.args.t c.rivals-rivals.result
+    let free = free_walk_seen g.G.Graph.pairs _ _ seen c.args.t c.rivals-writers.result
     (c.abort_in_cycle.ensures.free c.if-abort_in_cycle.false).2 in
     λ b. absurd (free_seen c.abort_in_cycle.new.self.kept c.args.t
-    (ap (λ p. g.G.Graph.nodes p.graph c.args.t) seen ∙ c.requires.live) c.args.key Look c.rivals-rivals.result exact
+    (ap (λ p. g.G.Graph.nodes p.graph c.args.t) seen ∙ c.requires.live) c.args.key Look c.rivals-writers.result exact
     (parts c.args.self.now) seen free b)
 
 pub returns-in_err-reserve-2-clause-no_memory : goal.returns-in_err-reserve-2-clause-no_memory
 returns-in_err-reserve-2-clause-no_memory g c =
     let seen = ap parts (c.abort_in_cycle.ensures.free c.if-abort_in_cycle.false).0 in
-    let exact = rivals_seen g.A.Accesses.list _ _ (sym seen) c.args.t c.args.key Look c.rivals-rivals.result c.rivals-rivals.ensures.exact
+    let exact = rivals_seen g.A.Accesses.list _ _ (sym seen) c.args.t c.args.key Look c.rivals-writers.result c.rivals-writers.ensures.exact
     in
-    let free = free_walk_seen g.G.Graph.pairs _ _ seen c.args.t c.rivals-rivals.result
+    let free = free_walk_seen g.G.Graph.pairs _ _ seen c.args.t c.rivals-writers.result
     (c.abort_in_cycle.ensures.free c.if-abort_in_cycle.false).2 in
     λ b. absurd (free_seen c.abort_in_cycle.new.self.kept c.args.t
-    (ap (λ p. g.G.Graph.nodes p.graph c.args.t) seen ∙ c.requires.live) c.args.key Look c.rivals-rivals.result exact
+    (ap (λ p. g.G.Graph.nodes p.graph c.args.t) seen ∙ c.requires.live) c.args.key Look c.rivals-writers.result exact
     (parts c.args.self.now) seen free b)
