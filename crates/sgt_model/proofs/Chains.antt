@@ -73,7 +73,7 @@ chain-last p k (e ∷ past) = last-step (stores p k (access_of e)) (chain_of p k
 
 -- a store has a value
 
-access-value : (event : Event) (r : Reply) (a : Access) → access_in event r ≡ Some a → is_store a.kind ≡ true
+pub access-value : (event : Event) (r : Reply) (a : Access) → access_in event r ≡ Some a → is_store a.kind ≡ true
     → a.value ≡ Some (unwrap_or a.value (pos 0))
 access-value (Step t) (reply.Looked k v) a is h = absurd (cc (ap (λ (x : Access). is_store x.kind) (some_is _ a is) ∙ h))
 access-value (Step t) (reply.Wrote k v) a is h = subst (λ (x : Access). x.value ≡ Some (unwrap_or x.value (pos 0))) (some_is _ a is) refl

@@ -1,5 +1,5 @@
 -- How far a run has come: one more access keeps what was used, and a run of few accesses has made few.
-use Rattle.std.proofs.Common.{◌≡◌, ℕ, zero, suc, ◌+◌, ℤ, List, [], ◌∷◌, ◌++◌, Option}
+use Rattle.std.proofs.Common.{◌≡◌, ℕ, zero, suc, ℤ, List, [], ◌∷◌, ◌++◌, Option}
 use Rattle.sgt_model.specs.Contents.{Key}
 use Rattle.sgt_model.specs.Runs.{Run, looks, puts, ends, asks}
 use Rattle.sgt_model.specs.Traces.{Looks, Puts, trace, next_at, Used}

@@ -40,6 +40,7 @@ pub mod Questions
 pub mod Admissions
 pub mod Laws
 pub mod OneReply
+pub mod Continuations
 pub mod ReplySizes
 pub mod StoredValues
 pub mod Executions

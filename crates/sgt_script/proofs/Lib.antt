@@ -1,3 +1,4 @@
 pub mod Answers
 pub mod Runs
 pub mod RunLaws
+pub mod Beginnings

@@ -1,3 +1,4 @@
 pub mod Scripts
 pub mod RunLaws
 pub mod Answering
+pub mod Beginnings

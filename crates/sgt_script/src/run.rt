@@ -1,8 +1,10 @@
-ghost use Rattle.std.specs.Prelude.{◌≡◌, ◌≢◌, ℕ, List, Option, IfSome, Err, ◌+◌, ◌^◌, ◌<◌, ◌≤◌};
+ghost use Rattle.std.specs.Prelude.{◌≡◌, ◌≢◌, ℕ, List, Option, IfSome, Err, ◌⊎◌, [], ◌+◌, ◌^◌, ◌<◌, ◌≤◌};
 ghost use Rattle.std.specs.Io.KnownBytes.{Appends};
 ghost use Rattle.sgt_stream.specs.Ends.{IsExact};
 ghost use Rattle.sgt_script.specs.RunLaws.{RunLaws};
-ghost use Rattle.sgt_script.specs.Scripts.{RunHistory, Script};
+ghost use Rattle.sgt_script.specs.Beginnings.{Begins, IsStop, ScriptRuns};
+ghost use Rattle.sgt_script.specs.Scripts.{RunHistory, Script, replies};
+ghost use Rattle.sgt_model.specs.declared.entry.Entry.{Entry};
 
 use crate::script::run_with;
 use sgt_model::headline_holds;
@@ -19,8 +21,9 @@ use std::alloc::Global;
 ///
 /// # Errors
 ///
-/// The first fault of the script: the replies to the lines before it are written then, and no database. And `Reading` where a
-/// read failed, `Writing` where a write did, and `NoMemory` where a growth was refused: no clause says what is written then.
+/// The first fault of the script: the replies to the lines before it are written then, and no database. `Reading` where a read
+/// failed and `NoMemory` where a growth was refused: the replies to some first lines are written then, as a whole run writes
+/// them, and no database. And `Writing` where a write failed: the beginning of what a whole run writes is written then.
 pub fn run_script<S: Source, T: Sink>(
     alloc: Global,
     source: &mut S,
@@ -31,6 +34,12 @@ pub fn run_script<S: Source, T: Sink>(
     ensures script { IsExact result → IfSome (S.rest source.old) (λ bytes.
         (run : Option RunHistory) × (out : List ℕ) × Appends (T.held sink.old) (T.held sink.new) out
         × Script bytes run out result × IfSome run (λ r. RunLaws r out result)) }
+    ensures stops { IsStop result → IfSome (S.rest source.old) (λ bytes. (answered : List Entry)
+        × Appends (T.held sink.old) (T.held sink.new) (replies answered)
+        × ((answered ≡ []) ⊎ Begins (ScriptRuns bytes) answered (replies answered))) }
+    ensures part { result ≡ Err Fault.Writing → IfSome (S.rest source.old) (λ bytes.
+        (answered : List Entry) × (out : List ℕ) × Appends (T.held sink.old) (T.held sink.new) out
+        × Begins (ScriptRuns bytes) answered out) }
     ensures bounded { S.given source.new ≤ S.given source.old + 16777217 }
     ensures read_well { IsExact result → S.failures source.new ≡ S.failures source.old }
     ensures read_failed { result ≡ Err Fault.Reading →

@@ -1,4 +1,4 @@
-ghost use Rattle.std.specs.Prelude.{◌≡◌, ◌≢◌, ℕ, List, Option, false, IsTrue, IsFalse, IfOk, IfErr, OnOk, OnErr, IfSome, Err, Ok, Some, None, [], ◌∷◌, ◌++◌, ◌+◌, ◌^◌, ◌<◌, ◌≤◌};
+ghost use Rattle.std.specs.Prelude.{◌≡◌, ◌≢◌, ℕ, List, Option, false, IsTrue, IsFalse, IfOk, IfErr, OnOk, OnErr, IfSome, Err, Ok, Some, None, ◌⊎◌, [], ◌∷◌, ◌++◌, ◌+◌, ◌^◌, ◌<◌, ◌≤◌};
 ghost use Rattle.std.specs.Io.KnownBytes.{Appends};
 ghost use Rattle.sgt_model.specs.declared.entry.Entry.{Entry};
 ghost use Rattle.sgt_model.specs.Legality.{Legal};
@@ -7,9 +7,11 @@ ghost use Rattle.sgt_format.specs.ReplyText.{text};
 ghost use Rattle.sgt_stream.specs.Intake.{come, cut_left, has_whole_line};
 ghost use Rattle.sgt_stream.specs.Ends.{IsOfInput, IsExact};
 ghost use Rattle.sgt_script.specs.Scripts.{RunHistory, RunOutput, Script, replies};
-ghost use Rattle.sgt_script.specs.Answering.{Answered, NoEvent, AllAnswered};
+ghost use Rattle.sgt_script.specs.Answering.{Answered, NoEvent, AllAnswered, AnswersSome};
+ghost use Rattle.sgt_script.specs.Beginnings.{AppendsPart, Begins, IsStop, LineRuns, ScriptRuns};
 
 use sgt_format::{append_database, append_reply, read_event};
+use sgt_model::histories_go_on;
 use sgt_program::{SgtEngine, open_engine};
 use sgt_stream::{Fault, Lines, Sink, Source, at_line, opening_of, write_all};
 use std::alloc::Global;
@@ -35,6 +37,7 @@ fn answer_line<S: Source>(
     ensures fault { IfErr result (λ f. IsOfInput f → (engine.new.past ≡ engine.old.past)
         × (replies.new.items ≡ replies.old.items)
         × NoEvent (lines.old.number + 1) (cut_left lines.old (S.rest source.old)) (Err f)) }
+    ensures kept { OnErr result (replies.new.items ≡ replies.old.items) }
     ensures legal { Legal (setting_of engine.old) engine.old.past →
         Legal (setting_of engine.new) engine.new.past }
     ensures nearer { IfOk result (λ more. IsTrue more → lines.new.within < lines.old.within) }
@@ -62,6 +65,7 @@ fn answer_line<S: Source>(
 fn flush<T: Sink>(sink: &mut T, gathered: &mut Vec<u8>) -> Result<(), Fault>
     requires { T.failures sink.old + 1 < 2 ^ 64 }
     ensures bytes { OnOk result (Appends (T.held sink.old) (T.held sink.new) gathered.old.items) }
+    ensures part { OnErr result (AppendsPart (T.held sink.old) (T.held sink.new) gathered.old.items) }
     ensures empty { OnOk result (gathered.new.items ≡ []) }
     ensures err { IfErr result (λ f. f ≡ Fault.Writing) }
     ensures well { OnOk result (T.failures sink.new ≡ T.failures sink.old) }
@@ -84,6 +88,7 @@ fn flush_before_read<T: Sink>(
     ensures bytes { OnOk result ((bytes : List ℕ)
         × Appends (T.held sink.old) (T.held sink.new) bytes
         × (gathered.old.items ≡ bytes ++ gathered.new.items)) }
+    ensures part { OnErr result (AppendsPart (T.held sink.old) (T.held sink.new) gathered.old.items) }
     ensures before_read { OnOk result (has_whole_line lines.now ≡ false → gathered.new.items ≡ []) }
     ensures err { IfErr result (λ f. f ≡ Fault.Writing) }
     ensures well { OnOk result (T.failures sink.new ≡ T.failures sink.old) }
@@ -114,6 +119,8 @@ fn answer_lines<S: Source, T: Sink>(
         (cut_left lines.old (S.rest source.old)) engine.new.past result }
     ensures written { IsExact result →
         Appends (T.held sink.old) (T.held sink.new) (replies engine.new.past) }
+    ensures some { AnswersSome (setting_of engine.old) (lines.old.number + 1)
+        (cut_left lines.old (S.rest source.old)) (T.held sink.old) (T.held sink.new) result }
     ensures read_well { IsExact result → S.failures source.new ≡ S.failures source.old }
     ensures read_failed { result ≡ Err Fault.Reading →
         S.failures source.new ≡ S.failures source.old + 1 }
@@ -141,7 +148,8 @@ fn answer_lines<S: Source, T: Sink>(
 /// # Errors
 ///
 /// The fault of the first line that spells no event or is too long, or of the input: the replies to the lines before it are
-/// written then. And `Reading`, `Writing` and `NoMemory`: no clause says what is written then.
+/// written then. `Reading` where a read failed and `NoMemory` where a growth was refused: the replies to some first lines are
+/// written then, and no database. And `Writing` where a write failed: the beginning of what a whole run writes is written then.
 pub(crate) fn run_opened<S: Source, T: Sink>(
     alloc: Global,
     lines: &mut Lines,
@@ -158,6 +166,13 @@ pub(crate) fn run_opened<S: Source, T: Sink>(
         (run : RunHistory) × (run.setting ≡ setting_of engine.old)
         × (out : List ℕ) × Appends (T.held sink.old) (T.held sink.new) out
         × RunOutput run c.given c.ending out result) }
+    ensures stops { IsStop result → IfSome (cut_left lines.old (S.rest source.old)) (λ c.
+        (answered : List Entry) × Appends (T.held sink.old) (T.held sink.new) (replies answered)
+        × Begins (LineRuns (setting_of engine.old) c) answered (replies answered)) }
+    ensures part { result ≡ Err Fault.Writing →
+        IfSome (cut_left lines.old (S.rest source.old)) (λ c.
+        (answered : List Entry) × (out : List ℕ) × Appends (T.held sink.old) (T.held sink.new) out
+        × Begins (LineRuns (setting_of engine.old) c) answered out) }
     ensures bounded { S.given source.new + come lines.old ≤ S.given source.old + 16777217 }
     ensures read_well { IsExact result → S.failures source.new ≡ S.failures source.old }
     ensures read_failed { result ≡ Err Fault.Reading →
@@ -167,6 +182,8 @@ pub(crate) fn run_opened<S: Source, T: Sink>(
     ensures write_failed { result ≡ Err Fault.Writing →
         T.failures sink.new ≡ T.failures sink.old + 1 }
 {
+    // Whatever was answered by then, some whole run goes on from there.
+    histories_go_on();
     answer_lines(alloc, lines, source, sink, engine)?;
     let database = engine.database(alloc)?;
     let mut text = Vec::new(alloc);
@@ -178,8 +195,9 @@ pub(crate) fn run_opened<S: Source, T: Sink>(
 ///
 /// # Errors
 ///
-/// The first fault of the script: the replies to the lines before it are written then, and no database. And `Reading`,
-/// `Writing` and `NoMemory`: no clause says what is written then.
+/// The first fault of the script: the replies to the lines before it are written then, and no database. `Reading` where a read
+/// failed and `NoMemory` where a growth was refused: the replies to some first lines are written then, and no database. And
+/// `Writing` where a write failed: the beginning of what a whole run writes is written then.
 pub(crate) fn run_with<S: Source, T: Sink>(
     alloc: Global,
     source: &mut S,
@@ -190,6 +208,12 @@ pub(crate) fn run_with<S: Source, T: Sink>(
     ensures script { IsExact result → IfSome (S.rest source.old) (λ bytes.
         (run : Option RunHistory) × (out : List ℕ) × Appends (T.held sink.old) (T.held sink.new) out
         × Script bytes run out result) }
+    ensures stops { IsStop result → IfSome (S.rest source.old) (λ bytes. (answered : List Entry)
+        × Appends (T.held sink.old) (T.held sink.new) (replies answered)
+        × ((answered ≡ []) ⊎ Begins (ScriptRuns bytes) answered (replies answered))) }
+    ensures part { result ≡ Err Fault.Writing → IfSome (S.rest source.old) (λ bytes.
+        (answered : List Entry) × (out : List ℕ) × Appends (T.held sink.old) (T.held sink.new) out
+        × Begins (ScriptRuns bytes) answered out) }
     ensures bounded { S.given source.new ≤ S.given source.old + 16777217 }
     ensures read_well { IsExact result → S.failures source.new ≡ S.failures source.old }
     ensures read_failed { result ≡ Err Fault.Reading →
