@@ -14,8 +14,10 @@
 //! ```
 #![tactic(auto)]
 
+mod laws;
 mod operation;
 mod strict;
 
+pub use laws::{avoiding_are_recoverable, rigorous_are_strict, strict_avoid_cascading_aborts};
 pub use operation::{Action, Operation, Violation};
 pub use strict::strict_violation;
