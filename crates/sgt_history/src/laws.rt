@@ -1,5 +1,6 @@
 //! Laws of the classes, of every history. A body has nothing to do: the law is its contract.
 ghost use Rattle.sgt_history.specs.Classes.{AvoidingAreRecoverable, RigorousAreStrict, StrictAvoidCascadingAborts};
+ghost use Rattle.sgt_history.specs.Serializability.{CommitOrderedAreSerializable};
 
 /// A rigorous history is strict. Rigorous: strict, and no transaction overwrites what another has read that has not ended
 /// (Breitbart and others (1991)).
@@ -17,4 +18,10 @@ pub fn strict_avoid_cascading_aborts()
 /// Hadzilacos and Goodman (1987), chapter 2).
 pub fn avoiding_are_recoverable()
     ensures { AvoidingAreRecoverable }
+{}
+
+/// A commit ordered history is serializable: where conflicts of committed transactions agree with the order of their commits,
+/// the serialization graph has no cycle (Bernstein, Hadzilacos and Goodman (1987), chapter 2).
+pub fn commit_ordered_are_serializable()
+    ensures { CommitOrderedAreSerializable }
 {}

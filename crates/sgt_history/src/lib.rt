@@ -18,6 +18,9 @@ mod laws;
 mod operation;
 mod strict;
 
-pub use laws::{avoiding_are_recoverable, rigorous_are_strict, strict_avoid_cascading_aborts};
+pub use laws::{
+    avoiding_are_recoverable, commit_ordered_are_serializable, rigorous_are_strict,
+    strict_avoid_cascading_aborts,
+};
 pub use operation::{Action, Operation, Violation};
 pub use strict::strict_violation;
