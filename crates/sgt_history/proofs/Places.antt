@@ -18,9 +18,11 @@ does_same h i op t a at does = grind (arith, common_steps, at, does)
 pub uses_item : (h : List Operation) (i : ℕ) (op : Operation) (t x : ℕ) → slice_get h i ≡ Some op → Uses h i t x
     → (op.transaction ≡ t) × (item_of op.action ≡ Some x)
 uses_item h i op t x at (inl does) =
-    let same = does_same h i op t (Read x) at does in (ap (λ (o : Operation). o.transaction) same, ap (λ (o : Operation). item_of o.action) same)
+    let same = does_same h i op t (Read x) at does in
+    (ap (λ (o : Operation). o.transaction) same, ap (λ (o : Operation). item_of o.action) same)
 uses_item h i op t x at (inr does) =
-    let same = does_same h i op t (Write x) at does in (ap (λ (o : Operation). o.transaction) same, ap (λ (o : Operation). item_of o.action) same)
+    let same = does_same h i op t (Write x) at does in
+    (ap (λ (o : Operation). o.transaction) same, ap (λ (o : Operation). item_of o.action) same)
 
 -- an action on an item uses it
 pub item_uses : (h : List Operation) (i t x : ℕ) (a : Action) → item_of a ≡ Some x → Does h i t a → Uses h i t x
@@ -48,11 +50,13 @@ one_ender h i t u (inr a) (inl b) = grind (arith, common_steps, does_same h i _ 
 one_ender h i t u (inr a) (inr b) = grind (arith, common_steps, does_same h i _ t Abort a b)
 
 -- an operation within the history, as it is read
-pub there : (h : List Operation) (i : ℕ) → i < length h → slice_get h i ≡ Some (slice_index_or h i (record { transaction = 0; action = Read 0 }))
+pub there : (h : List Operation) (i : ℕ) → i < length h
+    → slice_get h i ≡ Some (slice_index_or h i (record { transaction = 0; action = Read 0 }))
 there h i within = slice_get-get_or h i _ within
 
 -- what it does
-pub does_at : (h : List Operation) (i : ℕ) (op : Operation) (a : Action) → slice_get h i ≡ Some op → op.action ≡ a → Does h i op.transaction a
+pub does_at : (h : List Operation) (i : ℕ) (op : Operation) (a : Action) → slice_get h i ≡ Some op → op.action ≡ a
+    → Does h i op.transaction a
 does_at h i op a at same = at ∙ ap (λ (b : Action). Some (record { transaction = op.transaction; action = b })) same
 
 -- who uses an item does it within the history

@@ -92,7 +92,8 @@ strict_broken h p i op w x at item at_i last differ active = record {
 }
 
 -- the last write stays where the operation writes something else
-last_kept : (h : List Operation) (p x : ℕ) (o : Option ℕ) → ((t : ℕ) → ¬ Does h p t (Write x)) → IsLastWrite h p x o → IsLastWrite h (p + 1) x o
+last_kept : (h : List Operation) (p x : ℕ) (o : Option ℕ) → ((t : ℕ) → ¬ Does h p t (Write x)) → IsLastWrite h p x o
+    → IsLastWrite h (p + 1) x o
 last_kept h p x None not_here none = λ k u before at. elim (before_next k p before) [
   | inl earlier ↦ none k u earlier at
   | inr e ↦ not_here u (subst (λ n. Does h n u (Write x)) e at)
