@@ -1,0 +1,4 @@
+pub mod Places
+pub mod Strictness
+pub mod Inclusions
+pub mod CommitOrder

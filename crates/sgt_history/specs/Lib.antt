@@ -1,0 +1,4 @@
+pub mod Histories
+pub mod Classes
+pub mod Seen
+pub mod Serializability

@@ -1,0 +1,56 @@
+-- Serializable and commit ordered histories (Bernstein, Hadzilacos and Goodman (1987), chapter 2), of the committed
+-- projection: the operations of those that commit.
+use Rattle.std.specs.Prelude.{◌≢◌, ◌<◌, ◌⊎◌, ℕ, List, [], ◌∷◌}
+use Rattle.sgt_history.specs.declared.operation.Operation.{Operation}
+use Rattle.sgt_history.specs.declared.operation.Action.TheVariants.{Write, Commit}
+use Rattle.sgt_history.specs.Histories.{Does, Uses}
+
+-- t commits
+abbrev pub Commits : List Operation → ℕ → Type 0
+Commits h t = (i : ℕ) × Does h i t Commit
+
+-- an operation of t at place i and one of u at place j are on one item, and one of them writes it
+abbrev pub Conflict : List Operation → ℕ → ℕ → ℕ → ℕ → Type 0
+Conflict h i t j u = (x : ℕ) × Uses h i t x × Uses h j u x × (Does h i t (Write x) ⊎ Does h j u (Write x))
+
+-- The serialization graph has an edge from t to u: both commit, and an operation of t conflicts with a later one of u.
+pub record IsEdge (h : List Operation) (t u : ℕ) : Type 0 where
+  pub differ : t ≢ u
+  pub commits_first : Commits h t
+  pub commits_second : Commits h u
+  pub place : ℕ
+  pub later : ℕ
+  pub order : place < later
+  pub conflict : Conflict h place t later u
+
+-- the serialization graph has a path from t through the others to u
+abbrev pub IsPath : List Operation → ℕ → List ℕ → ℕ → Type 0
+IsPath h t [] u = IsEdge h t u
+IsPath h t (v ∷ others) u = IsEdge h t v × IsPath h v others u
+
+-- Serializable: the serialization graph has no cycle. That such a history has a serial one of the same reads and final writes
+-- is the book's serializability theorem.
+abbrev pub IsSerializable : List Operation → Type 0
+IsSerializable h = (t : ℕ) (others : List ℕ) → ¬ IsPath h t others t
+
+-- Commit ordered: of two operations of committed transactions that conflict, the transaction of the earlier one commits first.
+-- Here, by their operations at places i and j, one is to commit before the other, and commits after it.
+pub record BreaksCommitOrder (h : List Operation) (i j : ℕ) : Type 0 where
+  pub before : ℕ
+  pub after : ℕ
+  pub commit : ℕ
+  pub other : ℕ
+  pub differ : before ≢ after
+  pub earlier : i < j
+  pub conflict : Conflict h i before j after
+  pub commits : Does h commit before Commit
+  pub commits_other : Does h other after Commit
+  pub inverted : other < commit
+
+-- no two operations violate it
+abbrev pub IsCommitOrdered : List Operation → Type 0
+IsCommitOrdered h = (i j : ℕ) → ¬ BreaksCommitOrder h i j
+
+-- a commit ordered history is serializable
+abbrev pub CommitOrderedAreSerializable : Type 0
+CommitOrderedAreSerializable = (h : List Operation) → IsCommitOrdered h → IsSerializable h

@@ -1,0 +1,26 @@
+//! The classes of histories of Bernstein, Hadzilacos and Goodman (1987), chapter 2, by their own definitions.
+//!
+//! A history is any list of operations, whoever recorded it. The definitions stand in `specs/` and speak of places in the
+//! list. The crate knows no engine and no scheduler, and reads no text: items and transactions are numbers.
+//!
+//! ```
+//! // w1[x] r2[x] c1: 2 reads what 1 has written, and 1 has not ended
+//! let history = [
+//!     Operation { transaction: 1, action: Action::Write(0) },
+//!     Operation { transaction: 2, action: Action::Read(0) },
+//!     Operation { transaction: 1, action: Action::Commit },
+//! ];
+//! let violation = strict_violation(alloc, &history)?;     // Some(Violation { earlier: 0, later: 1 })
+//! ```
+#![tactic(auto)]
+
+mod laws;
+mod operation;
+mod strict;
+
+pub use laws::{
+    avoiding_are_recoverable, commit_ordered_are_serializable, rigorous_are_strict,
+    strict_avoid_cascading_aborts,
+};
+pub use operation::{Action, Operation, Violation};
+pub use strict::strict_violation;
