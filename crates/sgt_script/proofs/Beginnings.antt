@@ -1,5 +1,5 @@
 -- Laws of a run that stopped on the way: it wrote the beginning of what a whole run writes.
-use Rattle.std.proofs.Common.{◌≡◌, ◌≢◌, ℕ, ◌+◌, List, [], ◌∷◌, ◌++◌, refl, ap, sym, ◌∙◌, append_assoc, append-nil, subst, inl, inr, ◌⊎◌}
+use Rattle.std.proofs.Common.{◌≡◌, ◌≢◌, ℕ, ◌+◌, List, [], ◌∷◌, ◌++◌, refl, ap, sym, ◌∙◌, append_assoc, append-nil, subst, inr, ◌⊎◌}
 use Rattle.std.proofs.lemmas.List.{map-append, reverse-append, take-append-drop}
 use Rattle.std.specs.Result.{is_err}
 use Rattle.std.specs.Prelude.{map, reverse, take, drop, true, Result, Option, None, Some, IfSome, IfErr, OnOk, OnErr, Ok, Err}
