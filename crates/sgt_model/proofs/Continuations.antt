@@ -69,8 +69,8 @@ put_rows k v rows rising = at (slice_get rows n) refl where
   )
   row r is false e = inserted (λ q at. subst (λ (o : Option Row). o ≡ Some q → key_eq q.0 k ≡ false) (sym is)
       (λ same. subst (λ (x : Row). key_eq x.0 k ≡ false) (same_row same) e) at) where
-    same_row : {q : Row} → Some r ≡ Some q → r ≡ q
-    same_row h = same_Some _ _ h
+        same_row : {q : Row} → Some r ≡ Some q → r ≡ q
+        same_row h = same_Some _ _ h
 
   at : (o : Option Row) → slice_get rows n ≡ o → HasRows (put_in (contents_of rows) k v)
   at None is = inserted (λ q h. absurd (cc (sym is ∙ h)))
@@ -92,9 +92,12 @@ Left counts rows past k = value_or (newest_store counts k past) (contents_of row
 -- an access more, where the accesses before it have left rows
 left-more : (counts : ℕ → Bool) (rows : List Row) (past : List Entry) (e : Entry) (o : Option Access) → access_of e ≡ o
     → HasRows (Left counts rows past) → HasRows (Left counts rows (e ∷ past))
-left-more counts rows past e None is (before, rising, same) =
-    (before, rising, λ k. same k ∙ ap (λ (x : Option Access). value_or (option_or (stores counts k x) (newest_store counts k past))
-    (contents_of rows k)) (sym is))
+left-more counts rows past e None is (before, rising, same) = (
+  before,
+  rising,
+  λ k. same k ∙ ap (λ (x : Option Access). value_or (option_or (stores counts k x) (newest_store counts k past))
+      (contents_of rows k)) (sym is),
+)
 left-more counts rows past e (Some a) is (before, rising, same) = by_kind (is_store a.kind) refl (counts a.by) refl where
   next : (k : Key) → Option ℤ
   next k = value_or (option_or (stores counts k (Some a)) (newest_store counts k past)) (contents_of rows k)
@@ -104,16 +107,20 @@ left-more counts rows past e (Some a) is (before, rising, same) = by_kind (is_st
       (sym is)
 
   as_before : ((k : Key) → stores counts k (Some a) ≡ None) → HasRows (Left counts rows (e ∷ past))
-  as_before none = (before, rising, λ k. same k ∙ ap (λ (x : Option Access). value_or (option_or x (newest_store counts k past))
-      (contents_of rows k)) (sym (none k)) ∙ seen k)
+  as_before none = (
+    before,
+    rising,
+    λ k. same k ∙ ap (λ (x : Option Access). value_or (option_or x (newest_store counts k past))
+        (contents_of rows k)) (sym (none k)) ∙ seen k,
+  )
 
   stored : is_store a.kind ≡ true → counts a.by ≡ true → (v : ℤ) → a.value ≡ Some v → HasRows (Left counts rows (e ∷ past))
   stored kind by v value =
       let put = put_rows a.key v before rising in
       (put.0, put.1, λ k. put.2 k ∙ at k (key_eq a.key k) refl ∙ seen k) where
-    at : (k : Key) (t : Bool) → key_eq a.key k ≡ t → put_in (contents_of before) a.key v k ≡ next k
-    at k true h = rw (h, kind, by) (sym value)
-    at k false h = rw (h, kind) (same k)
+        at : (k : Key) (t : Bool) → key_eq a.key k ≡ t → put_in (contents_of before) a.key v k ≡ next k
+        at k true h = rw (h, kind, by) (sym value)
+        at k false h = rw (h, kind) (same k)
 
   by_kind : (t : Bool) → is_store a.kind ≡ t → (c : Bool) → counts a.by ≡ c → HasRows (Left counts rows (e ∷ past))
   by_kind true kind true by = stored kind by _ (access-value e.event e.reply a is kind)

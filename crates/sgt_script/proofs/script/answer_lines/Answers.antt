@@ -43,7 +43,7 @@ returns-in-Ok-false-clause-some g c =
     (cut_left c.loop-gathered.lines (g.S.Source.rest c.loop-gathered.source)) c.loop-gathered.engine.past
     (g.T.Sink.held c.args.sink.now) (g.T.Sink.held c.flush_before_read.new.sink) (g.T.Sink.held c.flush.new.sink)
     c.answer_line.new.replies.items c.flush.result c.loop-gathered.invariant.setting
-    c.loop-gathered.invariant.legal c.loop-gathered.invariant.answered 
+    c.loop-gathered.invariant.legal c.loop-gathered.invariant.answered
     (gathers-less _ _ _ c.loop-gathered.engine.past _ _ _
     c.loop-gathered.invariant.written c.in_ok-flush_before_read.ensures.bytes (c.in-Ok-false.ensures.end c.in-Ok-false.field-0-test).1)
     c.flush.ensures.bytes c.flush.ensures.part c.flush.ensures.err
@@ -55,7 +55,7 @@ returns-in_err-flush-in-Err-clause-some g c =
     (cut_left c.loop-gathered.lines (g.S.Source.rest c.loop-gathered.source)) c.loop-gathered.engine.past
     (g.T.Sink.held c.args.sink.now) (g.T.Sink.held c.flush_before_read.new.sink) (g.T.Sink.held c.flush-in-Err.new.sink)
     c.answer_line.new.replies.items c.from_residual-in_err-flush-in-Err.result c.loop-gathered.invariant.setting
-    c.loop-gathered.invariant.legal c.loop-gathered.invariant.answered 
+    c.loop-gathered.invariant.legal c.loop-gathered.invariant.answered
     (gathers-less _ _ _ c.loop-gathered.engine.past _ _ _
     c.loop-gathered.invariant.written c.in_ok-flush_before_read.ensures.bytes c.in-Err.ensures.kept)
     c.in_err-flush-in-Err.ensures.part (search rules)
@@ -67,7 +67,7 @@ returns-in-Err-clause-some g c =
     (cut_left c.loop-gathered.lines (g.S.Source.rest c.loop-gathered.source)) c.loop-gathered.engine.past
     (g.T.Sink.held c.args.sink.now) (g.T.Sink.held c.flush_before_read.new.sink) (g.T.Sink.held c.flush-in-Err.new.sink)
     c.answer_line.new.replies.items (Err c.in-Err.fault) c.loop-gathered.invariant.setting
-    c.loop-gathered.invariant.legal c.loop-gathered.invariant.answered 
+    c.loop-gathered.invariant.legal c.loop-gathered.invariant.answered
     (gathers-less _ _ _ c.loop-gathered.engine.past _ _ _
     c.loop-gathered.invariant.written c.in_ok-flush_before_read.ensures.bytes c.in-Err.ensures.kept)
     c.in_ok-flush-in-Err.ensures.bytes

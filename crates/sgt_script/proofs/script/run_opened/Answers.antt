@@ -29,28 +29,28 @@ pub returns-in_err-answer_lines-clause-stops : goal.returns-in_err-answer_lines-
 returns-in_err-answer_lines-clause-stops g c = λ stop.
     stops-from c.histories_go_on.ensures.events c.histories_go_on.ensures.rows (setting_of c.args.engine.now) c.args.engine.now.opening
     c.args.lines.now.number (cut_left c.args.lines.now (g.S.Source.rest c.args.source.now)) (g.T.Sink.held c.args.sink.now)
-    (g.T.Sink.held c.answer_lines.new.sink) c.answer_lines.result refl (ap (λ n. n + 1) c.requires.second) 
+    (g.T.Sink.held c.answer_lines.new.sink) c.answer_lines.result refl (ap (λ n. n + 1) c.requires.second)
     (stop-other c.from_residual.result c.answer_lines.result (search rules) stop) c.answer_lines.ensures.some
 
 pub returns-in_err-answer_lines-clause-part : goal.returns-in_err-answer_lines-clause-part
 returns-in_err-answer_lines-clause-part g c = λ failed.
     fails-from c.histories_go_on.ensures.events c.histories_go_on.ensures.rows (setting_of c.args.engine.now) c.args.engine.now.opening
     c.args.lines.now.number (cut_left c.args.lines.now (g.S.Source.rest c.args.source.now)) (g.T.Sink.held c.args.sink.now)
-    (g.T.Sink.held c.answer_lines.new.sink) c.answer_lines.result refl (ap (λ n. n + 1) c.requires.second) 
+    (g.T.Sink.held c.answer_lines.new.sink) c.answer_lines.result refl (ap (λ n. n + 1) c.requires.second)
     c.answer_lines.ensures.some
 
 pub returns-in_err-database-clause-stops : goal.returns-in_err-database-clause-stops
 returns-in_err-database-clause-stops g c = λ stop.
     stops-from c.histories_go_on.ensures.events c.histories_go_on.ensures.rows (setting_of c.args.engine.now) c.args.engine.now.opening
     c.args.lines.now.number (cut_left c.args.lines.now (g.S.Source.rest c.args.source.now)) (g.T.Sink.held c.args.sink.now)
-    (g.T.Sink.held c.answer_lines.new.sink) c.answer_lines.result refl (ap (λ n. n + 1) c.requires.second) 
+    (g.T.Sink.held c.answer_lines.new.sink) c.answer_lines.result refl (ap (λ n. n + 1) c.requires.second)
     (well-other c.answer_lines.result c.in_ok-answer_lines.was) c.answer_lines.ensures.some
 
 pub returns-in_err-append_database-clause-stops : goal.returns-in_err-append_database-clause-stops
 returns-in_err-append_database-clause-stops g c = λ stop.
     stops-from c.histories_go_on.ensures.events c.histories_go_on.ensures.rows (setting_of c.args.engine.now) c.args.engine.now.opening
     c.args.lines.now.number (cut_left c.args.lines.now (g.S.Source.rest c.args.source.now)) (g.T.Sink.held c.args.sink.now)
-    (g.T.Sink.held c.answer_lines.new.sink) c.answer_lines.result refl (ap (λ n. n + 1) c.requires.second) 
+    (g.T.Sink.held c.answer_lines.new.sink) c.answer_lines.result refl (ap (λ n. n + 1) c.requires.second)
     (well-other c.answer_lines.result c.in_ok-answer_lines.was) c.answer_lines.ensures.some
 
 pub returns-clause-part : goal.returns-clause-part
