@@ -1,9 +1,9 @@
 -- Laws of a run that stopped on the way: it wrote the beginning of what a whole run writes.
-use Rattle.std.proofs.Common.{◌≡◌, ◌≢◌, ℕ, ◌+◌, List, [], ◌∷◌, ◌++◌, refl, ap, sym, ◌∙◌, append_assoc, append-nil, subst, inr, ◌⊎◌}
+use Rattle.std.proofs.Common.{◌≡◌, ◌≢◌, ℕ, ◌+◌, List, [], ◌∷◌, ◌++◌, refl, ap, sym, ◌∙◌, append_assoc, append-nil, subst, inl, inr, ◌⊎◌}
 use Rattle.std.proofs.lemmas.List.{map-append, reverse-append, take-append-drop}
 use Rattle.std.specs.Result.{is_err}
-use Rattle.std.specs.Prelude.{map, reverse, take, drop, true, Result, Option, None, Some, IfSome, IfErr, OnOk, OnErr, Ok, Err}
-use Rattle.std.specs.Io.KnownBytes.{Appends}
+use Rattle.std.specs.Prelude.{map, reverse, take, drop, true, false, Result, Option, None, Some, IfSome, IfErr, OnOk, OnErr, Ok, Err}
+use Rattle.std.specs.Io.KnownBytes.{Appends, Consumes}
 use Rattle.sgt_model.specs.declared.entry.Entry.{Entry}
 use Rattle.sgt_model.specs.Contents.{Key}
 use Rattle.sgt_model.specs.Continuations.{HistoriesGoOn, SettledAreRows}
@@ -19,14 +19,16 @@ use Rattle.sgt_format.specs.declared.opening.Opening.{Opening}
 use Rattle.sgt_program.specs.Openings.{opened_setting}
 use Rattle.sgt_stream.specs.declared.fault.Fault.{Fault}
 use Rattle.sgt_stream.specs.declared.fault.Fault.TheVariants as fault
-use Rattle.sgt_stream.specs.Lines.{Cut, Ending, cut}
-use Rattle.sgt_stream.specs.Intake.{Intake, before_input, cut_left, Gives}
+use Rattle.sgt_stream.specs.Lines.{Cut, Ending, cut, has_break}
+use Rattle.sgt_stream.specs.Intake.{Intake, before_input, bytes_left, cut_left, taken, Gives}
 use Rattle.sgt_stream.specs.Ends.{End, IsExact}
 use Rattle.sgt_stream.specs.Spelled.{spelled, end_of}
 use Rattle.sgt_script.specs.Scripts.{RunOutput, ScriptOf, event_at, replies, Closing}
-use Rattle.sgt_script.specs.Answering.{Answered, AllAnswered, AnswersSome}
+use Rattle.sgt_script.specs.Answering.{Answered, AllAnswered, AnswersRead, AnswersScriptRead, AnswersSome}
 use Rattle.sgt_script.specs.Beginnings.{AppendsPart, Begins, IsStop, LineRuns, ScriptRuns}
 use Rattle.sgt_script.proofs.Answers.{appends-trans}
+use Rattle.sgt_script.proofs.WholeLines.{read-opened}
+use Rattle.sgt_script.proofs.Runs.{appends-none}
 
 -- what is written, and what is gathered
 
@@ -69,9 +71,10 @@ pub on-failed : {P : Type 0} (r : End) (f : Fault) → r ≡ Err f → OnErr r P
 on-failed {P} r f is holds = subst (λ (e : End). OnErr e P) is holds
 
 -- where all of it is written out
-pub some-all : (s s' : Setting) (n m : ℕ) (known left : Option Cut) (past : List Entry) (a b c : Option (List ℕ)) (held : List ℕ) (end : End)
-    → s' ≡ s → Legal s' past → Answered n known past m left → Gathers a b past held → Appends b c held → AnswersSome s n known a c end
-some-all s s' n m known left past a b c held end same legal answered (xs, first, all) second = record {
+pub some-all : (s s' : Setting) (n m : ℕ) (known left : Option Cut) (past : List Entry) (from to a b c : Option (List ℕ)) (held : List ℕ)
+    (end : End) → s' ≡ s → Legal s' past → Answered n known past m left → Gathers a b past held → Appends b c held
+    → (end ≡ Err fault.Reading → AnswersRead n from to past) → AnswersSome s n known from to a c end
+some-all s s' n m known left past from to a b c held end same legal answered (xs, first, all) second read = record {
   past = past;
   next = m;
   left = left;
@@ -82,13 +85,14 @@ some-all s s' n m known left past a b c held end same legal answered (xs, first,
   rest = [];
   parts = all ∙ sym (append-nil (xs ++ held));
   all = λ _. refl;
+  read = read;
 }
 
 -- where the write of it failed
-pub some-part : (s s' : Setting) (n m : ℕ) (known left : Option Cut) (past : List Entry) (a b c : Option (List ℕ)) (held : List ℕ) (end : End)
-    → s' ≡ s → Legal s' past → Answered n known past m left → Gathers a b past held → AppendsPart b c held → end ≡ Err fault.Writing
-    → AnswersSome s n known a c end
-some-part s s' n m known left past a b c held end same legal answered (xs, first, all) part failed = record {
+pub some-part : (s s' : Setting) (n m : ℕ) (known left : Option Cut) (past : List Entry) (from to a b c : Option (List ℕ)) (held : List ℕ)
+    (end : End) → s' ≡ s → Legal s' past → Answered n known past m left → Gathers a b past held → AppendsPart b c held
+    → end ≡ Err fault.Writing → AnswersSome s n known from to a c end
+some-part s s' n m known left past from to a b c held end same legal answered (xs, first, all) part failed = record {
   past = past;
   next = m;
   left = left;
@@ -99,16 +103,17 @@ some-part s s' n m known left past a b c held end same legal answered (xs, first
   rest = part.rest;
   parts = all ∙ ap (λ l. xs ++ l) part.parts ∙ sym (append_assoc xs part.written part.rest);
   all = λ other. absurd (other failed);
+  read = λ reading. absurd (cc (sym failed ∙ reading));
 }
 
 -- where it was to be written out last
-pub some-flush : (s s' : Setting) (n m : ℕ) (known left : Option Cut) (past : List Entry) (a b c : Option (List ℕ)) (held : List ℕ) (end : End)
-    → s' ≡ s → Legal s' past → Answered n known past m left → Gathers a b past held → OnOk end (Appends b c held)
-    → OnErr end (AppendsPart b c held) → IfErr end (λ f. f ≡ fault.Writing) → AnswersSome s n known a c end
-some-flush s s' n m known left past a b c held (Ok tt') same legal answered gathers good bad is =
-    some-all s s' n m known left past a b c held (Ok tt') same legal answered gathers good
-some-flush s s' n m known left past a b c held (Err f) same legal answered gathers good bad is =
-    some-part s s' n m known left past a b c held (Err f) same legal answered gathers bad (ap (λ g. Err g) is)
+pub some-flush : (s s' : Setting) (n m : ℕ) (known left : Option Cut) (past : List Entry) (from to a b c : Option (List ℕ)) (held : List ℕ)
+    (end : End) → s' ≡ s → Legal s' past → Answered n known past m left → Gathers a b past held → OnOk end (Appends b c held)
+    → OnErr end (AppendsPart b c held) → IfErr end (λ f. f ≡ fault.Writing) → AnswersSome s n known from to a c end
+some-flush s s' n m known left past from to a b c held (Ok tt') same legal answered gathers good bad is =
+    some-all s s' n m known left past from to a b c held (Ok tt') same legal answered gathers good (λ reading. absurd (cc reading))
+some-flush s s' n m known left past from to a b c held (Err f) same legal answered gathers good bad is =
+    some-part s s' n m known left past from to a b c held (Err f) same legal answered gathers bad (ap (λ g. Err g) is)
 
 -- whole runs
 
@@ -161,31 +166,34 @@ goes-on go_on are_rows s rows n m c (Some left) past out rest is second legal an
     }
 
 -- what a run over known lines wrote that stopped behind a reply
-abbrev pub Stops : Setting → Option Cut → Option (List ℕ) → Option (List ℕ) → Type 0
-Stops s known old new = IfSome known (λ c. (answered : List Entry) × Appends old new (replies answered)
-    × Begins (LineRuns s c) answered (replies answered))
+abbrev pub Stops : Setting → Option Cut → (from to old new : Option (List ℕ)) → End → Type 0
+Stops s known from to old new end = IfSome known (λ c. (answered : List Entry) × Appends old new (replies answered)
+    × Begins (LineRuns s c) answered (replies answered) × (end ≡ Err fault.Reading → AnswersRead 2 from to answered))
 
 -- and what one wrote whose write failed
 abbrev pub Fails : Setting → Option Cut → Option (List ℕ) → Option (List ℕ) → Type 0
 Fails s known old new = IfSome known (λ c. (answered : List Entry) × (out : List ℕ) × Appends old new out
     × Begins (LineRuns s c) answered out)
 
-pub stops-from : HistoriesGoOn → SettledAreRows → (s : Setting) (rows : List Row) (n : ℕ) (known : Option Cut) (old new : Option (List ℕ))
-    (end : End) → s.opening ≡ contents_of rows → n + 1 ≡ 2 → end ≢ Err fault.Writing → AnswersSome s (n + 1) known old new end
-    → Stops s known old new
-stops-from go_on are_rows s rows n None old new end is second other some = tt
-stops-from go_on are_rows s rows n (Some c) old new end is second other some =
+pub stops-from : HistoriesGoOn → SettledAreRows → (s : Setting) (rows : List Row) (n : ℕ) (known : Option Cut)
+    (from to old new : Option (List ℕ)) (end end' : End) → s.opening ≡ contents_of rows → n + 1 ≡ 2 → end ≢ Err fault.Writing
+    → (end' ≡ Err fault.Reading → end ≡ Err fault.Reading) → AnswersSome s (n + 1) known from to old new end
+    → Stops s known from to old new end'
+stops-from go_on are_rows s rows n None from to old new end end' is second other failed some = tt
+stops-from go_on are_rows s rows n (Some c) from to old new end end' is second other failed some =
     let whole : replies some.past ≡ some.written = some.parts ∙ ap (λ l. some.written ++ l) (some.all other) ∙ append-nil some.written in (
       some.past,
       subst (Appends old new) (sym whole) some.appends,
       goes-on go_on are_rows s rows (n + 1) some.next c some.left some.past (replies some.past) [] is second some.legal some.answered
           (sym (append-nil (replies some.past))),
+      λ reading. subst (λ k. AnswersRead k from to some.past) second (some.read (failed reading)),
     )
 
-pub fails-from : HistoriesGoOn → SettledAreRows → (s : Setting) (rows : List Row) (n : ℕ) (known : Option Cut) (old new : Option (List ℕ))
-    (end : End) → s.opening ≡ contents_of rows → n + 1 ≡ 2 → AnswersSome s (n + 1) known old new end → Fails s known old new
-fails-from go_on are_rows s rows n None old new end is second some = tt
-fails-from go_on are_rows s rows n (Some c) old new end is second some = (
+pub fails-from : HistoriesGoOn → SettledAreRows → (s : Setting) (rows : List Row) (n : ℕ) (known : Option Cut)
+    (from to old new : Option (List ℕ)) (end : End) → s.opening ≡ contents_of rows → n + 1 ≡ 2
+    → AnswersSome s (n + 1) known from to old new end → Fails s known old new
+fails-from go_on are_rows s rows n None from to old new end is second some = tt
+fails-from go_on are_rows s rows n (Some c) from to old new end is second some = (
   some.past,
   some.written,
   some.appends,
@@ -247,24 +255,46 @@ of-script s bytes line c o answered out gives opens is begun = record {
 }
 
 -- what a script's run wrote that stopped, or whose write failed
-abbrev pub ScriptStops : Option (List ℕ) → Option (List ℕ) → Option (List ℕ) → Type 0
-ScriptStops rest old new = IfSome rest (λ bytes. (answered : List Entry) × Appends old new (replies answered)
-    × ((answered ≡ []) ⊎ Begins (ScriptRuns bytes) answered (replies answered)))
+abbrev pub ScriptStops : (rest to old new : Option (List ℕ)) → End → Type 0
+ScriptStops rest to old new end = IfSome rest (λ bytes. (answered : List Entry) × Appends old new (replies answered)
+    × ((answered ≡ []) ⊎ Begins (ScriptRuns bytes) answered (replies answered))
+    × (end ≡ Err fault.Reading → AnswersScriptRead rest to answered))
 
 abbrev pub ScriptFails : Option (List ℕ) → Option (List ℕ) → Option (List ℕ) → Type 0
 ScriptFails rest old new = IfSome rest (λ bytes. (answered : List Entry) × (out : List ℕ) × Appends old new out
     × Begins (ScriptRuns bytes) answered out)
 
-pub stops-opened : (i : Intake) (s : Setting) (rest old new : Option (List ℕ)) (line : List ℕ) (known : Option Cut) (o : Opening)
-    → i ≡ before_input → Gives (cut_left i rest) line known → Opens 1 line o → s ≡ opened_setting o → Stops s known old new
-    → ScriptStops rest old new
-stops-opened i s None old new line known o start gives opens is stops = tt
-stops-opened i s (Some bytes) old new line None o start gives opens is stops =
-    absurd (subst (λ (j : Intake). Gives (cut_left j (Some bytes)) line None) start gives)
-stops-opened i s (Some bytes) old new line (Some c) o start gives opens is (answered, wrote, begun) =
-    let gives' : Gives (cut_left before_input (Some bytes)) line (Some c) =
-    subst (λ (j : Intake). Gives (cut_left j (Some bytes)) line (Some c)) start gives in
-    (answered, wrote, inr (of-script s bytes line c o answered (replies answered) gives' opens is begun))
+-- before an opening nothing is written
+pub stops-nothing : (rest to held : Option (List ℕ)) (end : End) → (end ≡ Err fault.Reading → AnswersScriptRead rest to [])
+    → ScriptStops rest to held held end
+stops-nothing None to held end read = tt
+stops-nothing (Some bytes) to held end read = ([], appends-none held, inl refl, read)
+
+-- behind an opening, where the lines left are known so
+stops-behind : (i i' : Intake) (s : Setting) (bytes : List ℕ) (rest' to old new : Option (List ℕ)) (known : Option Cut) (o : Opening)
+    (end : End) → i ≡ before_input → Gives (cut_left i (Some bytes)) i'.line known → Opens 1 i'.line o → s ≡ opened_setting o
+    → Consumes (bytes_left i (Some bytes)) (bytes_left i' rest') (taken i') → has_break i'.line ≡ false
+    → (end ≡ Err fault.Reading → i'.ended ≡ false) → Stops s known (bytes_left i' rest') to old new end
+    → ScriptStops (Some bytes) to old new end
+stops-behind i i' s bytes rest' to old new None o end start gives opens is took unbroken going stops =
+    absurd (subst (λ (j : Intake). Gives (cut_left j (Some bytes)) i'.line None) start gives)
+stops-behind i i' s bytes rest' to old new (Some c) o end start gives opens is took unbroken going (answered, wrote, begun, read) =
+    let gives' : Gives (cut_left before_input (Some bytes)) i'.line (Some c) =
+    subst (λ (j : Intake). Gives (cut_left j (Some bytes)) i'.line (Some c)) start gives in (
+      answered,
+      wrote,
+      inr (of-script s bytes i'.line c o answered (replies answered) gives' opens is begun),
+      λ reading. read-opened i i' (Some bytes) rest' to answered start took unbroken (going reading) (read reading),
+    )
+
+pub stops-opened : (i i' : Intake) (s : Setting) (rest rest' to old new : Option (List ℕ)) (o : Opening) (end : End) → i ≡ before_input
+    → Gives (cut_left i rest) i'.line (cut_left i' rest') → Opens 1 i'.line o → s ≡ opened_setting o
+    → Consumes (bytes_left i rest) (bytes_left i' rest') (taken i') → has_break i'.line ≡ false
+    → (end ≡ Err fault.Reading → i'.ended ≡ false) → Stops s (cut_left i' rest') (bytes_left i' rest') to old new end
+    → ScriptStops rest to old new end
+stops-opened i i' s None rest' to old new o end start gives opens is took unbroken going stops = tt
+stops-opened i i' s (Some bytes) rest' to old new o end start gives opens is took unbroken going stops =
+    stops-behind i i' s bytes rest' to old new (cut_left i' rest') o end start gives opens is took unbroken going stops
 
 pub fails-opened : (i : Intake) (s : Setting) (rest old new : Option (List ℕ)) (line : List ℕ) (known : Option Cut) (o : Opening)
     → i ≡ before_input → Gives (cut_left i rest) line known → Opens 1 line o → s ≡ opened_setting o → Fails s known old new

@@ -3,6 +3,7 @@ ghost use Rattle.std.specs.Io.KnownBytes.{Appends};
 ghost use Rattle.sgt_stream.specs.Ends.{IsExact};
 ghost use Rattle.sgt_script.specs.RunLaws.{RunLaws};
 ghost use Rattle.sgt_script.specs.Beginnings.{Begins, IsStop, ScriptRuns};
+ghost use Rattle.sgt_script.specs.Answering.{AnswersScriptRead};
 ghost use Rattle.sgt_script.specs.Scripts.{RunHistory, Script, replies};
 ghost use Rattle.sgt_model.specs.declared.entry.Entry.{Entry};
 
@@ -21,9 +22,10 @@ use std::alloc::Global;
 ///
 /// # Errors
 ///
-/// The first fault of the script: the replies to the lines before it are written then, and no database. `Reading` where a read
-/// failed and `NoMemory` where a growth was refused: the replies to some first lines are written then, as a whole run writes
-/// them, and no database. And `Writing` where a write failed: the beginning of what a whole run writes is written then.
+/// The first fault of the script: the replies to the lines before it are written then. `Reading` where a read failed: the
+/// replies to the whole lines read are. `NoMemory` where a growth was refused: the replies to some first lines are, as a whole
+/// run writes them. None of these writes the database. And `Writing` where a write failed: the beginning of what a whole run
+/// writes is written then.
 pub fn run_script<S: Source, T: Sink>(
     alloc: Global,
     source: &mut S,
@@ -36,7 +38,9 @@ pub fn run_script<S: Source, T: Sink>(
         × Script bytes run out result × IfSome run (λ r. RunLaws r out result)) }
     ensures stops { IsStop result → IfSome (S.rest source.old) (λ bytes. (answered : List Entry)
         × Appends (T.held sink.old) (T.held sink.new) (replies answered)
-        × ((answered ≡ []) ⊎ Begins (ScriptRuns bytes) answered (replies answered))) }
+        × ((answered ≡ []) ⊎ Begins (ScriptRuns bytes) answered (replies answered))
+        × (result ≡ Err Fault.Reading →
+        AnswersScriptRead (S.rest source.old) (S.rest source.new) answered)) }
     ensures part { result ≡ Err Fault.Writing → IfSome (S.rest source.old) (λ bytes.
         (answered : List Entry) × (out : List ℕ) × Appends (T.held sink.old) (T.held sink.new) out
         × Begins (ScriptRuns bytes) answered out) }

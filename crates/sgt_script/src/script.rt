@@ -1,13 +1,14 @@
 ghost use Rattle.std.specs.Prelude.{◌≡◌, ◌≢◌, ℕ, List, Option, false, IsTrue, IsFalse, IfOk, IfErr, OnOk, OnErr, IfSome, Err, Ok, Some, None, ◌⊎◌, [], ◌∷◌, ◌++◌, ◌+◌, ◌^◌, ◌<◌, ◌≤◌};
-ghost use Rattle.std.specs.Io.KnownBytes.{Appends};
+ghost use Rattle.std.specs.Io.KnownBytes.{Appends, Consumes};
 ghost use Rattle.sgt_model.specs.declared.entry.Entry.{Entry};
 ghost use Rattle.sgt_model.specs.Legality.{Legal};
 ghost use Rattle.sgt_engine.specs.EngineView.{setting_of};
 ghost use Rattle.sgt_format.specs.ReplyText.{text};
-ghost use Rattle.sgt_stream.specs.Intake.{come, cut_left, has_whole_line};
+ghost use Rattle.sgt_stream.specs.Lines.{has_break};
+ghost use Rattle.sgt_stream.specs.Intake.{bytes_left, come, cut_left, has_whole_line, taken};
 ghost use Rattle.sgt_stream.specs.Ends.{IsOfInput, IsExact};
-ghost use Rattle.sgt_script.specs.Scripts.{RunHistory, RunOutput, Script, replies};
-ghost use Rattle.sgt_script.specs.Answering.{Answered, NoEvent, AllAnswered, AnswersSome};
+ghost use Rattle.sgt_script.specs.Scripts.{RunHistory, RunOutput, Script, event_at, replies};
+ghost use Rattle.sgt_script.specs.Answering.{Answered, NoEvent, AllAnswered, AnswersSome, AnswersRead, AnswersScriptRead, NoLineCame};
 ghost use Rattle.sgt_script.specs.Beginnings.{AppendsPart, Begins, IsStop, LineRuns, ScriptRuns};
 
 use sgt_format::{append_database, append_reply, read_event};
@@ -30,7 +31,16 @@ fn answer_line<S: Source>(
         × (engine.new.past ≡ entry ∷ engine.old.past)
         × (replies.new.items ≡ replies.old.items ++ text entry.reply)
         × Answered (lines.old.number + 1) (cut_left lines.old (S.rest source.old)) (entry ∷ [])
-        (lines.new.number + 1) (cut_left lines.new (S.rest source.new))) }
+        (lines.new.number + 1) (cut_left lines.new (S.rest source.new))
+        × (event_at lines.new.number lines.new.line ≡ Ok entry.event)) }
+    ensures taken { IfOk result (λ more. IsTrue more → Consumes
+        (bytes_left lines.old (S.rest source.old)) (bytes_left lines.new (S.rest source.new))
+        (taken lines.new)) }
+    ensures unbroken { IfOk result (λ more. IsTrue more → has_break lines.new.line ≡ false) }
+    ensures number { IfOk result (λ more. IsTrue more → lines.new.number ≡ lines.old.number + 1) }
+    ensures ended { lines.new.ended ≡ false → lines.old.ended ≡ false }
+    ensures unread { result ≡ Err Fault.Reading → (engine.new.past ≡ engine.old.past)
+        × NoLineCame lines.old (S.rest source.old) lines.new (S.rest source.new) }
     ensures end { IfOk result (λ more. IsFalse more → (engine.new.past ≡ engine.old.past)
         × (replies.new.items ≡ replies.old.items)
         × NoEvent (lines.old.number + 1) (cut_left lines.old (S.rest source.old)) (Ok tt)) }
@@ -120,7 +130,10 @@ fn answer_lines<S: Source, T: Sink>(
     ensures written { IsExact result →
         Appends (T.held sink.old) (T.held sink.new) (replies engine.new.past) }
     ensures some { AnswersSome (setting_of engine.old) (lines.old.number + 1)
-        (cut_left lines.old (S.rest source.old)) (T.held sink.old) (T.held sink.new) result }
+        (cut_left lines.old (S.rest source.old))
+        (bytes_left lines.old (S.rest source.old)) (S.rest source.new)
+        (T.held sink.old) (T.held sink.new) result }
+    ensures going { result ≡ Err Fault.Reading → lines.old.ended ≡ false }
     ensures read_well { IsExact result → S.failures source.new ≡ S.failures source.old }
     ensures read_failed { result ≡ Err Fault.Reading →
         S.failures source.new ≡ S.failures source.old + 1 }
@@ -148,8 +161,9 @@ fn answer_lines<S: Source, T: Sink>(
 /// # Errors
 ///
 /// The fault of the first line that spells no event or is too long, or of the input: the replies to the lines before it are
-/// written then. `Reading` where a read failed and `NoMemory` where a growth was refused: the replies to some first lines are
-/// written then, and no database. And `Writing` where a write failed: the beginning of what a whole run writes is written then.
+/// written then. `Reading` where a read failed: the replies to the whole lines read are written then. `NoMemory` where a growth
+/// was refused: the replies to some first lines are. Neither writes the database. And `Writing` where a write failed: the
+/// beginning of what a whole run writes is written then.
 pub(crate) fn run_opened<S: Source, T: Sink>(
     alloc: Global,
     lines: &mut Lines,
@@ -168,7 +182,10 @@ pub(crate) fn run_opened<S: Source, T: Sink>(
         × RunOutput run c.given c.ending out result) }
     ensures stops { IsStop result → IfSome (cut_left lines.old (S.rest source.old)) (λ c.
         (answered : List Entry) × Appends (T.held sink.old) (T.held sink.new) (replies answered)
-        × Begins (LineRuns (setting_of engine.old) c) answered (replies answered)) }
+        × Begins (LineRuns (setting_of engine.old) c) answered (replies answered)
+        × (result ≡ Err Fault.Reading → AnswersRead 2
+        (bytes_left lines.old (S.rest source.old)) (S.rest source.new) answered)) }
+    ensures going { result ≡ Err Fault.Reading → lines.old.ended ≡ false }
     ensures part { result ≡ Err Fault.Writing →
         IfSome (cut_left lines.old (S.rest source.old)) (λ c.
         (answered : List Entry) × (out : List ℕ) × Appends (T.held sink.old) (T.held sink.new) out
@@ -195,9 +212,9 @@ pub(crate) fn run_opened<S: Source, T: Sink>(
 ///
 /// # Errors
 ///
-/// The first fault of the script: the replies to the lines before it are written then, and no database. `Reading` where a read
-/// failed and `NoMemory` where a growth was refused: the replies to some first lines are written then, and no database. And
-/// `Writing` where a write failed: the beginning of what a whole run writes is written then.
+/// The first fault of the script: the replies to the lines before it are written then. `Reading` where a read failed: the
+/// replies to the whole lines read are. `NoMemory` where a growth was refused: the replies to some first lines are. None of
+/// these writes the database. And `Writing` where a write failed: the beginning of what a whole run writes is written then.
 pub(crate) fn run_with<S: Source, T: Sink>(
     alloc: Global,
     source: &mut S,
@@ -210,7 +227,9 @@ pub(crate) fn run_with<S: Source, T: Sink>(
         × Script bytes run out result) }
     ensures stops { IsStop result → IfSome (S.rest source.old) (λ bytes. (answered : List Entry)
         × Appends (T.held sink.old) (T.held sink.new) (replies answered)
-        × ((answered ≡ []) ⊎ Begins (ScriptRuns bytes) answered (replies answered))) }
+        × ((answered ≡ []) ⊎ Begins (ScriptRuns bytes) answered (replies answered))
+        × (result ≡ Err Fault.Reading →
+        AnswersScriptRead (S.rest source.old) (S.rest source.new) answered)) }
     ensures part { result ≡ Err Fault.Writing → IfSome (S.rest source.old) (λ bytes.
         (answered : List Entry) × (out : List ℕ) × Appends (T.held sink.old) (T.held sink.new) out
         × Begins (ScriptRuns bytes) answered out) }

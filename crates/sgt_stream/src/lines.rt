@@ -128,6 +128,8 @@ impl Lines {
         ensures kept { result ≡ Err Fault.Reading →
             Keeps (bytes_left self.old (S.rest source.old)) (bytes_left self.new (S.rest source.new)) }
         ensures no_line { result ≡ Err Fault.Reading → whole_lines self.new.held ≡ [] }
+        ensures going { result ≡ Err Fault.Reading → self.new.ended ≡ false }
+        ensures ended { self.new.ended ≡ false → self.old.ended ≡ false }
         ensures come { S.given source.new + come self.old ≤ S.given source.old + come self.new }
         ensures few { come self.new ≤ 16777217 }
         ensures untouched { IsReady self.old → source.new ≡ source.old }
@@ -155,6 +157,7 @@ impl Lines {
         ensures few { come self.new ≤ 16777217 }
         ensures nearer { OnOk result (work self.new < work self.old) }
         ensures no_line { OnErr result (whole_lines self.new.held ≡ []) }
+        ensures going { OnErr result (self.new.ended ≡ false) }
         ensures well { OnOk result (S.failures source.new ≡ S.failures source.old) }
         ensures failed { OnErr result (S.failures source.new ≡ S.failures source.old + 1) }
     {
@@ -180,6 +183,8 @@ impl Lines {
         ensures fault { IfErr result (λ f.
             Explains f self.old.number (cut_left self.old (S.rest source.old))) }
         ensures no_line { result ≡ Err Fault.Reading → whole_lines self.new.held ≡ [] }
+        ensures going { result ≡ Err Fault.Reading → self.new.ended ≡ false }
+        ensures ended { self.new.ended ≡ false → self.old.ended ≡ false }
         ensures few { come self.new ≤ 16777217 }
         ensures untouched { IsReady self.old → source.new ≡ source.old }
         ensures well { result ≢ Err Fault.Reading →
@@ -212,6 +217,7 @@ impl Lines {
             (f ≡ Fault.LongLine (self.old.number + 1)) × IsLong self.old) }
         ensures err { OnErr result (self.new ≡ self.old) }
         ensures nearer { IfOk result (λ more. IsTrue more → self.new.within < self.old.within) }
+        ensures ended { self.new.ended ≡ self.old.ended }
         ensures limit { self.old.within ≤ 16777216 }
         ensures few { length self.new.held ≤ self.new.within + 1 }
     {

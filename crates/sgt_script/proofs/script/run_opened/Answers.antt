@@ -1,5 +1,5 @@
 use Rattle.std.proofs.Common.{rules, ◌+◌, ap, refl}
-use Rattle.sgt_stream.specs.Intake.{cut_left}
+use Rattle.sgt_stream.specs.Intake.{bytes_left, cut_left}
 use Rattle.sgt_engine.specs.EngineView.{setting_of}
 use Rattle.sgt_script.proofs.Answers.{output-fault, output-well, exact-flush}
 use Rattle.sgt_script.proofs.Beginnings.{stops-from, fails-from, fails-last, stop-other, well-other, on-failed}
@@ -28,30 +28,34 @@ returns-clause-output g c = λ exact.
 pub returns-in_err-answer_lines-clause-stops : goal.returns-in_err-answer_lines-clause-stops
 returns-in_err-answer_lines-clause-stops g c = λ stop.
     stops-from c.histories_go_on.ensures.events c.histories_go_on.ensures.rows (setting_of c.args.engine.now) c.args.engine.now.opening
-    c.args.lines.now.number (cut_left c.args.lines.now (g.S.Source.rest c.args.source.now)) (g.T.Sink.held c.args.sink.now)
-    (g.T.Sink.held c.answer_lines.new.sink) c.answer_lines.result refl (ap (λ n. n + 1) c.requires.second)
-    (stop-other c.from_residual.result c.answer_lines.result (search rules) stop) c.answer_lines.ensures.some
+    c.args.lines.now.number (cut_left c.args.lines.now (g.S.Source.rest c.args.source.now))
+    (bytes_left c.args.lines.now (g.S.Source.rest c.args.source.now)) (g.S.Source.rest c.answer_lines.new.source)
+    (g.T.Sink.held c.args.sink.now) (g.T.Sink.held c.answer_lines.new.sink) c.answer_lines.result c.from_residual.result refl (ap (λ n. n + 1) c.requires.second)
+    (stop-other c.from_residual.result c.answer_lines.result (search rules) stop) (λ reading. search rules) c.answer_lines.ensures.some
 
 pub returns-in_err-answer_lines-clause-part : goal.returns-in_err-answer_lines-clause-part
 returns-in_err-answer_lines-clause-part g c = λ failed.
     fails-from c.histories_go_on.ensures.events c.histories_go_on.ensures.rows (setting_of c.args.engine.now) c.args.engine.now.opening
-    c.args.lines.now.number (cut_left c.args.lines.now (g.S.Source.rest c.args.source.now)) (g.T.Sink.held c.args.sink.now)
-    (g.T.Sink.held c.answer_lines.new.sink) c.answer_lines.result refl (ap (λ n. n + 1) c.requires.second)
+    c.args.lines.now.number (cut_left c.args.lines.now (g.S.Source.rest c.args.source.now))
+    (bytes_left c.args.lines.now (g.S.Source.rest c.args.source.now)) (g.S.Source.rest c.answer_lines.new.source)
+    (g.T.Sink.held c.args.sink.now) (g.T.Sink.held c.answer_lines.new.sink) c.answer_lines.result refl (ap (λ n. n + 1) c.requires.second)
     c.answer_lines.ensures.some
 
 pub returns-in_err-database-clause-stops : goal.returns-in_err-database-clause-stops
 returns-in_err-database-clause-stops g c = λ stop.
     stops-from c.histories_go_on.ensures.events c.histories_go_on.ensures.rows (setting_of c.args.engine.now) c.args.engine.now.opening
-    c.args.lines.now.number (cut_left c.args.lines.now (g.S.Source.rest c.args.source.now)) (g.T.Sink.held c.args.sink.now)
-    (g.T.Sink.held c.answer_lines.new.sink) c.answer_lines.result refl (ap (λ n. n + 1) c.requires.second)
-    (well-other c.answer_lines.result c.in_ok-answer_lines.was) c.answer_lines.ensures.some
+    c.args.lines.now.number (cut_left c.args.lines.now (g.S.Source.rest c.args.source.now))
+    (bytes_left c.args.lines.now (g.S.Source.rest c.args.source.now)) (g.S.Source.rest c.answer_lines.new.source)
+    (g.T.Sink.held c.args.sink.now) (g.T.Sink.held c.answer_lines.new.sink) c.answer_lines.result c.from_residual-in_err-database.result refl (ap (λ n. n + 1) c.requires.second)
+    (well-other c.answer_lines.result c.in_ok-answer_lines.was) (λ reading. search rules) c.answer_lines.ensures.some
 
 pub returns-in_err-append_database-clause-stops : goal.returns-in_err-append_database-clause-stops
 returns-in_err-append_database-clause-stops g c = λ stop.
     stops-from c.histories_go_on.ensures.events c.histories_go_on.ensures.rows (setting_of c.args.engine.now) c.args.engine.now.opening
-    c.args.lines.now.number (cut_left c.args.lines.now (g.S.Source.rest c.args.source.now)) (g.T.Sink.held c.args.sink.now)
-    (g.T.Sink.held c.answer_lines.new.sink) c.answer_lines.result refl (ap (λ n. n + 1) c.requires.second)
-    (well-other c.answer_lines.result c.in_ok-answer_lines.was) c.answer_lines.ensures.some
+    c.args.lines.now.number (cut_left c.args.lines.now (g.S.Source.rest c.args.source.now))
+    (bytes_left c.args.lines.now (g.S.Source.rest c.args.source.now)) (g.S.Source.rest c.answer_lines.new.source)
+    (g.T.Sink.held c.args.sink.now) (g.T.Sink.held c.answer_lines.new.sink) c.answer_lines.result c.from_residual-in_err-append_database.result refl (ap (λ n. n + 1) c.requires.second)
+    (well-other c.answer_lines.result c.in_ok-answer_lines.was) (λ reading. search rules) c.answer_lines.ensures.some
 
 pub returns-clause-part : goal.returns-clause-part
 returns-clause-part g c = λ failed.

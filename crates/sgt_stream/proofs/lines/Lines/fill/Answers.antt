@@ -18,6 +18,7 @@ loop-self-preserved g c =
       counted = search rules;
       untouched =
           λ ready. absurd (not-ready c.loop-self.self none going (subst IsReady (sym (c.loop-self.invariant.untouched ready).0) ready));
+      ended = λ _. c.loop-self.invariant.ended going;
       well = search rules;
     }
 

@@ -1,4 +1,4 @@
-use Rattle.std.proofs.Common.{◌≡◌, ◌≤◌, ◌+◌}
+use Rattle.std.proofs.Common.{◌≡◌, ◌≤◌, ◌+◌, false}
 use Rattle.std.specs.Io.KnownBytes.{Keeps}
 use Rattle.sgt_stream.specs.Intake.{bytes_left, come, IsReady, work}
 use Rattle.sgt_stream.proofs.lines.Lines.fill.Given as goal
@@ -10,6 +10,7 @@ invariant-loop-self g l = record {
   bytes : Keeps (bytes_left l.fn.self (g.S.Source.rest l.fn.source)) (bytes_left l.self (g.S.Source.rest l.source));
   counted : g.S.Source.given l.source + come l.fn.self ≤ g.S.Source.given l.fn.source + come l.self;
   untouched : IsReady l.fn.self → (l.self ≡ l.fn.self) × (l.source ≡ l.fn.source);
+  ended : l.self.ended ≡ false → l.fn.self.ended ≡ false;
   well : g.S.Source.failures l.source ≡ g.S.Source.failures l.fn.source;
 }
 

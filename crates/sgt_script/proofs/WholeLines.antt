@@ -1,0 +1,159 @@
+-- Laws of bytes that are read line by line: the whole lines among them, and the events that these spell.
+use Rattle.std.proofs.Common.{◌≡◌, ℕ, ◌+◌, false, List, [], ◌∷◌, ◌++◌, length, refl, ap, sym, ◌∙◌, append_assoc, append-nil, subst, arith}
+use Rattle.std.proofs.lemmas.List.{length-append}
+use Rattle.std.specs.Prelude.{Result, Option, None, Some, Ok, Err}
+use Rattle.std.specs.Io.KnownBytes.{Consumes, Keeps, prepend_known}
+use Rattle.sgt_model.specs.declared.entry.Entry.{Entry}
+use Rattle.sgt_stream.specs.declared.fault.Fault.{Fault}
+use Rattle.sgt_stream.specs.Lines.{AtEnd, has_break, whole_lines}
+use Rattle.sgt_stream.specs.Intake.{Intake, before_input, bytes_left, taken}
+use Rattle.sgt_stream.specs.Ends.{End}
+use Rattle.sgt_stream.specs.Spelled.{and_later, or_later, spelled, end_of}
+use Rattle.sgt_stream.proofs.Cuts.{whole_lines-first}
+use Rattle.sgt_script.specs.Scripts.{event_at}
+use Rattle.sgt_script.specs.Answering.{AreEvents, AnswersRead, AreLaterEvents, AnswersScriptRead, NoLineCame}
+use Rattle.sgt_script.proofs.Answers.{events_of-entry}
+
+-- one more line behind lines that all spell something
+
+-- behind one of these
+spelled-behind : {A : Type 0} (r : Result A Fault) (x : A) (later more : List A) (end end' : End) → or_later r end ≡ Ok tt
+    → (end ≡ Ok tt → (more ≡ later ++ x ∷ []) × (end' ≡ Ok tt))
+    → (and_later r more ≡ and_later r later ++ x ∷ []) × (or_later r end' ≡ Ok tt)
+spelled-behind (Ok y) x later more end end' well next = (ap (λ l. y ∷ l) (next well).0, (next well).1)
+spelled-behind (Err f) x later more end end' well next = absurd (cc well)
+
+spelled-more : {A : Type 0} (read : ℕ → List ℕ → Result A Fault) (n : ℕ) (ls : List (List ℕ)) (line : List ℕ) (x : A)
+    → end_of read n ls AtEnd ≡ Ok tt → read (n + length ls) line ≡ Ok x
+    → (spelled read n (ls ++ line ∷ []) ≡ spelled read n ls ++ x ∷ []) × (end_of read n (ls ++ line ∷ []) AtEnd ≡ Ok tt)
+spelled-more read n [] line x well is =
+    let at : read n line ≡ Ok x = ap (λ k. read k line) (omega arith) ∙ is in
+    (ap (λ r. and_later r []) at, ap (λ r. or_later r (Ok tt)) at)
+spelled-more read n (l ∷ ls) line x well is =
+    spelled-behind (read n l) x (spelled read (n + 1) ls) (spelled read (n + 1) (ls ++ line ∷ []))
+    (end_of read (n + 1) ls AtEnd) (end_of read (n + 1) (ls ++ line ∷ []) AtEnd) well
+    (λ later. spelled-more read (n + 1) ls line x later (ap (λ k. read k line) (omega arith) ∙ is))
+
+events-more : (n : ℕ) (ls : List (List ℕ)) (line : List ℕ) (past : List Entry) (e : Entry) → AreEvents n ls past
+    → event_at (n + length ls) line ≡ Ok e.event → AreEvents n (ls ++ line ∷ []) (e ∷ past)
+events-more n ls line past e are is =
+    let more = spelled-more event_at n ls line e.event are.1 is in
+    (more.0 ∙ ap (λ l. l ++ e.event ∷ []) are.0 ∙ sym (events_of-entry e past), more.1)
+
+-- bytes read one after another
+
+pub consumes-trans : (a b c : Option (List ℕ)) (xs ys : List ℕ) → Consumes a b xs → Consumes b c ys → Consumes a c (xs ++ ys)
+consumes-trans None b c xs ys first second = tt
+consumes-trans (Some ls) None c xs ys first second = absurd first
+consumes-trans (Some ls) (Some ms) None xs ys first second = second
+consumes-trans (Some ls) (Some ms) (Some ns) xs ys first second = first ∙ ap (λ l. xs ++ l) second ∙ sym (append_assoc xs ys ns)
+
+-- from there to here just these lines were read, from number n to before m, and they are the history's events
+pub record IsReadSo (n : ℕ) (old now : Option (List ℕ)) (past : List Entry) (m : ℕ) : Type 0 where
+  pub bytes : List ℕ
+  pub lines : List (List ℕ)
+  pub consumes : Consumes old now bytes
+  pub whole : (rest : List ℕ) → whole_lines (bytes ++ rest) ≡ lines ++ whole_lines rest
+  pub events : AreEvents n lines past
+  pub number : m ≡ n + length lines
+
+-- nothing yet
+consumes-none : (known : Option (List ℕ)) → Consumes known known []
+consumes-none None = tt
+consumes-none (Some xs) = refl
+
+pub read-none : (n m : ℕ) (known : Option (List ℕ)) → m ≡ n → IsReadSo n known known [] m
+read-none n m known same = record {
+  bytes = [];
+  lines = [];
+  consumes = consumes-none known;
+  whole = λ rest. refl;
+  events = (refl, refl);
+  number = omega (arith, same);
+}
+
+-- a line with its byte 10
+read-line : (n m m' : ℕ) (a b c : Option (List ℕ)) (past : List Entry) (e : Entry) (line : List ℕ) → IsReadSo n a b past m
+    → Consumes b c (line ++ 10 ∷ []) → has_break line ≡ false → event_at m line ≡ Ok e.event → m' ≡ m + 1
+    → IsReadSo n a c (e ∷ past) m'
+read-line n m m' a b c past e line read taken unbroken is next = record {
+  bytes = read.bytes ++ (line ++ 10 ∷ []);
+  lines = read.lines ++ line ∷ [];
+  consumes = consumes-trans a b c read.bytes (line ++ 10 ∷ []) read.consumes taken;
+  whole = λ rest. ap whole_lines (append_assoc read.bytes (line ++ 10 ∷ []) rest ∙ ap (λ l. read.bytes ++ l) (append_assoc line (10 ∷ []) rest))
+      ∙ read.whole (line ++ 10 ∷ rest) ∙ ap (λ ls. read.lines ++ ls) (whole_lines-first line rest unbroken)
+      ∙ sym (append_assoc read.lines (line ∷ []) (whole_lines rest));
+  events = events-more n read.lines line past e read.events (ap (λ k. event_at k line) (sym read.number) ∙ is);
+  number = omega (arith, next, read.number, length-append read.lines (line ∷ []));
+}
+
+-- the next line, where the source has not ended with it
+pub read-next : (n : ℕ) (from : Option (List ℕ)) (i i' : Intake) (rest rest' : Option (List ℕ)) (past past' : List Entry) (e : Entry)
+    → (i.ended ≡ false → IsReadSo n from (bytes_left i rest) past (i.number + 1)) → (i'.ended ≡ false → i.ended ≡ false)
+    → Consumes (bytes_left i rest) (bytes_left i' rest') (taken i') → has_break i'.line ≡ false → event_at i'.number i'.line ≡ Ok e.event
+    → i'.number ≡ i.number + 1 → past' ≡ e ∷ past → i'.ended ≡ false → IsReadSo n from (bytes_left i' rest') past' (i'.number + 1)
+read-next n from i i' rest rest' past past' e read before took unbroken is number more going =
+    let line : taken i' ≡ i'.line ++ 10 ∷ [] = rw going refl in
+    subst (λ (p : List Entry). IsReadSo n from (bytes_left i' rest') p (i'.number + 1)) (sym more)
+    (read-line n (i.number + 1) (i'.number + 1) from (bytes_left i rest) (bytes_left i' rest') past e i'.line (read (before going))
+    (subst (Consumes (bytes_left i rest) (bytes_left i' rest')) line took) unbroken (ap (λ k. event_at k i'.line) (sym number) ∙ is)
+    (omega (arith, number)))
+
+-- where a read failed
+
+-- what is held was read
+consumes-held : (from now rest : Option (List ℕ)) (bytes held : List ℕ) → Consumes from now bytes → Keeps now (prepend_known held rest)
+    → Consumes from rest (bytes ++ held)
+consumes-held None now rest bytes held took kept = tt
+consumes-held (Some xs) None rest bytes held took kept = absurd took
+consumes-held (Some xs) (Some ys) None bytes held took kept = absurd kept
+consumes-held (Some xs) (Some ys) (Some zs) bytes held took kept =
+    took ∙ ap (λ l. bytes ++ l) (sym kept) ∙ sym (append_assoc bytes held zs)
+
+left-going : (i : Intake) (rest : Option (List ℕ)) → i.ended ≡ false → bytes_left i rest ≡ prepend_known i.held rest
+left-going i rest going = rw going refl
+
+pub read-failed : (n m : ℕ) (from : Option (List ℕ)) (i i' : Intake) (rest rest' : Option (List ℕ)) (past : List Entry)
+    → IsReadSo n from (bytes_left i rest) past m → NoLineCame i rest i' rest' → AnswersRead n from rest' past
+read-failed n m from i i' rest rest' past read none = (
+  read.bytes ++ i'.held,
+  consumes-held from (bytes_left i rest) rest' read.bytes i'.held read.consumes
+      (subst (Keeps (bytes_left i rest)) (left-going i' rest' none.2) none.0),
+  subst (λ (ls : List (List ℕ)). AreEvents n ls past)
+      (sym (read.whole i'.held ∙ ap (λ ls. read.lines ++ ls) none.1 ∙ append-nil read.lines)) read.events,
+)
+
+-- from the first line
+
+-- where it was not whole
+pub read-nothing : (i i' : Intake) (rest rest' : Option (List ℕ)) → i ≡ before_input → NoLineCame i rest i' rest'
+    → AnswersScriptRead rest rest' []
+read-nothing i i' None rest' start none = (i'.held, tt, subst (λ (ls : List (List ℕ)). AreLaterEvents ls []) (sym none.1) refl)
+read-nothing i i' (Some bytes) rest' start none =
+    let left : bytes_left i (Some bytes) ≡ Some bytes = ap (λ (j : Intake). bytes_left j (Some bytes)) start in (
+      i'.held,
+      consumes-held (Some bytes) (bytes_left i (Some bytes)) rest' [] i'.held
+          (subst (λ (k : Option (List ℕ)). Consumes (Some bytes) k []) (sym left) refl)
+          (subst (Keeps (bytes_left i (Some bytes))) (left-going i' rest' none.2) none.0),
+      subst (λ (ls : List (List ℕ)). AreLaterEvents ls []) (sym none.1) refl,
+    )
+
+-- behind an opening
+pub read-opened : (i i' : Intake) (rest rest' to : Option (List ℕ)) (past : List Entry) → i ≡ before_input
+    → Consumes (bytes_left i rest) (bytes_left i' rest') (taken i') → has_break i'.line ≡ false → i'.ended ≡ false
+    → AnswersRead 2 (bytes_left i' rest') to past → AnswersScriptRead rest to past
+read-opened i i' None rest' to past start took unbroken going (read, then, events) = (
+  i'.line ++ 10 ∷ read,
+  tt,
+  subst (λ (ls : List (List ℕ)). AreLaterEvents ls past) (sym (whole_lines-first i'.line read unbroken)) events,
+)
+read-opened i i' (Some bytes) rest' to past start took unbroken going (read, then, events) =
+    let left : bytes_left i (Some bytes) ≡ Some bytes = ap (λ (j : Intake). bytes_left j (Some bytes)) start in
+    let line : taken i' ≡ i'.line ++ 10 ∷ [] = rw going refl in (
+      i'.line ++ 10 ∷ read,
+      subst (Consumes (Some bytes) to) (append_assoc i'.line (10 ∷ []) read)
+          (consumes-trans (Some bytes) (bytes_left i' rest') to (i'.line ++ 10 ∷ []) read
+          (subst (Consumes (Some bytes) (bytes_left i' rest')) line
+          (subst (λ (k : Option (List ℕ)). Consumes k (bytes_left i' rest') (taken i')) left took)) then),
+      subst (λ (ls : List (List ℕ)). AreLaterEvents ls past) (sym (whole_lines-first i'.line read unbroken)) events,
+    )
