@@ -175,24 +175,6 @@ abort_sources h p t tops below commits aborts aborts' does are here others =
       aborts_are = done_noted h p t Abort aborts aborts' does are.aborts_are here others;
     }
 
--- another top of an item
-pub set_sources : (h : List Operation) (p x : ℕ) (o : Option ℕ) (tops below commits aborts tops' : ℕ → Option ℕ)
-    → AreSources h p tops below commits aborts → IsTopWrite h p x o → tops' x ≡ o → ((y : ℕ) → y ≢ x → tops' y ≡ tops y)
-    → AreSources h p tops' below commits aborts
-set_sources h p x o tops below commits aborts tops' are top here others = record {
-  tops_are = tops_are;
-  below_are = are.below_are;
-  fresh = are.fresh;
-  commits_are = are.commits_are;
-  aborts_are = are.aborts_are;
-}
-  where
-    tops_are : (y : ℕ) → IsTopWrite h p y (tops' y)
-    tops_are y = elim (cases_eq y x) [
-      | inl same ↦ subst (λ z. IsTopWrite h p z (tops' z)) (sym same) (subst (λ r. IsTopWrite h p x r) (sym here) top)
-      | inr differ ↦ subst (λ r. IsTopWrite h p y r) (sym (others y differ)) (are.tops_are y)
-    ]
-
 -- one operation further, where it violates nothing
 avoids_next : (h : List Operation) (p : ℕ) → AvoidsBefore h p → ((i : ℕ) → ¬ BreaksAvoidance h i p) → AvoidsBefore h (p + 1)
 avoids_next h p before here i j less broken = elim (before_next j p less) [
