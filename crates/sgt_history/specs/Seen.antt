@@ -1,6 +1,9 @@
 -- What is kept of the operations before a place.
 use Rattle.std.specs.Prelude.{◌≡◌, ◌<◌, ◌≤◌, ◌↔◌, ◌+◌, ℕ, List, Option, Some, None, IsSome}
+use Rattle.std.specs.BTreeMap.{get}
+use Rattle.std.specs.Ordering.{nat_cmp}
 use Rattle.sgt_history.specs.declared.operation.Operation.{Operation}
+use Rattle.sgt_history.specs.declared.avoiding.Sources.{Sources}
 use Rattle.sgt_history.specs.declared.operation.Action.{Action}
 use Rattle.sgt_history.specs.declared.operation.Action.TheVariants.{Write, Commit, Abort}
 use Rattle.sgt_history.specs.Histories.{Does, AbortedBefore, EndedBefore}
@@ -44,6 +47,10 @@ pub record AreSources (h : List Operation) (j : ℕ) (tops below commits aborts 
   pub fresh : (i : ℕ) → j ≤ i → below i ≡ None
   pub commits_are : AreDone h j Commit commits
   pub aborts_are : AreDone h j Abort aborts
+
+-- what the checker of the avoidance of cascading aborts keeps of the operations before place j
+abbrev pub KnowsSources : List Operation → ℕ → Sources → Type 0
+KnowsSources h j s = AreSources h j (get nat_cmp s.tops) (get nat_cmp s.below) (get nat_cmp s.commits) (get nat_cmp s.aborts)
 
 -- how far down a place is
 abbrev pub height : Option ℕ → ℕ

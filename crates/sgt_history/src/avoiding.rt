@@ -5,7 +5,7 @@ ghost use Rattle.std.specs.Ordering.{nat_cmp};
 ghost use Rattle.sgt_history.specs.declared.operation.Action.TheVariants.{Write};
 ghost use Rattle.sgt_history.specs.Histories.{Does, AbortedBefore};
 ghost use Rattle.sgt_history.specs.Classes.{BreaksAvoidance, IsFirstViolation};
-ghost use Rattle.sgt_history.specs.Seen.{AreSources, AvoidsBefore, IsTopWrite};
+ghost use Rattle.sgt_history.specs.Seen.{KnowsSources, AvoidsBefore, IsTopWrite};
 
 use crate::operation::{Action, Operation, Violation};
 use crate::strict::set_place;
@@ -66,9 +66,9 @@ impl Sources {
         place: usize,
     ) -> Result<Option<usize>, NoMemory>
         requires within { place < length history.now }
-        requires sources { AreSources history.now place (get nat_cmp self.old.tops) (get nat_cmp self.old.below) (get nat_cmp self.old.commits) (get nat_cmp self.old.aborts) }
+        requires sources { KnowsSources history.now place self.old }
         requires avoids { AvoidsBefore history.now place }
-        ensures sources { OnOk result (AreSources history.now place (get nat_cmp self.new.tops) (get nat_cmp self.new.below) (get nat_cmp self.new.commits) (get nat_cmp self.new.aborts)) }
+        ensures sources { OnOk result (KnowsSources history.now place self.new) }
         ensures some { IfOk result (λ found. IfSome found (λ i. BreaksAvoidance history.now i place)) }
         ensures none { IfOk result (λ found. IsNone found → AvoidsBefore history.now (place + 1)) }
     {
@@ -91,7 +91,7 @@ impl Sources {
     /// The item's last write before the place whose transaction has not aborted by then.
     fn standing(&self, history: &[Operation], place: usize, item: u32) -> Option<usize>
         requires within { place < length history.now }
-        requires sources { AreSources history.now place (get nat_cmp self.now.tops) (get nat_cmp self.now.below) (get nat_cmp self.now.commits) (get nat_cmp self.now.aborts) }
+        requires sources { KnowsSources history.now place self.now }
         ensures top { IsTopWrite history.now place item result }
         ensures standing { IfSome result (λ i. (t : ℕ) → Does history.now i t (Write item) → ¬ AbortedBefore history.now t place) }
     {
@@ -108,8 +108,8 @@ impl Sources {
     /// Notes the operation: its write, or how its transaction has ended.
     fn note(&mut self, history: &[Operation], place: usize) -> Result<(), NoMemory>
         requires within { place < length history.now }
-        requires sources { AreSources history.now place (get nat_cmp self.old.tops) (get nat_cmp self.old.below) (get nat_cmp self.old.commits) (get nat_cmp self.old.aborts) }
-        ensures { OnOk result (AreSources history.now (place + 1) (get nat_cmp self.new.tops) (get nat_cmp self.new.below) (get nat_cmp self.new.commits) (get nat_cmp self.new.aborts)) }
+        requires sources { KnowsSources history.now place self.old }
+        ensures { OnOk result (KnowsSources history.now (place + 1) self.new) }
     {
         let operation = history[place];
         match operation.action {
