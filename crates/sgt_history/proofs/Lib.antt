@@ -2,3 +2,4 @@ pub mod Places
 pub mod Strictness
 pub mod Inclusions
 pub mod CommitOrder
+pub mod Sources

@@ -1,9 +1,13 @@
 -- What is kept of the operations before a place.
-use Rattle.std.specs.Prelude.{◌<◌, ◌↔◌, ℕ, List, Option, Some, None, IsSome}
+use Rattle.std.specs.Prelude.{◌≡◌, ◌<◌, ◌≤◌, ◌↔◌, ◌+◌, ℕ, List, Option, Some, None, IsSome}
+use Rattle.std.specs.BTreeMap.{get}
+use Rattle.std.specs.Ordering.{nat_cmp}
 use Rattle.sgt_history.specs.declared.operation.Operation.{Operation}
-use Rattle.sgt_history.specs.declared.operation.Action.TheVariants.{Write}
-use Rattle.sgt_history.specs.Histories.{Does, EndedBefore}
-use Rattle.sgt_history.specs.Classes.{BreaksStrictness}
+use Rattle.sgt_history.specs.declared.avoiding.Sources.{Sources}
+use Rattle.sgt_history.specs.declared.operation.Action.{Action}
+use Rattle.sgt_history.specs.declared.operation.Action.TheVariants.{Write, Commit, Abort}
+use Rattle.sgt_history.specs.Histories.{Does, AbortedBefore, EndedBefore}
+use Rattle.sgt_history.specs.Classes.{BreaksStrictness, BreaksAvoidance}
 
 -- the last write of the item before place j, or none
 abbrev pub IsLastWrite : List Operation → ℕ → ℕ → Option ℕ → Type 0
@@ -21,3 +25,38 @@ AreEnded h j ends = (t : ℕ) → IsSome (ends t) ↔ EndedBefore h t j
 -- no operation before place j violates strictness
 abbrev pub IsStrictBefore : List Operation → ℕ → Type 0
 IsStrictBefore h place = (i j : ℕ) → j < place → ¬ BreaksStrictness h i j
+
+-- Whoever has written the item before place j, and after the given place, has aborted by j; at the given place is a write of it.
+abbrev pub IsTopWrite : List Operation → ℕ → ℕ → Option ℕ → Type 0
+IsTopWrite h j x None = (k t : ℕ) → k < j → Does h k t (Write x) → AbortedBefore h t j
+IsTopWrite h j x (Some i) =
+    (i < j) × ((t : ℕ) × Does h i t (Write x)) × ((k t : ℕ) → i < k → k < j → Does h k t (Write x) → AbortedBefore h t j)
+
+-- for each write before place j, where to look for an earlier one of its item if its writer has aborted
+abbrev pub AreBelow : List Operation → ℕ → (ℕ → Option ℕ) → Type 0
+AreBelow h j below = (i t x : ℕ) → i < j → Does h i t (Write x) → IsTopWrite h i x (below i)
+
+-- those that have done the action before place j
+abbrev pub AreDone : List Operation → ℕ → Action → (ℕ → Option ℕ) → Type 0
+AreDone h j a done = (t : ℕ) → IsSome (done t) ↔ ((i : ℕ) × (i < j) × Does h i t a)
+
+-- what is kept to tell from which write an operation reads
+pub record AreSources (h : List Operation) (j : ℕ) (tops below commits aborts : ℕ → Option ℕ) : Type 0 where
+  pub tops_are : (x : ℕ) → IsTopWrite h j x (tops x)
+  pub below_are : AreBelow h j below
+  pub fresh : (i : ℕ) → j ≤ i → below i ≡ None
+  pub commits_are : AreDone h j Commit commits
+  pub aborts_are : AreDone h j Abort aborts
+
+-- what the checker of the avoidance of cascading aborts keeps of the operations before place j
+abbrev pub KnowsSources : List Operation → ℕ → Sources → Type 0
+KnowsSources h j s = AreSources h j (get nat_cmp s.tops) (get nat_cmp s.below) (get nat_cmp s.commits) (get nat_cmp s.aborts)
+
+-- how far down a place is
+abbrev pub height : Option ℕ → ℕ
+height None = 0
+height (Some i) = i + 1
+
+-- no operation before place j violates the avoidance of cascading aborts
+abbrev pub AvoidsBefore : List Operation → ℕ → Type 0
+AvoidsBefore h place = (i j : ℕ) → j < place → ¬ BreaksAvoidance h i j

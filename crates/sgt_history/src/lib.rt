@@ -14,10 +14,12 @@
 //! ```
 #![tactic(auto)]
 
+mod avoiding;
 mod laws;
 mod operation;
 mod strict;
 
+pub use avoiding::avoidance_violation;
 pub use laws::{
     avoiding_are_recoverable, commit_ordered_are_serializable, rigorous_are_strict,
     strict_avoid_cascading_aborts,

@@ -87,7 +87,11 @@ impl Writes {
 }
 
 /// Sets the place of a number.
-fn set_place(places: &mut BTreeMap<u32, usize>, number: u32, place: usize) -> Result<(), NoMemory>
+pub fn set_place(
+    places: &mut BTreeMap<u32, usize>,
+    number: u32,
+    place: usize,
+) -> Result<(), NoMemory>
     ensures at { OnOk result (get nat_cmp places.new number ≡ Some place) }
     ensures others { OnOk result ((k : ℕ) → k ≢ number → get nat_cmp places.new k ≡ get nat_cmp places.old k) }
 {

@@ -1,0 +1,12 @@
+use Rattle.std.proofs.Common.{rules, arith}
+use Rattle.sgt_history.proofs.Sources.{avoids_whole}
+use Rattle.sgt_history.proofs.avoiding.avoidance_violation.Goals as goal
+
+pub loop-place-preserved : goal.loop-place-preserved
+loop-place-preserved c = record {
+  sources = c.in_ok-note.ensures;
+  avoids = c.in_ok-earlier.ensures.none (search rules);
+}
+
+pub returns : goal.returns
+returns c = avoids_whole c.args.history.now c.loop-place.place (omega (arith, c.loop-place-test.false)) c.loop-place.invariant.avoids

@@ -1,0 +1,156 @@
+//! The avoidance of cascading aborts, and from which write an operation reads.
+ghost use Rattle.std.specs.Prelude.{◌≡◌, ◌≢◌, ◌<◌, ◌+◌, ℕ, Some, None, length, IfSome, IfOk, OnOk, IsNone};
+ghost use Rattle.std.specs.BTreeMap.{get};
+ghost use Rattle.std.specs.Ordering.{nat_cmp};
+ghost use Rattle.sgt_history.specs.declared.operation.Action.TheVariants.{Write};
+ghost use Rattle.sgt_history.specs.Histories.{Does, AbortedBefore};
+ghost use Rattle.sgt_history.specs.Classes.{BreaksAvoidance, IsFirstViolation};
+ghost use Rattle.sgt_history.specs.Seen.{KnowsSources, AvoidsBefore, IsTopWrite};
+
+use crate::operation::{Action, Operation, Violation};
+use crate::strict::set_place;
+use sgt_model::NoMemory;
+use std::alloc::Global;
+use std::collections::BTreeMap;
+
+/// The first operation that reads from another transaction that has not committed, with the write that it reads. `None` where
+/// the history avoids cascading aborts.
+///
+/// Bernstein, Hadzilacos and Goodman (1987), chapter 2: avoids cascading aborts. An operation reads from the last write of its
+/// item before it whose transaction has not aborted by then.
+///
+/// Each write of an aborted transaction is passed once in the whole; but for that an operation costs four look-ups in a map at
+/// most, of the items, the writes and the transactions seen.
+pub fn avoidance_violation(
+    alloc: Global,
+    history: &[Operation],
+) -> Result<Option<Violation>, NoMemory>
+    ensures { IfOk result (IsFirstViolation (BreaksAvoidance history.now)) }
+{
+    let mut seen = Sources {
+        tops: BTreeMap::new(alloc),
+        below: BTreeMap::new(alloc),
+        commits: BTreeMap::new(alloc),
+        aborts: BTreeMap::new(alloc),
+    };
+    for place in 0..history.len() {
+        if let Some(earlier) = seen.uncommitted(history, place)? {
+            return Ok(Some(Violation {
+                earlier,
+                later: place,
+            }));
+        }
+        seen.note(history, place)?;
+    }
+    Ok(None)
+}
+
+/// What is kept of the operations before a place, to tell from which write the next one reads.
+#[derive(Drop)]
+struct Sources {
+    /// The place of an item's last write whose transaction is not known to have aborted.
+    tops: BTreeMap<u32, usize>,
+    /// For the place of a write that of one of its item below, which is the top once the writer has aborted.
+    below: BTreeMap<usize, usize>,
+    /// Where a transaction has committed.
+    commits: BTreeMap<u32, usize>,
+    /// Where a transaction has aborted.
+    aborts: BTreeMap<u32, usize>,
+}
+
+impl Sources {
+    /// The write that the operation reads, where another transaction wrote it that has not committed.
+    fn uncommitted(
+        &mut self,
+        history: &[Operation],
+        place: usize,
+    ) -> Result<Option<usize>, NoMemory>
+        requires within { place < length history.now }
+        requires sources { KnowsSources history.now place self.old }
+        requires avoids { AvoidsBefore history.now place }
+        ensures sources { OnOk result (KnowsSources history.now place self.new) }
+        ensures some { IfOk result (λ found. IfSome found (λ i. BreaksAvoidance history.now i place)) }
+        ensures none { IfOk result (λ found. IsNone found → AvoidsBefore history.now (place + 1)) }
+    {
+        let operation = history[place];
+        let Action::Read(item) = operation.action else {
+            return Ok(None);
+        };
+        let source = self.standing(history, place, item);
+        set_top(&mut self.tops, item, source)?;
+        let Some(earlier) = source else {
+            return Ok(None);
+        };
+        let writer = history[earlier].transaction;
+        if writer == operation.transaction || self.commits.contains_key(&writer) {
+            return Ok(None);
+        }
+        Ok(Some(earlier))
+    }
+
+    /// The item's last write before the place whose transaction has not aborted by then.
+    fn standing(&self, history: &[Operation], place: usize, item: u32) -> Option<usize>
+        requires within { place < length history.now }
+        requires sources { KnowsSources history.now place self.now }
+        ensures top { IsTopWrite history.now place item result }
+        ensures standing { IfSome result (λ i. (t : ℕ) → Does history.now i t (Write item) → ¬ AbortedBefore history.now t place) }
+    {
+        let mut top = self.tops.get(&item).copied();
+        while let Some(write) = top {
+            if !self.aborts.contains_key(&history[write].transaction) {
+                return top;
+            }
+            top = self.below.get(&write).copied();
+        }
+        None
+    }
+
+    /// Notes the operation: its write, or how its transaction has ended.
+    fn note(&mut self, history: &[Operation], place: usize) -> Result<(), NoMemory>
+        requires within { place < length history.now }
+        requires sources { KnowsSources history.now place self.old }
+        ensures { OnOk result (KnowsSources history.now (place + 1) self.new) }
+    {
+        let operation = history[place];
+        match operation.action {
+            Action::Read(_) => (),
+            Action::Write(item) => put_on_top(&mut self.tops, &mut self.below, item, place)?,
+            Action::Commit => set_place(&mut self.commits, operation.transaction, place)?,
+            Action::Abort => set_place(&mut self.aborts, operation.transaction, place)?,
+        }
+        Ok(())
+    }
+}
+
+/// Sets the top of an item.
+fn set_top(tops: &mut BTreeMap<u32, usize>, item: u32, top: Option<usize>) -> Result<(), NoMemory>
+    ensures at { OnOk result (get nat_cmp tops.new item ≡ top) }
+    ensures others { OnOk result ((x : ℕ) → x ≢ item → get nat_cmp tops.new x ≡ get nat_cmp tops.old x) }
+{
+    match top {
+        Some(place) => set_place(tops, item, place)?,
+        None => {
+            tops.remove(&item);
+        }
+    }
+    Ok(())
+}
+
+/// Puts a write on top of the item's.
+fn put_on_top(
+    tops: &mut BTreeMap<u32, usize>,
+    below: &mut BTreeMap<usize, usize>,
+    item: u32,
+    place: usize,
+) -> Result<(), NoMemory>
+    requires fresh { get nat_cmp below.old place ≡ None }
+    ensures top { OnOk result (get nat_cmp tops.new item ≡ Some place) }
+    ensures other_tops { OnOk result ((x : ℕ) → x ≢ item → get nat_cmp tops.new x ≡ get nat_cmp tops.old x) }
+    ensures lower { OnOk result (get nat_cmp below.new place ≡ get nat_cmp tops.old item) }
+    ensures others_below { OnOk result ((i : ℕ) → i ≢ place → get nat_cmp below.new i ≡ get nat_cmp below.old i) }
+{
+    if let Some(lower) = tops.get(&item).copied() {
+        below.insert(place, lower)?;
+    }
+    set_place(tops, item, place)
+}
