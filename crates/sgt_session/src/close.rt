@@ -57,7 +57,7 @@ impl<N: Named, R: Records, A: Accesses, G: Graph> Shared<N, R, A, G> {
         }
         let Shared {
             round,
-            starters,
+            lock_policy,
             waiters,
             sessions: count,
         } = self;
@@ -66,7 +66,7 @@ impl<N: Named, R: Records, A: Accesses, G: Graph> Shared<N, R, A, G> {
         if !accounts(round.history(), sessions.as_slice()) {
             let shared = Shared {
                 round: Mutex::new(round),
-                starters,
+                lock_policy,
                 waiters,
                 sessions: count,
             };

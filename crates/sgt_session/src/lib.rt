@@ -77,6 +77,7 @@
 
 mod accounts;
 mod close;
+mod lock_policy;
 mod named;
 mod new;
 mod own;
@@ -84,7 +85,6 @@ mod receipt;
 mod round;
 mod session;
 mod shared;
-mod starters;
 mod touch;
 mod waiters;
 

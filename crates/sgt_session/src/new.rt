@@ -1,11 +1,11 @@
 ghost use Rattle.std.specs.Prelude.{◌≡◌, ◌≤◌, [], replicate, vec_capacity, MatchResult};
 ghost use Rattle.sgt_engine.specs.EngineView.{setting_of};
 
+use crate::lock_policy::LockPolicy;
 use crate::named::Named;
 use crate::round::Round;
 use crate::session::Session;
 use crate::shared::Shared;
-use crate::starters::Starters;
 use crate::waiters::Waiters;
 use sgt_access::Accesses;
 use sgt_engine::Engine;
@@ -50,7 +50,7 @@ impl<N: Named, R: Records, A: Accesses, G: Graph> Shared<N, R, A, G> {
         Ok((
             Shared {
                 round,
-                starters: Starters::new(),
+                lock_policy: LockPolicy::new(),
                 waiters: Waiters::new(),
                 sessions,
             },

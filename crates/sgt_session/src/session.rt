@@ -191,7 +191,7 @@ impl<N: Named> Session<N> {
             (λ _. self.new ≡ self.old) }
     {
         make_receipt_room(&mut self.receipts, &mut self.own, &event)?;
-        let mut round = shared.starters.lock(rt, &shared.round, &event);
+        let (turn, mut round) = shared.lock_policy.lock(rt, &shared.round, &event);
         round.apply(event, &mut self.share, &mut self.receipts)?;
         let receipt = &self.receipts[self.receipts.len() - 1];
         if may_wait && receipt.reply.is_wait() {
@@ -199,6 +199,7 @@ impl<N: Named> Session<N> {
         } else {
             drop(round);
         }
+        drop(turn);
         note(&mut self.own, receipt);
         shared.waiters.wake_after(&receipt.reply);
         Ok(())

@@ -1,8 +1,8 @@
 ghost use Rattle.std.specs.Prelude.{◌≡◌, ◌≤◌};
 
+use crate::lock_policy::LockPolicy;
 use crate::named::Named;
 use crate::round::Round;
-use crate::starters::Starters;
 use crate::waiters::Waiters;
 use sgt_access::Accesses;
 use sgt_graph::Graph;
@@ -14,7 +14,7 @@ use std::sync::Mutex;
 #[derive(Drop)]
 pub struct Shared<N: Named, R: Records, A: Accesses, G: Graph> {
     pub(crate) round: Mutex<Round<N, R, A, G>>,
-    pub(crate) starters: Starters,
+    pub(crate) lock_policy: LockPolicy,
     pub(crate) waiters: Waiters,
     pub(crate) sessions: u16,
     ghost all: { sessions ≡ N.sessions },

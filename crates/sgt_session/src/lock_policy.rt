@@ -1,3 +1,4 @@
+//! How a call takes the engine's lock.
 use sgt_model::Event;
 use std::sync::{Mutex, MutexGuard, Wait};
 use std::thread;
@@ -15,17 +16,21 @@ const PAUSE: u32 = 8;
 /// The most often that it lets others run before a look.
 const LONGEST_PAUSE: u32 = 8_192;
 
-/// Where threads wait whose call starts a transaction and that found the engine's lock taken. One of them looks for it, and the
-/// others sleep.
+/// The turn of a call that starts a transaction, where it found the engine's lock taken. The next such call may look for the
+/// lock once this is dropped.
+pub type Turn<'l> = Option<MutexGuard<'l, ()>>;
+
+/// How the calls of all sessions take the engine's lock, each by its kind. Of the threads whose call starts a transaction and that
+/// found the lock taken, one looks for it and the others sleep, each until it has its turn.
 #[derive(Drop)]
-pub struct Starters {
+pub struct LockPolicy {
     turn: Mutex<()>,
 }
 
-impl Starters {
+impl LockPolicy {
     /// Nobody waits.
     pub fn new() -> Self {
-        Starters {
+        LockPolicy {
             turn: Mutex::new(()),
         }
     }
@@ -36,25 +41,28 @@ impl Starters {
     ///
     /// A start has time: nobody waits yet for a transaction that is not there. The calls of a live one are to be over soon, since
     /// others may have to wait for its end. So under load few transactions are live at once, and few conflict.
-    pub fn lock<'m, W: Wait, T>(
-        &self,
+    ///
+    /// The turn is to be dropped behind the lock, so that the next start is not woken while the lock is held.
+    pub fn lock<'l, W: Wait, T>(
+        &'l self,
         rt: &W,
-        lock: &'m Mutex<T>,
+        lock: &'l Mutex<T>,
         event: &Event,
-    ) -> MutexGuard<'m, T> {
+    ) -> (Turn<'l>, MutexGuard<'l, T>) {
         if let Some(guard) = lock.try_lock() {
-            return guard;
+            return (None, guard);
         }
         if !matches!(event, Event::Start { .. }) {
-            return look_for(rt, lock, PAUSE);
+            return (None, look_for(rt, lock, PAUSE));
         }
-        let _turn = self.turn.lock(rt);
-        look_for(rt, lock, START_PAUSE)
+        let turn = self.turn.lock(rt);
+        let guard = look_for(rt, lock, START_PAUSE);
+        (Some(turn), guard)
     }
 }
 
 /// Looks for the lock, the first time after such a pause.
-fn look_for<'m, W: Wait, T>(rt: &W, lock: &'m Mutex<T>, pause: u32) -> MutexGuard<'m, T> {
+fn look_for<'l, W: Wait, T>(rt: &W, lock: &'l Mutex<T>, pause: u32) -> MutexGuard<'l, T> {
     for look in 0..LOOKS {
         let_others_run((pause << look).min(LONGEST_PAUSE));
         if let Some(guard) = lock.try_lock() {
