@@ -57,21 +57,6 @@ pub record IsReadSo (n : ℕ) (old now : Option (List ℕ)) (past : List Entry) 
   pub events : AreEvents n lines past
   pub number : m ≡ n + length lines
 
--- nothing yet
-consumes-none : (known : Option (List ℕ)) → Consumes known known []
-consumes-none None = tt
-consumes-none (Some xs) = refl
-
-pub read-none : (n m : ℕ) (known : Option (List ℕ)) → m ≡ n → IsReadSo n known known [] m
-read-none n m known same = record {
-  bytes = [];
-  lines = [];
-  consumes = consumes-none known;
-  whole = λ rest. refl;
-  events = (refl, refl);
-  number = omega (arith, same);
-}
-
 -- a line with its byte 10
 read-line : (n m m' : ℕ) (a b c : Option (List ℕ)) (past : List Entry) (e : Entry) (line : List ℕ) → IsReadSo n a b past m
     → Consumes b c (line ++ 10 ∷ []) → has_break line ≡ false → event_at m line ≡ Ok e.event → m' ≡ m + 1
