@@ -13,9 +13,9 @@ use Rattle.sgt_model.specs.Fates.{is_start, starts, subject}
 use Rattle.sgt_model.specs.Settings.{Setting}
 use Rattle.sgt_model.specs.Progress.{Call, call_at, call_in, call_of}
 use Rattle.sgt_model.specs.Legality.{Legal}
-use Rattle.sgt_model.specs.Replay.{committed_call_in, committed_calls}
+use Rattle.sgt_model.specs.Replay.{told_call_in, told_calls}
 use Rattle.sgt_model.specs.Admissions.{IsAdmitted, AreAdmitted}
-use Rattle.sgt_model.proofs.Effects.{Begins, effect, Commits}
+use Rattle.sgt_model.proofs.Effects.{Begins, effect, Commits, Refusal}
 use Rattle.sgt_model.proofs.Facts.{call-kept, commits_or_not, Uncommitted, live-started}
 use Rattle.sgt_model.proofs.Room.{starts_or_not}
 use Rattle.sgt_model.proofs.StoredValues.{is_value-fact}
@@ -53,16 +53,22 @@ started_admitted s (e ∷ past) t h started = by_age (started_admitted s past t 
     by_age before (inl earlier) = subst (IsAdmitted s) (sym (call-kept s past e t h.1 earlier)) (before earlier)
     by_age before (inr new) = by_start new (starts_or_not (effect s past e.event e.reply h.1))
 
--- so was each that committed
-pub committed_admitted : (s : Setting) (past : List Entry) → Legal s past → AreAdmitted s (committed_calls past)
+-- so was each that committed or was refused
+pub committed_admitted : (s : Setting) (past : List Entry) → Legal s past → AreAdmitted s (told_calls past)
 committed_admitted s [] h = tt
 committed_admitted s (e ∷ past) h = by_end (committed_admitted s past h.0) (commits_or_not (effect s past e.event e.reply h.1))
   where
-    by_end : AreAdmitted s (committed_calls past) → Commits s past e.event e.reply ⊎ Uncommitted s past e.event e.reply
-        → AreAdmitted s (committed_call_in past e.event e.reply ++ committed_calls past)
+    by_end : AreAdmitted s (told_calls past)
+        → Commits s past e.event e.reply ⊎ (Refusal s past e.event e.reply ⊎ Uncommitted s past e.event e.reply)
+        → AreAdmitted s (told_call_in past e.event e.reply ++ told_calls past)
     by_end before (inl c) =
         let who : subject e.event ≡ c.t = ap subject c.event_is in
         let admitted = started_admitted s past c.t h.0 (live-started past c.t c.is_live) in
-        subst (λ r. AreAdmitted s (committed_call_in past e.event r ++ committed_calls past)) (sym c.reply_is)
+        subst (λ r. AreAdmitted s (told_call_in past e.event r ++ told_calls past)) (sym c.reply_is)
         (before, subst (λ u. IsAdmitted s (call_of past u)) (sym who) admitted)
-    by_end before (inr quiet) = subst (λ l. AreAdmitted s (l ++ committed_calls past)) (sym quiet.no_call) before
+    by_end before (inr (inl x)) =
+        let who : subject e.event ≡ x.undoing.t = ap subject x.event_is in
+        let admitted = started_admitted s past x.undoing.t h.0 (live-started past x.undoing.t x.undoing.is_live) in
+        subst (λ r. AreAdmitted s (told_call_in past e.event r ++ told_calls past)) (sym x.reply_is)
+        (before, subst (λ u. IsAdmitted s (call_of past u)) (sym who) admitted)
+    by_end before (inr (inr quiet)) = subst (λ l. AreAdmitted s (l ++ told_calls past)) (sym quiet.no_call) before

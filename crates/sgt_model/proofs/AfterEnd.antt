@@ -5,6 +5,8 @@ use Rattle.std.proofs.lemmas.Bool.{and_from, and_parts, eqb-true, not-true}
 use Rattle.std.proofs.lemmas.List.{append-nil}
 use Rattle.std.specs.List.{list_any, filter}
 use Rattle.std.specs.Option.{option_or, unwrap_or}
+use Rattle.sgt_model.specs.declared.reply.Cause.TheVariants as cause
+use Rattle.sgt_model.specs.declared.reply.Reply.{Reply}
 use Rattle.sgt_model.specs.declared.event.Event.{Event}
 use Rattle.sgt_model.specs.declared.event.Event.TheVariants.{Step, Commit, Quit}
 use Rattle.sgt_model.specs.declared.reply.Reply.TheVariants as reply
@@ -13,7 +15,7 @@ use Rattle.sgt_model.specs.declared.reply.Fate.{Fate}
 use Rattle.sgt_model.specs.declared.reply.Fate.TheVariants as fate
 use Rattle.sgt_model.specs.declared.entry.Entry.{Entry}
 use Rattle.sgt_model.specs.Contents.{Key}
-use Rattle.sgt_model.specs.Accesses.{Access, access_of, acts}
+use Rattle.sgt_model.specs.Accesses.{Access, access_of, acts, access_in}
 use Rattle.sgt_model.specs.Fates.{aborted, begun, committed, concerns, ending_in, fate_of, has_aborted, has_committed, is_start, live, live_ones, starts, subject}
 use Rattle.sgt_model.specs.Values.{newest_store, settled, stores, value_or}
 use Rattle.sgt_model.specs.ReadFrom.{ReadFrom}
@@ -253,10 +255,6 @@ after_commit s past h t answers before after alive i x = after_end s past (λ u.
         ∙ (ap (λ o. value_or o (s.opening k)) (sym split) ∙ ap (λ q. value_or (newest_store q k past) (s.opening k))
         (fun_ext (λ u. sym (committed_now (nat_eq t u) (fate_of past u)))))))
 
--- the entry of an abort
-abbrev pub abort_entry : Event → Cause → List ℕ → Entry
-abort_entry event why fell = record { event = event; reply = reply.Aborted why fell }
-
 -- a Step or a Quit of t
 pub record Of (event : Event) (t : ℕ) : Type 0 where
   pub concerns : (u : ℕ) → concerns event u ≡ nat_eq t u
@@ -272,21 +270,36 @@ of_quit t = record { concerns = λ u. refl; subject = refl }
 abbrev pub gone_with : ℕ → List ℕ → ℕ → Bool
 gone_with t fell u = nat_eq t u || list_any (λ v. nat_eq v u) fell
 
-ending : (event : Event) (t : ℕ) (why : Cause) (fell : List ℕ) → Of event t → (u : ℕ)
-    → ending_in event (reply.Aborted why fell) u ≡ cond (nat_eq t u) (Some (fate.Aborted why))
-    (cond (list_any (λ v. nat_eq v u) fell) (Some (fate.Fell t)) None)
-ending event t why fell o u =
-    ap₂ (λ b v. cond b (Some (fate.Aborted why)) (cond (list_any (λ w. nat_eq w u) fell) (Some (fate.Fell v)) None))
-    (o.concerns u) o.subject
+-- the event with its reply undoes t for this cause, with those that fall, and does nothing else
+pub record UndoneBy (event : Event) (r : Reply) (t : ℕ) (why : Cause) (fell : List ℕ) : Type 0 where
+  pub no_start : is_start r ≡ false
+  pub no_access : access_in event r ≡ None
+  pub no_call : (u : ℕ) → call_in event r u ≡ None
+  pub ends : (u : ℕ) → ending_in event r u ≡ cond (nat_eq t u) (Some (fate.Aborted why))
+      (cond (list_any (λ v. nat_eq v u) fell) (Some (fate.Fell t)) None)
 
-abort_ends : (event : Event) (t : ℕ) (why : Cause) (fell : List ℕ) (past : List Entry) → Of event t → EndsAll (gone_with t fell)
-    (abort_entry event why fell) past
-abort_ends event t why fell past o = record {
+-- so does an Aborted reply
+pub aborted_so : (event : Event) (t : ℕ) (why : Cause) (fell : List ℕ) → Of event t → UndoneBy event (reply.Aborted why fell) t why fell
+aborted_so event t why fell o = record {
   no_start = refl;
   no_access = refl;
   no_call = λ u. refl;
-  stays = λ u g. ending event t why fell o u ∙ none (nat_eq t u) (list_any (λ v. nat_eq v u) fell) g;
-  ends = λ u g. let f = some (nat_eq t u) (list_any (λ v. nat_eq v u) fell) g in (f.0, ending event t why fell o u ∙ f.1);
+  ends = λ u. ap₂ (λ b v. cond b (Some (fate.Aborted why)) (cond (list_any (λ w. nat_eq w u) fell) (Some (fate.Fell v)) None))
+      (o.concerns u) o.subject;
+}
+
+-- and so does a Refused one
+pub refused_so : (t code : ℕ) (fell : List ℕ) → UndoneBy (Commit t) (reply.Refused code fell) t (cause.Asked code) fell
+refused_so t code fell = record { no_start = refl; no_access = refl; no_call = λ u. refl; ends = λ u. refl }
+
+undo_ends : (event : Event) (r : Reply) (t : ℕ) (why : Cause) (fell : List ℕ) (past : List Entry) → UndoneBy event r t why fell
+    → EndsAll (gone_with t fell) (record { event = event; reply = r }) past
+undo_ends event r t why fell past x = record {
+  no_start = x.no_start;
+  no_access = x.no_access;
+  no_call = x.no_call;
+  stays = λ u g. x.ends u ∙ none (nat_eq t u) (list_any (λ v. nat_eq v u) fell) g;
+  ends = λ u g. let f = some (nat_eq t u) (list_any (λ v. nat_eq v u) fell) g in (f.0, x.ends u ∙ f.1);
 }
   where
     none : (b d : Bool) → (b || d) ≡ false → cond b (Some (fate.Aborted why)) (cond d (Some (fate.Fell t)) None) ≡ None
@@ -299,19 +312,19 @@ abort_ends event t why fell past o = record {
     some false true g = (fate.Fell t, refl)
     some false false g = absurd (cc)
 
-pub after_abort : (s : Setting) (past : List Entry) (event : Event) (t : ℕ) (why : Cause) (fell : List ℕ) (before after : State)
-    → Of event t → ((u : ℕ) → gone_with t fell u ≡ true → live past u ≡ true) → IsStateAfter s past before
-    → Drops t why fell before after → IsStateAfter s (abort_entry event why fell ∷ past) after
-after_abort s past event t why fell before after o lived i x =
-    after_end s past (gone_with t fell) e (abort_ends event t why fell past o) before after i x.removes settles
+pub after_undo : (s : Setting) (past : List Entry) (event : Event) (t : ℕ) (why : Cause) (fell : List ℕ) (r : Reply)
+    → UndoneBy event r t why fell → (before after : State) → ((u : ℕ) → gone_with t fell u ≡ true → live past u ≡ true)
+    → IsStateAfter s past before → Drops t why fell before after → IsStateAfter s (record { event = event; reply = r } ∷ past) after
+after_undo s past event t why fell r undone before after lived i x =
+    after_end s past (gone_with t fell) e (undo_ends event r t why fell past undone) before after i x.removes settles
     (λ u. x.fates u
     ∙ (ap (λ (f : Option Fate). cond (nat_eq t u) (Some (fate.Aborted why))
     (cond (list_any (λ v. nat_eq v u) fell) (Some (fate.Fell t)) f)) (i.fates u)
     ∙ (twice (nat_eq t u) (list_any (λ v. nat_eq v u) fell) (fate_of past u) ∙ ap (λ z. option_or z (fate_of past u))
-    (sym (ending event t why fell o u)))))
+    (sym (undone.ends u)))))
   where
     e : Entry
-    e = abort_entry event why fell
+    e = record { event = event; reply = r }
 
     twice : (b d : Bool) (f : Option Fate) → cond b (Some (fate.Aborted why)) (cond d (Some (fate.Fell t)) f) ≡ option_or
         (cond b (Some (fate.Aborted why)) (cond d (Some (fate.Fell t)) None)) f
@@ -325,10 +338,12 @@ after_abort s past event t why fell before after o lived i x =
     commits false true f h = h refl
     commits false false f h = refl
 
-    same_commits : (u : ℕ) → committed past u ≡ committed (abort_entry event why fell ∷ past) u
+    same_commits : (u : ℕ) → committed past u ≡ committed (e ∷ past) u
     same_commits u = commits (nat_eq t u) (list_any (λ v. nat_eq v u) fell) (fate_of past u)
         (λ g. ap has_committed (live-no_fate past u (lived u g))) ∙ ap (λ z. has_committed (option_or z (fate_of past u)))
-        (sym (ending event t why fell o u))
+        (sym (undone.ends u))
 
-    settles : (k : Key) → after.settled k ≡ settled s.opening (abort_entry event why fell ∷ past) k
-    settles k = x.settled k ∙ (i.settled k ∙ ap (λ q. value_or (newest_store q k past) (s.opening k)) (fun_ext same_commits))
+    settles : (k : Key) → after.settled k ≡ settled s.opening (e ∷ past) k
+    settles k = x.settled k
+        ∙ (i.settled k ∙ sym (ap₂ (λ o q. value_or (option_or o (newest_store q k past)) (s.opening k))
+        (ap (stores (committed (e ∷ past)) k) undone.no_access) (fun_ext (λ u. sym (same_commits u)))))

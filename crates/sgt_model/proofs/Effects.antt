@@ -14,6 +14,8 @@ use Rattle.sgt_model.specs.declared.reply.Fate.TheVariants as fate
 use Rattle.sgt_model.specs.declared.entry.Entry.{Entry}
 use Rattle.sgt_model.specs.declared.kind.Kind.{Kind}
 use Rattle.sgt_model.specs.declared.kind.Kind.TheVariants.{Look, Store}
+use Rattle.sgt_model.specs.declared.limits.Asks.{Asks as When}
+use Rattle.sgt_model.specs.declared.limits.Asks.TheVariants.{AtStep, AtCommit}
 use Rattle.sgt_model.specs.Contents.{Key}
 use Rattle.sgt_model.specs.Traces.{Next, Looks, Puts, Ends, Asks}
 use Rattle.sgt_model.specs.Accesses.{Access, access_in}
@@ -24,8 +26,8 @@ use Rattle.sgt_model.specs.Closes.{Closes}
 use Rattle.sgt_model.specs.Settings.{Setting, takes}
 use Rattle.sgt_model.specs.Progress.{call_in, next_of}
 use Rattle.sgt_model.specs.StartReply.{args_fit, taken_reply}
-use Rattle.sgt_model.specs.Legality.{Aborts, AbortsByCycle, StepReply, NoneLive, CommitReply, OfStarted, OfLive, LegalReply}
-use Rattle.sgt_model.specs.Replay.{committed_call_in, told_in}
+use Rattle.sgt_model.specs.Legality.{Aborts, AbortsByCycle, AskedStep, AskedCommit, StepReply, NoneLive, CommitReply, OfStarted, OfLive, LegalReply}
+use Rattle.sgt_model.specs.Replay.{told_call_in, told_in}
 use Rattle.sgt_model.specs.Aborts.{Wants, HasCause, AbortHasCause}
 use Rattle.sgt_model.specs.Laws.{CommitAgrees}
 use Rattle.sgt_model.proofs.NoOrder.{refused_has_no_order}
@@ -33,27 +35,33 @@ use Rattle.sgt_model.proofs.NoOrder.{refused_has_no_order}
 abbrev pub EndsNone : Reply → Type 0
 EndsNone (reply.Committed answers) = ⊥
 EndsNone (reply.Aborted why fell) = ⊥
+EndsNone (reply.Refused code fell) = ⊥
 EndsNone _ = Unit {0}
 
 pub ends_none-no_end : (event : Event) (r : Reply) → EndsNone r → (u : ℕ) → ending_in event r u ≡ None
 ends_none-no_end event (reply.Committed answers) h u = absurd h
 ends_none-no_end event (reply.Aborted why fell) h u = absurd h
+ends_none-no_end event (reply.Refused code fell) h u = absurd h
 ends_none-no_end event _ h u = refl
 
-pub ends_none-no_commit : (past : List Entry) (event : Event) (r : Reply) → EndsNone r → committed_call_in past event r ≡ []
-ends_none-no_commit past event (reply.Committed answers) h = absurd h
-ends_none-no_commit past event _ h = refl
+pub ends_none-no_call : (past : List Entry) (event : Event) (r : Reply) → EndsNone r → told_call_in past event r ≡ []
+ends_none-no_call past event (reply.Committed answers) h = absurd h
+ends_none-no_call past event (reply.Refused code fell) h = absurd h
+ends_none-no_call past event _ h = refl
 
 pub ends_none-tells_none : (r : Reply) → EndsNone r → told_in r ≡ []
 ends_none-tells_none (reply.Committed answers) h = absurd h
+ends_none-tells_none (reply.Refused code fell) h = absurd h
 ends_none-tells_none _ h = refl
 
 pub ends_none-agrees : (s : Setting) (past : List Entry) (event : Event) (r : Reply) → EndsNone r → CommitAgrees s past event r
 ends_none-agrees s past event (reply.Committed answers) h = absurd h
+ends_none-agrees s past event (reply.Refused code fell) h = absurd h
 ends_none-agrees s past event _ h = tt
 
 pub ends_none-cause : (s : Setting) (past : List Entry) (event : Event) (r : Reply) → EndsNone r → AbortHasCause s past event r
 ends_none-cause s past event (reply.Aborted why fell) h = absurd h
+ends_none-cause s past event (reply.Refused code fell) h = absurd h
 ends_none-cause s past event _ h = tt
 
 -- a reply that starts none leaves the calls
@@ -125,12 +133,22 @@ pub record Undoes (s : Setting) (past : List Entry) (event : Event) (r : Reply) 
   pub reply_is : r ≡ reply.Aborted undoing.why undoing.fell
   pub has_cause : HasCause s past event undoing.why
 
+-- or by a Refused reply at its commit, where it waits for nobody and asks the code
+pub record Refusal (s : Setting) (past : List Entry) (event : Event) (r : Reply) : Type 0 where
+  pub undoing : Undoing past event r
+  pub code : ℕ
+  pub event_is : event ≡ Commit undoing.t
+  pub reply_is : r ≡ reply.Refused code undoing.fell
+  pub none_live : NoneLive past undoing.t
+  pub next : next_of s past undoing.t ≡ Asks code
+
 pub data Effect (s : Setting) (past : List Entry) (event : Event) (r : Reply) : Type 0 where
   idle : Idle event r → Effect s past event r
   begins : Begins s past event r → Effect s past event r
   accesses : Accesses s past event r → Effect s past event r
   commits : Commits s past event r → Effect s past event r
   undoes : Undoes s past event r → Effect s past event r
+  refuses : Refusal s past event r → Effect s past event r
 
 idle_at : {s : Setting} {past : List Entry} {event : Event} {r r' : Reply} → r ≡ r' → Idle event r' → Effect s past event r
 idle_at {s} {past} {event} e i = subst (λ x. Effect s past event x) (sym e) (idle i)
@@ -221,6 +239,34 @@ refuse_at s past t k kind r alive wants h = abort_at s past t (cause.Cycle (t �
       no_order = refused_has_no_order past t k kind h.rest h.closes;
     }) h.aborts
 
+-- an ask
+
+asked_step : (s : Setting) (past : List Entry) (t code : ℕ) (r : Reply) → next_of s past t ≡ Asks code → live past t ≡ true
+    → (asks : When) → AskedStep asks past t code r → Effect s past (Step t) r
+asked_step s past t code r e alive AtStep h = abort_at s past t (cause.Asked code) r alive e h
+asked_step s past t code r e alive AtCommit h = idle_at h (record { no_start = refl; no_access = refl; ends_none = tt })
+
+asked_commit : (s : Setting) (past : List Entry) (t code : ℕ) (r : Reply) → next_of s past t ≡ Asks code → live past t ≡ true
+    → (asks : When) → AskedCommit asks past t code r → Effect s past (Commit t) r
+asked_commit s past t code r e alive AtStep h = idle_at h (record { no_start = refl; no_access = refl; ends_none = tt })
+asked_commit s past t code r e alive AtCommit (inl h) = idle_at h.is (record { no_start = refl; no_access = refl; ends_none = tt })
+asked_commit s past t code r e alive AtCommit (inr h) = subst (λ x. Effect s past (Commit t) x) (sym h.is)
+    (refuses (record {
+      undoing = record {
+        t = t;
+        why = cause.Asked code;
+        fell = h.fell;
+        is_live = alive;
+        falls = h.falls;
+        ends = λ u. refl;
+      };
+      code = code;
+      event_is = refl;
+      reply_is = refl;
+      none_live = h.none_live;
+      next = e;
+    }))
+
 -- a step
 
 step_at : (s : Setting) (past : List Entry) (t : ℕ) (r : Reply) (n : Next) → next_of s past t ≡ n → live past t ≡ true
@@ -255,24 +301,24 @@ step_at s past t r (Puts k v) e alive (inr h) = let access : Access = record { b
       found = λ (look : Store ≡ Look). absurd (cc);
     }))
 step_at s past t r (Ends answers) e alive h = idle_at h (record { no_start = refl; no_access = refl; ends_none = tt })
-step_at s past t r (Asks code) e alive h = abort_at s past t (cause.Asked code) r alive e h
+step_at s past t r (Asks code) e alive h = asked_step s past t code r e alive s.rules.limits.asks h
 
 -- a commit
 
 commit_at : (s : Setting) (past : List Entry) (t : ℕ) (r : Reply) (n : Next) → next_of s past t ≡ n → live past t ≡ true
-    → CommitReply past t n r → Effect s past (Commit t) r
+    → CommitReply s past t n r → Effect s past (Commit t) r
 commit_at s past t r (Ends answers) e alive (inl h) = idle_at h.is (record { no_start = refl; no_access = refl; ends_none = tt })
 commit_at s past t r (Ends answers) e alive (inr h) =
     commits (record { t = t; answers = answers; event_is = refl; reply_is = h.is; is_live = alive; none_live = h.none_live; next = e })
 commit_at s past t r (Looks k) e alive h = idle_at h (record { no_start = refl; no_access = refl; ends_none = tt })
 commit_at s past t r (Puts k v) e alive h = idle_at h (record { no_start = refl; no_access = refl; ends_none = tt })
-commit_at s past t r (Asks code) e alive h = idle_at h (record { no_start = refl; no_access = refl; ends_none = tt })
+commit_at s past t r (Asks code) e alive h = asked_commit s past t code r e alive s.rules.limits.asks h
 
 -- each legal reply has one of the effects
 pub effect : (s : Setting) (past : List Entry) (event : Event) (r : Reply) → LegalReply s past event r → Effect s past event r
 effect s past (Start p args) r h = subst (λ x. Effect s past (Start p args) x) (sym h) (start_at s past p args (takes s.rules p) refl)
 effect s past (Step t) r h = of_live s past (Step t) t r (StepReply s past t (next_of s past t) r)
     (step_at s past t r (next_of s past t) refl) h
-effect s past (Commit t) r h = of_live s past (Commit t) t r (CommitReply past t (next_of s past t) r)
+effect s past (Commit t) r h = of_live s past (Commit t) t r (CommitReply s past t (next_of s past t) r)
     (commit_at s past t r (next_of s past t) refl) h
 effect s past (Quit t) r h = of_live s past (Quit t) t r (Aborts past t cause.Quit r) (quit_at s past t r) h

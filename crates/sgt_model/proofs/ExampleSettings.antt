@@ -3,6 +3,7 @@ use Rattle.std.specs.Prelude.{ℕ, ℤ, pos, cond, List, [], ◌∷◌, ◌++◌
 use Rattle.sgt_model.specs.declared.event.Event.{Event}
 use Rattle.sgt_model.specs.declared.reply.Reply.{Reply}
 use Rattle.sgt_model.specs.declared.entry.Entry.{Entry}
+use Rattle.sgt_model.specs.declared.limits.Asks.TheVariants.{AtStep}
 use Rattle.sgt_model.specs.Contents.{Key, key_eq, Contents}
 use Rattle.sgt_model.specs.Syntax.{Program, num, arg, reg, sum, diff, less, empty, look, put, save, choose, answer}
 use Rattle.sgt_model.specs.Settings.{Setting, setting}
@@ -124,11 +125,11 @@ five = balance ∷ deposit_checking ∷ transact_saving ∷ amalgamate ∷ write
 
 -- the bank with these limits and no other procedures
 abbrev pub small_bank : ℕ → ℕ → Setting
-small_bank most_live most_started = setting opening five (record { live = most_live; begins = most_started })
+small_bank most_live most_started = setting opening five (record { live = most_live; begins = most_started; asks = AtStep })
 
 -- the bank with others, from number 5 on
 abbrev pub small_bank_with : Contents → List Program → Setting
-small_bank_with m others = setting m (five ++ others) (record { live = 8; begins = 100 })
+small_bank_with m others = setting m (five ++ others) (record { live = 8; begins = 100; asks = AtStep })
 
 abbrev pub entry : Event → Reply → Entry
 entry event r = record { event = event; reply = r }

@@ -8,7 +8,7 @@ use Rattle.sgt_model.specs.declared.entry.Entry.{Entry}
 use Rattle.sgt_model.specs.Values.{settled}
 use Rattle.sgt_model.specs.Legality.{Legal}
 use Rattle.sgt_model.specs.Progress.{Call}
-use Rattle.sgt_model.specs.Replay.{GaveAnswers, committed_calls, folded, told}
+use Rattle.sgt_model.specs.Replay.{GaveAnswers, told_calls, folded, told}
 use Rattle.sgt_model.proofs.Computed.{made_by, aborts_by, commits_by, waits_by}
 use Rattle.sgt_model.proofs.ExampleSettings.{small_bank, entry}
 
@@ -95,7 +95,7 @@ the_deposits =
     ∷ record { procedure = 1; args = pos 1 ∷ pos 100 ∷ [] }
     ∷ []
 
-two_deposits-committed : committed_calls two_deposits ≡ the_deposits
+two_deposits-committed : told_calls two_deposits ≡ the_deposits
 two_deposits-committed = refl
 
 -- run one after another, they give these answers

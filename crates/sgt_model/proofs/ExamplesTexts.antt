@@ -4,6 +4,7 @@ use Rattle.std.proofs.Common.{inl, inr}
 use Rattle.sgt_model.specs.declared.event.Event.TheVariants.{Start, Step, Commit}
 use Rattle.sgt_model.specs.declared.reply.Reply.TheVariants as reply
 use Rattle.sgt_model.specs.declared.entry.Entry.{Entry}
+use Rattle.sgt_model.specs.declared.limits.Asks.TheVariants.{AtStep}
 use Rattle.sgt_model.specs.Contents.{put_in}
 use Rattle.sgt_model.specs.Syntax as text
 use Rattle.sgt_model.specs.Syntax.{Program, num, arg, reg, diff, at_most}
@@ -71,7 +72,7 @@ put_and_look-execution = refl
 
 -- the setting of this one procedure
 abbrev pub drawing : Setting
-drawing = setting opening (draw ∷ []) (record { live = 8; begins = 100 })
+drawing = setting opening (draw ∷ []) (record { live = 8; begins = 100; asks = AtStep })
 
 -- two draw from one checking: the second finds what the first has left, and waits for it
 abbrev pub two_draw : List Entry

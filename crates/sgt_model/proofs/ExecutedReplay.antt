@@ -7,7 +7,7 @@ use Rattle.sgt_model.specs.Syntax.{Program}
 use Rattle.sgt_model.specs.Runs.{serial}
 use Rattle.sgt_model.specs.Settings.{run_if, setting}
 use Rattle.sgt_model.specs.Progress.{Call, run_of}
-use Rattle.sgt_model.specs.Replay.{Folded, with_outcome, run_in_turn, committed_calls}
+use Rattle.sgt_model.specs.Replay.{Folded, with_outcome, run_in_turn, told_calls}
 use Rattle.sgt_model.specs.ExecutedReplay.{execution_if, execution_of, execute_in_turn, HistoriesAreExecuted}
 use Rattle.sgt_model.proofs.Executions.{serial_is}
 use Rattle.sgt_model.proofs.Replays.{is_serializable}
@@ -33,7 +33,7 @@ replay_is opening programs limits (c ∷ before) =
 -- the law
 pub is_executed : HistoriesAreExecuted
 is_executed opening programs limits past legal =
-    let same = replay_is opening programs limits (committed_calls past) in
+    let same = replay_is opening programs limits (told_calls past) in
     let replay = is_serializable (setting opening programs limits) past legal in
     record {
       answers = ap (λ (f : Folded). f.results) (sym same) ∙ replay.answers;

@@ -21,9 +21,9 @@ use Rattle.sgt_model.specs.Closes.{Closes}
 use Rattle.sgt_model.specs.Settings.{Setting}
 use Rattle.sgt_model.specs.Progress.{call_at, call_in, call_of, next_of}
 use Rattle.sgt_model.specs.Legality.{NoneLive, LegalReply, Legal}
-use Rattle.sgt_model.specs.Replay.{committed_call_in, told_in}
+use Rattle.sgt_model.specs.Replay.{told_call_in, told_in}
 use Rattle.sgt_model.specs.Laws.{CommitAgrees}
-use Rattle.sgt_model.proofs.Effects.{EndsNone, ends_none-no_end, ends_none-no_commit, ends_none-tells_none, ends_none-agrees, no_start-no_call, Begins, Fits, Accesses, Commits, Undoing, Undoes, Effect, idle, begins, accesses, commits, undoes, none_from, effect}
+use Rattle.sgt_model.proofs.Effects.{EndsNone, ends_none-no_end, ends_none-no_call, ends_none-tells_none, ends_none-agrees, no_start-no_call, Begins, Fits, Accesses, Commits, Undoing, Undoes, Effect, idle, begins, accesses, commits, undoes, Refusal, refuses, none_from, effect}
 
 -- on options
 
@@ -72,6 +72,9 @@ Begins-no_end {s} {past} {event} {r} b u = ap (λ x. ending_in event x u) b.repl
 Undoes-no_access : {s : Setting} {past : List Entry} {event : Event} {r : Reply} → Undoes s past event r → access_in event r ≡ None
 Undoes-no_access {s} {past} {event} {r} x = ap (λ y. access_in event y) x.reply_is
 
+Refusal-no_access : {s : Setting} {past : List Entry} {event : Event} {r : Reply} → Refusal s past event r → access_in event r ≡ None
+Refusal-no_access {s} {past} {event} {r} x = ap (λ y. access_in event y) x.reply_is
+
 access_case : {s : Setting} {past : List Entry} {event : Event} {r : Reply} → Effect s past event r → (a : Access)
     → access_in event r ≡ Some a → (x : Accesses s past event r) × (x.access ≡ a)
 access_case (idle i) a e = absurd (cc (sym i.no_access ∙ e))
@@ -79,6 +82,7 @@ access_case (begins b) a e = absurd (cc (sym (Begins-no_access b) ∙ e))
 access_case (accesses x) a e = (x, some_is _ _ (sym x.access_is ∙ e))
 access_case (commits c) a e = absurd (cc (sym (Commits-no_access c) ∙ e))
 access_case (undoes x) a e = absurd (cc (sym (Undoes-no_access x) ∙ e))
+access_case (refuses x) a e = absurd (cc (sym (Refusal-no_access x) ∙ e))
 
 -- an access is by a live transaction
 pub access-live : (s : Setting) (past : List Entry) (event : Event) (r : Reply) → LegalReply s past event r → (a : Access)
@@ -144,7 +148,7 @@ pub record Undone (past : List Entry) (event : Event) (r : Reply) (t : ℕ) (f :
   pub is : (undo.t ≡ t) ⊎ Member t undo.fell
   pub is_abort : has_aborted (Some f) ≡ true
 
-undone_case : {past : List Entry} {event : Event} {r : Reply} (x : Undoing past event r) (t : ℕ) (f : Fate)
+pub undone_case : {past : List Entry} {event : Event} {r : Reply} (x : Undoing past event r) (t : ℕ) (f : Fate)
     → ending_in event r t ≡ Some f → Undone past event r t f
 undone_case x t f e =
     let h = undone_at (nat_eq x.t t) (list_any (λ v. nat_eq v t) x.fell) _ _ f refl refl (sym (x.ends t) ∙ e) in
@@ -159,6 +163,7 @@ end_case {event = event} {r = r} (accesses x) t f e = absurd (cc (sym (ends_none
 end_case (commits c) t f e = let h = ends_at c.t t _ f (sym (Commits-ends c t) ∙ e) in
     inl (record { commit = c; is = h.0; fate_is = sym h.1 })
 end_case (undoes x) t f e = inr (undone_case x.undoing t f e)
+end_case (refuses x) t f e = inr (undone_case x.undoing t f e)
 
 pub end_live : {s : Setting} {past : List Entry} {event : Event} {r : Reply} (t : ℕ) (f : Fate)
     → Ended s past event r t f ⊎ Undone past event r t f → live past t ≡ true
@@ -359,16 +364,16 @@ precedes-started s (e ∷ past) h t u (inl now) = let f = follows-access past (a
 precedes-started s (e ∷ past) h t u (inr before) = let p = precedes-started s past h.0 t u before in
     (started-stays e past t p.0, started-stays e past u p.1)
 
--- an entry at which nothing commits
+-- an entry that commits and refuses nobody
 pub record Uncommitted (s : Setting) (past : List Entry) (event : Event) (r : Reply) : Type 0 where
-  pub no_call : committed_call_in past event r ≡ []
+  pub no_call : told_call_in past event r ≡ []
   pub tells_none : told_in r ≡ []
   pub no_commit : (u : ℕ) → ending_in event r u ≡ Some fate.Committed → ⊥
   pub agrees : CommitAgrees s past event r
 
 uncommitted : (s : Setting) (past : List Entry) (event : Event) (r : Reply) → EndsNone r → Uncommitted s past event r
 uncommitted s past event r h = record {
-  no_call = ends_none-no_commit past event r h;
+  no_call = ends_none-no_call past event r h;
   tells_none = ends_none-tells_none r h;
   no_commit = λ u e. cc (sym (ends_none-no_end event r h u) ∙ e);
   agrees = ends_none-agrees s past event r h;
@@ -376,7 +381,7 @@ uncommitted s past event r h = record {
 
 undone_uncommitted : (s : Setting) (past : List Entry) (event : Event) (r : Reply) → Undoes s past event r → Uncommitted s past event r
 undone_uncommitted s past event r x = record {
-  no_call = ap (λ y. committed_call_in past event y) x.reply_is;
+  no_call = ap (λ y. told_call_in past event y) x.reply_is;
   tells_none = ap told_in x.reply_is;
   no_commit = λ u e. no_commit u (end_case (undoes x) u fate.Committed e);
   agrees = subst (λ y. CommitAgrees s past event y) (sym x.reply_is) tt;
@@ -387,13 +392,14 @@ undone_uncommitted s past event r x = record {
     no_commit u (inr y) = cc y.is_abort
 
 pub commits_or_not : {s : Setting} {past : List Entry} {event : Event} {r : Reply} → Effect s past event r
-    → Commits s past event r ⊎ Uncommitted s past event r
-commits_or_not {s} {past} {event} {r} (idle i) = inr (uncommitted s past event r i.ends_none)
+    → Commits s past event r ⊎ (Refusal s past event r ⊎ Uncommitted s past event r)
+commits_or_not {s} {past} {event} {r} (idle i) = inr (inr (uncommitted s past event r i.ends_none))
 commits_or_not {s} {past} {event} {r} (begins b) =
-    inr (subst (λ x. Uncommitted s past event x) (sym b.reply_is) (uncommitted s past event _ tt))
-commits_or_not {s} {past} {event} {r} (accesses x) = inr (uncommitted s past event r x.ends_none)
+    inr (inr (subst (λ x. Uncommitted s past event x) (sym b.reply_is) (uncommitted s past event _ tt)))
+commits_or_not {s} {past} {event} {r} (accesses x) = inr (inr (uncommitted s past event r x.ends_none))
 commits_or_not (commits c) = inl c
-commits_or_not {s} {past} {event} {r} (undoes x) = inr (undone_uncommitted s past event r x)
+commits_or_not {s} {past} {event} {r} (undoes x) = inr (inr (undone_uncommitted s past event r x))
+commits_or_not (refuses x) = inr (inl x)
 
 -- the call of a transaction that was started stays
 call_in-kept : {s : Setting} {past : List Entry} {event : Event} {r : Reply} → Effect s past event r → (t : ℕ) → t < starts past
@@ -404,6 +410,7 @@ call_in-kept {s} {past} {event} {r} (begins b) t h = ap (λ x. call_in event x t
 call_in-kept {s} {past} {event} {r} (accesses x) t h = no_start-no_call event r x.no_start t
 call_in-kept {s} {past} {event} {r} (commits c) t h = ap (λ x. call_in event x t) c.reply_is
 call_in-kept {s} {past} {event} {r} (undoes x) t h = ap (λ y. call_in event y t) x.reply_is
+call_in-kept {s} {past} {event} {r} (refuses x) t h = ap (λ y. call_in event y t) x.reply_is
 
 pub call-kept : (s : Setting) (past : List Entry) (e : Entry) (t : ℕ) → LegalReply s past e.event e.reply → t < starts past
     → call_of (e ∷ past) t ≡ call_of past t

@@ -22,6 +22,7 @@ access_ends : (event : Event) (r : Reply) (t : ℕ) (k : Key) (kind : Kind) → 
     → ending_in event r u ≡ None
 access_ends event (reply.Committed answers) t k kind is u = absurd is
 access_ends event (reply.Aborted why fell) t k kind is u = absurd is
+access_ends event (reply.Refused code fell) t k kind is u = absurd is
 access_ends event _ t k kind is u = refl
 
 access_aborts : (e : Entry) (past : List Entry) (t : ℕ) (k : Key) (kind : Kind) → IsAccessBy (access_of e) t k kind → (u : ℕ)

@@ -10,6 +10,8 @@ use Rattle.sgt_model.specs.declared.reply.Fate.{Fate}
 use Rattle.sgt_model.specs.declared.entry.Entry.{Entry}
 use Rattle.sgt_model.specs.declared.kind.Kind.{Kind}
 use Rattle.sgt_model.specs.declared.kind.Kind.TheVariants.{Look, Store}
+use Rattle.sgt_model.specs.declared.limits.Asks.{Asks as When}
+use Rattle.sgt_model.specs.declared.limits.Asks.TheVariants.{AtStep, AtCommit}
 use Rattle.sgt_model.specs.Contents.{Key}
 use Rattle.sgt_model.specs.Traces.{Next, Looks, Puts, Ends, Asks}
 use Rattle.sgt_model.specs.Walks.{Member, Rising, IsLeastBefore}
@@ -17,7 +19,7 @@ use Rattle.sgt_model.specs.Fates.{starts, fate_of}
 use Rattle.sgt_model.specs.Falls.{Falls}
 use Rattle.sgt_model.specs.Settings.{Setting}
 use Rattle.sgt_model.specs.Progress.{next_of}
-use Rattle.sgt_model.specs.Legality.{Aborts, AbortsByCycle, Makes, StepReply, LivePredecessor, MustWait, MayCommit, CommitReply, OfStarted}
+use Rattle.sgt_model.specs.Legality.{Aborts, AbortsByCycle, AskedStep, AskedCommit, Makes, StepReply, LivePredecessor, MustWait, MayCommit, CommitReply, OfStarted}
 use Rattle.sgt_model.specs.OneReply.{SameButWalk, RepliesAreUnique}
 use Rattle.sgt_model.proofs.Paths.{Within}
 
@@ -87,12 +89,17 @@ one_access past t k kind given r q (inl a) (inr b) = absurd (b.free a.rest a.clo
 one_access past t k kind given r q (inr a) (inl b) = absurd (a.free b.rest b.closes)
 one_access past t k kind given r q (inr a) (inr b) = inl (a.is ∙ sym b.is)
 
+one_asked_step : (asks : When) (past : List Entry) (t code : ℕ) (r q : Reply) → AskedStep asks past t code r
+    → AskedStep asks past t code q → r ≡ q
+one_asked_step AtStep past t code r q a b = one_abort past t (cause.Asked code) r q a b
+one_asked_step AtCommit past t code r q a b = a ∙ sym b
+
 one_step : (s : Setting) (past : List Entry) (t : ℕ) (next : Next) (r q : Reply) → StepReply s past t next r
     → StepReply s past t next q → SameButWalk r q
 one_step s past t (Looks k) r q a b = one_access past t k Look _ r q a b
 one_step s past t (Puts k v) r q a b = one_access past t k Store _ r q a b
 one_step s past t (Ends answers) r q a b = inl (a ∙ sym b)
-one_step s past t (Asks code) r q a b = inl (one_abort past t (cause.Asked code) r q a b)
+one_step s past t (Asks code) r q a b = inl (one_asked_step s.rules.limits.asks past t code r q a b)
 
 -- commits
 
@@ -107,11 +114,22 @@ one_end past t answers r q (inl a) (inr b) = absurd (b.none_live a.before a.leas
 one_end past t answers r q (inr a) (inl b) = absurd (a.none_live b.before b.least.pair)
 one_end past t answers r q (inr a) (inr b) = a.is ∙ sym b.is
 
-one_commit : (past : List Entry) (t : ℕ) (next : Next) (r q : Reply) → CommitReply past t next r → CommitReply past t next q → r ≡ q
-one_commit past t (Ends answers) r q a b = one_end past t answers r q a b
-one_commit past t (Looks k) r q a b = a ∙ sym b
-one_commit past t (Puts k v) r q a b = a ∙ sym b
-one_commit past t (Asks code) r q a b = a ∙ sym b
+one_asked_commit : (asks : When) (past : List Entry) (t code : ℕ) (r q : Reply) → AskedCommit asks past t code r
+    → AskedCommit asks past t code q → r ≡ q
+one_asked_commit AtStep past t code r q a b = a ∙ sym b
+one_asked_commit AtCommit past t code r q (inl a) (inl b) = a.is
+    ∙ (ap (λ u. reply.Waits u) (one_least past t a.before b.before a.least b.least) ∙ sym b.is)
+one_asked_commit AtCommit past t code r q (inl a) (inr b) = absurd (b.none_live a.before a.least.pair)
+one_asked_commit AtCommit past t code r q (inr a) (inl b) = absurd (a.none_live b.before b.least.pair)
+one_asked_commit AtCommit past t code r q (inr a) (inr b) =
+    a.is ∙ (ap (λ l. reply.Refused code l) (same_fall past t a.fell b.fell a.falls b.falls) ∙ sym b.is)
+
+one_commit : (s : Setting) (past : List Entry) (t : ℕ) (next : Next) (r q : Reply) → CommitReply s past t next r
+    → CommitReply s past t next q → r ≡ q
+one_commit s past t (Ends answers) r q a b = one_end past t answers r q a b
+one_commit s past t (Looks k) r q a b = a ∙ sym b
+one_commit s past t (Puts k v) r q a b = a ∙ sym b
+one_commit s past t (Asks code) r q a b = one_asked_commit s.rules.limits.asks past t code r q a b
 
 -- every event
 
@@ -125,7 +143,7 @@ pub replies_are_unique : RepliesAreUnique
 replies_are_unique s past (Start p args) r q a b = inl (a ∙ sym b)
 replies_are_unique s past (Step t) r q a b = one_of_started (λ x. StepReply s past t (next_of s past t) x)
     (one_step s past t (next_of s past t)) (nat_lt t (starts past)) (fate_of past t) r q a b
-replies_are_unique s past (Commit t) r q a b = one_of_started (λ x. CommitReply past t (next_of s past t) x)
-    (λ x y g h. inl (one_commit past t (next_of s past t) x y g h)) (nat_lt t (starts past)) (fate_of past t) r q a b
+replies_are_unique s past (Commit t) r q a b = one_of_started (λ x. CommitReply s past t (next_of s past t) x)
+    (λ x y g h. inl (one_commit s past t (next_of s past t) x y g h)) (nat_lt t (starts past)) (fate_of past t) r q a b
 replies_are_unique s past (Quit t) r q a b = one_of_started (λ x. Aborts past t cause.Quit x)
     (λ x y g h. inl (one_abort past t cause.Quit x y g h)) (nat_lt t (starts past)) (fate_of past t) r q a b

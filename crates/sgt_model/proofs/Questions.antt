@@ -12,15 +12,17 @@ use Rattle.sgt_model.specs.declared.reply.Cause.TheVariants as cause
 use Rattle.sgt_model.specs.declared.reply.Fate.{Fate}
 use Rattle.sgt_model.specs.declared.reply.Fate.TheVariants as fate
 use Rattle.sgt_model.specs.declared.entry.Entry.{Entry}
+use Rattle.sgt_model.specs.declared.limits.Asks.{Asks as When}
+use Rattle.sgt_model.specs.declared.limits.Asks.TheVariants.{AtStep, AtCommit}
 use Rattle.sgt_model.specs.Traces.{Next, Looks, Puts, Ends, Asks}
 use Rattle.sgt_model.specs.Fates.{is_start, starts, concerns, subject, ending_in, fate_of, live}
 use Rattle.sgt_model.specs.Questions.{named_by, started_number, started_in, tells_end, over_in, is_ending}
 use Rattle.sgt_model.specs.Settings.{Setting}
 use Rattle.sgt_model.specs.Progress.{next_of}
-use Rattle.sgt_model.specs.Legality.{Aborts, StepReply, CommitReply, OfStarted, OfLive, LegalReply, Legal}
+use Rattle.sgt_model.specs.Legality.{AskedStep, AskedCommit, Aborts, StepReply, CommitReply, OfStarted, OfLive, LegalReply, Legal}
 use Rattle.sgt_model.specs.Aborts.{HasCause}
 use Rattle.sgt_model.specs.Laws.{StartedAreLive, OverAreNotLive, EndingsEndOne, OthersEndNone}
-use Rattle.sgt_model.proofs.Effects.{EndsNone, ends_none-no_end, Effect, idle, begins, accesses, commits, undoes, effect}
+use Rattle.sgt_model.proofs.Effects.{EndsNone, ends_none-no_end, Effect, idle, begins, accesses, commits, undoes, refuses, effect}
 use Rattle.sgt_model.proofs.Facts.{live-started, live-no_fate, live_from, option_or-at_none, some_is, started-stays, unstarted-no_fate}
 
 -- who has a fate is not live
@@ -46,12 +48,21 @@ ends_named event (reply.Aborted why fell) t own e = (
   fate.Aborted why,
   ap (λ b. cond b (Some (fate.Aborted why)) (cond (list_any (λ u. nat_eq u t) fell) (Some (fate.Fell (subject event))) None)) own,
 )
+ends_named event (reply.Refused code fell) t own e = (
+  fate.Aborted (cause.Asked code),
+  ap (λ b. cond b (Some (fate.Aborted (cause.Asked code))) (cond (list_any (λ u. nat_eq u t) fell) (Some (fate.Fell (subject event))) None)) own,
+)
 ends_named event _ t own e = absurd (cc)
 
 -- no reply to a live transaction is Over, so the one that tells its end ends it
 
 ending_of : (r answer : Reply) → r ≡ answer → (tells_end answer ≡ true → is_ending answer ≡ true) → tells_end r ≡ true → is_ending r ≡ true
 ending_of r answer is so e = subst (λ x. tells_end x ≡ true → is_ending x ≡ true) (sym is) so e
+
+asked_step_ends : (asks : When) (past : List Entry) (t code : ℕ) (r : Reply) → AskedStep asks past t code r → tells_end r ≡ true
+    → is_ending r ≡ true
+asked_step_ends AtStep past t code r h = ending_of r _ h.is (λ e. refl)
+asked_step_ends AtCommit past t code r h = ending_of r _ h (λ e. e)
 
 step_ends : (s : Setting) (past : List Entry) (t : ℕ) (n : Next) (r : Reply) → StepReply s past t n r → tells_end r ≡ true
     → is_ending r ≡ true
@@ -60,14 +71,21 @@ step_ends s past t (Looks k) r (inr h) = ending_of r _ h.is (λ e. e)
 step_ends s past t (Puts k v) r (inl h) = ending_of r _ h.aborts.is (λ e. refl)
 step_ends s past t (Puts k v) r (inr h) = ending_of r _ h.is (λ e. e)
 step_ends s past t (Ends answers) r h = ending_of r _ h (λ e. e)
-step_ends s past t (Asks code) r h = ending_of r _ h.is (λ e. refl)
+step_ends s past t (Asks code) r h = asked_step_ends s.rules.limits.asks past t code r h
 
-commit_ends : (past : List Entry) (t : ℕ) (n : Next) (r : Reply) → CommitReply past t n r → tells_end r ≡ true → is_ending r ≡ true
-commit_ends past t (Ends answers) r (inl h) = ending_of r _ h.is (λ e. e)
-commit_ends past t (Ends answers) r (inr h) = ending_of r _ h.is (λ e. refl)
-commit_ends past t (Looks k) r h = ending_of r _ h (λ e. e)
-commit_ends past t (Puts k v) r h = ending_of r _ h (λ e. e)
-commit_ends past t (Asks code) r h = ending_of r _ h (λ e. e)
+asked_commit_ends : (asks : When) (past : List Entry) (t code : ℕ) (r : Reply) → AskedCommit asks past t code r → tells_end r ≡ true
+    → is_ending r ≡ true
+asked_commit_ends AtStep past t code r h = ending_of r _ h (λ e. e)
+asked_commit_ends AtCommit past t code r (inl h) = ending_of r _ h.is (λ e. e)
+asked_commit_ends AtCommit past t code r (inr h) = ending_of r _ h.is (λ e. refl)
+
+commit_ends : (s : Setting) (past : List Entry) (t : ℕ) (n : Next) (r : Reply) → CommitReply s past t n r → tells_end r ≡ true
+    → is_ending r ≡ true
+commit_ends s past t (Ends answers) r (inl h) = ending_of r _ h.is (λ e. e)
+commit_ends s past t (Ends answers) r (inr h) = ending_of r _ h.is (λ e. refl)
+commit_ends s past t (Looks k) r h = ending_of r _ h (λ e. e)
+commit_ends s past t (Puts k v) r h = ending_of r _ h (λ e. e)
+commit_ends s past t (Asks code) r h = asked_commit_ends s.rules.limits.asks past t code r h
 
 -- the transaction of an event is not live after it, where it ends if it was live: else it was not started, or has ended
 over_at : (past : List Entry) (e : Entry) (t : ℕ) (P : Type 0) → (P → EndsIt e.event e.reply t) → (b : Bool) (o : Option Fate)
@@ -106,8 +124,8 @@ over_are_not_live s past e legal t is = by_event e.event refl is
         let h = told (tells_end e.reply) u t x in
         let now : LegalReply s past (Commit u) e.reply = subst (λ v. LegalReply s past v e.reply) same legal.1 in
         let own : concerns e.event u ≡ true = ap (λ v. concerns v u) same ∙ eq-eqb u u refl in
-        subst (λ v. live (e ∷ past) v ≡ false) (some_is u t h.1) (over past e u (CommitReply past u (next_of s past u) e.reply)
-        (λ y. ends_named e.event e.reply u own (commit_ends past u (next_of s past u) e.reply y h.0)) now)
+        subst (λ v. live (e ∷ past) v ≡ false) (some_is u t h.1) (over past e u (CommitReply s past u (next_of s past u) e.reply)
+        (λ y. ends_named e.event e.reply u own (commit_ends s past u (next_of s past u) e.reply y h.0)) now)
     by_event (Quit u) same x =
         let now : LegalReply s past (Quit u) e.reply = subst (λ v. LegalReply s past v e.reply) same legal.1 in
         let own : concerns e.event u ≡ true = ap (λ v. concerns v u) same ∙ eq-eqb u u refl in
@@ -152,17 +170,20 @@ started_are_live s past e legal t is = by_effect (effect s past e.event e.reply 
     by_effect (accesses x) = absurd (cc (sym x.no_start ∙ one))
     by_effect (commits c) = absurd (cc (sym (ap is_start c.reply_is) ∙ one))
     by_effect (undoes x) = absurd (cc (sym (ap is_start x.reply_is) ∙ one))
+    by_effect (refuses x) = absurd (cc (sym (ap is_start x.reply_is) ∙ one))
 
 -- what ends
 
 not_ending : (r : Reply) → EndsNone r → is_ending r ≡ false
 not_ending (reply.Committed answers) h = absurd h
 not_ending (reply.Aborted why fell) h = absurd h
+not_ending (reply.Refused code fell) h = absurd h
 not_ending _ h = refl
 
 ends_nobody : (r : Reply) → is_ending r ≡ false → EndsNone r
 ends_nobody (reply.Committed answers) h = absurd (cc)
 ends_nobody (reply.Aborted why fell) h = absurd (cc)
+ends_nobody (reply.Refused code fell) h = absurd (cc)
 ends_nobody _ h = tt
 
 pub others_end_none : OthersEndNone
@@ -196,4 +217,6 @@ endings_end_one s past e legal is = by_effect (effect s past e.event e.reply leg
     by_effect (undoes x) =
         let own : named_by e.event ≡ Some x.undoing.t = named_cause s past e.event x.undoing.why x.has_cause
         ∙ ap (λ u. Some u) x.subject_is in
+        (x.undoing.t, own, x.undoing.is_live, named_ends x.undoing.t own)
+    by_effect (refuses x) = let own : named_by e.event ≡ Some x.undoing.t = ap named_by x.event_is in
         (x.undoing.t, own, x.undoing.is_live, named_ends x.undoing.t own)

@@ -10,7 +10,7 @@ use Rattle.sgt_model.specs.declared.reply.Reply.TheVariants as reply
 use Rattle.sgt_model.specs.declared.reply.Fate.TheVariants as fate
 use Rattle.sgt_model.specs.declared.entry.Entry.{Entry}
 use Rattle.sgt_model.specs.Contents.{Key}
-use Rattle.sgt_model.specs.Runs.{Run, serial, contents_after}
+use Rattle.sgt_model.specs.Runs.{Run, Asked, serial, contents_after}
 use Rattle.sgt_model.specs.Accesses.{Access, access_of, acts}
 use Rattle.sgt_model.specs.Fates.{ending_in, fate_of, has_committed, committed, live}
 use Rattle.sgt_model.specs.Values.{stores, newest_store, value_or, settled}
@@ -18,10 +18,10 @@ use Rattle.sgt_model.specs.Pairs.{Precedes}
 use Rattle.sgt_model.specs.Settings.{Setting}
 use Rattle.sgt_model.specs.Progress.{call_of, run_of}
 use Rattle.sgt_model.specs.Legality.{Legal}
-use Rattle.sgt_model.specs.Replay.{result_of, run_in_turn, committed_calls, folded, told, IsSerializable}
+use Rattle.sgt_model.specs.Replay.{result_of, run_in_turn, told_call_in, told_in, told_calls, folded, told, IsSerializable}
 use Rattle.sgt_model.specs.Laws.{LooksAgree, CommitAgrees, CommitsAgree}
-use Rattle.sgt_model.proofs.Effects.{Commits, effect}
-use Rattle.sgt_model.proofs.Facts.{access-live, committed-stays, live-stands, live-not_committed, committed-stands, commit-case, Uncommitted, commits_or_not}
+use Rattle.sgt_model.proofs.Effects.{Commits, Refusal, effect}
+use Rattle.sgt_model.proofs.Facts.{undone_case, access-live, committed-stays, live-stands, live-not_committed, committed-stands, commit-case, Uncommitted, commits_or_not}
 use Rattle.sgt_model.proofs.PairOrder.{no_pair_from_live}
 use Rattle.sgt_model.proofs.Stores.{found, StoreOf, store_or_not, newest_skip, not_counted, newest_agree, own_or}
 use Rattle.sgt_model.proofs.Acts.{over, DoneWith}
@@ -93,15 +93,22 @@ commit_agrees : (s : Setting) (past : List Entry) (event : Event) (r : Reply) �
     → LooksAgree (settled s.opening past) c.t past
 commit_agrees s past event r h c = looks_agree s [] past past c.t refl h c.is_live c.none_live
 
--- at each commit, each look of its transaction found its own newest store or the committed value
+refusal_agrees : (s : Setting) (past : List Entry) (event : Event) (r : Reply) → Legal s past → (x : Refusal s past event r)
+    → LooksAgree (settled s.opening past) x.undoing.t past
+refusal_agrees s past event r h x = looks_agree s [] past past x.undoing.t refl h x.undoing.is_live x.none_live
+
+-- at each commit and refusal, each look of its transaction found its own newest store or the committed value
 pub commits_agree : (s : Setting) (past : List Entry) → Legal s past → CommitsAgree s past
 commits_agree s [] h = tt
 commits_agree s (e ∷ past) h = (commits_agree s past h.0, now (commits_or_not (effect s past e.event e.reply h.1)))
   where
-    now : Commits s past e.event e.reply ⊎ Uncommitted s past e.event e.reply → CommitAgrees s past e.event e.reply
+    now : Commits s past e.event e.reply ⊎ (Refusal s past e.event e.reply ⊎ Uncommitted s past e.event e.reply)
+        → CommitAgrees s past e.event e.reply
     now (inl c) = subst₂ (λ event r. CommitAgrees s past event r) (sym c.event_is) (sym c.reply_is)
         (commit_agrees s past e.event e.reply h.0 c)
-    now (inr quiet) = quiet.agrees
+    now (inr (inl x)) = subst₂ (λ event r. CommitAgrees s past event r) (sym x.event_is) (sym x.reply_is)
+        (refusal_agrees s past e.event e.reply h.0 x)
+    now (inr (inr quiet)) = quiet.agrees
 
 -- the run of a transaction that commits, on the contents so far
 run_done : (s : Setting) (past : List Entry) (event : Event) (r : Reply) → Legal s past → (c : Commits s past event r)
@@ -123,18 +130,46 @@ at_commit s past t answers h is_live d ih = record {
 at_quiet : (s : Setting) (e : Entry) (past : List Entry) → Legal s (e ∷ past) → Uncommitted s past e.event e.reply
     → IsSerializable s past → IsSerializable s (e ∷ past)
 at_quiet s e past h quiet ih = record {
-  answers = ap (λ l. (run_in_turn s (l ++ committed_calls past)).results) quiet.no_call
+  answers = ap (λ l. (run_in_turn s (l ++ told_calls past)).results) quiet.no_call
       ∙ (ih.answers ∙ ap (λ l. l ++ told past) (sym quiet.tells_none));
-  database = λ k. ap (λ l. (run_in_turn s (l ++ committed_calls past)).last k) quiet.no_call
+  database = λ k. ap (λ l. (run_in_turn s (l ++ told_calls past)).last k) quiet.no_call
       ∙ (ih.database k ∙ sym (settled_quiet s past e k h quiet.no_commit));
 }
 
--- commit order is serial
+-- the run of a transaction that is refused asks its code
+run_asked : (s : Setting) (past : List Entry) (event : Event) (r : Reply) → Legal s past → (x : Refusal s past event r)
+    → IsSerializable s past → serial (run_of s.rules (call_of past x.undoing.t)) (folded s past).last ≡ Asked x.code
+run_asked s past event r h x ih =
+    let t : ℕ = x.undoing.t in
+    let run : Run = run_of s.rules (call_of past t) in
+    (law_over_acts run (run_is_trace run)).asked (folded s past).last (acts past t) x.code (plays s past t h)
+    (finds_in (folded s past).last (settled s.opening past) past t ih.database (refusal_agrees s past event r h x)) x.next
+
+refusal-no_commit : {s : Setting} {past : List Entry} {event : Event} {r : Reply} → Refusal s past event r → (u : ℕ)
+    → ending_in event r u ≡ Some fate.Committed → ⊥
+refusal-no_commit x u e = let a = (undone_case x.undoing u fate.Committed e).is_abort in cc a
+
+at_refusal : (s : Setting) (e : Entry) (past : List Entry) → Legal s (e ∷ past) → Refusal s past e.event e.reply
+    → IsSerializable s past → IsSerializable s (e ∷ past)
+at_refusal s e past h x ih =
+    let asked = run_asked s past e.event e.reply h.0 x ih in
+    let call : told_call_in past e.event e.reply ≡ call_of past x.undoing.t ∷ [] = ap₂ (λ ev r. told_call_in past ev r) x.event_is x.reply_is in
+    record {
+      answers = ap (λ l. (run_in_turn s (l ++ told_calls past)).results) call
+          ∙ (ap₂ (λ r l. r ∷ l) (ap result_of asked) ih.answers ∙ ap (λ l. l ++ told past) (sym (ap told_in x.reply_is)));
+      database = λ k. ap (λ l. (run_in_turn s (l ++ told_calls past)).last k) call
+          ∙ (ap (λ o. contents_after o (folded s past).last k) asked
+          ∙ (ih.database k ∙ sym (settled_quiet s past e k h (λ u g. refusal-no_commit x u g))));
+    }
+
+-- reply order is serial
 pub is_serializable : (s : Setting) (past : List Entry) → Legal s past → IsSerializable s past
 is_serializable s [] h = record { answers = refl; database = λ k. refl }
 is_serializable s (e ∷ past) h = now (is_serializable s past h.0) (commits_or_not (effect s past e.event e.reply h.1))
   where
-    now : IsSerializable s past → Commits s past e.event e.reply ⊎ Uncommitted s past e.event e.reply → IsSerializable s (e ∷ past)
+    now : IsSerializable s past → Commits s past e.event e.reply ⊎ (Refusal s past e.event e.reply ⊎ Uncommitted s past e.event e.reply)
+        → IsSerializable s (e ∷ past)
     now ih (inl c) = subst₂ (λ event r. IsSerializable s (record { event = event; reply = r } ∷ past)) (sym c.event_is)
         (sym c.reply_is) (at_commit s past c.t c.answers h.0 c.is_live (run_done s past e.event e.reply h.0 c ih) ih)
-    now ih (inr quiet) = at_quiet s e past h quiet ih
+    now ih (inr (inl x)) = at_refusal s e past h x ih
+    now ih (inr (inr quiet)) = at_quiet s e past h quiet ih

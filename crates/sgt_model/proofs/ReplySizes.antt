@@ -15,15 +15,18 @@ use Rattle.sgt_model.specs.declared.reply.Fate.TheVariants as fate
 use Rattle.sgt_model.specs.declared.entry.Entry.{Entry}
 use Rattle.sgt_model.specs.declared.kind.Kind.{Kind}
 use Rattle.sgt_model.specs.declared.kind.Kind.TheVariants.{Look, Store}
+use Rattle.sgt_model.specs.declared.limits.Asks.{Asks as When}
+use Rattle.sgt_model.specs.declared.limits.Asks.TheVariants.{AtStep, AtCommit}
 use Rattle.sgt_model.specs.Contents.{Key}
 use Rattle.sgt_model.specs.Traces.{Next, Looks, Puts, Ends, Asks}
 use Rattle.sgt_model.specs.Walks.{PathOf, Member, Distinct, Rising}
 use Rattle.sgt_model.specs.Fates.{concerns, subject, ending_in, starts, fate_of, begun, live, live_ones}
 use Rattle.sgt_model.specs.Pairs.{Pair}
+use Rattle.sgt_model.specs.Falls.{Falls}
 use Rattle.sgt_model.specs.Settings.{Rules, Setting, takes}
 use Rattle.sgt_model.specs.Progress.{next_of}
 use Rattle.sgt_model.specs.StartReply.{args_fit, room_reply, taken_reply, start_reply}
-use Rattle.sgt_model.specs.Legality.{Aborts, AbortsByCycle, Makes, StepReply, CommitReply, OfStarted, LegalReply, Legal}
+use Rattle.sgt_model.specs.Legality.{AskedStep, AskedCommit, Aborts, AbortsByCycle, Makes, StepReply, CommitReply, OfStarted, LegalReply, Legal}
 use Rattle.sgt_model.specs.ReplySizes.{CauseNamesAtMost, FateNamesAtMost, ReplyNamesAtMost, RepliesNameFew}
 use Rattle.sgt_model.proofs.Paths.{Within}
 use Rattle.sgt_model.proofs.Facts.{some_is, option_or-cases}
@@ -58,6 +61,13 @@ ending_names most event (reply.Aborted why fell) t f few e = go (concerns event 
   where
     go : (b c : Bool) → cond b (Some (fate.Aborted why)) (cond c (Some (fate.Fell (subject event))) None) ≡ Some f → FateNamesAtMost most f
     go true c e = subst (λ g. FateNamesAtMost most g) (some_is (fate.Aborted why) f e) few.0
+    go false true e = subst (λ g. FateNamesAtMost most g) (some_is (fate.Fell (subject event)) f e) tt
+    go false false e = absurd (cc)
+ending_names most event (reply.Refused code fell) t f few e = go (concerns event t) (list_any (λ u. nat_eq u t) fell) e
+  where
+    go : (b c : Bool) → cond b (Some (fate.Aborted (cause.Asked code))) (cond c (Some (fate.Fell (subject event))) None) ≡ Some f
+        → FateNamesAtMost most f
+    go true c e = subst (λ g. FateNamesAtMost most g) (some_is (fate.Aborted (cause.Asked code)) f e) tt
     go false true e = subst (λ g. FateNamesAtMost most g) (some_is (fate.Fell (subject event)) f e) tt
     go false false e = absurd (cc)
 ending_names most event (reply.Committed answers) t f few e = go (concerns event t) e
@@ -99,13 +109,18 @@ module _ (s : Setting) (past : List Entry) (h : Legal s past) where
   walk_live t [] alive p u (inr m) = absurd m
   walk_live t (v ∷ rest) alive p u (inr m) = walk_live v rest (pair_live s past h t v alive p.0) p.1 u m
 
+  -- with t, those that fall with it are no more than may be live at once
+  few_fall : (t : ℕ) → live past t ≡ true → (fell : List ℕ) → Falls past t fell → length fell < s.rules.limits.live
+  few_fall t alive fell falls =
+      let all : suc (length fell) ≤ s.rules.limits.live =
+      live_listed (t ∷ fell) ((λ m. (falls.each t m).1 refl), rising_distinct fell falls.rising)
+      (λ u m. elim m [ inl e ↦ subst (λ x. live past x ≡ true) (sym e) alive | inr k ↦ (falls.each u k).0 ]) in
+      omega arith
+
   abort_names : (t : ℕ) → live past t ≡ true → (why : Cause) → CauseNamesAtMost s.rules.limits.live why → (r : Reply)
       → Aborts past t why r → ReplyNamesAtMost s.rules.limits.live r
-  abort_names t alive why few r a =
-      let all : suc (length a.fell) ≤ s.rules.limits.live =
-      live_listed (t ∷ a.fell) ((λ m. (a.falls.each t m).1 refl), rising_distinct a.fell a.falls.rising)
-      (λ u m. elim m [ inl e ↦ subst (λ x. live past x ≡ true) (sym e) alive | inr k ↦ (a.falls.each u k).0 ]) in
-      subst (λ x. ReplyNamesAtMost s.rules.limits.live x) (sym a.is) (few, omega arith)
+  abort_names t alive why few r a = subst (λ x. ReplyNamesAtMost s.rules.limits.live x) (sym a.is)
+      (few, few_fall t alive a.fell a.falls)
 
   access_names : (t : ℕ) → live past t ≡ true → (k : Key) (kind : Kind) (given r : Reply)
       → ReplyNamesAtMost s.rules.limits.live given → AbortsByCycle past t k kind r ⊎ Makes past t k kind given r
@@ -114,18 +129,31 @@ module _ (s : Setting) (past : List Entry) (h : Legal s past) where
       (live_listed (t ∷ x.rest) x.closes.distinct (walk_live t x.rest alive x.closes.pairs)) r x.aborts
   access_names t alive k kind given r few (inr x) = subst (λ y. ReplyNamesAtMost s.rules.limits.live y) (sym x.is) few
 
+  asked_step_names : (t : ℕ) → live past t ≡ true → (code : ℕ) (asks : When) (r : Reply) → AskedStep asks past t code r
+      → ReplyNamesAtMost s.rules.limits.live r
+  asked_step_names t alive code AtStep r x = abort_names t alive (cause.Asked code) tt r x
+  asked_step_names t alive code AtCommit r x = subst (λ y. ReplyNamesAtMost s.rules.limits.live y) (sym x) tt
+
   step_names : (t : ℕ) → live past t ≡ true → (next : Next) (r : Reply) → StepReply s past t next r → ReplyNamesAtMost s.rules.limits.live r
   step_names t alive (Looks k) r x = access_names t alive k Look _ r tt x
   step_names t alive (Puts k v) r x = access_names t alive k Store _ r tt x
   step_names t alive (Ends answers) r x = subst (λ y. ReplyNamesAtMost s.rules.limits.live y) (sym x) tt
-  step_names t alive (Asks code) r x = abort_names t alive (cause.Asked code) tt r x
+  step_names t alive (Asks code) r x = asked_step_names t alive code s.rules.limits.asks r x
 
-  commit_names : (t : ℕ) (next : Next) (r : Reply) → CommitReply past t next r → ReplyNamesAtMost s.rules.limits.live r
-  commit_names t (Ends answers) r (inl x) = subst (λ y. ReplyNamesAtMost s.rules.limits.live y) (sym x.is) tt
-  commit_names t (Ends answers) r (inr x) = subst (λ y. ReplyNamesAtMost s.rules.limits.live y) (sym x.is) tt
-  commit_names t (Looks k) r x = subst (λ y. ReplyNamesAtMost s.rules.limits.live y) (sym x) tt
-  commit_names t (Puts k v) r x = subst (λ y. ReplyNamesAtMost s.rules.limits.live y) (sym x) tt
-  commit_names t (Asks code) r x = subst (λ y. ReplyNamesAtMost s.rules.limits.live y) (sym x) tt
+  asked_commit_names : (t : ℕ) → live past t ≡ true → (code : ℕ) (asks : When) (r : Reply) → AskedCommit asks past t code r
+      → ReplyNamesAtMost s.rules.limits.live r
+  asked_commit_names t alive code AtStep r x = subst (λ y. ReplyNamesAtMost s.rules.limits.live y) (sym x) tt
+  asked_commit_names t alive code AtCommit r (inl x) = subst (λ y. ReplyNamesAtMost s.rules.limits.live y) (sym x.is) tt
+  asked_commit_names t alive code AtCommit r (inr x) = subst (λ y. ReplyNamesAtMost s.rules.limits.live y) (sym x.is)
+      (few_fall t alive x.fell x.falls)
+
+  commit_names : (t : ℕ) → live past t ≡ true → (next : Next) (r : Reply) → CommitReply s past t next r
+      → ReplyNamesAtMost s.rules.limits.live r
+  commit_names t alive (Ends answers) r (inl x) = subst (λ y. ReplyNamesAtMost s.rules.limits.live y) (sym x.is) tt
+  commit_names t alive (Ends answers) r (inr x) = subst (λ y. ReplyNamesAtMost s.rules.limits.live y) (sym x.is) tt
+  commit_names t alive (Looks k) r x = subst (λ y. ReplyNamesAtMost s.rules.limits.live y) (sym x) tt
+  commit_names t alive (Puts k v) r x = subst (λ y. ReplyNamesAtMost s.rules.limits.live y) (sym x) tt
+  commit_names t alive (Asks code) r x = asked_commit_names t alive code s.rules.limits.asks r x
 
   module _ (fates : (t : ℕ) (f : Fate) → fate_of past t ≡ Some f → FateNamesAtMost s.rules.limits.live f) where
     of_started : (t : ℕ) (r : Reply) (P : Type 0) → (live past t ≡ true → P → ReplyNamesAtMost s.rules.limits.live r)
@@ -140,8 +168,8 @@ module _ (s : Setting) (past : List Entry) (h : Legal s past) where
         (start_names s.rules.limits.live s.rules (starts past) (length (live_ones past)) p args)
     reply_names (Step t) r x = of_started t r (StepReply s past t (next_of s past t) r)
         (λ alive. step_names t alive (next_of s past t) r) (nat_lt t (starts past)) (fate_of past t) refl refl x
-    reply_names (Commit t) r x = of_started t r (CommitReply past t (next_of s past t) r)
-        (λ alive. commit_names t (next_of s past t) r) (nat_lt t (starts past)) (fate_of past t) refl refl x
+    reply_names (Commit t) r x = of_started t r (CommitReply s past t (next_of s past t) r)
+        (λ alive. commit_names t alive (next_of s past t) r) (nat_lt t (starts past)) (fate_of past t) refl refl x
     reply_names (Quit t) r x = of_started t r (Aborts past t cause.Quit r) (λ alive. abort_names t alive cause.Quit tt r)
         (nat_lt t (starts past)) (fate_of past t) refl refl x
 

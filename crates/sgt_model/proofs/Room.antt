@@ -11,7 +11,7 @@ use Rattle.sgt_model.specs.Walks.{Member}
 use Rattle.sgt_model.specs.Fates.{is_start, starts, live, begun, live_ones}
 use Rattle.sgt_model.specs.Settings.{Setting}
 use Rattle.sgt_model.specs.Legality.{Legal}
-use Rattle.sgt_model.proofs.Effects.{Begins, Effect, idle, begins, accesses, commits, undoes, effect}
+use Rattle.sgt_model.proofs.Effects.{Begins, Effect, idle, begins, accesses, commits, undoes, refuses, effect}
 use Rattle.sgt_model.proofs.Facts.{live-before}
 
 -- a test that holds less often keeps fewer
@@ -59,6 +59,7 @@ starts_or_not (begins b) = inl b
 starts_or_not (accesses x) = inr x.no_start
 starts_or_not (commits c) = inr (ap is_start c.reply_is)
 starts_or_not (undoes x) = inr (ap is_start x.reply_is)
+starts_or_not (refuses x) = inr (ap is_start x.reply_is)
 
 -- of those that were started before an entry, no more are live after it
 live_fewer : (e : Entry) (past : List Entry) → length (filter (live (e ∷ past)) (begun past)) ≤ length (live_ones past)

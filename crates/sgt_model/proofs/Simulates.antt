@@ -13,25 +13,27 @@ use Rattle.sgt_model.specs.declared.reply.Fate.{Fate}
 use Rattle.sgt_model.specs.declared.entry.Entry.{Entry}
 use Rattle.sgt_model.specs.declared.kind.Kind.{Kind}
 use Rattle.sgt_model.specs.declared.kind.Kind.TheVariants.{Look, Store}
+use Rattle.sgt_model.specs.declared.limits.Asks.{Asks as When}
+use Rattle.sgt_model.specs.declared.limits.Asks.TheVariants.{AtStep, AtCommit}
 use Rattle.sgt_model.specs.Contents.{Key}
 use Rattle.sgt_model.specs.Traces.{Asks, Ends, Looks, Next, Puts}
 use Rattle.sgt_model.specs.Fates.{fate_of, live, live_ones, starts}
 use Rattle.sgt_model.specs.Closes.{Closes}
 use Rattle.sgt_model.specs.Settings.{Setting, takes}
 use Rattle.sgt_model.specs.Progress.{next_of}
-use Rattle.sgt_model.specs.Legality.{Aborts, CommitReply, Legal, LegalReply, OfStarted, AbortsByCycle, StepReply}
+use Rattle.sgt_model.specs.Legality.{Aborts, AskedCommit, AskedStep, CommitReply, MayRefuse, MustWait, Legal, LegalReply, OfStarted, AbortsByCycle, StepReply}
 use Rattle.sgt_model.specs.Left.{next_left}
 use Rattle.sgt_model.specs.State.{State}
 use Rattle.sgt_model.specs.StateAfter.{IsStateAfter}
 use Rattle.sgt_model.specs.Blocks.{Blocks}
 use Rattle.sgt_model.specs.StartReply.{args_fit, taken_reply}
-use Rattle.sgt_model.specs.CallEffects.{AbortsIn, CommitEffect, CommitOn, IfOpen, QuitEffect, AbortsByCycleIn, StartEffect, StartOn, Stays, StepEffect, StepOn}
+use Rattle.sgt_model.specs.CallEffects.{Undo, AbortsIn, AskedCommitOn, AskedStepOn, CommitEffect, CommitOn, IfOpen, QuitEffect, AbortsByCycleIn, RefusesIn, StartEffect, StartOn, Stays, StepEffect, StepOn, WaitsOn}
 use Rattle.sgt_model.proofs.Effects.{Idle, ends_none-no_end, no_start-no_call}
 use Rattle.sgt_model.proofs.Facts.{live_from, member_from}
 use Rattle.sgt_model.proofs.Verdict.{blocks_from_closes, closes_from_blocks, falls_from, found-visible, least_from, none_from}
 use Rattle.sgt_model.proofs.LiveLeft.{next_is_left}
 use Rattle.sgt_model.proofs.AfterAccess.{after_look, after_store}
-use Rattle.sgt_model.proofs.AfterEnd.{Of, after_abort, after_commit, after_nothing, gone_with, no_one, of_quit, of_step}
+use Rattle.sgt_model.proofs.AfterEnd.{Of, aborted_so, refused_so, after_undo, after_commit, after_nothing, gone_with, no_one, of_quit, of_step}
 use Rattle.sgt_model.proofs.AfterStart.{after_start}
 
 -- the reply leaves all as it was
@@ -41,6 +43,7 @@ quiet (reply.Looked k v) = false
 quiet (reply.Wrote k v) = false
 quiet (reply.Committed answers) = false
 quiet (reply.Aborted why fell) = false
+quiet (reply.Refused code fell) = false
 quiet _ = true
 
 quiet_idle : (event : Event) (r : Reply) → quiet r ≡ true → Idle event r
@@ -49,6 +52,7 @@ quiet_idle event (reply.Looked k v) q = absurd (cc)
 quiet_idle event (reply.Wrote k v) q = absurd (cc)
 quiet_idle event (reply.Committed answers) q = absurd (cc)
 quiet_idle event (reply.Aborted why fell) q = absurd (cc)
+quiet_idle event (reply.Refused code fell) q = absurd (cc)
 quiet_idle event _ q = record { no_start = refl; no_access = refl; ends_none = tt }
 
 -- an event with its reply
@@ -76,20 +80,36 @@ stayed s past event answer r before after q i x =
     (x.reply, after_quiet s past event r after (ap quiet x.reply ∙ q) (subst (λ c. IsStateAfter s past c) (sym x.same) i))
 
 module _ (s : Setting) (past : List Entry) (h : Legal s past) (before after : State) (i : IsStateAfter s past before) (t : ℕ) where
+  lived : (why : Cause) (fell : List ℕ) → live past t ≡ true → Undo t why fell before after → (u : ℕ) → gone_with t fell u ≡ true
+      → live past u ≡ true
+  lived why fell alive x u g = elim (or_cases (nat_eq t u) (list_any (λ v. nat_eq v u) fell) g) [
+    | inl e ↦ subst (λ v. live past v ≡ true)
+        (eqb-true t u e) alive
+    | inr m ↦ sym (i.nodes u) ∙ (x.falls.each u (member_from u fell m)).0
+  ]
+
   pub aborted_in : (event : Event) (why : Cause) (r : Reply) → Of event t → live past t ≡ true → AbortsIn t why before r after
       → Aborts past t why r × IsStateAfter s (entry event r ∷ past) after
   aborted_in event why r o alive x = (
-    record { fell = x.fell; falls = falls_from s past h before i t x.fell alive x.falls; is = x.reply },
+    record { fell = x.fell; falls = falls_from s past h before i t x.fell alive x.undo.falls; is = x.reply },
     subst (λ z. IsStateAfter s (entry event z ∷ past) after) (sym x.reply)
-        (after_abort s past event t why x.fell before after o lived i x.drops),
+        (after_undo s past event t why x.fell (reply.Aborted why x.fell) (aborted_so event t why x.fell o) before after
+        (lived why x.fell alive x.undo) i x.undo.drops),
   )
-    where
-      lived : (u : ℕ) → gone_with t x.fell u ≡ true → live past u ≡ true
-      lived u g = elim (or_cases (nat_eq t u) (list_any (λ v. nat_eq v u) x.fell) g) [
-        | inl e ↦ subst (λ v. live past v ≡ true)
-            (eqb-true t u e) alive
-        | inr m ↦ sym (i.nodes u) ∙ (x.falls.each u (member_from u x.fell m)).0
-      ]
+
+  refused_at_commit : (code : ℕ) (r : Reply) → live past t ≡ true → RefusesIn t code before r after
+      → MayRefuse past t code r × IsStateAfter s (entry (Commit t) r ∷ past) after
+  refused_at_commit code r alive x = (
+    record {
+      none_live = none_from s past h before i t alive x.first;
+      fell = x.fell;
+      falls = falls_from s past h before i t x.fell alive x.undo.falls;
+      is = x.reply;
+    },
+    subst (λ z. IsStateAfter s (entry (Commit t) z ∷ past) after) (sym x.reply)
+        (after_undo s past (Commit t) t (cause.Asked code) x.fell (reply.Refused code x.fell) (refused_so t code x.fell) before after
+        (lived (cause.Asked code) x.fell alive x.undo) i x.undo.drops),
+  )
 
   refused_in : (k : Key) (kind : Kind) (r : Reply) → live past t ≡ true → AbortsByCycleIn t k kind before r after
       → AbortsByCycle past t k kind r × IsStateAfter s (entry (Step t) r ∷ past) after
@@ -100,7 +120,12 @@ module _ (s : Setting) (past : List Entry) (h : Legal s past) (before after : St
       → Closes past t k kind rest → ⊥
   free_of k kind alive free rest c = free rest (blocks_from_closes s past h before i t k kind rest alive c)
 
-  step_on : (n : Next) (r : Reply) → next_of s past t ≡ n → live past t ≡ true → StepOn t n before r after
+  asked_step_on : (asks : When) (code : ℕ) (r : Reply) → live past t ≡ true → AskedStepOn asks t code before r after
+      → AskedStep asks past t code r × IsStateAfter s (entry (Step t) r ∷ past) after
+  asked_step_on AtStep code r alive x = aborted_in (Step t) (cause.Asked code) r (of_step t) alive x
+  asked_step_on AtCommit code r alive x = stayed s past (Step t) reply.Ended r before after refl i x
+
+  step_on : (n : Next) (r : Reply) → next_of s past t ≡ n → live past t ≡ true → StepOn s.rules.limits.asks t n before r after
       → StepReply s past t n r × IsStateAfter s (entry (Step t) r ∷ past) after
   step_on (Looks k) r next alive (inl x) = let y = refused_in k Look r alive x in (inl y.0, y.1)
   step_on (Looks k) r next alive (inr x) = (
@@ -114,12 +139,21 @@ module _ (s : Setting) (past : List Entry) (h : Legal s past) (before after : St
         (after_store s past h before after i t k alive v next x.stores),
   )
   step_on (Ends answers) r next alive x = stayed s past (Step t) reply.Ended r before after refl i x
-  step_on (Asks code) r next alive x = aborted_in (Step t) (cause.Asked code) r (of_step t) alive x
+  step_on (Asks code) r next alive x = asked_step_on s.rules.limits.asks code r alive x
 
-  commit_on : (n : Next) (r : Reply) → live past t ≡ true → CommitOn t n before r after → CommitReply past t n r × IsStateAfter s
-      (entry (Commit t) r ∷ past) after
-  commit_on (Ends answers) r alive (inl x) = let y = stayed s past (Commit t) (reply.Waits x.on) r before after refl i x.stays in
-      (inl (record { before = x.on; least = least_from s past h before i t x.on x.least; is = y.0 }), y.1)
+  waits_on : (r : Reply) → WaitsOn t before r after → MustWait past t r × IsStateAfter s (entry (Commit t) r ∷ past) after
+  waits_on r x = let y = stayed s past (Commit t) (reply.Waits x.on) r before after refl i x.stays in
+      (record { before = x.on; least = least_from s past h before i t x.on x.least; is = y.0 }, y.1)
+
+  asked_commit_on : (asks : When) (code : ℕ) (r : Reply) → live past t ≡ true → AskedCommitOn asks t code before r after
+      → AskedCommit asks past t code r × IsStateAfter s (entry (Commit t) r ∷ past) after
+  asked_commit_on AtStep code r alive x = stayed s past (Commit t) reply.NotEnded r before after refl i x
+  asked_commit_on AtCommit code r alive (inl x) = let y = waits_on r x in (inl y.0, y.1)
+  asked_commit_on AtCommit code r alive (inr x) = let y = refused_at_commit code r alive x in (inr y.0, y.1)
+
+  commit_on : (n : Next) (r : Reply) → live past t ≡ true → CommitOn s.rules.limits.asks t n before r after
+      → CommitReply s past t n r × IsStateAfter s (entry (Commit t) r ∷ past) after
+  commit_on (Ends answers) r alive (inl x) = let y = waits_on r x in (inl y.0, y.1)
   commit_on (Ends answers) r alive (inr x) = (
     inr (record { none_live = none_from s past h before i t alive x.first; is = x.reply }),
     subst (λ z. IsStateAfter s (entry (Commit t) z ∷ past) after) (sym x.reply)
@@ -127,7 +161,7 @@ module _ (s : Setting) (past : List Entry) (h : Legal s past) (before after : St
   )
   commit_on (Looks k) r alive x = stayed s past (Commit t) reply.NotEnded r before after refl i x
   commit_on (Puts k v) r alive x = stayed s past (Commit t) reply.NotEnded r before after refl i x
-  commit_on (Asks code) r alive x = stayed s past (Commit t) reply.NotEnded r before after refl i x
+  commit_on (Asks code) r alive x = asked_commit_on s.rules.limits.asks code r alive x
 
   -- what every call on a transaction shares
   if_open : (event : Event) (r : Reply) (OnContents OnPast : Type 0)
@@ -149,17 +183,17 @@ module _ (s : Setting) (past : List Entry) (h : Legal s past) (before after : St
   next_same : live past t ≡ true → next_left (before.left t) ≡ next_of s past t
   next_same alive = ap next_left (i.left t alive) ∙ next_is_left s past h t
 
-  pub step_simulates : (r : Reply) → StepEffect t before r after → LegalReply s past (Step t) r × IsStateAfter s
+  pub step_simulates : (r : Reply) → StepEffect s.rules.limits.asks t before r after → LegalReply s past (Step t) r × IsStateAfter s
       (entry (Step t) r ∷ past) after
-  step_simulates r x = opened (Step t) r (StepOn t (next_left (before.left t)) before r after)
+  step_simulates r x = opened (Step t) r (StepOn s.rules.limits.asks t (next_left (before.left t)) before r after)
       (StepReply s past t (next_of s past t) r) (λ alive y. step_on (next_of s past t) r refl alive
-      (subst (λ n. StepOn t n before r after) (next_same alive) y)) x
+      (subst (λ n. StepOn s.rules.limits.asks t n before r after) (next_same alive) y)) x
 
-  pub commit_simulates : (r : Reply) → CommitEffect t before r after → LegalReply s past (Commit t) r × IsStateAfter s
+  pub commit_simulates : (r : Reply) → CommitEffect s.rules.limits.asks t before r after → LegalReply s past (Commit t) r × IsStateAfter s
       (entry (Commit t) r ∷ past) after
-  commit_simulates r x = opened (Commit t) r (CommitOn t (next_left (before.left t)) before r after)
-      (CommitReply past t (next_of s past t) r) (λ alive y. commit_on (next_of s past t) r alive
-      (subst (λ n. CommitOn t n before r after) (next_same alive) y)) x
+  commit_simulates r x = opened (Commit t) r (CommitOn s.rules.limits.asks t (next_left (before.left t)) before r after)
+      (CommitReply s past t (next_of s past t) r) (λ alive y. commit_on (next_of s past t) r alive
+      (subst (λ n. CommitOn s.rules.limits.asks t n before r after) (next_same alive) y)) x
 
   pub quit_simulates : (r : Reply) → QuitEffect t before r after → LegalReply s past (Quit t) r × IsStateAfter s
       (entry (Quit t) r ∷ past) after

@@ -13,6 +13,8 @@ use Rattle.sgt_model.specs.declared.reply.Fate.{Fate}
 use Rattle.sgt_model.specs.declared.entry.Entry.{Entry}
 use Rattle.sgt_model.specs.declared.kind.Kind.{Kind}
 use Rattle.sgt_model.specs.declared.kind.Kind.TheVariants.{Look, Store}
+use Rattle.sgt_model.specs.declared.limits.Asks.{Asks as When}
+use Rattle.sgt_model.specs.declared.limits.Asks.TheVariants.{AtStep, AtCommit}
 use Rattle.sgt_model.specs.Contents.{Key}
 use Rattle.sgt_model.specs.Walks.{last_of, Member, Reaches}
 use Rattle.sgt_model.specs.Traces.{Next, Looks, Puts, Ends, Asks}
@@ -24,7 +26,7 @@ use Rattle.sgt_model.specs.Closes.{Closes}
 use Rattle.sgt_model.specs.Settings.{Setting}
 use Rattle.sgt_model.specs.Progress.{next_of}
 use Rattle.sgt_model.specs.StartReply.{start_reply}
-use Rattle.sgt_model.specs.Legality.{Aborts, AbortsByCycle, Makes, StepReply, MustWait, MayCommit, CommitReply, OfStarted}
+use Rattle.sgt_model.specs.Legality.{AskedStep, AskedCommit, NoneLive, Aborts, AbortsByCycle, Makes, StepReply, MustWait, MayCommit, CommitReply, OfStarted}
 use Rattle.sgt_model.specs.OneReply.{SomeReplyIsLegal}
 use Rattle.sgt_model.proofs.Paths.{last_is_member, Simple, simple, simple_some}
 use Rattle.sgt_model.proofs.Listed.{member_added, kept_member, member_kept}
@@ -178,22 +180,39 @@ module _ (past : List Entry) (t : ℕ) where
   before-actor : (u : ℕ) → Pair past u t → Member u (actors past)
   before-actor u p = (precedes-actors past u t p.precedes).0
 
-  some_end : (answers : List ℤ) → (r : Reply) × (MustWait past t r ⊎ MayCommit past t answers r)
-  some_end answers = elim (least_or_none before (actors past)) [
-    | inl w ↦ let p = and_parts _ _ w.passes in (
+  some_wait : ((r : Reply) × MustWait past t r) ⊎ NoneLive past t
+  some_wait = elim (least_or_none before (actors past)) [
+    | inl w ↦ let p = and_parts _ _ w.passes in inl (
       reply.Waits w.at,
-      inl (record {
+      record {
         before = w.at;
         least = record {
           pair = record { is_live = p.0; pair = pair-so past w.at t p.1 };
           least = λ u q. w.least u (before-actor u q.pair) (and_from _ _ q.is_live (so-pair past u t q.pair));
         };
         is = refl;
-      }),
+      },
     )
+    | inr none ↦ inr (λ u q. none u (before-actor u q.pair) (and_from _ _ q.is_live (so-pair past u t q.pair)))
+  ]
+
+  some_end : (answers : List ℤ) → (r : Reply) × (MustWait past t r ⊎ MayCommit past t answers r)
+  some_end answers = elim some_wait [
+    | inl w ↦ (w.0, inl w.1)
+    | inr none ↦ (reply.Committed answers, inr (record { none_live = none; is = refl }))
+  ]
+
+  some_asked_step : (asks : When) (code : ℕ) → (r : Reply) × AskedStep asks past t code r
+  some_asked_step AtStep code = some_abort (cause.Asked code)
+  some_asked_step AtCommit code = (reply.Ended, refl)
+
+  some_asked_commit : (asks : When) (code : ℕ) → (r : Reply) × AskedCommit asks past t code r
+  some_asked_commit AtStep code = (reply.NotEnded, refl)
+  some_asked_commit AtCommit code = elim some_wait [
+    | inl w ↦ (w.0, inl w.1)
     | inr none ↦ (
-      reply.Committed answers,
-      inr (record { none_live = λ u q. none u (before-actor u q.pair) (and_from _ _ q.is_live (so-pair past u t q.pair)); is = refl }),
+      reply.Refused code some_fall.0,
+      inr (record { none_live = none; fell = some_fall.0; falls = some_fall.1; is = refl }),
     )
   ]
 
@@ -203,13 +222,13 @@ module _ (past : List Entry) (t : ℕ) where
   some_step s (Looks k) = some_access k Look (reply.Looked k (visible s.opening past k))
   some_step s (Puts k v) = some_access k Store (reply.Wrote k v)
   some_step s (Ends answers) = (reply.Ended, refl)
-  some_step s (Asks code) = some_abort (cause.Asked code)
+  some_step s (Asks code) = some_asked_step s.rules.limits.asks code
 
-  some_commit : (next : Next) → (r : Reply) × CommitReply past t next r
-  some_commit (Ends answers) = some_end answers
-  some_commit (Looks k) = (reply.NotEnded, refl)
-  some_commit (Puts k v) = (reply.NotEnded, refl)
-  some_commit (Asks code) = (reply.NotEnded, refl)
+  some_commit : (s : Setting) (next : Next) → (r : Reply) × CommitReply s past t next r
+  some_commit s (Ends answers) = some_end answers
+  some_commit s (Looks k) = (reply.NotEnded, refl)
+  some_commit s (Puts k v) = (reply.NotEnded, refl)
+  some_commit s (Asks code) = some_asked_commit s.rules.limits.asks code
 
 some_of_started : (P : Reply → Type 0) → (r : Reply) × P r → (started : Bool) (ended : Option Fate)
     → (r : Reply) × OfStarted started ended r (P r)
@@ -221,7 +240,7 @@ pub some_reply_is_legal : SomeReplyIsLegal
 some_reply_is_legal s past (Start p args) = (start_reply s.rules (starts past) (length (live_ones past)) p args, refl)
 some_reply_is_legal s past (Step t) = some_of_started (λ r. StepReply s past t (next_of s past t) r)
     (some_step past t s (next_of s past t)) (nat_lt t (starts past)) (fate_of past t)
-some_reply_is_legal s past (Commit t) = some_of_started (λ r. CommitReply past t (next_of s past t) r)
-    (some_commit past t (next_of s past t)) (nat_lt t (starts past)) (fate_of past t)
+some_reply_is_legal s past (Commit t) = some_of_started (λ r. CommitReply s past t (next_of s past t) r)
+    (some_commit past t s (next_of s past t)) (nat_lt t (starts past)) (fate_of past t)
 some_reply_is_legal s past (Quit t) = some_of_started (λ r. Aborts past t cause.Quit r) (some_abort past t cause.Quit)
     (nat_lt t (starts past)) (fate_of past t)

@@ -1,8 +1,10 @@
 -- What a transaction that stands has read from stands, and what a committed one has read from committed before it.
-use Rattle.std.proofs.Common.{◌≡◌, ◌≢◌, ℕ, Bool, true, false, cond, not, ◌⊎◌, List, [], ◌∷◌, Option, Some, None, nat_eq, refl, sym, ap, subst, inl, inr, ◌∙◌}
+use Rattle.std.proofs.Common.{◌≡◌, ◌≢◌, ℕ, Bool, true, false, cond, not, ◌⊎◌, List, [], ◌∷◌, Option, Some, None, nat_eq, refl, sym, ap, subst, inl, inr, ◌∙◌, subst₂}
 use Rattle.std.proofs.lemmas.Bool.{eq-eqb, both_ways, cases_eq, not-true}
 use Rattle.std.specs.List.{list_any}
 use Rattle.std.specs.Option.{option_or}
+use Rattle.sgt_model.specs.declared.reply.Reply.TheVariants as reply
+use Rattle.sgt_model.specs.Laws.{SourcesAreCommitted, AllSourcesAreCommitted}
 use Rattle.sgt_model.specs.declared.event.Event.{Event}
 use Rattle.sgt_model.specs.declared.reply.Reply.{Reply}
 use Rattle.sgt_model.specs.declared.reply.Fate.{Fate}
@@ -19,10 +21,10 @@ use Rattle.sgt_model.specs.Falls.{Feeds}
 use Rattle.sgt_model.specs.Pairs.{has_conflicting, Precedes}
 use Rattle.sgt_model.specs.Settings.{Setting}
 use Rattle.sgt_model.specs.Progress.{reads}
-use Rattle.sgt_model.specs.Legality.{Legal}
+use Rattle.sgt_model.specs.Legality.{Legal, NoneLive}
 use Rattle.sgt_model.specs.CommitOrder.{CommitsBefore}
 use Rattle.sgt_model.proofs.Paths.{reaches_trans}
-use Rattle.sgt_model.proofs.Effects.{Undoing, effect}
+use Rattle.sgt_model.proofs.Effects.{EndsNone, Undoing, Effect, idle, begins, accesses, commits, undoes, refuses, effect}
 use Rattle.sgt_model.proofs.Facts.{live-no_fate, access-live, member_to, end_case, end-live, commit-none_live, committed-fate, committed-stays, stood-before, live-stands, live-not_committed, status, commit-case, abort-case, access-same_fate, precedes-started}
 use Rattle.sgt_model.proofs.Stores.{follows_from, newest-by}
 
@@ -96,6 +98,11 @@ falls_with s e past h t u alive reads f now is =
       | inr x ↦ abort_wins _ _ (undoes_aborts x.undo t (undoes_more x.undo t u alive reads x.is))
     ]
 
+ends_none-sources : (s : Setting) (past : List Entry) (event : Event) (r : Reply) → EndsNone r → SourcesAreCommitted s past event r
+ends_none-sources s past event (reply.Committed answers) h = absurd h
+ends_none-sources s past event (reply.Refused code fell) h = absurd h
+ends_none-sources s past event _ h = tt
+
 -- the two laws of a history, which one induction proves together
 record Sound (past : List Entry) : Type 0 where
   stands : (t u : ℕ) → aborted past t ≡ false → ReadFrom past t u → aborted past u ≡ false
@@ -128,23 +135,23 @@ stands_after s e past h sound t u stands (inr reads) = go (aborted (e ∷ past) 
       | inr before ↦ both_ways _ (sound.stands t u (stood-before s e past h t stands) reads) before
     ])
 
--- at the commit of t, what it has read from has committed
-source_committed : (s : Setting) (e : Entry) (past : List Entry) → Legal s (e ∷ past) → Sound past → (t u : ℕ)
-    → ending_in e.event e.reply t ≡ Some fate.Committed → ReadFrom past t u → committed past u ≡ true
-source_committed s e past h sound t u now reads = go (status past u (precedes-started s past h.0 u t precedes).0)
+-- what a live transaction that waits for nobody has read from has committed
+source_committed : (s : Setting) (past : List Entry) → Legal s past → Sound past → (t u : ℕ) → live past t ≡ true
+    → NoneLive past t → ReadFrom past t u → committed past u ≡ true
+source_committed s past h sound t u t_alive none_live reads = go (status past u (precedes-started s past h u t precedes).0)
   where
     precedes : Precedes past u t
     precedes = read-precedes past t u reads
 
     t_stands : aborted past t ≡ false
-    t_stands = live-stands past t (end-live s past e.event e.reply h.1 t fate.Committed now)
+    t_stands = live-stands past t t_alive
 
     u_stands : aborted past u ≡ false
     u_stands = sound.stands t u t_stands reads
 
     go : (live past u ≡ true) ⊎ ((committed past u ≡ true) ⊎ (aborted past u ≡ true)) → committed past u ≡ true
     go (inl alive) =
-        absurd (commit-none_live s past e.event e.reply h.1 t now u
+        absurd (none_live u
         (record {
           is_live = alive;
           pair = record {
@@ -165,7 +172,8 @@ commits_after s e past h sound t u c (inl now) =
     absurd (cc (sym (committed-fate (e ∷ past) t c) ∙ (access-same_fate s e past h l.access l.is t ∙ live-no_fate past t alive)))
 commits_after s e past h sound t u c (inr reads) =
     elim (commit-case e past t c) [
-      | inl now ↦ let before = source_committed s e past h sound t u now reads in
+      | inl now ↦ let before = source_committed s past h.0 sound t u (end-live s past e.event e.reply h.1 t fate.Committed now)
+          (commit-none_live s past e.event e.reply h.1 t now) reads in
           (committed-stays s e past h u before, inl (now, before))
       | inr before ↦ let both = sound.commits t u before.1 reads in
           (committed-stays s e past h u both.0, inr both.1)
@@ -185,3 +193,18 @@ source_of_standing_stands s past h = (sound s past h).stands
 pub source_commits_before : (s : Setting) (past : List Entry) → Legal s past → (t u : ℕ) → committed past t ≡ true
     → ReadFrom past t u → (committed past u ≡ true) × CommitsBefore past u t
 source_commits_before s past h = (sound s past h).commits
+
+-- at each reply that tells answers or a code, what its transaction has read from is committed
+pub sources_are_committed : (s : Setting) (past : List Entry) → Legal s past → AllSourcesAreCommitted s past
+sources_are_committed s [] h = tt
+sources_are_committed s (e ∷ past) h = (sources_are_committed s past h.0, now (effect s past e.event e.reply h.1))
+  where
+    now : Effect s past e.event e.reply → SourcesAreCommitted s past e.event e.reply
+    now (idle i) = ends_none-sources s past e.event e.reply i.ends_none
+    now (begins b) = subst (λ x. SourcesAreCommitted s past e.event x) (sym b.reply_is) tt
+    now (accesses x) = ends_none-sources s past e.event e.reply x.ends_none
+    now (commits c) = subst₂ (λ event r. SourcesAreCommitted s past event r) (sym c.event_is) (sym c.reply_is)
+        (λ u reads. source_committed s past h.0 (sound s past h.0) c.t u c.is_live c.none_live reads)
+    now (undoes x) = subst (λ r. SourcesAreCommitted s past e.event r) (sym x.reply_is) tt
+    now (refuses x) = subst₂ (λ event r. SourcesAreCommitted s past event r) (sym x.event_is) (sym x.reply_is)
+        (λ u reads. source_committed s past h.0 (sound s past h.0) x.undoing.t u x.undoing.is_live x.none_live reads)

@@ -50,10 +50,24 @@ HasCause s past (Step t) (cause.Asked code) = next_of s past t ≡ Asks code
 HasCause s past (Quit t) cause.Quit = Unit {0}
 HasCause s past _ _ = ⊥
 
--- an abort has its cause, and those that fall are exactly those that read from it
+-- an abort has its cause, and so has a refusal: the procedure asks that code. Those that fall are exactly those that read
+-- from it
 abbrev pub AbortHasCause : Setting → List Entry → Event → Reply → Type 0
 AbortHasCause s past event (reply.Aborted why fell) = HasCause s past event why × Falls past (subject event) fell
-AbortHasCause s past event _ = Unit {0}
+AbortHasCause s past event (reply.Refused code fell) = (next_of s past (subject event) ≡ Asks code) × Falls past (subject event) fell
+AbortHasCause s past event (reply.Started u) = Unit {0}
+AbortHasCause s past event reply.NoProcedure = Unit {0}
+AbortHasCause s past event reply.BadArgs = Unit {0}
+AbortHasCause s past event reply.Spent = Unit {0}
+AbortHasCause s past event reply.Full = Unit {0}
+AbortHasCause s past event reply.Unknown = Unit {0}
+AbortHasCause s past event (reply.Over ended) = Unit {0}
+AbortHasCause s past event (reply.Looked k v) = Unit {0}
+AbortHasCause s past event (reply.Wrote k v) = Unit {0}
+AbortHasCause s past event reply.Ended = Unit {0}
+AbortHasCause s past event reply.NotEnded = Unit {0}
+AbortHasCause s past event (reply.Waits u) = Unit {0}
+AbortHasCause s past event (reply.Committed answers) = Unit {0}
 
 -- so has each abort of a history
 abbrev pub AbortsHaveCause : Setting → List Entry → Type 0

@@ -9,6 +9,8 @@ use Rattle.sgt_model.specs.declared.reply.Cause.TheVariants as cause
 use Rattle.sgt_model.specs.declared.reply.Fate.{Fate}
 use Rattle.sgt_model.specs.declared.kind.Kind.{Kind}
 use Rattle.sgt_model.specs.declared.kind.Kind.TheVariants.{Look, Store}
+use Rattle.sgt_model.specs.declared.limits.Asks.{Asks as When}
+use Rattle.sgt_model.specs.declared.limits.Asks.TheVariants.{AtStep, AtCommit}
 use Rattle.sgt_model.specs.Contents.{Key}
 use Rattle.sgt_model.specs.Syntax.{Program}
 use Rattle.sgt_model.specs.Traces.{Next, Looks, Puts, Ends, Asks}
@@ -36,12 +38,16 @@ IfOpen true None before r after if_live = if_live
 
 -- a step
 
+-- t is undone for this cause, with those that fall, whatever is told of it
+pub record Undo (t : ℕ) (why : Cause) (fell : List ℕ) (before after : State) : Type 0 where
+  pub falls : FallsIn before t fell
+  pub drops : Drops t why fell before after
+
 -- t is aborted, with those that fall
 pub record AbortsIn (t : ℕ) (why : Cause) (before : State) (r : Reply) (after : State) : Type 0 where
   pub fell : List ℕ
-  pub falls : FallsIn before t fell
+  pub undo : Undo t why fell before after
   pub reply : r ≡ reply.Aborted why fell
-  pub drops : Drops t why fell before after
 
 -- an access that is blocked is rejected: t is aborted, and the reply names the walk
 pub record AbortsByCycleIn (t : ℕ) (k : Key) (kind : Kind) (before : State) (r : Reply) (after : State) : Type 0 where
@@ -61,16 +67,21 @@ pub record MakesStore (t : ℕ) (k : Key) (v : ℤ) (before : State) (r : Reply)
   pub reply : r ≡ reply.Wrote k v
   pub stores : StoresInto t k v before after
 
+-- a step that asks is answered at once, or left to the commit
+abbrev pub AskedStepOn : When → ℕ → ℕ → State → Reply → State → Type 0
+AskedStepOn AtStep t code before r after = AbortsIn t (cause.Asked code) before r after
+AskedStepOn AtCommit t code before r after = Stays reply.Ended before r after
+
 -- a step of a live transaction, by what its procedure does next
-abbrev pub StepOn : ℕ → Next → State → Reply → State → Type 0
-StepOn t (Looks k) before r after = AbortsByCycleIn t k Look before r after ⊎ MakesLook t k before r after
-StepOn t (Puts k v) before r after = AbortsByCycleIn t k Store before r after ⊎ MakesStore t k v before r after
-StepOn t (Ends answers) before r after = Stays reply.Ended before r after
-StepOn t (Asks code) before r after = AbortsIn t (cause.Asked code) before r after
+abbrev pub StepOn : When → ℕ → Next → State → Reply → State → Type 0
+StepOn asks t (Looks k) before r after = AbortsByCycleIn t k Look before r after ⊎ MakesLook t k before r after
+StepOn asks t (Puts k v) before r after = AbortsByCycleIn t k Store before r after ⊎ MakesStore t k v before r after
+StepOn asks t (Ends answers) before r after = Stays reply.Ended before r after
+StepOn asks t (Asks code) before r after = AskedStepOn asks t code before r after
 
 -- a step of any transaction
-abbrev pub StepEffect : ℕ → State → Reply → State → Type 0
-StepEffect t before r after = IfOpen (nat_lt t before.starts) (before.fates t) before r after (StepOn t (next_left (before.left t)) before r after)
+abbrev pub StepEffect : When → ℕ → State → Reply → State → Type 0
+StepEffect asks t before r after = IfOpen (nat_lt t before.starts) (before.fates t) before r after (StepOn asks t (next_left (before.left t)) before r after)
 
 -- a commit
 
@@ -86,16 +97,28 @@ pub record CommitsIn (t : ℕ) (answers : List ℤ) (before : State) (r : Reply)
   pub reply : r ≡ reply.Committed answers
   pub settles : Settles t before after
 
+-- t has no predecessor, and is refused with its code
+pub record RefusesIn (t code : ℕ) (before : State) (r : Reply) (after : State) : Type 0 where
+  pub first : NoneBefore (PairIn before) t
+  pub fell : List ℕ
+  pub undo : Undo t (cause.Asked code) fell before after
+  pub reply : r ≡ reply.Refused code fell
+
+-- a commit of one that asks: its step was answered already, or it is answered now, and waits as every commit does
+abbrev pub AskedCommitOn : When → ℕ → ℕ → State → Reply → State → Type 0
+AskedCommitOn AtStep t code before r after = Stays reply.NotEnded before r after
+AskedCommitOn AtCommit t code before r after = WaitsOn t before r after ⊎ RefusesIn t code before r after
+
 -- a commit of a live transaction, by what its procedure does next
-abbrev pub CommitOn : ℕ → Next → State → Reply → State → Type 0
-CommitOn t (Ends answers) before r after = WaitsOn t before r after ⊎ CommitsIn t answers before r after
-CommitOn t (Looks k) before r after = Stays reply.NotEnded before r after
-CommitOn t (Puts k v) before r after = Stays reply.NotEnded before r after
-CommitOn t (Asks code) before r after = Stays reply.NotEnded before r after
+abbrev pub CommitOn : When → ℕ → Next → State → Reply → State → Type 0
+CommitOn asks t (Ends answers) before r after = WaitsOn t before r after ⊎ CommitsIn t answers before r after
+CommitOn asks t (Looks k) before r after = Stays reply.NotEnded before r after
+CommitOn asks t (Puts k v) before r after = Stays reply.NotEnded before r after
+CommitOn asks t (Asks code) before r after = AskedCommitOn asks t code before r after
 
 -- a commit of any transaction
-abbrev pub CommitEffect : ℕ → State → Reply → State → Type 0
-CommitEffect t before r after = IfOpen (nat_lt t before.starts) (before.fates t) before r after (CommitOn t (next_left (before.left t)) before r after)
+abbrev pub CommitEffect : When → ℕ → State → Reply → State → Type 0
+CommitEffect asks t before r after = IfOpen (nat_lt t before.starts) (before.fates t) before r after (CommitOn asks t (next_left (before.left t)) before r after)
 
 -- a quit
 
@@ -122,6 +145,6 @@ pub record StartEffect (rules : Rules) (p : ℕ) (args : List ℤ) (before : Sta
 -- what the call of an event answers and does
 abbrev pub CallEffect : Rules → Event → State → Reply → State → Type 0
 CallEffect rules (Start p args) before r after = StartEffect rules p args before r after
-CallEffect rules (Step t) before r after = StepEffect t before r after
-CallEffect rules (Commit t) before r after = CommitEffect t before r after
+CallEffect rules (Step t) before r after = StepEffect rules.limits.asks t before r after
+CallEffect rules (Commit t) before r after = CommitEffect rules.limits.asks t before r after
 CallEffect rules (Quit t) before r after = QuitEffect t before r after

@@ -1,5 +1,5 @@
--- The replay in the plain meaning of the language: the committed procedures of a history are executed one after another, in
--- commit order, each on the database that the ones before it left. It knows no runs: that it is the replay of runs is a law.
+-- The replay in the plain meaning of the language: the committed and refused procedures of a history are executed one after
+-- another, in reply order, each on the database that the ones before it left. It knows no runs: that it is the replay of runs is a law.
 use Rattle.std.specs.Prelude.{◌≡◌, ℤ, List, [], ◌∷◌, Option, Some, None, slice_get}
 use Rattle.sgt_model.specs.declared.limits.Limits.{Limits}
 use Rattle.sgt_model.specs.declared.entry.Entry.{Entry}
@@ -11,7 +11,7 @@ use Rattle.sgt_model.specs.Values.{settled}
 use Rattle.sgt_model.specs.Settings.{setting}
 use Rattle.sgt_model.specs.Progress.{Call}
 use Rattle.sgt_model.specs.Legality.{Legal}
-use Rattle.sgt_model.specs.Replay.{Folded, with_outcome, committed_calls, told}
+use Rattle.sgt_model.specs.Replay.{Folded, with_outcome, told_calls, told}
 
 -- the execution of a procedure, if there is one
 abbrev pub execution_if : Option Program → List ℤ → Contents → Outcome
@@ -27,12 +27,12 @@ abbrev pub execute_in_turn : Contents → List Program → List Call → Folded
 execute_in_turn opening programs [] = record { results = []; last = opening }
 execute_in_turn opening programs (c ∷ before) = with_outcome (execution_of programs c (execute_in_turn opening programs before).last) (execute_in_turn opening programs before)
 
--- the committed transactions, executed one after another in commit order on the opening
+-- the committed and refused transactions, executed one after another in reply order on the opening
 abbrev pub executed : Contents → List Program → List Entry → Folded
-executed opening programs past = execute_in_turn opening programs (committed_calls past)
+executed opening programs past = execute_in_turn opening programs (told_calls past)
 
--- executed one after another, the committed transactions' procedures give each the answers that it was told, and leave the
--- committed values
+-- executed one after another, the committed and refused transactions' procedures give each the answers or the code that it
+-- was told, and leave the committed values
 pub record IsExecuted (opening : Contents) (programs : List Program) (past : List Entry) : Type 0 where
   pub answers : (executed opening programs past).results ≡ told past
   pub database : (k : Key) → (executed opening programs past).last k ≡ settled opening past k

@@ -7,6 +7,8 @@ use Rattle.sgt_model.specs.declared.event.Event.{Event}
 use Rattle.sgt_model.specs.declared.event.Event.TheVariants.{Start, Step, Commit, Quit}
 use Rattle.sgt_model.specs.declared.reply.Reply.{Reply}
 use Rattle.sgt_model.specs.declared.reply.Reply.TheVariants as reply
+use Rattle.sgt_model.specs.declared.reply.Cause.{Cause}
+use Rattle.sgt_model.specs.declared.reply.Cause.TheVariants as cause
 use Rattle.sgt_model.specs.declared.reply.Fate.{Fate}
 use Rattle.sgt_model.specs.declared.reply.Fate.TheVariants as fate
 use Rattle.sgt_model.specs.declared.entry.Entry.{Entry}
@@ -35,11 +37,28 @@ subject (Step u) = u
 subject (Commit u) = u
 subject (Quit u) = u
 
--- how an event with this reply ends transaction t, if it does: t commits, or is aborted, or falls with one that is aborted
+-- how an abort of the event's transaction for this cause ends transaction t, if it does: t is that one, or falls with it
+abbrev pub undone_in : Event → Cause → List ℕ → ℕ → Option Fate
+undone_in event why fell t = cond (concerns event t) (Some (fate.Aborted why)) (cond (list_any (λ u. nat_eq u t) fell) (Some (fate.Fell (subject event))) None)
+
+-- how an event with this reply ends transaction t, if it does: t commits, or is aborted, or falls with one that is aborted. One
+-- that is refused at its commit is aborted, since it asked
 abbrev pub ending_in : Event → Reply → ℕ → Option Fate
 ending_in event (reply.Committed answers) t = cond (concerns event t) (Some fate.Committed) None
-ending_in event (reply.Aborted cause fell) t = cond (concerns event t) (Some (fate.Aborted cause)) (cond (list_any (λ u. nat_eq u t) fell) (Some (fate.Fell (subject event))) None)
-ending_in event _ t = None
+ending_in event (reply.Aborted why fell) t = undone_in event why fell t
+ending_in event (reply.Refused code fell) t = undone_in event (cause.Asked code) fell t
+ending_in event (reply.Started u) t = None
+ending_in event reply.NoProcedure t = None
+ending_in event reply.BadArgs t = None
+ending_in event reply.Spent t = None
+ending_in event reply.Full t = None
+ending_in event reply.Unknown t = None
+ending_in event (reply.Over ended) t = None
+ending_in event (reply.Looked k v) t = None
+ending_in event (reply.Wrote k v) t = None
+ending_in event reply.Ended t = None
+ending_in event reply.NotEnded t = None
+ending_in event (reply.Waits u) t = None
 
 -- how a transaction ended, if it did
 abbrev pub fate_of : List Entry → ℕ → Option Fate
@@ -60,7 +79,7 @@ has_aborted (Some fate.Committed) = false
 has_aborted (Some (fate.Aborted cause)) = true
 has_aborted (Some (fate.Fell u)) = true
 
--- it had an Aborted reply, or stands among those that fell with one
+-- it had an Aborted or a Refused reply, or stands among those that fell with one
 abbrev pub aborted : List Entry → ℕ → Bool
 aborted past t = has_aborted (fate_of past t)
 

@@ -19,7 +19,7 @@ use Rattle.sgt_model.specs.Pairs.{Pair}
 use Rattle.sgt_model.specs.Settings.{Setting}
 use Rattle.sgt_model.specs.Legality.{Legal}
 use Rattle.sgt_model.specs.Admissions.{AreAdmitted}
-use Rattle.sgt_model.specs.Replay.{committed_calls, IsSerializable}
+use Rattle.sgt_model.specs.Replay.{told_calls, IsSerializable}
 use Rattle.sgt_model.specs.CommitOrder.{CommitsBefore, last_store, CommitsInOrder, CommitsInLine}
 use Rattle.sgt_model.specs.Aborts.{AbortsHaveCause}
 use Rattle.sgt_model.specs.Headline.{Headline}
@@ -54,20 +54,60 @@ abbrev pub LooksAgree : Contents → ℕ → List Entry → Type 0
 LooksAgree now t [] = Unit {0}
 LooksAgree now t (e ∷ older) = LooksAgree now t older × LookAgrees now t older (access_of e)
 
--- at a Committed entry each look of its transaction agrees with what was committed just before
+-- at a Committed or Refused entry each look of its transaction agrees with what was committed just before
 abbrev pub CommitAgrees : Setting → List Entry → Event → Reply → Type 0
 CommitAgrees s past event (reply.Committed answers) = LooksAgree (settled s.opening past) (subject event) past
-CommitAgrees s past event _ = Unit {0}
+CommitAgrees s past event (reply.Refused code fell) = LooksAgree (settled s.opening past) (subject event) past
+CommitAgrees s past event (reply.Started u) = Unit {0}
+CommitAgrees s past event reply.NoProcedure = Unit {0}
+CommitAgrees s past event reply.BadArgs = Unit {0}
+CommitAgrees s past event reply.Spent = Unit {0}
+CommitAgrees s past event reply.Full = Unit {0}
+CommitAgrees s past event reply.Unknown = Unit {0}
+CommitAgrees s past event (reply.Over ended) = Unit {0}
+CommitAgrees s past event (reply.Looked k v) = Unit {0}
+CommitAgrees s past event (reply.Wrote k v) = Unit {0}
+CommitAgrees s past event reply.Ended = Unit {0}
+CommitAgrees s past event reply.NotEnded = Unit {0}
+CommitAgrees s past event (reply.Waits u) = Unit {0}
+CommitAgrees s past event (reply.Aborted why fell) = Unit {0}
 
 -- so it is at each entry
 abbrev pub CommitsAgree : Setting → List Entry → Type 0
 CommitsAgree s [] = Unit {0}
 CommitsAgree s (e ∷ past) = CommitsAgree s past × CommitAgrees s past e.event e.reply
 
--- at each Committed entry, each value that its transaction looked at is its own last one of that key before the look or,
--- where it had none, the one that was committed just before the entry
+-- at each Committed or Refused entry, each value that its transaction looked at is its own last one of that key before the look
+-- or, where it had none, the one that was committed just before the entry
 abbrev pub LooksAgreeAtCommit : Type 0
 LooksAgreeAtCommit = InEach CommitsAgree
+
+-- what a transaction has read from that commits or is refused was committed before
+abbrev pub SourcesAreCommitted : Setting → List Entry → Event → Reply → Type 0
+SourcesAreCommitted s past event (reply.Committed answers) = (u : ℕ) → ReadFrom past (subject event) u → committed past u ≡ true
+SourcesAreCommitted s past event (reply.Refused code fell) = (u : ℕ) → ReadFrom past (subject event) u → committed past u ≡ true
+SourcesAreCommitted s past event (reply.Started u) = Unit {0}
+SourcesAreCommitted s past event reply.NoProcedure = Unit {0}
+SourcesAreCommitted s past event reply.BadArgs = Unit {0}
+SourcesAreCommitted s past event reply.Spent = Unit {0}
+SourcesAreCommitted s past event reply.Full = Unit {0}
+SourcesAreCommitted s past event reply.Unknown = Unit {0}
+SourcesAreCommitted s past event (reply.Over ended) = Unit {0}
+SourcesAreCommitted s past event (reply.Looked k v) = Unit {0}
+SourcesAreCommitted s past event (reply.Wrote k v) = Unit {0}
+SourcesAreCommitted s past event reply.Ended = Unit {0}
+SourcesAreCommitted s past event reply.NotEnded = Unit {0}
+SourcesAreCommitted s past event (reply.Waits u) = Unit {0}
+SourcesAreCommitted s past event (reply.Aborted why fell) = Unit {0}
+
+-- so it is at each entry
+abbrev pub AllSourcesAreCommitted : Setting → List Entry → Type 0
+AllSourcesAreCommitted s [] = Unit {0}
+AllSourcesAreCommitted s (e ∷ past) = AllSourcesAreCommitted s past × SourcesAreCommitted s past e.event e.reply
+
+-- at each Committed or Refused entry, what its transaction has read from is committed already
+abbrev pub SourcesCommitBeforeReplies : Type 0
+SourcesCommitBeforeReplies = InEach AllSourcesAreCommitted
 
 -- a run at once is its trace
 abbrev pub RunsAreTraces : Type 0
@@ -77,7 +117,8 @@ RunsAreTraces = (r : Run) → RunIsTrace r
 abbrev pub PairsHaveNoCycle : Type 0
 PairsHaveNoCycle = InEach (λ s past. Acyclic (Pair past))
 
--- the committed transactions run one after another give the answers that were told and the committed values
+-- the committed and refused transactions run one after another give the answers and codes that were told and the committed
+-- values
 abbrev pub ReplayIsSerial : Type 0
 ReplayIsSerial = InEach IsSerializable
 
@@ -93,9 +134,10 @@ CommitsAlwaysInOrder = InEach (λ s past. CommitsInOrder past)
 abbrev pub CommitsAlwaysInLine : Type 0
 CommitsAlwaysInLine = InEach (λ s past. CommitsInLine past)
 
--- who committed was started with a procedure of the setting, and with as many arguments as it takes, each a value
+-- who committed or was refused was started with a procedure of the setting, and with as many arguments as it takes, each a
+-- value
 abbrev pub CommittedAreAdmitted : Type 0
-CommittedAreAdmitted = InEach (λ s past. AreAdmitted s (committed_calls past))
+CommittedAreAdmitted = InEach (λ s past. AreAdmitted s (told_calls past))
 
 -- never are more transactions started, or live at once, than the limits say
 abbrev pub LimitsAreKept : Type 0

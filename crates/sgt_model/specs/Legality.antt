@@ -12,6 +12,8 @@ use Rattle.sgt_model.specs.declared.reply.Fate.{Fate}
 use Rattle.sgt_model.specs.declared.entry.Entry.{Entry}
 use Rattle.sgt_model.specs.declared.kind.Kind.{Kind}
 use Rattle.sgt_model.specs.declared.kind.Kind.TheVariants.{Look, Store}
+use Rattle.sgt_model.specs.declared.limits.Asks.{Asks as When}
+use Rattle.sgt_model.specs.declared.limits.Asks.TheVariants.{AtStep, AtCommit}
 use Rattle.sgt_model.specs.Contents.{Key}
 use Rattle.sgt_model.specs.Traces.{Next, Looks, Puts, Ends, Asks}
 use Rattle.sgt_model.specs.Fates.{starts, fate_of, live, live_ones}
@@ -43,12 +45,17 @@ pub record Makes (past : List Entry) (t : ℕ) (k : Key) (kind : Kind) (made_rep
   pub free : (rest : List ℕ) → Closes past t k kind rest → ⊥
   pub is : r ≡ made_reply
 
+-- a step that asks is answered at once, or left to the commit
+abbrev pub AskedStep : When → List Entry → ℕ → ℕ → Reply → Type 0
+AskedStep AtStep past t code r = Aborts past t (cause.Asked code) r
+AskedStep AtCommit past t code r = r ≡ reply.Ended
+
 -- the reply to a step of a live transaction, by what its procedure does next
 abbrev pub StepReply : Setting → List Entry → ℕ → Next → Reply → Type 0
 StepReply s past t (Looks k) r = AbortsByCycle past t k Look r ⊎ Makes past t k Look (reply.Looked k (visible s.opening past k)) r
 StepReply s past t (Puts k v) r = AbortsByCycle past t k Store r ⊎ Makes past t k Store (reply.Wrote k v) r
 StepReply s past t (Ends answers) r = r ≡ reply.Ended
-StepReply s past t (Asks code) r = Aborts past t (cause.Asked code) r
+StepReply s past t (Asks code) r = AskedStep s.rules.limits.asks past t code r
 
 -- a commit
 
@@ -72,12 +79,24 @@ pub record MayCommit (past : List Entry) (t : ℕ) (answers : List ℤ) (r : Rep
   pub none_live : NoneLive past t
   pub is : r ≡ reply.Committed answers
 
+-- t has no live predecessor, and is refused with its code
+pub record MayRefuse (past : List Entry) (t code : ℕ) (r : Reply) : Type 0 where
+  pub none_live : NoneLive past t
+  pub fell : List ℕ
+  pub falls : Falls past t fell
+  pub is : r ≡ reply.Refused code fell
+
+-- a commit of one that asks: its step was answered already, or it is answered now, and waits as every commit does
+abbrev pub AskedCommit : When → List Entry → ℕ → ℕ → Reply → Type 0
+AskedCommit AtStep past t code r = r ≡ reply.NotEnded
+AskedCommit AtCommit past t code r = MustWait past t r ⊎ MayRefuse past t code r
+
 -- the reply to a commit of a live transaction, by what its procedure does next
-abbrev pub CommitReply : List Entry → ℕ → Next → Reply → Type 0
-CommitReply past t (Ends answers) r = MustWait past t r ⊎ MayCommit past t answers r
-CommitReply past t (Looks k) r = r ≡ reply.NotEnded
-CommitReply past t (Puts k v) r = r ≡ reply.NotEnded
-CommitReply past t (Asks code) r = r ≡ reply.NotEnded
+abbrev pub CommitReply : Setting → List Entry → ℕ → Next → Reply → Type 0
+CommitReply s past t (Ends answers) r = MustWait past t r ⊎ MayCommit past t answers r
+CommitReply s past t (Looks k) r = r ≡ reply.NotEnded
+CommitReply s past t (Puts k v) r = r ≡ reply.NotEnded
+CommitReply s past t (Asks code) r = AskedCommit s.rules.limits.asks past t code r
 
 -- every event
 
@@ -100,7 +119,7 @@ OfLive past t r if_live = OfStarted (nat_lt t (starts past)) (fate_of past t) r 
 abbrev pub LegalReply : Setting → List Entry → Event → Reply → Type 0
 LegalReply s past (Start p args) r = r ≡ start_reply s.rules (starts past) (length (live_ones past)) p args
 LegalReply s past (Step t) r = OfLive past t r (StepReply s past t (next_of s past t) r)
-LegalReply s past (Commit t) r = OfLive past t r (CommitReply past t (next_of s past t) r)
+LegalReply s past (Commit t) r = OfLive past t r (CommitReply s past t (next_of s past t) r)
 LegalReply s past (Quit t) r = OfLive past t r (Aborts past t cause.Quit r)
 
 -- each entry's reply is legal after the entries before it

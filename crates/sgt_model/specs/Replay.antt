@@ -1,6 +1,7 @@
--- The committed transactions run one after another in commit order, as if each had been alone: the serial history that a
--- serializable one is equivalent to (Bernstein, Hadzilacos and Goodman (1987), chapter 2), here by the answers told and
--- the values left.
+-- The committed and the refused transactions run one after another in the order of their replies, as if each had been alone:
+-- the serial history that a serializable one is equivalent to (Bernstein, Hadzilacos and Goodman (1987), chapter 2), here by
+-- the answers or the code told and the values left. Where asks are answered at the step none is refused, and the order is that
+-- of commits.
 use Rattle.std.specs.Prelude.{◌≡◌, ℕ, ℤ, List, [], ◌∷◌, ◌++◌}
 use Rattle.sgt_model.specs.declared.event.Event.{Event}
 use Rattle.sgt_model.specs.declared.reply.Reply.{Reply}
@@ -41,33 +42,59 @@ run_in_turn s (c ∷ before) = with_outcome (serial (run_of s.rules c) (run_in_t
 
 -- ---- of a history
 
--- the call of the transaction that an entry commits, if it commits one
-abbrev pub committed_call_in : List Entry → Event → Reply → List Call
-committed_call_in past event (reply.Committed answers) = call_of past (subject event) ∷ []
-committed_call_in past event _ = []
+-- the call of the transaction that an entry commits or refuses, if it does
+abbrev pub told_call_in : List Entry → Event → Reply → List Call
+told_call_in past event (reply.Committed answers) = call_of past (subject event) ∷ []
+told_call_in past event (reply.Refused code fell) = call_of past (subject event) ∷ []
+told_call_in past event (reply.Started u) = []
+told_call_in past event reply.NoProcedure = []
+told_call_in past event reply.BadArgs = []
+told_call_in past event reply.Spent = []
+told_call_in past event reply.Full = []
+told_call_in past event reply.Unknown = []
+told_call_in past event (reply.Over ended) = []
+told_call_in past event (reply.Looked k v) = []
+told_call_in past event (reply.Wrote k v) = []
+told_call_in past event reply.Ended = []
+told_call_in past event reply.NotEnded = []
+told_call_in past event (reply.Waits u) = []
+told_call_in past event (reply.Aborted why fell) = []
 
--- the calls of the committed transactions, the last commit first
-abbrev pub committed_calls : List Entry → List Call
-committed_calls [] = []
-committed_calls (e ∷ past) = committed_call_in past e.event e.reply ++ committed_calls past
+-- the calls of the committed and refused transactions, the last reply first
+abbrev pub told_calls : List Entry → List Call
+told_calls [] = []
+told_calls (e ∷ past) = told_call_in past e.event e.reply ++ told_calls past
 
--- the committed transactions, run one after another in commit order on the opening. Of the history only the Committed entries
--- and the starts of their transactions are looked at
+-- the committed and refused transactions, run one after another in reply order on the opening. Of the history only the
+-- Committed and Refused entries and the starts of their transactions are looked at
 abbrev pub folded : Setting → List Entry → Folded
-folded s past = run_in_turn s (committed_calls past)
+folded s past = run_in_turn s (told_calls past)
 
--- what an entry tells a transaction that commits, if one does
+-- what an entry tells a transaction that commits or is refused, if one does or is
 abbrev pub told_in : Reply → List RunResult
 told_in (reply.Committed answers) = GaveAnswers answers ∷ []
-told_in _ = []
+told_in (reply.Refused code fell) = AskedCode code ∷ []
+told_in (reply.Started u) = []
+told_in reply.NoProcedure = []
+told_in reply.BadArgs = []
+told_in reply.Spent = []
+told_in reply.Full = []
+told_in reply.Unknown = []
+told_in (reply.Over ended) = []
+told_in (reply.Looked k v) = []
+told_in (reply.Wrote k v) = []
+told_in reply.Ended = []
+told_in reply.NotEnded = []
+told_in (reply.Waits u) = []
+told_in (reply.Aborted why fell) = []
 
--- what the committed transactions were told, the last commit first
+-- what the committed and refused transactions were told, the last reply first
 abbrev pub told : List Entry → List RunResult
 told [] = []
 told (e ∷ past) = told_in e.reply ++ told past
 
--- serializable, in commit order: run one after another, the committed transactions' procedures give each the answers that it
--- was told, and leave the committed values
+-- serializable, in reply order: run one after another, the committed and refused transactions' procedures give each the
+-- answers or the code that it was told, and leave the committed values
 pub record IsSerializable (s : Setting) (past : List Entry) : Type 0 where
   pub answers : (folded s past).results ≡ told past
   pub database : (k : Key) → (folded s past).last k ≡ settled s.opening past k

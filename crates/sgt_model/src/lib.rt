@@ -73,11 +73,11 @@ pub use laws::{
     histories_are_executed, histories_go_on, limits_are_kept, looks_agree_at_commit,
     no_pair_from_live, pairs_have_no_cycle, replay_is_serial, replays_hold_values,
     replies_are_unique, replies_name_few, replies_tell_who_is_live, runs_are_traces,
-    serial_is_execution, some_reply_is_legal, sources_commit_first, sources_stand,
-    writers_commit_in_order,
+    serial_is_execution, some_reply_is_legal, sources_commit_before_replies, sources_commit_first,
+    sources_stand, writers_commit_in_order,
 };
 pub use left::{left_goes_on, next_is_of_left};
-pub use limits::{Limits, MOST_BEGINS, MOST_LIVE};
+pub use limits::{Asks, Limits, MOST_BEGINS, MOST_LIVE};
 pub use procedure::{Cond, Expr, Procedure, Statement};
 pub use refinement::{
     calls_simulate, found_is_visible, new_is_empty, nexts_agree, states_are_sound, verdicts_agree,

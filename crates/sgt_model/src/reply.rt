@@ -1,5 +1,5 @@
 ghost use Rattle.std.specs.Prelude.{◌≡◌, ◌↔◌, IsTrue};
-ghost use Rattle.sgt_model.specs.Questions.{started_number, is_refusal, is_wait, is_commit, is_ask, is_quit, is_ending, tells_end};
+ghost use Rattle.sgt_model.specs.Questions.{started_number, refuses_start, is_wait, is_commit, is_ask, is_quit, is_ending, tells_end};
 
 use crate::event::Answers;
 use crate::key::Key;
@@ -30,8 +30,8 @@ pub enum Fate {
     Fell(Tid),
 }
 
-/// What an event is answered. NoProcedure, BadArgs, Spent, Full, Unknown, Over, NotEnded and Waits are refusals, which
-/// change nothing but the history.
+/// What an event is answered. NoProcedure, BadArgs, Spent, Full, Unknown, Over, NotEnded and Waits change nothing but the
+/// history.
 #[derive(Debug, Drop, PartialEq, Eq)]
 pub enum Reply {
     /// The transaction was started, with this number.
@@ -52,7 +52,8 @@ pub enum Reply {
     Looked { key: Key, value: Option<i64> },
     /// The step stored this value in the record.
     Wrote { key: Key, value: i64 },
-    /// The procedure is at its end, and nothing was done.
+    /// The procedure is at its end, and nothing was done. Where asks are answered at the commit, one that asks is at its end
+    /// too.
     Ended,
     /// The procedure is not at its end, so the transaction can't be committed yet.
     NotEnded,
@@ -63,6 +64,9 @@ pub enum Reply {
     /// The transaction is aborted for this cause, and with it the live ones that had read from it, directly or through
     /// others: `fell`, rising.
     Aborted { cause: Cause, fell: Tids },
+    /// The transaction is aborted at its commit, since its procedure asks this code, where asks are answered at the commit;
+    /// and with it the live ones that had read from it, directly or through others: `fell`, rising.
+    Refused { code: u16, fell: Tids },
 }
 
 impl Cause {
@@ -120,6 +124,10 @@ impl Reply {
                 cause: cause.copied(),
                 fell: fell.copied(),
             },
+            Reply::Refused { code, fell } => Reply::Refused {
+                code: *code,
+                fell: fell.copied(),
+            },
         }
     }
 
@@ -141,8 +149,8 @@ impl Reply {
     }
 
     /// Whether it is what a start is answered where nothing is started.
-    pub fn is_refusal(&self) -> bool
-        ensures { result ≡ is_refusal self.now }
+    pub fn refuses_start(&self) -> bool
+        ensures { result ≡ refuses_start self.now }
     {
         matches!(
             self,
@@ -164,12 +172,13 @@ impl Reply {
         matches!(self, Reply::Committed(_))
     }
 
-    /// Whether it aborts a transaction whose procedure asked a code.
+    /// Whether it aborts a transaction whose procedure asked a code, at the step or at the commit.
     pub fn is_ask(&self) -> bool
         ensures { result ≡ is_ask self.now }
     {
         match self {
             Reply::Aborted { cause, .. } => matches!(cause, Cause::Asked(_)),
+            Reply::Refused { .. } => true,
             _ => false,
         }
     }
@@ -188,7 +197,10 @@ impl Reply {
     pub fn is_ending(&self) -> bool
         ensures { result ≡ is_ending self.now }
     {
-        matches!(self, Reply::Committed(_) | Reply::Aborted { .. })
+        matches!(
+            self,
+            Reply::Committed(_) | Reply::Aborted { .. } | Reply::Refused { .. }
+        )
     }
 
     /// Whether, as the reply to a step or a commit, it tells that their transaction has ended, now or before.
@@ -197,7 +209,10 @@ impl Reply {
     {
         matches!(
             self,
-            Reply::Over(_) | Reply::Committed(_) | Reply::Aborted { .. }
+            Reply::Over(_)
+                | Reply::Committed(_)
+                | Reply::Aborted { .. }
+                | Reply::Refused { .. }
         )
     }
 }
