@@ -18,7 +18,7 @@ use Rattle.sgt_model.specs.FallsIn.{FallsIn}
 use Rattle.sgt_model.specs.declared.kind.Kind.{Kind}
 use Rattle.sgt_model.specs.declared.reply.Cause.TheVariants as cause
 use Rattle.sgt_model.specs.Blocks.{Blocks}
-use Rattle.sgt_model.specs.CallEffects.{AbortsIn, AbortsByCycleIn}
+use Rattle.sgt_model.specs.CallEffects.{Undo, AbortsIn, AbortsByCycleIn}
 use Rattle.sgt_model.specs.Soundness.{Sound}
 use Rattle.sgt_model.proofs.Facts.{member_from}
 use Rattle.sgt_model.proofs.Removals.{removes_then}
@@ -123,13 +123,11 @@ module _ (t : ℕ) (why : Cause) (fell : List ℕ) (before now : State) (falls :
       subst (λ l. Drops t why l before after) (sym (take_more fell i u within ∙ ap (λ x. take i fell ++ x ∷ []) (sym at)))
       (drops_more t why (take i fell) u before now after (falls.each u (got fell i u within at)).1 drops e)
 
--- when all have left, t is aborted
-pub aborts : (t : ℕ) (why : Cause) (fell items : List ℕ) (i : ℕ) (before after : State) → items ≡ fell → length items ≤ i
-    → FallsIn before t fell → Drops t why (take i items) before after → AbortsIn t why before (reply.Aborted why fell) after
-aborts t why fell items i before after same all falls drops = record {
-  fell = fell;
+-- when all have left, t is undone
+pub undone : (t : ℕ) (why : Cause) (fell items : List ℕ) (i : ℕ) (before after : State) → items ≡ fell → length items ≤ i
+    → FallsIn before t fell → Drops t why (take i items) before after → Undo t why fell before after
+undone t why fell items i before after same all falls drops = record {
   falls = falls;
-  reply = refl;
   drops = subst (λ l. Drops t why l before after) (take_all i items all ∙ same) drops;
 }
 

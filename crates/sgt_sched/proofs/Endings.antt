@@ -3,6 +3,8 @@ use Rattle.std.proofs.Common.{◌≡◌, ℕ, ◌+◌, ◌≤◌, arith, Bool, t
 use Rattle.std.specs.List.{list_any}
 use Rattle.std.proofs.lemmas.Bool.{true≢false, eq-eqb}
 use Rattle.std.proofs.lemmas.List.{length-append}
+use Rattle.sgt_model.specs.declared.limits.Asks.TheVariants.{AtStep, AtCommit}
+use Rattle.sgt_model.specs.declared.limits.Asks.{Asks as When}
 use Rattle.sgt_model.specs.declared.event.Event.{Event}
 use Rattle.sgt_model.specs.declared.event.Event.TheVariants.{Start, Step, Commit, Quit}
 use Rattle.sgt_model.specs.declared.limits.Limits.{Limits}
@@ -17,10 +19,10 @@ use Rattle.sgt_model.specs.Left.{next_left}
 use Rattle.sgt_model.specs.State.{State}
 use Rattle.sgt_model.specs.Walks.{Member}
 use Rattle.sgt_model.specs.Changes.{Removes}
-use Rattle.sgt_model.specs.CallEffects.{Stays, IfOpen, AbortsIn, StepOn, CommitOn, CallEffect, StartOn}
+use Rattle.sgt_model.specs.CallEffects.{Stays, IfOpen, AbortsIn, StepOn, CommitOn, CallEffect, StartOn, Undo, AskedStepOn, AskedCommitOn}
 use Rattle.sgt_sched.specs.Steps.{IsUnended}
 use Rattle.sgt_model.specs.Questions.{is_ending}
-use Rattle.sgt_sched.specs.Endings.{StepEnds, CommitEnds, EndsOne, EndsWhere, Counts}
+use Rattle.sgt_sched.specs.Endings.{StepEnds, CommitEnds, EndsOne, EndsWhere, Counts, AtItsStep, AtItsCommit, IsFirst}
 
 quiet : (r answer : Reply) (X : Type 0) → r ≡ answer → is_ending answer ≡ false → (X → ⊥) → EndsWhere r X
 quiet r answer X is isnt none = ((λ x. absurd (none x)), (λ _. ap is_ending is ∙ isnt))
@@ -28,20 +30,33 @@ quiet r answer X is isnt none = ((λ x. absurd (none x)), (λ _. ap is_ending is
 loud : (r answer : Reply) (X : Type 0) → r ≡ answer → is_ending answer ≡ true → X → EndsWhere r X
 loud r answer X is so x = ((λ _. ap is_ending is ∙ so), (λ none. absurd (none x)))
 
-step_agrees : (t : ℕ) (n : Next) (c : State) (r : Reply) (after : State) → StepOn t n c r after → EndsWhere r (StepEnds t n c)
-step_agrees t (Looks k) c r after (inl x) = loud r _ _ x.aborts.reply refl (x.rest, x.blocks)
-step_agrees t (Looks k) c r after (inr x) = quiet r _ _ x.reply refl (λ b. x.free b.0 b.1)
-step_agrees t (Puts k v) c r after (inl x) = loud r _ _ x.aborts.reply refl (x.rest, x.blocks)
-step_agrees t (Puts k v) c r after (inr x) = quiet r _ _ x.reply refl (λ b. x.free b.0 b.1)
-step_agrees t (Ends answers) c r after x = quiet r _ _ x.reply refl (λ e. e)
-step_agrees t (Asks code) c r after x = loud r _ _ x.reply refl tt
+asked_step_agrees : (asks : When) (t code : ℕ) (c : State) (r : Reply) (after : State) → AskedStepOn asks t code c r after
+    → EndsWhere r (AtItsStep asks)
+asked_step_agrees AtStep t code c r after x = loud r _ _ x.reply refl tt
+asked_step_agrees AtCommit t code c r after x = quiet r _ _ x.reply refl (λ e. e)
 
-commit_agrees : (t : ℕ) (n : Next) (c : State) (r : Reply) (after : State) → CommitOn t n c r after → EndsWhere r (CommitEnds t n c)
-commit_agrees t (Ends answers) c r after (inl x) = quiet r _ _ x.stays.reply refl (λ free. free x.on x.least.pair)
-commit_agrees t (Ends answers) c r after (inr x) = loud r _ _ x.reply refl x.first
-commit_agrees t (Looks k) c r after x = quiet r _ _ x.reply refl (λ e. e)
-commit_agrees t (Puts k v) c r after x = quiet r _ _ x.reply refl (λ e. e)
-commit_agrees t (Asks code) c r after x = quiet r _ _ x.reply refl (λ e. e)
+asked_commit_agrees : (asks : When) (t code : ℕ) (c : State) (r : Reply) (after : State) → AskedCommitOn asks t code c r after
+    → EndsWhere r (AtItsCommit asks × IsFirst t c)
+asked_commit_agrees AtStep t code c r after x = quiet r _ _ x.reply refl (λ e. e.0)
+asked_commit_agrees AtCommit t code c r after (inl x) = quiet r _ _ x.stays.reply refl (λ free. free.1 x.on x.least.pair)
+asked_commit_agrees AtCommit t code c r after (inr x) = loud r _ _ x.reply refl (tt, x.first)
+
+step_agrees : (asks : When) (t : ℕ) (n : Next) (c : State) (r : Reply) (after : State) → StepOn asks t n c r after
+    → EndsWhere r (StepEnds asks t n c)
+step_agrees asks t (Looks k) c r after (inl x) = loud r _ _ x.aborts.reply refl (x.rest, x.blocks)
+step_agrees asks t (Looks k) c r after (inr x) = quiet r _ _ x.reply refl (λ b. x.free b.0 b.1)
+step_agrees asks t (Puts k v) c r after (inl x) = loud r _ _ x.aborts.reply refl (x.rest, x.blocks)
+step_agrees asks t (Puts k v) c r after (inr x) = quiet r _ _ x.reply refl (λ b. x.free b.0 b.1)
+step_agrees asks t (Ends answers) c r after x = quiet r _ _ x.reply refl (λ e. e)
+step_agrees asks t (Asks code) c r after x = asked_step_agrees asks t code c r after x
+
+commit_agrees : (asks : When) (t : ℕ) (n : Next) (c : State) (r : Reply) (after : State) → CommitOn asks t n c r after
+    → EndsWhere r (CommitEnds asks t n c)
+commit_agrees asks t (Ends answers) c r after (inl x) = quiet r _ _ x.stays.reply refl (λ free. free x.on x.least.pair)
+commit_agrees asks t (Ends answers) c r after (inr x) = loud r _ _ x.reply refl x.first
+commit_agrees asks t (Looks k) c r after x = quiet r _ _ x.reply refl (λ e. e)
+commit_agrees asks t (Puts k v) c r after x = quiet r _ _ x.reply refl (λ e. e)
+commit_agrees asks t (Asks code) c r after x = asked_commit_agrees asks t code c r after x
 
 -- of one that was started and has not ended, by what is done to it; else nothing ends
 open_agrees : (t : ℕ) (c : State) (r : Reply) (after : State) (X E : Type 0) → (X → EndsWhere r E) → (b : Bool) (o : Option Fate)
@@ -72,13 +87,13 @@ start_quiet limits begun living (Some count) args = fits (args_fit count args) w
 
 -- the replies to an event that ends a live transaction end one, and to the others none does
 pub replies_agree : (rules : Rules) (event : Event) (c : State) (r : Reply) (after : State) → CallEffect rules event c r after
-    → EndsWhere r (EndsOne event c)
+    → EndsWhere r (EndsOne rules.limits.asks event c)
 replies_agree rules (Start p args) c r after x = quiet r _ _ x.reply
     (start_quiet rules.limits c.starts (length c.live) (takes rules p) args) (λ e. e)
-replies_agree rules (Step t) c r after x = open_agrees t c r after _ (StepEnds t (next_left (c.left t)) c)
-    (step_agrees t (next_left (c.left t)) c r after) (nat_lt t c.starts) (c.fates t) refl refl x
-replies_agree rules (Commit t) c r after x = open_agrees t c r after _ (CommitEnds t (next_left (c.left t)) c)
-    (commit_agrees t (next_left (c.left t)) c r after) (nat_lt t c.starts) (c.fates t) refl refl x
+replies_agree rules (Step t) c r after x = open_agrees t c r after _ (StepEnds rules.limits.asks t (next_left (c.left t)) c)
+    (step_agrees rules.limits.asks t (next_left (c.left t)) c r after) (nat_lt t c.starts) (c.fates t) refl refl x
+replies_agree rules (Commit t) c r after x = open_agrees t c r after _ (CommitEnds rules.limits.asks t (next_left (c.left t)) c)
+    (commit_agrees rules.limits.asks t (next_left (c.left t)) c r after) (nat_lt t c.starts) (c.fates t) refl refl x
 replies_agree rules (Quit t) c r after x =
     let a = open_agrees t c r after _ (Unit {0}) (λ y. loud r _ _ (y.reply) refl tt) (nat_lt t c.starts) (c.fates t) refl refl x in
     ((λ u. a.0 (u, tt)), (λ none. a.1 (λ u. none u.0)))
@@ -117,27 +132,42 @@ removed_count gone t r before after m g x =
     let fewer = subst (λ l. length l + 1 ≤ length before.live) (sym x.live) (filter_fewer gone t before.live m g) in
     record { most = omega (arith, fewer); fewer = λ _. fewer }
 
+undo_count : (t : ℕ) (why : _) (fell : List ℕ) (r : Reply) (before after : State) → Member t before.live
+    → Undo t why fell before after → Counts r before after
+undo_count t why fell r before after m x = removed_count _ t r before after m
+    (ap (λ b. b || list_any (λ v. nat_eq v t) fell) (eq-eqb t t refl)) x.drops.removes
+
 abort_count : (t : ℕ) (why : _) (r : Reply) (before after : State) → Member t before.live → AbortsIn t why before r after
     → Counts r before after
-abort_count t why r before after m x = removed_count _ t r before after m
-    (ap (λ b. b || list_any (λ v. nat_eq v t) x.fell) (eq-eqb t t refl)) x.drops.removes
+abort_count t why r before after m x = undo_count t why x.fell r before after m x.undo
 
-step_count : (t : ℕ) (n : Next) (before : State) (r : Reply) (after : State) → Member t before.live → StepOn t n before r after
-    → Counts r before after
-step_count t (Looks k) before r after m (inl x) = abort_count t _ r before after m x.aborts
-step_count t (Looks k) before r after m (inr x) = same_count r _ before after x.reply refl x.looks.notes.live
-step_count t (Puts k v) before r after m (inl x) = abort_count t _ r before after m x.aborts
-step_count t (Puts k v) before r after m (inr x) = same_count r _ before after x.reply refl x.stores.notes.live
-step_count t (Ends answers) before r after m x = stays_count _ r before after refl x
-step_count t (Asks code) before r after m x = abort_count t _ r before after m x
+asked_step_count : (asks : When) (t code : ℕ) (before : State) (r : Reply) (after : State) → Member t before.live
+    → AskedStepOn asks t code before r after → Counts r before after
+asked_step_count AtStep t code before r after m x = abort_count t _ r before after m x
+asked_step_count AtCommit t code before r after m x = stays_count _ r before after refl x
 
-commit_count : (t : ℕ) (n : Next) (before : State) (r : Reply) (after : State) → Member t before.live → CommitOn t n before r after
-    → Counts r before after
-commit_count t (Ends answers) before r after m (inl x) = stays_count _ r before after refl x.stays
-commit_count t (Ends answers) before r after m (inr x) = removed_count _ t r before after m (eq-eqb t t refl) x.settles.removes
-commit_count t (Looks k) before r after m x = stays_count _ r before after refl x
-commit_count t (Puts k v) before r after m x = stays_count _ r before after refl x
-commit_count t (Asks code) before r after m x = stays_count _ r before after refl x
+step_count : (asks : When) (t : ℕ) (n : Next) (before : State) (r : Reply) (after : State) → Member t before.live
+    → StepOn asks t n before r after → Counts r before after
+step_count asks t (Looks k) before r after m (inl x) = abort_count t _ r before after m x.aborts
+step_count asks t (Looks k) before r after m (inr x) = same_count r _ before after x.reply refl x.looks.notes.live
+step_count asks t (Puts k v) before r after m (inl x) = abort_count t _ r before after m x.aborts
+step_count asks t (Puts k v) before r after m (inr x) = same_count r _ before after x.reply refl x.stores.notes.live
+step_count asks t (Ends answers) before r after m x = stays_count _ r before after refl x
+step_count asks t (Asks code) before r after m x = asked_step_count asks t code before r after m x
+
+asked_commit_count : (asks : When) (t code : ℕ) (before : State) (r : Reply) (after : State) → Member t before.live
+    → AskedCommitOn asks t code before r after → Counts r before after
+asked_commit_count AtStep t code before r after m x = stays_count _ r before after refl x
+asked_commit_count AtCommit t code before r after m (inl x) = stays_count _ r before after refl x.stays
+asked_commit_count AtCommit t code before r after m (inr x) = undo_count t _ x.fell r before after m x.undo
+
+commit_count : (asks : When) (t : ℕ) (n : Next) (before : State) (r : Reply) (after : State) → Member t before.live
+    → CommitOn asks t n before r after → Counts r before after
+commit_count asks t (Ends answers) before r after m (inl x) = stays_count _ r before after refl x.stays
+commit_count asks t (Ends answers) before r after m (inr x) = removed_count _ t r before after m (eq-eqb t t refl) x.settles.removes
+commit_count asks t (Looks k) before r after m x = stays_count _ r before after refl x
+commit_count asks t (Puts k v) before r after m x = stays_count _ r before after refl x
+commit_count asks t (Asks code) before r after m x = asked_commit_count asks t code before r after m x
 
 open_count : (t : ℕ) (before : State) (r : Reply) (after : State) (X : Type 0) → (IsUnended before t → X → Counts r before after)
     → (b : Bool) (o : Option Fate) → nat_lt t before.starts ≡ b → before.fates t ≡ o → IfOpen b o before r after X → Counts r before after
@@ -160,8 +190,8 @@ pub call_counts : (rules : Rules) (event : Event) (before : State) (r : Reply) (
 call_counts rules (Start p args) before r after live x = start_count (rules.procedures p) args before r after
     (ap is_ending x.reply ∙ start_quiet rules.limits before.starts (length before.live) (takes rules p) args) x.does
 call_counts rules (Step t) before r after live x = open_count t before r after _
-    (λ u. step_count t (next_left (before.left t)) before r after (live t u)) (nat_lt t before.starts) (before.fates t) refl refl x
+    (λ u. step_count rules.limits.asks t (next_left (before.left t)) before r after (live t u)) (nat_lt t before.starts) (before.fates t) refl refl x
 call_counts rules (Commit t) before r after live x = open_count t before r after _
-    (λ u. commit_count t (next_left (before.left t)) before r after (live t u)) (nat_lt t before.starts) (before.fates t) refl refl x
+    (λ u. commit_count rules.limits.asks t (next_left (before.left t)) before r after (live t u)) (nat_lt t before.starts) (before.fates t) refl refl x
 call_counts rules (Quit t) before r after live x = open_count t before r after _ (λ u. abort_count t _ r before after (live t u))
     (nat_lt t before.starts) (before.fates t) refl refl x

@@ -1,5 +1,6 @@
 -- The effect of a call on a live transaction.
 use Rattle.std.proofs.Common.{◌≡◌, ℕ, Bool, true, nat_lt, Option, None, sym, subst}
+use Rattle.sgt_model.specs.declared.limits.Asks.{Asks as When}
 use Rattle.sgt_model.specs.declared.event.Event.{Event}
 use Rattle.sgt_model.specs.declared.reply.Fate.{Fate}
 use Rattle.sgt_model.specs.declared.reply.Reply.{Reply}
@@ -18,10 +19,10 @@ if_unended b ended before r after X begun none x =
     subst (λ c. IfOpen c ended before r after X) (sym begun) (subst (λ o. IfOpen true o before r after X) (sym none) x)
 
 -- a step, by what comes next
-pub steps_on : (t : ℕ) (before : State) (r : Reply) (after : State) (n : Next) → nat_lt t before.starts ≡ true → before.fates t ≡ None
-    → n ≡ next_left (before.left t) → StepOn t n before r after → StepEffect t before r after
-steps_on t before r after n begun none next done = if_unended _ _ before r after _ begun none
-    (subst (λ m. StepOn t m before r after) next done)
+pub steps_on : (asks : When) (t : ℕ) (before : State) (r : Reply) (after : State) (n : Next) → nat_lt t before.starts ≡ true → before.fates t ≡ None
+    → n ≡ next_left (before.left t) → StepOn asks t n before r after → StepEffect asks t before r after
+steps_on asks t before r after n begun none next done = if_unended _ _ before r after _ begun none
+    (subst (λ m. StepOn asks t m before r after) next done)
 
 -- what is told in short, of a call that does more
 pub in_brief : {effect more : State → Reply → State → Type 0} {out : Reply} {before after : State} {b : Brief}

@@ -1,5 +1,7 @@
 -- How transactions end: which events end one, and what the end of one does to the state.
 use Rattle.std.specs.Prelude.{◌≡◌, ℕ, ◌+◌, ◌≤◌, true, false, cond, nat_eq, List, length, Some}
+use Rattle.sgt_model.specs.declared.limits.Asks.TheVariants.{AtStep, AtCommit}
+use Rattle.sgt_model.specs.declared.limits.Asks.{Asks as When}
 use Rattle.sgt_model.specs.declared.event.Event.{Event}
 use Rattle.sgt_model.specs.declared.event.Event.TheVariants.{Start, Step, Commit, Quit}
 use Rattle.sgt_model.specs.declared.kind.Kind.{Kind}
@@ -34,24 +36,42 @@ AbortsByWalk t targets before r after = (walk : List ℕ) × IsWalk before.pairs
 abbrev pub IsBlocked : State → ℕ → Key → Kind → Type 0
 IsBlocked c t k kind = (rest : List ℕ) × Blocks c t k kind rest
 
--- a step ends t, which is live, by what its procedure does next: it asks, or wants an access that is blocked
-abbrev pub StepEnds : ℕ → Next → State → Type 0
-StepEnds t (Looks k) c = IsBlocked c t k Look
-StepEnds t (Puts k v) c = IsBlocked c t k Store
-StepEnds t (Ends answers) c = ⊥
-StepEnds t (Asks code) c = Unit {0}
+-- an ask is answered at the step
+abbrev pub AtItsStep : When → Type 0
+AtItsStep AtStep = Unit {0}
+AtItsStep AtCommit = ⊥
 
--- a commit ends t, which is live, by what its procedure does next: it is at its end, and t has no predecessor
-abbrev pub CommitEnds : ℕ → Next → State → Type 0
-CommitEnds t (Ends answers) c = (u : ℕ) → c.pairs u t ≡ true → ⊥
-CommitEnds t _ c = ⊥
+-- an ask is answered at the commit
+abbrev pub AtItsCommit : When → Type 0
+AtItsCommit AtStep = ⊥
+AtItsCommit AtCommit = Unit {0}
 
--- the event ends a live transaction
-abbrev pub EndsOne : Event → State → Type 0
-EndsOne (Start p args) c = ⊥
-EndsOne (Step t) c = IsUnended c t × StepEnds t (next_left (c.left t)) c
-EndsOne (Commit t) c = IsUnended c t × CommitEnds t (next_left (c.left t)) c
-EndsOne (Quit t) c = IsUnended c t
+-- t has no predecessor
+abbrev pub IsFirst : ℕ → State → Type 0
+IsFirst t c = (u : ℕ) → c.pairs u t ≡ true → ⊥
+
+-- a step ends t, which is live, by what its procedure does next: it asks, and asks are answered at the step, or it wants an
+-- access that is blocked
+abbrev pub StepEnds : When → ℕ → Next → State → Type 0
+StepEnds asks t (Looks k) c = IsBlocked c t k Look
+StepEnds asks t (Puts k v) c = IsBlocked c t k Store
+StepEnds asks t (Ends answers) c = ⊥
+StepEnds asks t (Asks code) c = AtItsStep asks
+
+-- a commit ends t, which is live, by what its procedure does next: t has no predecessor, and its procedure is at its end, or it
+-- asks, and asks are answered at the commit
+abbrev pub CommitEnds : When → ℕ → Next → State → Type 0
+CommitEnds asks t (Looks k) c = ⊥
+CommitEnds asks t (Puts k v) c = ⊥
+CommitEnds asks t (Ends answers) c = IsFirst t c
+CommitEnds asks t (Asks code) c = AtItsCommit asks × IsFirst t c
+
+-- the event ends a live transaction, where asks are answered then
+abbrev pub EndsOne : When → Event → State → Type 0
+EndsOne asks (Start p args) c = ⊥
+EndsOne asks (Step t) c = IsUnended c t × StepEnds asks t (next_left (c.left t)) c
+EndsOne asks (Commit t) c = IsUnended c t × CommitEnds asks t (next_left (c.left t)) c
+EndsOne asks (Quit t) c = IsUnended c t
 
 -- a reply ends a live transaction exactly where this is so
 abbrev pub EndsWhere : Reply → Type 0 → Type 0
@@ -65,7 +85,7 @@ pub record Counts (r : Reply) (before after : State) : Type 0 where
 -- of every call: its reply ends a live transaction exactly where its event does
 abbrev pub RepliesEndWhere : Type 0
 RepliesEndWhere = (rules : Rules) (event : Event) (before : State) (r : Reply) (after : State) → CallEffect rules event before r after
-    → EndsWhere r (EndsOne event before)
+    → EndsWhere r (EndsOne rules.limits.asks event before)
 
 -- and where those that were started and have not ended are the live ones, so many are live afterwards
 abbrev pub CallsCount : Type 0

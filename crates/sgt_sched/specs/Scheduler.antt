@@ -4,6 +4,7 @@ use Rattle.sgt_cycle.specs.Walk.{NoWalk}
 use Rattle.sgt_records.specs.declared.records.Records.{Ghosts as RecordsGhosts}
 use Rattle.sgt_access.specs.declared.accesses.Accesses.{Ghosts as AccessesGhosts}
 use Rattle.sgt_graph.specs.declared.graph.Graph.{Ghosts as GraphGhosts}
+use Rattle.sgt_model.specs.declared.limits.Asks.{Asks}
 use Rattle.sgt_model.specs.declared.errors.NoMemory.{NoMemory}
 use Rattle.sgt_model.specs.declared.reply.Reply.{Reply}
 use Rattle.sgt_model.specs.Sameness.{Same}
@@ -25,6 +26,10 @@ module _ {R A G : Type 0} {r : RecordsGhosts R} {a : AccessesGhosts A} {g : Grap
   -- the rules that it goes by
   abbrev pub rules_of : Sched R A G r a g → Rules
   rules_of s = rules_from s.procedures.items s.limits
+
+  -- when it answers asks
+  abbrev pub asks_of : Sched R A G r a g → Asks
+  asks_of s = s.limits.asks
 
   -- the procedures and limits are kept
   abbrev pub Keeps : Sched R A G r a g → Sched R A G r a g → Type 0

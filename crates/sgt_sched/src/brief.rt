@@ -20,7 +20,7 @@ pub enum Brief {
     Ended,
     NotEnded,
     Waits(Tid),
-    /// The reply stands in `out`: it is `Over`, `Committed` or `Aborted`.
+    /// The reply stands in `out`: it is `Over`, `Committed`, `Aborted` or `Refused`.
     Placed,
 }
 
@@ -49,7 +49,10 @@ impl Brief {
             Reply::Ended => Brief::Ended,
             Reply::NotEnded => Brief::NotEnded,
             Reply::Waits(first) => Brief::Waits(*first),
-            Reply::Over(_) | Reply::Committed(_) | Reply::Aborted { .. } => Brief::Placed,
+            Reply::Over(_)
+            | Reply::Committed(_)
+            | Reply::Aborted { .. }
+            | Reply::Refused { .. } => Brief::Placed,
         }
     }
 

@@ -60,7 +60,7 @@ pub struct Sched<R: Records, A: Accesses, G: Graph> {
 }
 
 impl<R: Records, A: Accesses, G: Graph> Sched<R, A, G> {
-    ghost use Rattle.sgt_sched.specs.Scheduler.{parts, state, rules_of, Tries};
+    ghost use Rattle.sgt_sched.specs.Scheduler.{parts, state, rules_of, asks_of, Tries};
 
     /// A scheduler over an opening database, with nothing started. It copies the opening. The procedures are numbered from
     /// 0 in their order.
@@ -99,7 +99,7 @@ impl<R: Records, A: Accesses, G: Graph> Sched<R, A, G> {
     pub fn answer(&mut self, event: &Event, out: &mut Reply) -> Result<Brief, NoMemory>
         ensures done { Tries (InBrief (CallEffect (rules_of self.old) event.now) out.new) self.old result self.new }
         ensures out { OnErr result (out.new ≡ out.old) }
-        ensures no_memory { EndsOne event.now (state self.old) → IsOk result }
+        ensures no_memory { EndsOne (asks_of self.old) event.now (state self.old) → IsOk result }
     {
         match event {
             Event::Start { procedure, args } => self.answer_start(*procedure, args),
@@ -109,10 +109,10 @@ impl<R: Records, A: Accesses, G: Graph> Sched<R, A, G> {
         }
     }
 
-    /// Whether the reply to this event would end a live transaction: `Committed` or `Aborted`. The events of which this is true
-    /// take no memory.
+    /// Whether the reply to this event would end a live transaction: `Committed`, `Refused` or `Aborted`. The events of which this
+    /// is true take no memory.
     pub fn ends(&self, event: &Event) -> bool
-        ensures exact { IsTrue result ↔ EndsOne event.now (state self.now) }
+        ensures exact { IsTrue result ↔ EndsOne (asks_of self.now) event.now (state self.now) }
         ensures replies { (r : Answer) (after : State)
             → CallEffect (rules_of self.now) event.now (state self.now) r after
             → is_ending r ≡ result }

@@ -1,6 +1,6 @@
-//! Aborts, which a step or a quit comes to.
+//! Aborts, which a step, a commit or a quit comes to.
 ghost use Rattle.std.specs.Prelude.{◌≡◌, true};
-ghost use Rattle.sgt_model.specs.CallEffects.{AbortsIn};
+ghost use Rattle.sgt_model.specs.CallEffects.{AbortsIn, Undo};
 ghost use Rattle.sgt_model.specs.FallsIn.{FallsIn};
 ghost use Rattle.sgt_sched.specs.Briefs.{InBrief};
 ghost use Rattle.sgt_sched.specs.Endings.{EndsAborted};
@@ -22,13 +22,23 @@ impl<R: Records, A: Accesses, G: Graph> Sched<R, A, G> {
         requires live { (state self.old).nodes t ≡ true }
         ensures { Turns (InBrief (AbortsIn t cause) out.new) self.old result self.new }
     {
+        let fell = self.undo(t, &cause);
+        *out = Reply::Aborted { cause, fell };
+        Brief::Placed
+    }
+
+    // Undoes a live transaction for this cause, and those that have read from it with it. These are the ones that fall.
+    pub(super) fn undo(&mut self, t: Tid, cause: &Cause) -> Tids
+        requires live { (state self.old).nodes t ≡ true }
+        ensures undone { Undo t cause.now result (state self.old) (state self.new) }
+        ensures kept { Keeps self.old self.new }
+    {
         let fell = self.falling_with(t);
         self.end_aborted(t, Fate::Aborted(cause.copied()));
         for reader in fell.as_slice() {
             self.end_aborted(*reader, Fate::Fell(t));
         }
-        *out = Reply::Aborted { cause, fell };
-        Brief::Placed
+        fell
     }
 
     // Those that fall with a live transaction, when it aborts.

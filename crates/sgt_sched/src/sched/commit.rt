@@ -1,10 +1,11 @@
-//! Commits.
+//! Commits, and refusals at them.
 ghost use Rattle.std.specs.Prelude.{◌≡◌, ℕ, true, false, IsTrue, ◌↔◌};
 ghost use Rattle.sgt_model.specs.declared.event.Event.TheVariants.{Commit};
-ghost use Rattle.sgt_model.specs.CallEffects.{CommitEffect, CommitsIn};
+ghost use Rattle.sgt_model.specs.CallEffects.{CommitEffect, CommitOn, CommitsIn, RefusesIn};
+ghost use Rattle.sgt_model.specs.Traces.{Asks as AsksNext};
 ghost use Rattle.sgt_sched.specs.Briefs.{InBrief};
 ghost use Rattle.sgt_sched.specs.Endings.{EndsOne};
-ghost use Rattle.sgt_sched.specs.Scheduler.{state, Turns};
+ghost use Rattle.sgt_sched.specs.Scheduler.{state, asks_of, Turns};
 
 use crate::brief::Brief;
 use crate::leave::leave;
@@ -12,7 +13,7 @@ use crate::sched::Sched;
 use sgt_access::Accesses;
 use sgt_commit::{decide, finish};
 use sgt_graph::Graph;
-use sgt_model::{Answers, Fate, Reply, Tid};
+use sgt_model::{Answers, Asks, Cause, Fate, Reply, Tid};
 use sgt_proc::Next;
 use sgt_records::Records;
 
@@ -20,9 +21,11 @@ impl<R: Records, A: Accesses, G: Graph> Sched<R, A, G> {
     /// Commits a transaction that has no live predecessor (Durner and Neumann, ICDE 2019). This takes no memory.
     ///
     /// Answers: `Unknown` where it was never started; `Over` where it has ended; `NotEnded` where its procedure is not at its
-    /// end; `Waits` with the least live predecessor, where there is one; else `Committed` with the procedure's answers.
+    /// end; `Waits` with the least live predecessor, where there is one; else `Committed` with the procedure's answers. A
+    /// procedure that asks a code is at its end where asks are answered at the commit, and then `Refused` stands in the place of
+    /// `Committed`.
     pub fn commit(&mut self, t: Tid) -> Reply
-        ensures { Turns (CommitEffect t) self.old result self.new }
+        ensures { Turns (CommitEffect (asks_of self.old) t) self.old result self.new }
     {
         let mut out = Reply::Ended;
         let brief = self.answer_commit(t, &mut out);
@@ -31,16 +34,43 @@ impl<R: Records, A: Accesses, G: Graph> Sched<R, A, G> {
 
     // The same, in short.
     pub(super) fn answer_commit(&mut self, t: Tid, out: &mut Reply) -> Brief
-        ensures { Turns (InBrief (CommitEffect t) out.new) self.old result self.new }
+        ensures { Turns (InBrief (CommitEffect (asks_of self.old) t) out.new) self.old result self.new }
     {
         match self.next(t) {
             Some(Next::Ends(answers)) => match decide(&self.graph, t) {
                 Some(first) => Brief::Waits(first),
                 None => self.finish_commit(t, answers, out),
             },
+            Some(Next::Asks(code)) => self.commit_asked(t, code, out),
             Some(_) => Brief::NotEnded,
             None => self.answer_not_live(t, out),
         }
+    }
+
+    // The same, for a live transaction whose procedure asks this code.
+    #[inline(never)]
+    fn commit_asked(&mut self, t: Tid, code: u16, out: &mut Reply) -> Brief
+        requires live { (state self.old).nodes t ≡ true }
+        ensures { Turns (InBrief (CommitOn (asks_of self.old) t (AsksNext code)) out.new) self.old result self.new }
+    {
+        match self.limits.asks {
+            Asks::AtStep => Brief::NotEnded,
+            Asks::AtCommit => match decide(&self.graph, t) {
+                Some(predecessor) => Brief::Waits(predecessor),
+                None => self.refuse(t, code, out),
+            },
+        }
+    }
+
+    // Refuses a live transaction that has no predecessor, and undoes it.
+    fn refuse(&mut self, t: Tid, code: u16, out: &mut Reply) -> Brief
+        requires live { (state self.old).nodes t ≡ true }
+        requires first { (u : ℕ) → (state self.old).pairs u t ≡ false }
+        ensures { Turns (InBrief (RefusesIn t code) out.new) self.old result self.new }
+    {
+        let fell = self.undo(t, &Cause::Asked(code));
+        *out = Reply::Refused { code, fell };
+        Brief::Placed
     }
 
     // Commits a live transaction that has no predecessor.
@@ -56,12 +86,16 @@ impl<R: Records, A: Accesses, G: Graph> Sched<R, A, G> {
         Brief::Placed
     }
 
-    // Whether the transaction can commit.
+    // Whether a commit would end the transaction.
     pub(super) fn commit_ends(&self, t: Tid) -> bool
-        ensures { IsTrue result ↔ EndsOne (Commit t) (state self.now) }
+        ensures { IsTrue result ↔ EndsOne (asks_of self.now) (Commit t) (state self.now) }
     {
         match self.next(t) {
             Some(Next::Ends(_)) => decide(&self.graph, t).is_none(),
+            Some(Next::Asks(_)) => match self.limits.asks {
+                Asks::AtStep => false,
+                Asks::AtCommit => decide(&self.graph, t).is_none(),
+            },
             _ => false,
         }
     }

@@ -3,14 +3,13 @@ ghost use Rattle.std.specs.Prelude.{◌≡◌, ◌≢◌, ℕ, true, IsTrue, OnE
 ghost use Rattle.std.specs.Result.{IsOk};
 ghost use Rattle.sgt_model.specs.declared.event.Event.TheVariants.{Step};
 ghost use Rattle.sgt_model.specs.declared.kind.Kind.TheVariants.{Look, Store};
-ghost use Rattle.sgt_model.specs.declared.reply.Cause.TheVariants.{Asked};
-ghost use Rattle.sgt_model.specs.CallEffects.{AbortsIn, StepEffect, StepOn};
+ghost use Rattle.sgt_model.specs.CallEffects.{StepEffect, StepOn};
 ghost use Rattle.sgt_model.specs.Numbers.{IsValue};
-ghost use Rattle.sgt_model.specs.Traces.{Looks, Puts};
+ghost use Rattle.sgt_model.specs.Traces.{Looks, Puts, Asks as AsksNext};
 ghost use Rattle.sgt_model.specs.Walks.{Member};
 ghost use Rattle.sgt_sched.specs.Briefs.{InBrief};
 ghost use Rattle.sgt_sched.specs.Endings.{EndsOne, IsBlocked};
-ghost use Rattle.sgt_sched.specs.Scheduler.{state, Turns, Tries, AbortsInCycle};
+ghost use Rattle.sgt_sched.specs.Scheduler.{state, asks_of, Turns, Tries, AbortsInCycle};
 
 use crate::brief::Brief;
 use crate::follow::follow;
@@ -18,7 +17,7 @@ use crate::reads::note_read;
 use crate::sched::Sched;
 use sgt_access::Accesses;
 use sgt_graph::{Graph, Verdict};
-use sgt_model::{Cause, Key, Kind, NoMemory, Reply, Tid, Tids};
+use sgt_model::{Asks, Cause, Key, Kind, NoMemory, Reply, Tid, Tids};
 use sgt_proc::Next;
 use sgt_records::Records;
 
@@ -27,11 +26,12 @@ impl<R: Records, A: Accesses, G: Graph> Sched<R, A, G> {
     ///
     /// Answers: `Unknown` where it was never started; `Over` where it has ended; `Ended` where its procedure is at its end,
     /// with nothing done; `Aborted` where its procedure asks a code, and exactly where the access would close a cycle; else
-    /// `Looked` with the last value that is not undone, or `Wrote`. `NoMemory` where a growth was refused; then nothing has
-    /// changed. A step that ends the transaction takes no memory.
+    /// `Looked` with the last value that is not undone, or `Wrote`. Where asks are answered at the commit, a procedure that asks
+    /// is at its end. `NoMemory` where a growth was refused; then nothing has changed. A step that ends the transaction takes no
+    /// memory.
     pub fn step(&mut self, t: Tid) -> Result<Reply, NoMemory>
-        ensures done { Tries (StepEffect t) self.old result self.new }
-        ensures no_memory { EndsOne (Step t) (state self.old) → IsOk result }
+        ensures done { Tries (StepEffect (asks_of self.old) t) self.old result self.new }
+        ensures no_memory { EndsOne (asks_of self.old) (Step t) (state self.old) → IsOk result }
     {
         let mut out = Reply::Ended;
         let brief = self.answer_step(t, &mut out)?;
@@ -40,9 +40,9 @@ impl<R: Records, A: Accesses, G: Graph> Sched<R, A, G> {
 
     // The same, in short.
     pub(super) fn answer_step(&mut self, t: Tid, out: &mut Reply) -> Result<Brief, NoMemory>
-        ensures done { Tries (InBrief (StepEffect t) out.new) self.old result self.new }
+        ensures done { Tries (InBrief (StepEffect (asks_of self.old) t) out.new) self.old result self.new }
         ensures out { OnErr result (out.new ≡ out.old) }
-        ensures no_memory { EndsOne (Step t) (state self.old) → IsOk result }
+        ensures no_memory { EndsOne (asks_of self.old) (Step t) (state self.old) → IsOk result }
     {
         let Some(next) = self.next(t) else {
             return Ok(self.answer_not_live(t, out));
@@ -51,14 +51,14 @@ impl<R: Records, A: Accesses, G: Graph> Sched<R, A, G> {
             Next::Look(key) => self.look(t, key, out),
             Next::Put(key, value) => self.store(t, key, value, out),
             Next::Ends(_) => Ok(Brief::Ended),
-            Next::Asks(code) => Ok(self.abort_asked(t, code, out)),
+            Next::Asks(code) => Ok(self.step_asked(t, code, out)),
         }
     }
 
     // Makes a look of a live transaction, or aborts it where the look would close a cycle.
     fn look(&mut self, t: Tid, key: Key, out: &mut Reply) -> Result<Brief, NoMemory>
         requires live { (state self.old).nodes t ≡ true }
-        ensures done { Tries (InBrief (StepOn t (Looks key)) out.new) self.old result self.new }
+        ensures done { Tries (InBrief (StepOn (asks_of self.old) t (Looks key)) out.new) self.old result self.new }
         ensures out { OnErr result (out.new ≡ out.old) }
         ensures no_memory { IsBlocked (state self.old) t key Look → IsOk result }
     {
@@ -81,7 +81,7 @@ impl<R: Records, A: Accesses, G: Graph> Sched<R, A, G> {
     fn store(&mut self, t: Tid, key: Key, value: i64, out: &mut Reply) -> Result<Brief, NoMemory>
         requires live { (state self.old).nodes t ≡ true }
         requires in_range { IsValue value }
-        ensures done { Tries (InBrief (StepOn t (Puts key value)) out.new) self.old result self.new }
+        ensures done { Tries (InBrief (StepOn (asks_of self.old) t (Puts key value)) out.new) self.old result self.new }
         ensures out { OnErr result (out.new ≡ out.old) }
         ensures no_memory { IsBlocked (state self.old) t key Store → IsOk result }
     {
@@ -124,18 +124,21 @@ impl<R: Records, A: Accesses, G: Graph> Sched<R, A, G> {
         }
     }
 
-    // Aborts a live transaction whose procedure asks this code.
+    // Aborts a live transaction whose procedure asks this code, or leaves it to its commit.
     #[inline(never)]
-    fn abort_asked(&mut self, t: Tid, code: u16, out: &mut Reply) -> Brief
+    fn step_asked(&mut self, t: Tid, code: u16, out: &mut Reply) -> Brief
         requires live { (state self.old).nodes t ≡ true }
-        ensures { Turns (InBrief (AbortsIn t (Asked code)) out.new) self.old result self.new }
+        ensures { Turns (InBrief (StepOn (asks_of self.old) t (AsksNext code)) out.new) self.old result self.new }
     {
-        self.abort(t, Cause::Asked(code), out)
+        match self.limits.asks {
+            Asks::AtStep => self.abort(t, Cause::Asked(code), out),
+            Asks::AtCommit => Brief::Ended,
+        }
     }
 
     // Whether the next step would end the transaction.
     pub(super) fn step_ends(&self, t: Tid) -> bool
-        ensures { IsTrue result ↔ EndsOne (Step t) (state self.now) }
+        ensures { IsTrue result ↔ EndsOne (asks_of self.now) (Step t) (state self.now) }
     {
         let Some(next) = self.next(t) else {
             return false;
@@ -144,7 +147,10 @@ impl<R: Records, A: Accesses, G: Graph> Sched<R, A, G> {
             Next::Look(key) => self.is_blocked(t, key, Kind::Look),
             Next::Put(key, _) => self.is_blocked(t, key, Kind::Store),
             Next::Ends(_) => false,
-            Next::Asks(_) => true,
+            Next::Asks(_) => match self.limits.asks {
+                Asks::AtStep => true,
+                Asks::AtCommit => false,
+            },
         }
     }
 

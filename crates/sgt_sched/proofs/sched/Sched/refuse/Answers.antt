@@ -1,0 +1,17 @@
+use Rattle.std.proofs.Common.{refl, sym, ◌∙◌}
+use Rattle.std.proofs.lemmas.Bool.{true≢false}
+use Rattle.sgt_sched.proofs.sched.Sched.refuse.Goals as goal
+
+pub returns : goal.returns
+returns g c = record {
+  turn = record {
+    does = record {
+      first = λ u h. true≢false (sym h ∙ c.requires.first u);
+      fell = c.undo-fell.result;
+      undo = c.undo-fell.ensures.undone;
+      reply = refl;
+    };
+    short = tt;
+  };
+  kept = c.undo-fell.ensures.kept;
+}
