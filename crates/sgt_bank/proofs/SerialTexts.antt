@@ -1,6 +1,6 @@
 -- What was told is what the serial run tells.
 use Rattle.std.proofs.Common.{◌≡◌, ℕ, zero, suc, ◌+◌, List, [], ◌∷◌, ◌++◌, length, refl, sym, ◌∙◌, ap, append_assoc}
-use Rattle.std.specs.Prelude.{ℤ, true, false, reverse, take, slice_get, Some}
+use Rattle.std.specs.Prelude.{true, cond, reverse, take, slice_get, Some}
 use Rattle.std.specs.List.{AllZip}
 use Rattle.std.proofs.lemmas.List.{reverse-append, length-reverse}
 use Rattle.std.proofs.lemmas.Grind.{reverse_onto}
@@ -12,16 +12,16 @@ use Rattle.sgt_model.specs.declared.reply.Reply.TheVariants as reply
 use Rattle.sgt_model.specs.declared.entry.Entry.{Entry}
 use Rattle.sgt_model.specs.Databases.{Row}
 use Rattle.sgt_model.specs.Settings.{Setting}
-use Rattle.sgt_model.specs.Replay.{RunResult, GaveAnswers, committed_call_in, committed_calls, told_in, told, IsSerializable}
+use Rattle.sgt_model.specs.Replay.{RunResult, GaveAnswers, AskedCode, told_call_in, told_calls, told_in, told, IsSerializable}
 use Rattle.sgt_format.specs.DatabaseText.{database_text}
 use Rattle.sgt_dispatch.specs.declared.job.Job.{Job}
 use Rattle.sgt_workers.specs.declared.outcome.Outcome.{Outcome}
 use Rattle.sgt_workers.specs.declared.outcome.Outcome.TheVariants as outcome
 use Rattle.sgt_model.specs.Questions.{is_commit}
 use Rattle.sgt_workers.specs.Outcomes.{OutcomeStands}
-use Rattle.sgt_bank.specs.OutcomeText.{commit_words, words_at, outcome_words, outcome_line}
+use Rattle.sgt_bank.specs.OutcomeText.{commit_words, ask_words, words_at, outcome_words, outcome_line}
 use Rattle.sgt_bank.specs.Reports.{outcome_lines, report_text}
-use Rattle.sgt_bank.specs.SerialText.{serial_results, committed_before, result_words, serial_words, serial_lines, serial_text}
+use Rattle.sgt_bank.specs.SerialText.{serial_results, told_before, result_words, result_at, is_refused, serial_ask, serial_words, serial_lines, serial_text}
 
 -- what a history told, the oldest entry first
 abbrev in_order : List Entry → List RunResult
@@ -36,6 +36,7 @@ told-append (e ∷ past) before = ap (λ l. told_in e.reply ++ l) (told-append p
 -- an entry tells one result at most
 told-one : (r : Reply) → reverse (told_in r ++ []) ≡ told_in r
 told-one (reply.Committed answers) = refl
+told-one (reply.Refused code fell) = refl
 told-one r = refl
 
 -- the other way round
@@ -48,56 +49,70 @@ told-in-order (e ∷ later) =
     ∙ ap (λ l. l ++ reverse (told (reverse later))) (told-one e.reply)
     ∙ ap (λ l. told_in e.reply ++ l) (told-in-order later)
 
--- a commit is a call, and is told
-count-step : (past : List Entry) (event : Event) (r : Reply) → length (committed_calls past) ≡ length (told past)
-    → length (committed_call_in past event r ++ committed_calls past) ≡ length (told_in r ++ told past)
+-- a commit is a call, and is told, and so is a refusal
+count-step : (past : List Entry) (event : Event) (r : Reply) → length (told_calls past) ≡ length (told past)
+    → length (told_call_in past event r ++ told_calls past) ≡ length (told_in r ++ told past)
 count-step past event (reply.Committed answers) same = ap suc same
+count-step past event (reply.Refused code fell) same = ap suc same
 count-step past event r same = same
 
--- as many calls are committed as results are told
-committed-told : (past : List Entry) → length (committed_calls past) ≡ length (told past)
-committed-told [] = refl
-committed-told (e ∷ past) = count-step past e.event e.reply (committed-told past)
+-- as many calls are told of as results are told
+calls-told : (past : List Entry) → length (told_calls past) ≡ length (told past)
+calls-told [] = refl
+calls-told (e ∷ past) = count-step past e.event e.reply (calls-told past)
 
-committed-in-order : (history : List Entry) (n : ℕ) → committed_before history n ≡ length (in_order (take n history))
-committed-in-order history n =
-    committed-told (reverse (take n history)) ∙ sym (length-reverse (told (reverse (take n history))))
+calls-in-order : (history : List Entry) (n : ℕ) → told_before history n ≡ length (in_order (take n history))
+calls-in-order history n =
+    calls-told (reverse (take n history)) ∙ sym (length-reverse (told (reverse (take n history))))
     ∙ ap length (told-in-order (take n history))
 
 -- one entry on
 skip : (r : Reply) (all before : List RunResult) → slice_get (told_in r ++ all) (length (told_in r ++ before)) ≡ slice_get all
     (length before)
 skip (reply.Committed answers) all before = refl
+skip (reply.Refused code fell) all before = refl
 skip r all before = refl
 
--- what a commit told stands behind what was told before
-told-at : (history : List Entry) (n : ℕ) (e : Entry) (answers : List ℤ) → slice_get history n ≡ Some e
-    → e.reply ≡ reply.Committed answers → slice_get (in_order history) (length (in_order (take n history))) ≡ Some (GaveAnswers answers)
-told-at [] n e answers at is = absurd (none-some e at)
-told-at (x ∷ later) zero e answers at is =
-    ap (λ r. slice_get (told_in r ++ in_order later) 0) (ap (λ (y : Entry). y.reply) (same_Some x e at) ∙ is)
-told-at (x ∷ later) (suc n) e answers at is =
-    skip x.reply (in_order later) (in_order (take n later)) ∙ told-at later n e answers at is
+-- what an entry told stands behind what was told before
+told-at : (history : List Entry) (n : ℕ) (e : Entry) (result : RunResult) → slice_get history n ≡ Some e
+    → told_in e.reply ≡ result ∷ [] → slice_get (in_order history) (length (in_order (take n history))) ≡ Some result
+told-at [] n e result at is = absurd (none-some e at)
+told-at (x ∷ later) zero e result at is =
+    ap (λ l. slice_get (l ++ in_order later) 0) (ap (λ (y : Entry). told_in y.reply) (same_Some x e at) ∙ is)
+told-at (x ∷ later) (suc n) e result at is =
+    skip x.reply (in_order later) (in_order (take n later)) ∙ told-at later n e result at is
 
--- the words of a commit tell the result that stands there
-commit-words : (s : Setting) (history : List Entry) (n : ℕ) (e : Entry) (r : Reply) → IsSerializable s (reverse history)
-    → slice_get history n ≡ Some e → e.reply ≡ r → is_commit r ≡ true
-    → result_words (slice_get (serial_results s history) (committed_before history n)) ≡ commit_words r
-commit-words s history n e (reply.Committed answers) replay at is commits =
-    ap result_words (
-    ap (λ l. slice_get (reverse l) (committed_before history n)) replay.answers
-    ∙ ap (λ l. slice_get l (committed_before history n)) (told-in-order history)
-    ∙ ap (slice_get (in_order history)) (committed-in-order history n)
-    ∙ told-at history n e answers at is
-    )
-commit-words s history n e r replay at is commits = absurd (false≢true commits)
+module _ (s : Setting) (history : List Entry) (n : ℕ) (e : Entry) (replay : IsSerializable s (reverse history))
+    (at : slice_get history n ≡ Some e) where
+  -- the result that the serial run gives there is the one that was told
+  result-is : (result : RunResult) → told_in e.reply ≡ result ∷ [] → result_at s history n ≡ result_words (Some result)
+  result-is result is =
+      ap result_words (
+      ap (λ l. slice_get (reverse l) (told_before history n)) replay.answers
+      ∙ ap (λ l. slice_get l (told_before history n)) (told-in-order history)
+      ∙ ap (slice_get (in_order history)) (calls-in-order history n)
+      ∙ told-at history n e result at is
+      )
+
+  -- so the words of a commit tell it
+  commit-words : (r : Reply) → e.reply ≡ r → is_commit r ≡ true → result_at s history n ≡ commit_words r
+  commit-words (reply.Committed answers) is commits = result-is (GaveAnswers answers) (ap told_in is)
+  commit-words r is commits = absurd (false≢true commits)
+
+  -- and those of a refusal
+  ask-words : (r : Reply) → e.reply ≡ r → cond (is_refused r) (result_at s history n) (ask_words r) ≡ ask_words r
+  ask-words (reply.Refused code fell) is = result-is (AskedCode code) (ap told_in is)
+  ask-words r is = refl
 
 -- the words of an outcome that stands in the history
 words-same : {N : Type 0} → (s : Setting) (history : List Entry) (tries : ℕ) (job : Job) (o : Outcome N)
     → IsSerializable s (reverse history) → OutcomeStands history tries job o → serial_words s history o ≡ outcome_words history o
 words-same s history tries job (outcome.Done n) replay stands =
-    commit-words s history n stands.entry stands.entry.reply replay stands.there refl stands.reply_is ∙ ap (words_at commit_words)
+    commit-words s history n stands.entry replay stands.there stands.entry.reply refl stands.reply_is ∙ ap (words_at commit_words)
     (sym stands.there)
+words-same s history tries job (outcome.Asked n) replay stands =
+    ap (serial_ask s history n) stands.there ∙ ask-words s history n stands.entry replay stands.there stands.entry.reply refl
+    ∙ ap (words_at ask_words) (sym stands.there)
 words-same s history tries job o replay stands = refl
 
 lines-same : {N : Type 0} → (s : Setting) (history : List Entry) (tries number : ℕ) (jobs : List Job) (os : List (Outcome N))

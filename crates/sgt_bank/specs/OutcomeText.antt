@@ -16,14 +16,32 @@ commit_words (reply.Committed answers) = committed_text answers
 commit_words _ = []
 
 -- a code that was asked
-abbrev pub code_words : Cause → List ℕ
-code_words (cause.Asked code) = codes "asked " ++ decimal code
-code_words _ = []
+abbrev pub asked_text : ℕ → List ℕ
+asked_text code = codes "asked " ++ decimal code
 
--- an abort because a code was asked
+-- the code of an abort's cause
+abbrev pub code_words : Cause → List ℕ
+code_words (cause.Asked code) = asked_text code
+code_words (cause.Cycle walk) = []
+code_words cause.Quit = []
+
+-- an abort because a code was asked, at the step or at the commit
 abbrev pub ask_words : Reply → List ℕ
 ask_words (reply.Aborted why fell) = code_words why
-ask_words _ = []
+ask_words (reply.Refused code fell) = asked_text code
+ask_words (reply.Started u) = []
+ask_words reply.NoProcedure = []
+ask_words reply.BadArgs = []
+ask_words reply.Spent = []
+ask_words reply.Full = []
+ask_words reply.Unknown = []
+ask_words (reply.Over ended) = []
+ask_words (reply.Looked k v) = []
+ask_words (reply.Wrote k v) = []
+ask_words reply.Ended = []
+ask_words reply.NotEnded = []
+ask_words (reply.Waits u) = []
+ask_words (reply.Committed answers) = []
 
 -- a refused start, with the number of its reply
 abbrev pub refusal_words : Reply → List ℕ

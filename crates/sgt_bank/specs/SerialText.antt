@@ -1,33 +1,68 @@
 -- The text of a bank's report, with what the serial run tells in place of what the history says.
-use Rattle.std.specs.Prelude.{ℕ, ◌+◌, List, [], ◌∷◌, ◌++◌, length, reverse, take, Option, Some, None, slice_get}
+use Rattle.std.specs.Prelude.{ℕ, ◌+◌, Bool, true, false, cond, List, [], ◌∷◌, ◌++◌, length, reverse, take, Option, Some, None, slice_get}
 use Rattle.sgt_model.specs.declared.entry.Entry.{Entry}
 use Rattle.sgt_model.specs.Databases.{Row}
+use Rattle.sgt_model.specs.declared.reply.Reply.{Reply}
+use Rattle.sgt_model.specs.declared.reply.Reply.TheVariants as reply
 use Rattle.sgt_model.specs.Settings.{Setting}
-use Rattle.sgt_model.specs.Replay.{RunResult, GaveAnswers, AskedCode, committed_calls, folded}
+use Rattle.sgt_model.specs.Replay.{RunResult, GaveAnswers, AskedCode, told_calls, folded}
 use Rattle.sgt_format.specs.DatabaseText.{database_text}
 use Rattle.sgt_format.specs.ReplyText.{committed_text}
 use Rattle.sgt_workers.specs.declared.outcome.Outcome.{Outcome}
 use Rattle.sgt_workers.specs.declared.outcome.Outcome.TheVariants as outcome
-use Rattle.sgt_bank.specs.OutcomeText.{outcome_words, outcome_line}
+use Rattle.sgt_bank.specs.OutcomeText.{asked_text, ask_words, outcome_words, outcome_line}
 
--- what the serial run gives each committed transaction, the first commit first
+-- what the serial run gives each committed and each refused transaction, the first reply first
 abbrev pub serial_results : Setting → List Entry → List RunResult
 serial_results s history = reverse (folded s (reverse history)).results
 
--- how many transactions committed before entry n, so that they stand before its own in the serial run
-abbrev pub committed_before : List Entry → ℕ → ℕ
-committed_before history n = length (committed_calls (reverse (take n history)))
+-- how many transactions committed or were refused before entry n, so that they stand before its own in the serial run
+abbrev pub told_before : List Entry → ℕ → ℕ
+told_before history n = length (told_calls (reverse (take n history)))
 
--- the words that tell a result. A code has none
+-- the words that tell a result
 abbrev pub result_words : Option RunResult → List ℕ
 result_words (Some (GaveAnswers answers)) = committed_text answers
-result_words (Some (AskedCode code)) = []
+result_words (Some (AskedCode code)) = asked_text code
 result_words None = []
 
--- the words of an outcome; of a job that entry n committed, what the serial run gives the transaction that it committed
+-- what the serial run gives the transaction that entry n committed or refused
+abbrev pub result_at : Setting → List Entry → ℕ → List ℕ
+result_at s history n = result_words (slice_get (serial_results s history) (told_before history n))
+
+-- the reply refuses a transaction at its commit
+abbrev pub is_refused : Reply → Bool
+is_refused (reply.Refused code fell) = true
+is_refused (reply.Started u) = false
+is_refused reply.NoProcedure = false
+is_refused reply.BadArgs = false
+is_refused reply.Spent = false
+is_refused reply.Full = false
+is_refused reply.Unknown = false
+is_refused (reply.Over ended) = false
+is_refused (reply.Looked k v) = false
+is_refused (reply.Wrote k v) = false
+is_refused reply.Ended = false
+is_refused reply.NotEnded = false
+is_refused (reply.Waits u) = false
+is_refused (reply.Committed answers) = false
+is_refused (reply.Aborted why fell) = false
+
+-- the words of an ask: of one that entry n refused at its commit, what the serial run gives it; of one that was aborted at its
+-- step, which no serial run has, what it was told
+abbrev pub serial_ask : Setting → List Entry → ℕ → Option Entry → List ℕ
+serial_ask s history n None = []
+serial_ask s history n (Some e) = cond (is_refused e.reply) (result_at s history n) (ask_words e.reply)
+
+-- the words of an outcome; of a job that entry n committed or refused, what the serial run gives its transaction
 abbrev pub serial_words : {N : Type 0} → Setting → List Entry → Outcome N → List ℕ
-serial_words s history (outcome.Done n) = result_words (slice_get (serial_results s history) (committed_before history n))
-serial_words s history o = outcome_words history o
+serial_words s history (outcome.Done n) = result_at s history n
+serial_words s history (outcome.Asked n) = serial_ask s history n (slice_get history n)
+serial_words s history (outcome.Gave attempts) = outcome_words history (outcome.Gave attempts)
+serial_words s history (outcome.Refused n) = outcome_words history (outcome.Refused n)
+serial_words s history (outcome.Left note) = outcome_words history (outcome.Left note)
+serial_words s history outcome.Untaken = outcome_words history outcome.Untaken
+serial_words s history outcome.NoMemory = outcome_words history outcome.NoMemory
 
 -- the lines of outcomes, of the jobs from number n on
 abbrev pub serial_lines : {N : Type 0} → ℕ → Setting → List Entry → List (Outcome N) → List ℕ

@@ -102,6 +102,7 @@ fn append_ask_words(line: &mut Vec<u8>, reply: &Reply) -> Result<(), AllocError>
 {
     match reply {
         Reply::Aborted { cause, .. } => append_code(line, cause),
+        Reply::Refused { code, .. } => append_numbered(line, b"asked ", *code),
         _ => Ok(()),
     }
 }

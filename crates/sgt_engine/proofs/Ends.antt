@@ -2,6 +2,8 @@
 use Rattle.std.proofs.Common.{◌≡◌, ℕ, ◌+◌, ◌≤◌, arith, Bool, true, false, ◌&&◌, cond, nat_eq, ℤ, inl, inr, List, length, nat_lt, Option, Some, None, refl, sym, ap, ap₂, ◌∙◌, subst}
 use Rattle.std.proofs.lemmas.Bool.{true≢false, and_parts}
 use Rattle.std.specs.Option.{is_none}
+use Rattle.sgt_model.specs.declared.limits.Asks.TheVariants.{AtStep, AtCommit}
+use Rattle.sgt_model.specs.declared.limits.Asks.{Asks as When}
 use Rattle.sgt_model.specs.declared.entry.Entry.{Entry}
 use Rattle.sgt_model.specs.declared.event.Event.{Event}
 use Rattle.sgt_model.specs.declared.event.Event.TheVariants.{Start, Step, Commit, Quit}
@@ -15,7 +17,7 @@ use Rattle.sgt_model.specs.Fates.{starts, fate_of, live, live_ones}
 use Rattle.sgt_model.specs.Settings.{Setting, takes}
 use Rattle.sgt_model.specs.Progress.{next_of}
 use Rattle.sgt_model.specs.Left.{next_left}
-use Rattle.sgt_model.specs.Legality.{Legal, LegalReply, StepReply, CommitReply, OfStarted}
+use Rattle.sgt_model.specs.Legality.{Legal, LegalReply, StepReply, CommitReply, OfStarted, AskedStep, AskedCommit, NoneLive}
 use Rattle.sgt_model.specs.StartReply.{args_fit, room_reply, taken_reply}
 use Rattle.sgt_model.specs.State.{State}
 use Rattle.sgt_model.specs.StateAfter.{IsStateAfter}
@@ -24,7 +26,7 @@ use Rattle.sgt_model.specs.Refinement.{NextsAgree, StatesAreSound, VerdictsAgree
 use Rattle.sgt_model.specs.Walks.{Member}
 use Rattle.sgt_sched.specs.Steps.{IsUnended}
 use Rattle.sgt_model.specs.Questions.{is_ending}
-use Rattle.sgt_sched.specs.Endings.{StepEnds, CommitEnds, EndsOne, RepliesEndWhere, CallsCount}
+use Rattle.sgt_sched.specs.Endings.{StepEnds, CommitEnds, EndsOne, RepliesEndWhere, CallsCount, AtItsStep, AtItsCommit, IsFirst}
 use Rattle.sgt_engine.specs.EngineView.{EngineView, setting_of}
 
 -- what is true of a state that belongs to a legal history, and of calls on it
@@ -82,7 +84,7 @@ module _ (laws : StateLaws) (s : Setting) (past : List Entry) (legal : Legal s p
 
   -- an event that has got its room leaves room for one end of each that is live then
   pub room_left : (event : Event) (after : State) (r : Reply) (len cap : ℕ) → CallEffect s.rules event c r after
-      → len + length c.live ≤ cap → ((EndsOne event c → ⊥) → len + (length c.live + 2) ≤ cap) → len + 1 + length after.live ≤ cap
+      → len + length c.live ≤ cap → ((EndsOne s.rules.limits.asks event c → ⊥) → len + (length c.live + 2) ≤ cap) → len + 1 + length after.live ≤ cap
   room_left event after r len cap done kept more = both (is_ending r) refl where
     both : (b : Bool) → is_ending r ≡ b → len + 1 + length after.live ≤ cap
     both true e = omega (arith, kept, (laws.counts s.rules event c r after unended_listed done).fewer e)
@@ -101,36 +103,51 @@ module _ (laws : StateLaws) (s : Setting) (past : List Entry) (legal : Legal s p
   opened r X true (Some f) x e = absurd (quiet r _ x refl e)
   opened r X true None x e = (refl, refl, x)
 
-  step_ends : (t : ℕ) (n : Next) (r : Reply) → live past t ≡ true → StepReply s past t n r → is_ending r ≡ true → StepEnds t n c
+  asked_step_ends : (asks : When) (t code : ℕ) (r : Reply) → AskedStep asks past t code r → is_ending r ≡ true → AtItsStep asks
+  asked_step_ends AtStep t code r x e = tt
+  asked_step_ends AtCommit t code r x e = absurd (quiet r _ x refl e)
+
+  step_ends : (t : ℕ) (n : Next) (r : Reply) → live past t ≡ true → StepReply s past t n r → is_ending r ≡ true
+      → StepEnds s.rules.limits.asks t n c
   step_ends t (Looks k) r l (inl x) e = (x.rest, (laws.verdicts s past legal c i t k Look x.rest l).1 x.closes)
   step_ends t (Looks k) r l (inr x) e = absurd (quiet r _ x.is refl e)
   step_ends t (Puts k v) r l (inl x) e = (x.rest, (laws.verdicts s past legal c i t k Store x.rest l).1 x.closes)
   step_ends t (Puts k v) r l (inr x) e = absurd (quiet r _ x.is refl e)
   step_ends t (Ends answers) r l x e = absurd (quiet r _ x refl e)
-  step_ends t (Asks code) r l x e = tt
+  step_ends t (Asks code) r l x e = asked_step_ends s.rules.limits.asks t code r x e
 
-  commit_ends : (t : ℕ) (n : Next) (r : Reply) → CommitReply past t n r → is_ending r ≡ true → CommitEnds t n c
+  -- who has no live predecessor has none in the graph
+  first_in : (t : ℕ) → NoneLive past t → IsFirst t c
+  first_in t none u p = let pair = (i.pairs u t).0 p in none u (record { is_live = pair.first_live; pair = pair.pair })
+
+  asked_commit_ends : (asks : When) (t code : ℕ) (r : Reply) → AskedCommit asks past t code r → is_ending r ≡ true
+      → AtItsCommit asks × IsFirst t c
+  asked_commit_ends AtStep t code r x e = absurd (quiet r _ x refl e)
+  asked_commit_ends AtCommit t code r (inl x) e = absurd (quiet r _ x.is refl e)
+  asked_commit_ends AtCommit t code r (inr x) e = (tt, first_in t x.none_live)
+
+  commit_ends : (t : ℕ) (n : Next) (r : Reply) → CommitReply s past t n r → is_ending r ≡ true → CommitEnds s.rules.limits.asks t n c
   commit_ends t (Ends answers) r (inl x) e = absurd (quiet r _ x.is refl e)
-  commit_ends t (Ends answers) r (inr x) e = λ u p. let pair = (i.pairs u t).0 p in
-      x.none_live u (record { is_live = pair.first_live; pair = pair.pair })
+  commit_ends t (Ends answers) r (inr x) e = first_in t x.none_live
   commit_ends t (Looks k) r x e = absurd (quiet r _ x refl e)
   commit_ends t (Puts k v) r x e = absurd (quiet r _ x refl e)
-  commit_ends t (Asks code) r x e = absurd (quiet r _ x refl e)
+  commit_ends t (Asks code) r x e = asked_commit_ends s.rules.limits.asks t code r x e
 
   next_same : (t : ℕ) → live past t ≡ true → next_of s past t ≡ next_left (c.left t)
   next_same t l = sym (laws.nexts s past legal c i t l)
 
-  pub legal_ends : (event : Event) (r : Reply) → LegalReply s past event r → is_ending r ≡ true → EndsOne event c
+  pub legal_ends : (event : Event) (r : Reply) → LegalReply s past event r → is_ending r ≡ true
+      → EndsOne s.rules.limits.asks event c
   legal_ends (Start p args) r x e =
       absurd (quiet r _ x (start_quiet s.rules.limits (starts past) (length (live_ones past)) (takes s.rules p) args) e)
   legal_ends (Step t) r x e =
       let o = opened r _ (nat_lt t (starts past)) (fate_of past t) x e in
       let l = live_from past t o.0 o.1 in
-      (live_unended t l, subst (λ n. StepEnds t n c) (next_same t l) (step_ends t (next_of s past t) r l o.2 e))
+      (live_unended t l, subst (λ n. StepEnds s.rules.limits.asks t n c) (next_same t l) (step_ends t (next_of s past t) r l o.2 e))
   legal_ends (Commit t) r x e =
       let o = opened r _ (nat_lt t (starts past)) (fate_of past t) x e in
       let l = live_from past t o.0 o.1 in
-      (live_unended t l, subst (λ n. CommitEnds t n c) (next_same t l) (commit_ends t (next_of s past t) r o.2 e))
+      (live_unended t l, subst (λ n. CommitEnds s.rules.limits.asks t n c) (next_same t l) (commit_ends t (next_of s past t) r o.2 e))
   legal_ends (Quit t) r x e =
       let o = opened r _ (nat_lt t (starts past)) (fate_of past t) x e in
       live_unended t (live_from past t o.0 o.1)
@@ -138,6 +155,6 @@ module _ (laws : StateLaws) (s : Setting) (past : List Entry) (legal : Legal s p
 -- the same, as callers see an engine
 pub ends_seen : StateLaws → (before now : EngineView) → before ≡ now → (c : State) → Legal (setting_of before) before.past
     → IsStateAfter (setting_of before) before.past c → (event : Event) (r : Reply) → LegalReply (setting_of now) now.past event r
-    → is_ending r ≡ true → EndsOne event c
+    → is_ending r ≡ true → EndsOne before.limits.asks event c
 ends_seen laws before now seen c legal i event r l e = legal_ends laws (setting_of before) before.past legal c i event r
     (subst (λ (v : EngineView). LegalReply (setting_of v) v.past event r) (sym seen) l) e

@@ -3,7 +3,7 @@ ghost use Rattle.std.specs.Result.{IsOk};
 ghost use Rattle.std.specs.Vec.{vec_len, vec_capacity};
 ghost use Rattle.sgt_sched.specs.Briefs.{in_full};
 ghost use Rattle.sgt_sched.specs.Endings.{EndsOne};
-ghost use Rattle.sgt_sched.specs.Scheduler.{state};
+ghost use Rattle.sgt_sched.specs.Scheduler.{state, asks_of};
 
 use sgt_access::Accesses;
 use sgt_graph::Graph;
@@ -24,10 +24,10 @@ pub fn make_room<R: Records, A: Accesses, G: Graph>(
     requires { vec_len history.old + length (state sched.now).live ≤ vec_capacity history.old }
     ensures items { history.new.items ≡ history.old.items }
     ensures ends { vec_len history.new + length (state sched.now).live ≤ vec_capacity history.new }
-    ensures room { OnOk result ((EndsOne event.now (state sched.now) → ⊥)
+    ensures room { OnOk result ((EndsOne (asks_of sched.now) event.now (state sched.now) → ⊥)
         → vec_len history.new + (length (state sched.now).live + 2) ≤ vec_capacity history.new) }
-    ensures no_growth { EndsOne event.now (state sched.now) → vec_capacity history.new ≡ vec_capacity history.old }
-    ensures no_memory { EndsOne event.now (state sched.now) → IsOk result }
+    ensures no_growth { EndsOne (asks_of sched.now) event.now (state sched.now) → vec_capacity history.new ≡ vec_capacity history.old }
+    ensures no_memory { EndsOne (asks_of sched.now) event.now (state sched.now) → IsOk result }
 {
     let needed = sched.live_count() + 2;
     // Whether it ends one is worked out only where there is less room than others need.

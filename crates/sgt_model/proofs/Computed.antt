@@ -21,7 +21,7 @@ use Rattle.sgt_model.specs.ReadFrom.{IsBy, LooksFrom, ReadFrom}
 use Rattle.sgt_model.specs.Falls.{Feeds, Falls}
 use Rattle.sgt_model.specs.Pairs.{has_conflicting, FollowsIn, Precedes, Pair}
 use Rattle.sgt_model.specs.Closes.{Closes}
-use Rattle.sgt_model.specs.Legality.{Aborts, AbortsByCycle, Makes, NoneLive, MustWait, MayCommit}
+use Rattle.sgt_model.specs.Legality.{Aborts, AbortsByCycle, Makes, NoneLive, MustWait, MayCommit, MayRefuse}
 use Rattle.sgt_model.proofs.Paths.{last_is_member}
 use Rattle.sgt_model.proofs.Facts.{some_is, member_from, member_to, conflicts-access, follows-access}
 use Rattle.sgt_model.proofs.Sources.{read-precedes}
@@ -365,6 +365,17 @@ none_live-so past t h v p = both_ways _ (not-true _ (all-at _ (actors past) v h 
 pub commits_by : {past : List Entry} {t : ℕ} {answers : List ℤ} → none_live_test past t ≡ true → MayCommit past t answers
     (reply.Committed answers)
 commits_by {past} {t} {answers} h = record { none_live = none_live-so past t h; is = refl }
+
+-- t is refused, with those that fall
+pub refuses_by : {past : List Entry} {t code : ℕ} (fell : List ℕ) (paths : List (List ℕ)) (set : List ℕ)
+    → none_live_test past t ≡ true → rising fell ≡ true → each_test past t fell paths ≡ true → all_test past t fell set ≡ true
+    → MayRefuse past t code (reply.Refused code fell)
+refuses_by {past} {t} fell paths set first r e a = record {
+  none_live = none_live-so past t first;
+  fell = fell;
+  falls = falls-so past t fell paths set r e a;
+  is = refl;
+}
 
 -- IsLeastBefore
 abbrev pub least_test : List Entry → ℕ → ℕ → Bool

@@ -19,6 +19,7 @@ use Rattle.sgt_model.specs.Legality.{AbortsByCycle, Makes, MustWait, MayCommit, 
 use Rattle.sgt_model.proofs.Computed.{pair, pair-so, so-pair, free_test, free-so, closes-so, each-so, all-so}
 use Rattle.sgt_model.proofs.ExampleSettings.{small_bank, entry, small_bank_put, small_bank_copy, small_bank_twice, small_bank_look_twice, small_bank_put_over, small_bank_tell}
 use Rattle.sgt_model.proofs.ExamplesDeepCascades.{three_levels}
+use Rattle.sgt_model.proofs.ExamplesRefusals.{refusing}
 
 -- where an access closes no walk it is not rejected
 not_refused : {past : List Entry} {t : ℕ} {k : Key} {kind : Kind} {why : Cause} {fell : List ℕ} (given : Reply) (set : List ℕ)
@@ -340,3 +341,40 @@ three_levels_out_of_order h =
     let rises : Rising (1 ∷ 3 ∷ 2 ∷ []) = subst (λ l. Rising l) named h.falls.rising in
     let less : 3 < 2 = rises.1.0 in
     omega arith
+
+-- a refusal is told in its turn, and undoes what was stored
+
+-- a live transaction has spent, and another has found too little to spend
+abbrev spent_by_another : List Entry
+spent_by_another =
+    entry (Step 1) (reply.Looked (2, pos 101) (Some (pos 400)))
+    ∷ entry (Start 2 (pos 500 ∷ [])) (reply.Started 1)
+    ∷ entry (Step 0) (reply.Wrote (2, pos 101) (pos 400))
+    ∷ entry (Step 0) (reply.Looked (2, pos 101) (Some (pos 1000)))
+    ∷ entry (Start 2 (pos 600 ∷ [])) (reply.Started 0)
+    ∷ []
+
+refuses_before_its_turn : LegalReply refusing spent_by_another (Commit 1) (reply.Refused 3 []) → ⊥
+refuses_before_its_turn (inl h) = cc h.is
+refuses_before_its_turn (inr h) =
+    h.none_live 0 (record { is_live = refl; pair = pair-so spent_by_another 0 1 refl })
+
+refuses_at_the_step : LegalReply refusing spent_by_another (Step 1) (reply.Aborted (cause.Asked 3) []) → ⊥
+refuses_at_the_step h = cc h
+
+commits_though_it_asks : LegalReply refusing spent_by_another (Commit 0) (reply.Refused 3 (1 ∷ [])) → ⊥
+commits_though_it_asks (inl h) = cc h.is
+commits_though_it_asks (inr h) = cc h.is
+
+-- `leaves-refused-writes`: what a refused transaction stored is found by nobody
+abbrev refused_writer : List Entry
+refused_writer =
+    entry (Start 1 []) (reply.Started 1)
+    ∷ entry (Commit 0) (reply.Refused 9 [])
+    ∷ entry (Step 0) (reply.Wrote (3, pos 7) (pos 4))
+    ∷ entry (Start 0 []) (reply.Started 0)
+    ∷ []
+
+leaves_refused_writes : LegalReply refusing refused_writer (Step 1) (reply.Looked (3, pos 7) (Some (pos 4))) → ⊥
+leaves_refused_writes (inl h) = cc h.aborts.is
+leaves_refused_writes (inr h) = cc h.is

@@ -13,7 +13,7 @@ use Rattle.sgt_model.specs.Walks.{Member, Distinct}
 use Rattle.sgt_model.specs.Fates.{is_start, starts, ending_in, fate_of, live, begun, live_ones}
 use Rattle.sgt_model.specs.Settings.{Setting}
 use Rattle.sgt_model.specs.Legality.{Legal}
-use Rattle.sgt_model.proofs.Effects.{EndsNone, ends_none-no_end, Effect, idle, begins, accesses, commits, undoes, effect}
+use Rattle.sgt_model.proofs.Effects.{EndsNone, ends_none-no_end, Effect, idle, begins, accesses, commits, undoes, refuses, Undoing, effect}
 use Rattle.sgt_model.proofs.Facts.{live-started, unstarted-no_fate}
 use Rattle.sgt_model.proofs.Counted.{filter-both, filter-same, filter_listed}
 use Rattle.sgt_model.proofs.Listed.{kept_member}
@@ -31,6 +31,7 @@ starts_none _ e = refl
 ends_no_one : (r : Reply) → EndsNone r → count_ended r ≡ 0
 ends_no_one (reply.Committed answers) h = absurd h
 ends_no_one (reply.Aborted why fell) h = absurd h
+ends_no_one (reply.Refused code fell) h = absurd h
 ends_no_one _ h = refl
 
 module _ (past : List Entry) (e : Entry) where
@@ -113,6 +114,26 @@ module _ (past : List Entry) (e : Entry) where
       now_live = live_is (starts past) ∙ ap₂ (λ a o. a && is_none o) (lt-ltb (starts past) (starts past + 1) (omega arith))
           (unstarted-no_fate s past legal (starts past) (omega arith))
 
+  -- one that is undone ends with those that fall
+  one_undone : is_start e.reply ≡ false → (u : Undoing past e.event e.reply) → count_ended e.reply ≡ length u.fell + 1
+      → length (live_ones (e ∷ past)) + count_ended e.reply ≡ length (live_ones past) + count_started e.reply
+  one_undone none u b =
+      let some = lost (u.t ∷ u.fell) none (λ t. ap is_some (u.ends t) ∙ abort_gone (fate.Aborted u.why) (fate.Fell u.t)
+      (nat_eq u.t t) (is_among u.fell t)) ((λ m. (u.falls.each u.t m).1 refl), rising_distinct u.fell u.falls.rising)
+      (λ t m. those t m) in
+      let a = starts_none e.reply none in
+      let n : length (u.t ∷ u.fell) ≡ length u.fell + 1 = omega arith in
+      omega arith
+    where
+      abort_gone : (f g : Fate) (b c : Bool) → is_some (cond b (Some f) (cond c (Some g) None)) ≡ (b || c)
+      abort_gone f g true c = refl
+      abort_gone f g false true = refl
+      abort_gone f g false false = refl
+
+      those : (t : ℕ) → Member t (u.t ∷ u.fell) → live past t ≡ true
+      those t (inl same) = subst (λ v. live past v ≡ true) (sym same) u.is_live
+      those t (inr m) = (u.falls.each t m).0
+
   by_effect : (s : Setting) → Legal s past → Effect s past e.event e.reply
       → length (live_ones (e ∷ past)) + count_ended e.reply ≡ length (live_ones past) + count_started e.reply
   by_effect s legal (idle i) = none_lost i.no_start i.ends_none
@@ -134,29 +155,13 @@ module _ (past : List Entry) (e : Entry) where
       only : (t : ℕ) → Member t (c.t ∷ []) → t ≡ c.t
       only t (inl same) = same
       only t (inr m) = absurd m
-  by_effect s legal (undoes x) =
-      let none : is_start e.reply ≡ false = ap is_start x.reply_is in
-      let u = x.undoing in
-      let some = lost (u.t ∷ u.fell) none (λ t. ap is_some (u.ends t) ∙ abort_gone (fate.Aborted u.why) (fate.Fell u.t)
-      (nat_eq u.t t) (is_among u.fell t)) ((λ m. (u.falls.each u.t m).1 refl), rising_distinct u.fell u.falls.rising)
-      (λ t m. those t m) in
-      let a = starts_none e.reply none in
-      let b : count_ended e.reply ≡ length u.fell + 1 = ap count_ended x.reply_is in
-      let n : length (u.t ∷ u.fell) ≡ length u.fell + 1 = omega arith in
-      omega arith
-    where
-      abort_gone : (f g : Fate) (b c : Bool) → is_some (cond b (Some f) (cond c (Some g) None)) ≡ (b || c)
-      abort_gone f g true c = refl
-      abort_gone f g false true = refl
-      abort_gone f g false false = refl
-
-      those : (t : ℕ) → Member t (x.undoing.t ∷ x.undoing.fell) → live past t ≡ true
-      those t (inl same) = subst (λ v. live past v ≡ true) (sym same) x.undoing.is_live
-      those t (inr m) = (x.undoing.falls.each t m).0
+  by_effect s legal (undoes x) = one_undone (ap is_start x.reply_is) x.undoing (ap count_ended x.reply_is)
+  by_effect s legal (refuses x) = one_undone (ap is_start x.reply_is) x.undoing (ap count_ended x.reply_is)
 
 started_or_ended : (r : Reply) → (count_started r ≡ 0) ⊎ (count_ended r ≡ 0)
 started_or_ended (reply.Committed answers) = inl refl
 started_or_ended (reply.Aborted why fell) = inl refl
+started_or_ended (reply.Refused code fell) = inl refl
 started_or_ended _ = inr refl
 
 -- as many are live after an entry as were before it, with the one that it started and without those that it ended

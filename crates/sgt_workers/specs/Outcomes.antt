@@ -9,7 +9,7 @@ use Rattle.sgt_model.specs.declared.reply.Fate.TheVariants as fate
 use Rattle.sgt_model.specs.declared.entry.Entry.{Entry}
 use Rattle.sgt_model.specs.Fates.{starts, fate_of}
 use Rattle.sgt_model.specs.Progress.{Call, call_at, call_of}
-use Rattle.sgt_model.specs.Questions.{named_by, is_refusal, is_commit, is_ask}
+use Rattle.sgt_model.specs.Questions.{named_by, refuses_start, is_commit, is_ask}
 use Rattle.sgt_dispatch.specs.declared.job.Job.{Job}
 use Rattle.sgt_workers.specs.declared.outcome.Outcome.{Outcome}
 use Rattle.sgt_workers.specs.declared.outcome.Outcome.TheVariants as outcome
@@ -53,7 +53,7 @@ pub record StartIsRefused (history : List Entry) (job : Job) (n : ℕ) : Type 0 
   pub entry : Entry
   pub there : slice_get history n ≡ Some entry
   pub asks : call_at entry.event ≡ Some (call_for job)
-  pub reply_is : is_refusal entry.reply ≡ true
+  pub reply_is : refuses_start entry.reply ≡ true
 
 -- t is a transaction of the job that was aborted by a cycle, or fell
 pub record IsFailed (past : List Entry) (job : Job) (t : ℕ) : Type 0 where

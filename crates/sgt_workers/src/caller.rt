@@ -155,7 +155,8 @@ fn attempt_of<X>(t: Tid, receipt: &Receipt) -> Result<Attempt<X>, Halt<X>> {
         Reply::Aborted {
             cause: Cause::Asked(_),
             ..
-        } => Ok(Attempt::Final(Outcome::Asked(receipt.number))),
+        }
+        | Reply::Refused { .. } => Ok(Attempt::Final(Outcome::Asked(receipt.number))),
         Reply::Aborted {
             cause: Cause::Cycle(_),
             ..

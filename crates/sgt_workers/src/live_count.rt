@@ -31,7 +31,7 @@ fn live_after(live: usize, reply: &Reply) -> usize
     match reply {
         Reply::Started(_) => live + 1,
         Reply::Committed(_) => live - 1,
-        Reply::Aborted { fell, .. } => live - 1 - fell.len(),
+        Reply::Aborted { fell, .. } | Reply::Refused { fell, .. } => live - 1 - fell.len(),
         _ => live,
     }
 }

@@ -87,6 +87,10 @@ fn end_those(lives: &mut Vec<Life>, number: usize, entry: &Entry)
                 matches!(cause, Cause::Cycle(_)),
             );
         }
+        Reply::Refused { fell, .. } => {
+            end_fallen(lives, number, fell.as_slice());
+            end_subject(lives, number, &entry.event, false);
+        }
         _ => (),
     }
 }

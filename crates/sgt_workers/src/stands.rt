@@ -59,7 +59,7 @@ fn is_committed(history: &[Entry], lives: &[Life], job: &Job, n: u64) -> bool
     }
 }
 
-/// Whether entry n aborted a transaction of the job that asked a code.
+/// Whether entry n aborted a transaction of the job that asked a code, at the step or at the commit.
 fn is_asked(history: &[Entry], lives: &[Life], job: &Job, n: u64) -> bool
     requires { AreLives (reverse history.now) lives.now }
     ensures { IsTrue result ↔ Ends is_ask history.now job.now n }
@@ -75,7 +75,7 @@ fn is_refused(history: &[Entry], job: &Job, n: u64) -> bool
     ensures { IsTrue result ↔ StartIsRefused history.now job.now n }
 {
     match history.get(n as usize) {
-        Some(entry) => entry.reply.is_refusal() && asks_for(&entry.event, job),
+        Some(entry) => entry.reply.refuses_start() && asks_for(&entry.event, job),
         None => false,
     }
 }
