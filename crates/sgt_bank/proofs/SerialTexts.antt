@@ -1,6 +1,6 @@
 -- What was told is what the serial run tells.
 use Rattle.std.proofs.Common.{◌≡◌, ℕ, zero, suc, ◌+◌, List, [], ◌∷◌, ◌++◌, length, refl, sym, ◌∙◌, ap, append_assoc}
-use Rattle.std.specs.Prelude.{ℤ, true, false, reverse, take, slice_get, Some}
+use Rattle.std.specs.Prelude.{ℤ, true, reverse, take, slice_get, Some}
 use Rattle.std.specs.List.{AllZip}
 use Rattle.std.proofs.lemmas.List.{reverse-append, length-reverse}
 use Rattle.std.proofs.lemmas.Grind.{reverse_onto}
