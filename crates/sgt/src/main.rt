@@ -103,6 +103,7 @@ gives
   asked       its procedure asked this code, and changed nothing
   gave        all its tries were aborted: how many they were
   refused     it was not started: 1 no such procedure, 2 bad arguments, 3 no start is left, 4 no place is left
+  no memory   a call for it was refused memory, and it changed nothing
 
 All jobs are read before the first one runs, at most 1000000. A bad line is told on standard error, and no job runs then. A line
 has at most 65536 bytes, the input 16777216, and a value or a key is a whole number of at most fifteen digits. The first number

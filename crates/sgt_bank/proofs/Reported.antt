@@ -6,7 +6,7 @@ use Rattle.std.proofs.lemmas.List.Sums.{sum_by-cons}
 use Rattle.std.specs.declared.convert.Infallible.{Infallible}
 use Rattle.sgt_workers.specs.declared.outcome.Outcome.{Outcome}
 use Rattle.sgt_workers.specs.declared.outcome.Outcome.TheVariants as outcome
-use Rattle.sgt_workers.specs.Reports.{is_left, is_untaken, is_no_memory}
+use Rattle.sgt_workers.specs.Reports.{is_left, is_untaken}
 use Rattle.sgt_model.specs.declared.entry.Entry.{Entry}
 use Rattle.sgt_model.specs.Databases.{Row}
 use Rattle.sgt_format.specs.Openings.{Opens}
@@ -39,18 +39,17 @@ all-cons : (o : Outcome Infallible) (os : List (Outcome Infallible)) → HasRun 
 all-cons o os first later zero d within = first
 all-cons o os first later (suc k) d within = later k d (omega (arith, within))
 
--- where none is untaken, and none was refused memory, each was run
-all-run : (os : List (Outcome Infallible)) → count_by is_untaken os ≡ 0 → count_by is_no_memory os ≡ 0 → All HasRun os
-all-run [] taken memory = λ k d within. absurd (omega (arith, within))
-all-run (outcome.Done n ∷ os) taken memory = all-cons (outcome.Done n) os tt (all-run os taken memory)
-all-run (outcome.Asked n ∷ os) taken memory = all-cons (outcome.Asked n) os tt (all-run os taken memory)
-all-run (outcome.Gave attempts ∷ os) taken memory = all-cons (outcome.Gave attempts) os tt (all-run os taken memory)
-all-run (outcome.Refused n ∷ os) taken memory = all-cons (outcome.Refused n) os tt (all-run os taken memory)
-all-run (outcome.Left note ∷ os) taken memory = absurd (no-note note)
-all-run (outcome.Untaken ∷ os) taken memory = let one_more : 1 + count_by is_untaken os ≡ 0 = sym
+-- where none is untaken, each was run
+all-run : (os : List (Outcome Infallible)) → count_by is_untaken os ≡ 0 → All HasRun os
+all-run [] taken = λ k d within. absurd (omega (arith, within))
+all-run (outcome.Done n ∷ os) taken = all-cons (outcome.Done n) os tt (all-run os taken)
+all-run (outcome.Asked n ∷ os) taken = all-cons (outcome.Asked n) os tt (all-run os taken)
+all-run (outcome.Gave attempts ∷ os) taken = all-cons (outcome.Gave attempts) os tt (all-run os taken)
+all-run (outcome.Refused n ∷ os) taken = all-cons (outcome.Refused n) os tt (all-run os taken)
+all-run (outcome.Left note ∷ os) taken = absurd (no-note note)
+all-run (outcome.Untaken ∷ os) taken = let one_more : 1 + count_by is_untaken os ≡ 0 = sym
     (sum_by-cons (λ (o : Outcome Infallible). cond (is_untaken o) 1 0) outcome.Untaken os) ∙ taken in absurd (omega (arith, one_more))
-all-run (outcome.NoMemory ∷ os) taken memory = let one_more : 1 + count_by is_no_memory os ≡ 0 = sym
-    (sum_by-cons (λ (o : Outcome Infallible). cond (is_no_memory o) 1 0) outcome.NoMemory os) ∙ memory in absurd (omega (arith, one_more))
+all-run (outcome.NoMemory ∷ os) taken = all-cons outcome.NoMemory os tt (all-run os taken)
 
 -- all is taken where no worker has left
 all-taken : (workers left untaken : ℕ) → 1 ≤ workers → left ≡ 0 → (0 < untaken → left ≡ workers) → untaken ≡ 0
@@ -58,9 +57,9 @@ all-taken workers left zero some none full = refl
 all-taken workers left (suc untaken) some none full = absurd (omega (arith, some, none, full (omega arith)))
 
 -- each job of a report without notes was run
-pub each-run : (os : List (Outcome Infallible)) (workers : ℕ) → 1 ≤ workers → count_by is_no_memory os ≡ 0
+pub each-run : (os : List (Outcome Infallible)) (workers : ℕ) → 1 ≤ workers
     → (0 < count_by is_untaken os → count_by is_left os ≡ workers) → All HasRun os
-each-run os workers some memory full = all-run os (all-taken workers _ _ some (none-left os) full) memory
+each-run os workers some full = all-run os (all-taken workers _ _ some (none-left os) full)
 
 -- the first line of an input of jobs opens
 opens-first : (workers : ℕ) (ls : List (List ℕ)) (ending : Ending) (o : Opening) (jobs : List Job)

@@ -1,13 +1,12 @@
 -- Laws of jobs that are read one after another.
-use Rattle.std.proofs.Common.{◌≡◌, ℕ, ◌+◌, ◌<◌, true, false, List, [], ◌∷◌, ◌++◌, length, refl, ap, sym, ◌∙◌, append_assoc, append-nil, arith}
-use Rattle.std.specs.Prelude.{zero, suc, nat_le, slice_get, if◌then◌else◌, Option, None, Some, IfSome, Ok, Err}
+use Rattle.std.proofs.Common.{◌≡◌, ℕ, ◌+◌, ◌<◌, true, false, List, [], ◌∷◌, ◌++◌, length, refl, ap, sym, ◌∙◌, append_assoc, arith}
+use Rattle.std.specs.Prelude.{zero, suc, nat_le, slice_get, if◌then◌else◌, Option, None, Some, Ok, Err}
 use Rattle.std.proofs.lemmas.Bool.{le-leb}
 use Rattle.std.proofs.lemmas.Option.{none-some, same_Some}
 use Rattle.sgt_format.specs.declared.call.JobCall.{JobCall}
 use Rattle.sgt_dispatch.specs.declared.job.Job.{Job}
 use Rattle.sgt_stream.specs.declared.fault.Fault.TheVariants as fault
-use Rattle.sgt_stream.specs.Lines.{Cut, AtEnd}
-use Rattle.sgt_stream.specs.Intake.{EndsAs}
+use Rattle.sgt_stream.specs.Lines.{Cut}
 use Rattle.sgt_stream.specs.Ends.{End}
 use Rattle.sgt_stream.specs.Spelled.{at_line, and_later, spelled, or_later, end_of}
 use Rattle.sgt_bank.specs.Jobs.{unless_too_many, job_at, numbered}

@@ -22,7 +22,8 @@ use Rattle.sgt_bank.specs.Inputs.{InputAsks}
 use Rattle.sgt_bank.specs.Reports.{report_text}
 use Rattle.sgt_bank.specs.SerialText.{serial_text}
 
--- the job ran to an end: it committed, its procedure asked, its tries were spent, or its start was refused
+-- the job was taken, and its worker did not leave: it committed, its procedure asked, its tries were spent, its start was refused,
+-- or a call for it was refused memory
 abbrev pub HasRun : {N : Type 0} → Outcome N → Type 0
 HasRun (outcome.Done n) = ⊤
 HasRun (outcome.Asked n) = ⊤
@@ -30,7 +31,7 @@ HasRun (outcome.Gave attempts) = ⊤
 HasRun (outcome.Refused n) = ⊤
 HasRun (outcome.Left note) = ⊥
 HasRun outcome.Untaken = ⊥
-HasRun outcome.NoMemory = ⊥
+HasRun outcome.NoMemory = ⊤
 
 -- jobs were run behind an opening: of the history, which is legal, each outcome says what is so; the parts of the headline;
 -- and the database is the one that the committed transactions leave, run one after another in commit order

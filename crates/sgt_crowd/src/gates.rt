@@ -150,3 +150,49 @@ impl Gate for LeavesAt {
         self.finished.fetch_add(1, Ordering::SeqCst);
     }
 }
+
+/// Lets each worker above 0 start once the one before it has made 4 calls, and holds it at 4 calls of its own until the job of
+/// worker 0 is finished. Worker 0 leaves at 4 calls, once all of them have made 4.
+#[derive(Drop)]
+pub struct DeepFall {
+    workers: u64,
+    /// How many workers have made 4 calls.
+    arrived: AtomicU64,
+    jobs_of_first: AtomicU64,
+}
+
+impl DeepFall {
+    /// For so many workers, of whom none has made a call.
+    pub fn new(workers: u32) -> Self {
+        DeepFall {
+            workers: u64::from(workers),
+            arrived: AtomicU64::new(0),
+            jobs_of_first: AtomicU64::new(0),
+        }
+    }
+}
+
+impl Gate for DeepFall {
+    type Note = u64;
+
+    fn pass(&self, worker: u8, calls: u64) -> Pass<u64> {
+        if calls == 4 {
+            self.arrived.fetch_add(1, Ordering::SeqCst);
+        }
+        match (worker, calls) {
+            (0, 4) => {
+                reaches(&self.arrived, self.workers);
+                Pass::Leave(calls)
+            }
+            (_, 0) => go_at(&self.arrived, u64::from(worker), calls),
+            (_, 4) => go_at(&self.jobs_of_first, 1, calls),
+            _ => Pass::Go,
+        }
+    }
+
+    fn finished(&self, worker: u8, _job: u32, _outcome: &Outcome<u64>) {
+        if worker == 0 {
+            self.jobs_of_first.fetch_add(1, Ordering::SeqCst);
+        }
+    }
+}

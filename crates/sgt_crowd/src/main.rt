@@ -10,6 +10,7 @@ mod bank;
 mod counts;
 mod crowd;
 mod gates;
+mod leavers;
 
 use crate::bank::{
     ACCOUNTS, BALANCE, DEPOSIT_CHECKING, LIMITS, TRANSACT_SAVING, WRITE_CHECK, checking, job,
@@ -18,6 +19,7 @@ use crate::bank::{
 use crate::counts::Counts;
 use crate::crowd::{JOBS, compare};
 use crate::gates::{BothRead, LeavesAt, Open, SecondFirst};
+use crate::leavers::{all_leave, deep_fall, leave_at_each_call};
 use sgt_access::PerKey;
 use sgt_dispatch::Job;
 use sgt_graph::BitGraph;
@@ -188,6 +190,9 @@ fn main(rt: HostRuntime) -> io::Result<()> {
     one_gives_up(&rt, alloc, 1)?;
     one_gives_up(&rt, alloc, 2)?;
     each_outcome(&rt, alloc)?;
+    leave_at_each_call(&rt, alloc)?;
+    deep_fall(&rt, alloc)?;
+    all_leave(&rt, alloc)?;
     refusals(&rt, alloc)?;
     tell_crowd(&rt, alloc)
 }

@@ -95,15 +95,13 @@ pub record OutcomesStand {N : Type 0} (history : List Entry) (jobs : List Job) (
   pub few_live : FewLive history workers
   pub all_ended : AllEnded history
 
--- what holds of the report of a run of these jobs, where the engine was made of this setting: the history is legal, each outcome
--- says of it what is so, and none is for want of memory; and each part of what every legal history has, with the database that
--- it leaves
+-- what holds of the report of a run of these jobs, where the engine was made of this setting: the history is legal, and each
+-- outcome says of it what is so; and each part of what every legal history has, with the database that it leaves
 pub record IsReportOf {N : Type 0} (s : Setting) (jobs : List Job) (workers tries : ℕ) (r : Report N) : Type 0 where
   pub opening : (k : Key) → contents_of r.opening k ≡ s.opening k
   pub legal : Legal s (reverse r.history.items)
   pub outcomes : OutcomesStand r.history.items jobs r.outcomes.items workers tries
   pub all_ended : AllEnded r.history.items
-  pub memory : count_by is_no_memory r.outcomes.items ≡ 0
   pub values : (k : Key) → contents_of r.database k ≡ settled s.opening (reverse r.history.items) k
   pub replayed : (k : Key) → contents_of r.database k ≡ (folded s (reverse r.history.items)).last k
   pub by_key : IsByKey r.database

@@ -15,7 +15,7 @@ pub enum PoolError {
     /// There are over 1,000,000 jobs, or one has a number that is not its index.
     #[error("the jobs are too many, or not numbered from 0")]
     BadJobs,
-    /// A growth was refused.
+    /// A growth of the run itself was refused. Where a worker's call is refused one, that is its job's outcome.
     #[error("no memory")]
     NoMemory,
     /// A thread could not be made.

@@ -16,6 +16,6 @@ pub enum Outcome<N> {
     Left(N),
     /// No worker took the job.
     Untaken,
-    /// A worker that had the job was refused memory.
+    /// A call for the job was refused memory. Its transaction, if it had one, was quit, and the worker went on.
     NoMemory,
 }

@@ -1,8 +1,7 @@
-ghost use Rattle.std.specs.Prelude.{◌≡◌, ◌↔◌, IsTrue, IfOk, IfErr, reverse};
-ghost use Rattle.std.specs.List.{count_by};
+ghost use Rattle.std.specs.Prelude.{◌≡◌, IfOk, IfErr, reverse};
 ghost use Rattle.sgt_engine.specs.EngineView.{setting_of};
 ghost use Rattle.sgt_workers.specs.Crews.{IsRunError};
-ghost use Rattle.sgt_workers.specs.Reports.{is_no_memory, IsReportOf};
+ghost use Rattle.sgt_workers.specs.Reports.{IsReportOf};
 
 use crate::errors::PoolError;
 use crate::outcome::Outcome;
@@ -30,7 +29,7 @@ pub struct Report<N> {
 
 /// The report of a run, where its outcomes stand in the history of the engine.
 ///
-/// `Mismatch` where one does not; `NoMemory` where a growth was refused, now or to a worker.
+/// `Mismatch` where one does not; `NoMemory` where a growth was refused.
 pub fn report_of<R: Records, A: Accesses, G: Graph, X: Drop>(
     alloc: Global,
     engine: Engine<R, A, G>,
@@ -60,25 +59,10 @@ pub fn report_of<R: Records, A: Accesses, G: Graph, X: Drop>(
     if !stands {
         return Err(PoolError::Mismatch);
     }
-    if !had_memory(outcomes.as_slice()) {
-        return Err(PoolError::NoMemory);
-    }
     Ok(Report {
         opening,
         history,
         outcomes,
         database,
     })
-}
-
-/// Whether no worker was refused memory.
-fn had_memory<X>(outcomes: &[Outcome<X>]) -> bool
-    ensures { IsTrue result ↔ (count_by is_no_memory outcomes.now ≡ 0) }
-{
-    for outcome in outcomes {
-        if matches!(outcome, Outcome::NoMemory) {
-            return false;
-        }
-    }
-    true
 }

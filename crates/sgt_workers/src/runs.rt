@@ -29,12 +29,13 @@ const CALLS_OF_A_JOB: usize = 8;
 /// Runs the jobs as transactions of a new engine, each worker in a thread of its own, and reports what became of them.
 ///
 /// A worker takes a job, starts a transaction for it, steps until its procedure is at its end, and commits. An attempt that was
-/// aborted by a cycle, or fell, is made again, up to `tries` in all. The gate is asked before each of these calls.
+/// aborted by a cycle, or fell, is made again, up to `tries` in all. The gate is asked before each of these calls. Where a call
+/// is refused memory the transaction is quit, the job has the outcome `NoMemory`, and the worker goes on with the next job.
 ///
 /// `BadWorkers` where the workers are not from 1 to `MOST_WORKERS`; `BadTries` where the tries are not from 1 to `MOST_TRIES`;
 /// `BadLimits` where a limit is out of its range, or fewer transactions may be live than there are workers; `BadJobs` where
 /// there are over `MOST_JOBS`, or a job's number is not its index. These are tested in this order, before any growth. Then
-/// `NoMemory` where a growth was refused, to a worker too; `Spawn` where a thread could not be made; and `Mismatch` where the
+/// `NoMemory` where a growth of the run itself was refused; `Spawn` where a thread could not be made; and `Mismatch` where the
 /// receipts are not the history's entries, or an outcome does not stand in it.
 pub fn run<R: Records, A: Accesses, G: Graph, T: Gate + Sync, W: Threads + Wait + Sync>(
     rt: &W,

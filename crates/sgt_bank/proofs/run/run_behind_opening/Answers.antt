@@ -15,7 +15,7 @@ returns-in-Ok-clause-report g c =
     record {
       legal = subst (λ (s : Setting). Legal s past) same ran.legal;
       stand = ran.outcomes;
-      each = each-run c.in-Ok.report.outcomes.items c.args.workers c.requires.workers.0 ran.memory ran.outcomes.counts.untaken;
+      each = each-run c.in-Ok.report.outcomes.items c.args.workers c.requires.workers.0 ran.outcomes.counts.untaken;
       replay = subst (λ (s : Setting). IsSerializable s past) same ran.replay;
       no_cycle = ran.no_cycle;
       causes = subst (λ (s : Setting). AbortsHaveCause s past) same ran.causes;

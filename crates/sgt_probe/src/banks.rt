@@ -1,9 +1,6 @@
-//! Runs a bank as `sgt bank` does, and writes the history behind its report: of each entry the line that asks for it in a script
-//! and the line of its reply, and then the report itself. The words are the workers and the tries.
-//!
-//! It is no crate of the repository: `program.py` beside it builds it over the crates there.
-#![tactic(auto)]
-
+//! A bank, run as `sgt bank` does, and told with its history: of each entry the line that asks for it in a script and the line of
+//! its reply, and then the report.
+use crate::gate::RandomLeave;
 use sgt_access::PerKey;
 use sgt_bank::{read_input, report_text};
 use sgt_format::{Opening, append_reply};
@@ -12,33 +9,12 @@ use sgt_model::{Args, Entry, Event};
 use sgt_records::SlabRecords;
 use sgt_smallbank::procedures;
 use sgt_stream::Reader;
-use sgt_workers::{Bank, Gate, Outcome, Pass, Report, run};
+use sgt_workers::{Bank, Report, run};
 use std::alloc::{AllocError, Global};
-use std::convert::Infallible;
-use std::io::{ErrorKind, Print, Write};
-use std::{env, io};
-
-/// Lets every worker go on.
-#[derive(Drop)]
-struct OpenGate;
-
-impl Gate for OpenGate {
-    type Note = Infallible;
-
-    fn pass(&self, _worker: u8, _calls: u64) -> Pass<Infallible> {
-        Pass::Go
-    }
-
-    fn finished(&self, _worker: u8, _job: u32, _outcome: &Outcome<Infallible>) {}
-}
-
-/// The number of this word, or another where it is none.
-fn number(words: &[String], place: usize, other: u32) -> u32 {
-    match words.get(place) {
-        Some(word) => word.as_str().parse::<u32>().unwrap_or(other),
-        None => other,
-    }
-}
+use std::io;
+use std::io::{ErrorKind, Input, Print, Write};
+use std::sync::Wait;
+use std::thread::Threads;
 
 /// Numbers in brackets.
 fn list(alloc: Global, args: &Args) -> Result<String, AllocError> {
@@ -90,7 +66,7 @@ fn bank_of(alloc: Global, opening: Opening) -> io::Result<Bank> {
 }
 
 /// Writes the history and the report.
-fn write<R: Print>(rt: &R, alloc: Global, report: &Report<Infallible>) -> io::Result<()> {
+fn write<R: Print>(rt: &R, alloc: Global, report: &Report<u64>) -> io::Result<()> {
     let outcomes = report.outcomes.as_slice();
     if outcomes.len() > 1_000_000 {
         return Err(io::Error::from(ErrorKind::InvalidData));
@@ -104,21 +80,24 @@ fn write<R: Print>(rt: &R, alloc: Global, report: &Report<Infallible>) -> io::Re
     writer.write_all(text.as_slice())
 }
 
-fn main(rt: HostRuntime) -> io::Result<()> {
-    let alloc = rt.alloc();
-    let words: Vec<String> = env::args(&rt)?.collect(alloc)?;
-    let workers = number(words.as_slice(), 1, 4);
-    let tries = number(words.as_slice(), 2, 100);
+/// Runs the bank of standard input, and tells it. Where it has no report it tells why, in a line that begins with `no report`.
+pub fn tell_bank<R: Print + Input + Threads + Wait + Sync>(
+    rt: &R,
+    alloc: Global,
+    workers: u32,
+    tries: u32,
+    gate: &RandomLeave,
+) -> io::Result<()> {
     let mut reader = Reader::new(rt.reader());
     let Ok((opening, jobs)) = read_input(alloc, &mut reader, workers) else {
         return Err(io::Error::from(ErrorKind::InvalidInput));
     };
     let bank = bank_of(alloc, opening)?;
     let jobs = jobs.as_slice();
-    match run::<SlabRecords, PerKey, BitGraph, OpenGate, _>(
-        &rt, alloc, bank, jobs, workers, tries, &OpenGate,
+    match run::<SlabRecords, PerKey, BitGraph, RandomLeave, _>(
+        rt, alloc, bank, jobs, workers, tries, gate,
     ) {
-        Ok(report) => write(&rt, alloc, &report),
-        Err(_) => Err(io::Error::from(ErrorKind::Other)),
+        Ok(report) => write(rt, alloc, &report),
+        Err(error) => println!(rt; "no report: {error}"),
     }
 }

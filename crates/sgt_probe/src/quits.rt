@@ -1,0 +1,166 @@
+//! A session that quits what it has started. Behind its first line it has no need of memory but for further starts, so that from
+//! there on all memory may be refused from outside.
+ghost use Rattle.std.specs.Prelude.{◌≡◌, [], IfOk};
+ghost use Rattle.sgt_engine.specs.EngineView.{setting_of};
+
+use sgt_access::PerKey;
+use sgt_engine::Engine;
+use sgt_graph::BitGraph;
+use sgt_model::{Args, Cause, Event, Limits, MakeError, Reply, Tid};
+use sgt_records::SlabRecords;
+use sgt_session::{Named, Session, Shared};
+use sgt_smallbank::{Account, opening, procedures};
+use std::alloc::Global;
+use std::io;
+use std::io::{ErrorKind, Print};
+use std::marker::Brand;
+use std::sync::Wait;
+use std::sync::ledger::Blank;
+
+type SgtEngine = Engine<SlabRecords, PerKey, BitGraph>;
+
+type SharedEngine<N> = Shared<N, SlabRecords, PerKey, BitGraph>;
+
+const LIMITS: Limits = Limits {
+    live: 32,
+    begins: 1000,
+};
+
+const ACCOUNT: Account = Account {
+    name: 1,
+    customer: 101,
+    saving: 500,
+    checking: 1000,
+};
+
+/// An engine with one account, where nothing was done yet.
+fn new_engine(alloc: Global) -> Result<SgtEngine, MakeError>
+    ensures { IfOk result (λ engine. engine.past ≡ []) }
+{
+    let Ok(database) = opening(alloc, &[ACCOUNT]) else {
+        return Err(MakeError::NoMemory);
+    };
+    let procedures = procedures(alloc)?;
+    Engine::new(alloc, database, procedures, LIMITS)
+}
+
+/// The start of a Balance of the account.
+fn balance() -> Event {
+    Event::Start {
+        procedure: 0,
+        args: Args::from_slice(&[1]).unwrap_or(Args::new()),
+    }
+}
+
+/// What became of a call.
+#[derive(Clone, Copy, PartialEq, Eq)]
+enum Told {
+    Started(Tid),
+    /// The caller quit, and nobody fell.
+    Quit,
+    Full,
+    NoMemory,
+    Another,
+}
+
+impl Told {
+    /// The words for it, which take no memory.
+    fn words(self) -> &'static str {
+        match self {
+            Told::Started(_) => "started",
+            Told::Quit => "aborted quit fell none",
+            Told::Full => "full",
+            Told::NoMemory => "no memory",
+            Told::Another => "another reply",
+        }
+    }
+}
+
+/// Makes a call.
+fn call<N: Named, W: Wait>(
+    rt: &W,
+    shared: &SharedEngine<N>,
+    session: &mut Session<N>,
+    event: Event,
+) -> Told {
+    if session.make(rt, shared, event).is_err() {
+        return Told::NoMemory;
+    }
+    let Some(receipt) = session.receipts().last() else {
+        return Told::Another;
+    };
+    match &receipt.reply {
+        Reply::Started(t) => Told::Started(*t),
+        Reply::Full => Told::Full,
+        Reply::Aborted {
+            cause: Cause::Quit,
+            fell,
+        } if fell.is_empty() => Told::Quit,
+        _ => Told::Another,
+    }
+}
+
+/// Starts transactions until one is not started, and answers how many were, and what became of the last.
+fn start_many<N: Named, W: Wait>(
+    rt: &W,
+    shared: &SharedEngine<N>,
+    session: &mut Session<N>,
+) -> (u32, Told) {
+    for started in 0..LIMITS.begins {
+        let told = call(rt, shared, session, balance());
+        if !matches!(told, Told::Started(_)) {
+            return (started, told);
+        }
+    }
+    (LIMITS.begins, Told::Another)
+}
+
+/// Quits so many transactions from this number on, and answers how many of them were quit.
+fn quit_many<N: Named, W: Wait>(
+    rt: &W,
+    shared: &SharedEngine<N>,
+    session: &mut Session<N>,
+    first: u32,
+    count: u32,
+) -> u32 {
+    let mut quit = 0u32;
+    for t in first..first.saturating_add(count) {
+        if call(rt, shared, session, Event::Quit(Tid(t))) == Told::Quit {
+            quit = quit.saturating_add(1);
+        }
+    }
+    quit
+}
+
+/// Starts a transaction and quits it, and then starts and quits as many as it may.
+fn play<N: Named, W: Wait + Print>(
+    rt: &W,
+    alloc: Global,
+    engine: SgtEngine,
+    blank: Blank,
+) -> io::Result<()>
+    requires setting { setting_of engine ≡ N.setting }
+    requires empty { engine.past ≡ [] }
+    requires blank { (blank.name ≡ N.name) × (blank.parts ≡ N.parts) × (blank.parts ≡ 1) }
+    requires sessions { N.sessions ≡ 1 }
+{
+    let Ok((shared, mut sessions)) = Shared::<N, _, _, _>::new(alloc, engine, blank, 1) else {
+        return Err(io::Error::from(ErrorKind::OutOfMemory));
+    };
+    let Some(session) = sessions.first_mut() else {
+        return Err(io::Error::from(ErrorKind::Other));
+    };
+    println!(rt; "{}", call(rt, &shared, session, balance()).words())?;
+    println!(rt; "{}", call(rt, &shared, session, Event::Quit(Tid(0))).words())?;
+    let (started, told) = start_many(rt, &shared, session);
+    println!(rt; "{started} started, then {}", told.words())?;
+    println!(rt; "{} quit", quit_many(rt, &shared, session, 1, started))
+}
+
+/// Tells what a session is answered that starts a transaction and quits it.
+pub fn tell_quits<W: Wait + Print>(rt: &W, alloc: Global) -> io::Result<()> {
+    match new_engine(alloc) {
+        Ok(engine) => play::<Brand, _>(rt, alloc, engine, Blank::new(1)),
+        Err(_) => Err(io::Error::from(ErrorKind::OutOfMemory)),
+    }
+}

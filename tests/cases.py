@@ -1,0 +1,75 @@
+"""What the scripts beside this file share: how cases are told, and a program of which calls fail."""
+
+import os
+import pathlib
+import subprocess
+import tempfile
+
+HERE = pathlib.Path(__file__).resolve().parent
+SECONDS = 60
+
+
+class Differs(Exception):
+    """What came is not what was wanted."""
+
+
+def same(what, wanted, came):
+    if wanted != came:
+        raise Differs(f"{what}: wanted {wanted!r:.400}, came {came!r:.400}")
+
+
+def tell(cases, *given):
+    """Runs each case on what is given, tells how it went, counts them in a last line, and gives the status."""
+    failed = 0
+    for case in cases:
+        name = case.__name__.replace("_", " ")
+        try:
+            told = case(*given)
+            print(f"sgt {name}" + (f": {told}" if told else ""), flush=True)
+        except (Differs, OSError) as why:
+            failed += 1
+            print(f"FAILED: sgt {name}: {why}", flush=True)
+    print(f"{len(cases) - failed} passed, {failed} failed")
+    return 1 if failed else 0
+
+
+class Failing:
+    """A program, at its path, with the library that fails its calls."""
+
+    def __init__(self, path, library):
+        self.path = os.path.abspath(path)
+        self.library = library
+
+    def run(self, *words, given=b"", **failing):
+        """Status, standard output and standard error, where the calls that these names say fail."""
+        env = {"LD_PRELOAD": self.library} | {name.upper(): str(number) for name, number in failing.items()}
+        given = given.encode() if isinstance(given, str) else given
+        try:
+            ran = subprocess.run([self.path, *words], input=given, env=env, capture_output=True, timeout=SECONDS, check=False)
+        except subprocess.TimeoutExpired:
+            raise Differs(f"{words} {failing}: no end after {SECONDS} seconds") from None
+        return ran.returncode, ran.stdout.decode(), ran.stderr.decode()
+
+    def allocations(self, *words, given):
+        return self.counted(*words, given=given, count_allocations=1)
+
+    def counted(self, *words, given="", **failing):
+        """What the library counts."""
+        _, _, told = self.run(*words, given=given, **failing)
+        if not told:
+            raise Differs("the library that fails calls is not loaded")
+        return int(told.splitlines()[-1])
+
+
+def tell_failing(cases, *paths):
+    """As `tell`, with each of these programs under the library of `failing.c`, which is made first."""
+    with tempfile.TemporaryDirectory() as folder:
+        library = os.path.join(folder, "failing.so")
+        made = ["cc", "-O1", "-shared", "-fPIC", "-o", library, str(HERE / "failing.c"), "-ldl"]
+        try:
+            subprocess.run(made, check=True)
+        except (OSError, subprocess.CalledProcessError) as why:
+            print(f"FAILED: no library that fails calls, which takes a compiler for C: {why}")
+            print(f"0 passed, {len(cases)} failed")
+            return 1
+        return tell(cases, *(Failing(path, library) for path in paths))

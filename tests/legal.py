@@ -1,0 +1,257 @@
+"""What a history of SmallBank's procedures may be, written anew from docs/DEFINITIONS.md and docs/FORMATS.md, and the serial run.
+
+It knows entries by their texts alone: an event as `["step",0]`, a reply as `wrote 2/101 1100`.
+"""
+
+import json
+
+MOST = 999_999_999_999_999
+
+
+class Illegal(Exception):
+    """A reply that the definitions do not allow, or another end than that of the serial run."""
+
+
+class Asks(Exception):
+    """The procedure asks a code."""
+
+
+# The procedures: each look is given its value, and each store is told.
+
+
+def held(value):
+    if abs(value) > MOST:
+        raise Asks(1000)
+    return value
+
+
+def look(table, number, missing):
+    value = yield "look", (table, number), None
+    if value is None:
+        raise Asks(missing)
+    return value
+
+
+def balance(name):
+    customer = yield from look(0, name, 1)
+    saving = yield from look(1, customer, 5)
+    checking = yield from look(2, customer, 5)
+    return held(saving + checking)
+
+
+def deposit_checking(name, amount):
+    if amount < 0:
+        raise Asks(2)
+    customer = yield from look(0, name, 1)
+    checking = yield from look(2, customer, 5)
+    checking = held(checking + amount)
+    yield "store", (2, customer), checking
+    return checking
+
+
+def transact_saving(name, amount):
+    customer = yield from look(0, name, 1)
+    saving = yield from look(1, customer, 5)
+    saving = held(saving + amount)
+    if saving < 0:
+        raise Asks(3)
+    yield "store", (1, customer), saving
+    return saving
+
+
+def amalgamate(name, other):
+    if name == other:
+        raise Asks(4)
+    first = yield from look(0, name, 1)
+    second = yield from look(0, other, 1)
+    saving = yield from look(1, first, 5)
+    checking = yield from look(2, first, 5)
+    both = held(saving + checking)
+    yield "store", (1, first), 0
+    yield "store", (2, first), 0
+    theirs = yield from look(2, second, 5)
+    yield "store", (2, second), held(theirs + both)
+    return both
+
+
+def write_check(name, amount):
+    if amount < 0:
+        raise Asks(2)
+    customer = yield from look(0, name, 1)
+    saving = yield from look(1, customer, 5)
+    checking = yield from look(2, customer, 5)
+    fee = 100 if held(saving + checking) < amount else 0
+    checking = held(held(checking - amount) - fee)
+    yield "store", (2, customer), checking
+    return checking
+
+
+PROCEDURES = ((balance, 1), (deposit_checking, 2), (transact_saving, 2), (amalgamate, 2), (write_check, 2))
+
+
+class Run:
+    """A procedure on its way: what it does next is an access, or the code that it asks, or its end with an answer."""
+
+    def __init__(self, procedure, args):
+        self.call = procedure, args
+        self.course = PROCEDURES[procedure][0](*args)
+        self.go(None)
+
+    def go(self, value):
+        self.access = self.code = self.answer = None
+        try:
+            self.access = self.course.send(value)
+        except Asks as asks:
+            self.code = asks.args[0]
+        except StopIteration as end:
+            self.answer = end.value
+
+
+def rows_of(opening):
+    """The records that the accounts of an opening have."""
+    rows = {}
+    for name, customer, saving, checking in json.loads(opening)["accounts"]:
+        rows |= {(0, name): customer, (1, customer): saving, (2, customer): checking}
+    return rows
+
+
+def key_text(key):
+    return f"{key[0]}/{key[1]}"
+
+
+def database_text(rows):
+    return [f"{key_text(key)} {rows[key]}" for key in sorted(rows)]
+
+
+class Checker:
+    """Takes the entries of a history one after another, and tells the first that is not legal."""
+
+    def __init__(self, opening):
+        self.most_live, self.begins = json.loads(opening)["limits"]
+        self.opened = rows_of(opening)
+        self.settled = dict(self.opened)
+        self.runs = []  # of each transaction that was started
+        self.fates = {}  # of each that has ended, as a reply behind `over`
+        self.committed = []  # the calls, in the order of their commits, with their answers
+        self.accesses = []  # of those that are live, in their order: who, look or store, key, value
+        self.pairs = set()  # among those that are live: of two accesses in conflict the first one's, the second one's
+        self.reads = set()  # who read from whom, while both are live
+        self.busiest = 0
+
+    def live(self):
+        return [t for t in range(len(self.runs)) if t not in self.fates]
+
+    def take(self, event, reply):
+        kind, *rest = json.loads(event)
+        wanted = self.start(*rest) if kind == "start" else self.of_one(kind, rest[0], reply)
+        if wanted != reply:
+            raise Illegal(f"{event} was answered {reply}, in place of {wanted}")
+        self.busiest = max(self.busiest, len(self.live()))
+
+    def start(self, procedure, args):
+        if procedure >= len(PROCEDURES):
+            return "no procedure"
+        if len(args) != PROCEDURES[procedure][1] or any(abs(arg) > MOST for arg in args):
+            return "bad args"
+        if len(self.runs) >= self.begins:
+            return "spent"
+        if len(self.live()) >= self.most_live:
+            return "full"
+        self.runs.append(Run(procedure, args))
+        return f"started {len(self.runs) - 1}"
+
+    def of_one(self, kind, t, reply):
+        if t >= len(self.runs):
+            return "unknown"
+        if t in self.fates:
+            return f"over {self.fates[t]}"
+        if kind == "quit":
+            return self.abort(t, "quit")
+        return self.step(t, reply) if kind == "step" else self.commit(t)
+
+    def step(self, t, reply):
+        run = self.runs[t]
+        if run.code is not None:
+            return self.abort(t, f"asked {run.code}")
+        if run.access is None:
+            return "ended"
+        kind, key, value = run.access
+        rivals = {u for u, other, at, _ in self.accesses if u != t and at == key and "store" in (kind, other)}
+        if rivals & self.reached_from(t):
+            return self.abort(t, self.walk_in(t, rivals, reply))
+        self.pairs |= {(u, t) for u in rivals}
+        if kind == "look":
+            value = self.seen(t, key)
+        self.accesses.append((t, kind, key, value))
+        run.go(value)
+        verb = "read" if kind == "look" else "wrote"
+        return f"{verb} {key_text(key)} {'none' if value is None else value}"
+
+    def seen(self, t, key):
+        """What a look of t finds: the last store of a live one, or what is settled."""
+        for u, kind, at, value in reversed(self.accesses):
+            if kind == "store" and at == key:
+                if u != t:
+                    self.reads.add((t, u))
+                return value
+        return self.settled.get(key)
+
+    def reached_from(self, t):
+        reached, new = set(), {t}
+        while new:
+            new = {b for a, b in self.pairs if a in new} - reached
+            reached |= new
+        return reached
+
+    def walk_in(self, t, rivals, reply):
+        """The cause of an abort by a cycle: any walk from t that the access would close will do."""
+        words = reply.split()
+        if words[:2] != ["aborted", "cycle"] or "fell" not in words:
+            return "cycle"
+        walk = [int(word) for word in words[2 : words.index("fell")]]
+        goes = all(pair in self.pairs for pair in zip(walk, walk[1:]))
+        if walk[0] != t or walk[-1] not in rivals or not goes:
+            return "cycle by another walk"
+        return " ".join(words[1 : words.index("fell")])
+
+    def abort(self, t, cause):
+        fell, new = set(), {t}
+        while new:
+            new = {reader for reader, writer in self.reads if writer in new} - fell
+            fell |= new
+        self.end(t, f"aborted {cause}")
+        for u in fell:
+            self.end(u, f"fell {t}")
+        return f"aborted {cause} fell " + (" ".join(map(str, sorted(fell))) or "none")
+
+    def commit(self, t):
+        run = self.runs[t]
+        if run.access is not None or run.code is not None:
+            return "not ended"
+        before = [u for u, v in self.pairs if v == t]
+        if before:
+            return f"waits {min(before)}"
+        self.settled |= {key: value for u, kind, key, value in self.accesses if u == t and kind == "store"}
+        self.end(t, "committed")
+        self.committed.append((run.call, run.answer))
+        return f"committed {run.answer}"
+
+    def end(self, t, fate):
+        self.fates[t] = fate
+        self.accesses = [access for access in self.accesses if access[0] != t]
+        self.pairs = {pair for pair in self.pairs if t not in pair}
+        self.reads = {pair for pair in self.reads if t not in pair}
+
+    def serial(self):
+        """The database that the committed transactions leave, run one after another. Each has to give the answer that it gave."""
+        rows = dict(self.opened)
+        for (procedure, args), answer in self.committed:
+            run = Run(procedure, args)
+            while run.access is not None:
+                kind, key, value = run.access
+                if kind == "store":
+                    rows[key] = value
+                run.go(rows.get(key))
+            if run.answer != answer:
+                raise Illegal(f"the serial run of {procedure} {args} gives {run.answer}, and not {answer}")
+        return rows
