@@ -56,7 +56,9 @@ const SCRIPT_HELP: &str =
   ["commit",0]
   ["quit",0]
 
-  limits      the most live transactions, from 1 to 32, and the most starts, from 1 to 4000000000
+  limits      the most live transactions, from 1 to 32, the most starts, from 1 to 4000000000, and 0 or 1 behind them, or no
+              more: with 1 a code that a procedure asks is told at its commit, and is true in the serial order; without it at
+              the step, where what the procedure looked at may be undone later
   accounts    of each the name, the customer, the saving and the checking
   procedures  of your own, numbered from 5
   start       a procedure's number and its arguments: 0 Balance (name), 1 DepositChecking (name, amount),

@@ -10,9 +10,10 @@ use Rattle.serde_json.specs.declared.value.Value.{Value}
 use Rattle.sgt_format.specs.Trees.{tree_of, list, each}
 use Rattle.sgt_proc_json.specs.Trees.{whole}
 use Rattle.sgt_smallbank.specs.declared.account.Account.{Account}
-use Rattle.sgt_format.specs.Openings.{Sheet, count, pair_from, pair, account_from, account_in, list_at, all_three, parts_of, parts_in, sheet_of, RefusesSheet, Refuses}
+use Rattle.sgt_format.specs.Openings.{Sheet, count, limits_from, limit_numbers, account_from, account_in, list_at, all_three, parts_of, parts_in, sheet_of, RefusesSheet, Refuses}
 use Rattle.sgt_format.specs.declared.errors.OpeningError.{OpeningError}
 use Rattle.sgt_format.specs.declared.opening.Opening.{Opening}
+use Rattle.sgt_format.specs.declared.sheet.LimitNumbers.{LimitNumbers}
 use Rattle.sgt_format.specs.declared.errors.OpeningError.TheVariants.{NotJson, BadLine, BadLimits, BadOpening, ProcShape, ProcFlaw, NoMemory}
 
 longer : {A : Type 0} (first : Option A) (rest : Option (List A)) (found : List A) (n : ℕ) → ((others : List A) → rest ≡ Some others
@@ -27,23 +28,26 @@ pub length-each : {A : Type 0} (meaning : Data → Option A) (trees : List Data)
 length-each meaning [] found e = grind arith
 length-each meaning (tree ∷ trees) found e = longer (meaning tree) (each meaning trees) found (length trees) (length-each meaning trees) e
 
--- a list of more or fewer than two is no pair
-pub pair_from-length : (numbers : List ℤ) → length numbers ≢ 2 → pair_from numbers ≡ None
-pair_from-length [] other = refl
-pair_from-length (a ∷ []) other = refl
-pair_from-length (a ∷ b ∷ []) other = absurd (other refl)
-pair_from-length (a ∷ b ∷ c ∷ rest) other = refl
+-- a list of more than three or fewer than two is no limits
+pub limits_from-length : (numbers : List ℤ) → length numbers ≢ 2 → length numbers ≢ 3 → limits_from numbers ≡ None
+limits_from-length [] two three = refl
+limits_from-length (a ∷ []) two three = refl
+limits_from-length (a ∷ b ∷ []) two three = absurd (two refl)
+limits_from-length (a ∷ b ∷ c ∷ []) two three = absurd (three refl)
+limits_from-length (a ∷ b ∷ c ∷ d ∷ rest) two three = refl
 
-not_two : (trees : List Data) → length trees ≢ 2 → option_and_then pair_from (each whole trees) ≡ None
-not_two trees other = by_numbers (each whole trees) refl
+not_limits : (trees : List Data) → length trees ≢ 2 → length trees ≢ 3 → option_and_then limits_from (each whole trees) ≡ None
+not_limits trees two three = by_numbers (each whole trees) refl
   where
-    by_numbers : (numbers : Option (List ℤ)) → each whole trees ≡ numbers → option_and_then pair_from numbers ≡ None
+    by_numbers : (numbers : Option (List ℤ)) → each whole trees ≡ numbers → option_and_then limits_from numbers ≡ None
     by_numbers None same = refl
-    by_numbers (Some numbers) same = pair_from-length numbers (λ two. other (grind (arith, length-each whole trees numbers same)))
+    by_numbers (Some numbers) same = limits_from-length numbers (λ is. two (grind (arith, length-each whole trees numbers same)))
+        (λ is. three (grind (arith, length-each whole trees numbers same)))
 
-pub no_pair : (tree : Data) (values : List Value) → Some (map view values) ≡ list tree → length values ≢ 2 → None ≡ pair tree
-no_pair tree values is other = sym (ap (λ o. option_and_then pair_from (option_and_then (each whole) o)) (sym is)
-    ∙ not_two (map view values) (λ two. other (sym (length-map values view) ∙ two)))
+pub no_limits : (tree : Data) (values : List Value) → Some (map view values) ≡ list tree → length values ≢ 2 → length values ≢ 3
+    → None ≡ limit_numbers tree
+no_limits tree values is two three = sym (ap (λ o. option_and_then limits_from (option_and_then (each whole) o)) (sym is)
+    ∙ not_limits (map view values) (λ n. two (sym (length-map values view) ∙ n)) (λ n. three (sym (length-map values view) ∙ n)))
 
 -- a list of more or fewer than four is no account
 pub account_from-length : (numbers : List ℤ) → length numbers ≢ 4 → account_from numbers ≡ None
@@ -71,8 +75,8 @@ count_members [] = refl
 count_members (m ∷ members) = grind (arith, count_members members)
 
 -- the parts of an object that has them
-pub parts_found : (tree : Data) (members : Members) (limits : ℤ × ℤ) (accounts procedures : List Data)
-    → Some members ≡ as_object tree → count members ≡ 3 → Some limits ≡ option_and_then pair (get (codes "limits") tree)
+pub parts_found : (tree : Data) (members : Members) (limits : LimitNumbers) (accounts procedures : List Data)
+    → Some members ≡ as_object tree → count members ≡ 3 → Some limits ≡ option_and_then limit_numbers (get (codes "limits") tree)
     → Some accounts ≡ list_at (codes "accounts") tree → Some procedures ≡ list_at (codes "procedures") tree
     → Some (limits, accounts, procedures) ≡ parts_in tree
 parts_found tree ms limits accounts procedures object three at_limits at_accounts at_procedures =
@@ -83,7 +87,7 @@ parts_found tree ms limits accounts procedures object three at_limits at_account
     ∙ ap (λ o. all_three (Some limits) (Some accounts) o) (sym at_procedures))
 
 -- the sheet of a line
-pub sheet_found : (line : List ℕ) (tree : Data) (limits : ℤ × ℤ) (trees procedures : List Data) (accounts : List Account)
+pub sheet_found : (line : List ℕ) (tree : Data) (limits : LimitNumbers) (trees procedures : List Data) (accounts : List Account)
     → Some tree ≡ tree_of line → Some (limits, trees, procedures) ≡ parts_in tree → Some accounts ≡ each account_in trees
     → sheet_of line ≡ Some (record { limits = limits; accounts = accounts; procedures = procedures })
 sheet_found line tree limits trees procedures accounts at_line at_tree at_trees = rw (← at_line) (rw (← at_tree) (rw (← at_trees) refl))

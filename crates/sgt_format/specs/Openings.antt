@@ -5,6 +5,8 @@ use Rattle.serde_json.specs.Find.{get, as_object}
 use Rattle.sgt_model.specs.Bounds.{AreInRange}
 use Rattle.sgt_model.specs.Contents.{Key}
 use Rattle.sgt_model.specs.Databases.{contents_of}
+use Rattle.sgt_model.specs.declared.limits.Asks.{Asks}
+use Rattle.sgt_model.specs.declared.limits.Asks.TheVariants.{AtStep, AtCommit}
 use Rattle.sgt_model.specs.declared.limits.Limits.{Limits}
 use Rattle.sgt_smallbank.specs.Accounts.{opened, fault_of}
 use Rattle.sgt_smallbank.specs.declared.account.Account.{Account}
@@ -15,10 +17,11 @@ use Rattle.sgt_format.specs.Procedures.{AreProcedures, HasMisfit, HasLeastFlaw, 
 use Rattle.sgt_format.specs.declared.errors.OpeningError.{OpeningError}
 use Rattle.sgt_format.specs.declared.errors.OpeningError.TheVariants.{NotJson, BadLine, BadLimits, BadOpening, ProcShape, ProcFlaw, NoMemory}
 use Rattle.sgt_format.specs.declared.opening.Opening.{Opening}
+use Rattle.sgt_format.specs.declared.sheet.LimitNumbers.{LimitNumbers}
 
--- what an opening's line says: how many may be live and how many may be started, the accounts, and the trees of procedures
+-- what an opening's line says: the numbers of its limits, the accounts, and the trees of procedures
 pub record Sheet : Type 0 where
-  pub limits : ℤ × ℤ
+  pub limits : LimitNumbers
   pub accounts : List Account
   pub procedures : List Data
 
@@ -27,14 +30,15 @@ abbrev pub count : Members → ℕ
 count no_members = 0
 count (member name tree members) = count members + 1
 
--- two whole numbers
-abbrev pub pair_from : List ℤ → Option (ℤ × ℤ)
-pair_from (live ∷ begins ∷ []) = Some (live, begins)
-pair_from numbers = None
+-- two whole numbers, or three; the third, where it is missing, is 0
+abbrev pub limits_from : List ℤ → Option LimitNumbers
+limits_from (live ∷ begins ∷ []) = Some (record { live = live; begins = begins; asks = pos 0 })
+limits_from (live ∷ begins ∷ asks ∷ []) = Some (record { live = live; begins = begins; asks = asks })
+limits_from numbers = None
 
--- a tree that is a list of two
-abbrev pub pair : Data → Option (ℤ × ℤ)
-pair tree = option_and_then pair_from (wholes tree)
+-- a tree that is a list of two or three
+abbrev pub limit_numbers : Data → Option LimitNumbers
+limit_numbers tree = option_and_then limits_from (wholes tree)
 
 -- four whole numbers
 abbrev pub account_from : List ℤ → Option Account
@@ -57,15 +61,15 @@ all_three (Some a) (Some b) None = None
 all_three (Some a) (Some b) (Some c) = Some (a, b, c)
 
 -- the limits, and the trees of the accounts and of the procedures, of an object with these members
-abbrev pub parts_of : Data → Option ((ℤ × ℤ) × List Data × List Data)
-parts_of tree = all_three (option_and_then pair (get (codes "limits") tree)) (list_at (codes "accounts") tree) (list_at (codes "procedures") tree)
+abbrev pub parts_of : Data → Option (LimitNumbers × List Data × List Data)
+parts_of tree = all_three (option_and_then limit_numbers (get (codes "limits") tree)) (list_at (codes "accounts") tree) (list_at (codes "procedures") tree)
 
 -- those of an object that has no other member
-abbrev pub parts_in : Data → Option ((ℤ × ℤ) × List Data × List Data)
+abbrev pub parts_in : Data → Option (LimitNumbers × List Data × List Data)
 parts_in tree = option_and_then (λ members. cond (nat_eq (count members) 3) (parts_of tree) None) (as_object tree)
 
 -- the same with the accounts, each of four whole numbers
-abbrev pub sheet_from : (ℤ × ℤ) × List Data × List Data → Option Sheet
+abbrev pub sheet_from : LimitNumbers × List Data × List Data → Option Sheet
 sheet_from parts = option_map (λ accounts. record { limits = parts.0; accounts = accounts; procedures = parts.2 }) (each account_in parts.1)
 
 -- those that a tree spells
@@ -76,10 +80,16 @@ sheet_in tree = option_and_then sheet_from (parts_in tree)
 abbrev pub sheet_of : List ℕ → Option Sheet
 sheet_of line = option_and_then sheet_in (tree_of line)
 
+-- when an ask is answered, by this number
+abbrev pub AreAsks : ℤ → Asks → Type 0
+AreAsks number AtStep = number ≡ pos 0
+AreAsks number AtCommit = number ≡ pos 1
+
 -- limits in their ranges, of these numbers, by which as many may be live as are wanted at least
-pub record AreLimits (least : ℕ) (numbers : ℤ × ℤ) (limits : Limits) : Type 0 where
-  pub live : numbers.0 ≡ pos limits.live
-  pub begins : numbers.1 ≡ pos limits.begins
+pub record AreLimits (least : ℕ) (numbers : LimitNumbers) (limits : Limits) : Type 0 where
+  pub live : numbers.live ≡ pos limits.live
+  pub begins : numbers.begins ≡ pos limits.begins
+  pub asks : AreAsks numbers.asks limits.asks
   pub in_range : AreInRange limits
   pub enough : least ≤ limits.live
 
@@ -123,8 +133,8 @@ abbrev pub error_of : accounts.BadOpening → OpeningError
 error_of (bad.Fault fault) = BadOpening fault
 error_of bad.NoMemory = NoMemory
 
--- why what a line says is refused: its limits are out of their ranges, or let too few be live, or else an account is at fault, or else a procedure is
--- refused. Memory is wanting only where the limits and the accounts pass
+-- why what a line says is refused: its limits are out of their ranges, or let too few be live, or else an account is at
+-- fault, or else a procedure is refused. Memory is wanting only where the limits and the accounts pass
 abbrev pub RefusesSheet : ℕ → Sheet → OpeningError → Type 0
 RefusesSheet least sheet NotJson = ⊥
 RefusesSheet least sheet BadLine = ⊥

@@ -31,9 +31,17 @@ looked_text key None = codes "read " ++ key_text key ++ codes " none"
 abbrev pub committed_text : List ℤ → List ℕ
 committed_text answers = codes "committed" ++ items_or_none signed_decimal answers
 
+-- which fell with one that is aborted or refused
+abbrev pub fell_text : List ℕ → List ℕ
+fell_text fell = codes " fell" ++ items_or_none decimal fell
+
 -- why a transaction is aborted, and which fell with it
 abbrev pub aborted_text : Cause → List ℕ → List ℕ
-aborted_text cause fell = codes "aborted " ++ cause_text cause ++ codes " fell" ++ items_or_none decimal fell
+aborted_text cause fell = codes "aborted " ++ cause_text cause ++ fell_text fell
+
+-- the code that a transaction is refused with at its commit, and which fell with it
+abbrev pub refused_text : ℕ → List ℕ → List ℕ
+refused_text code fell = codes "refused " ++ decimal code ++ fell_text fell
 
 -- a reply
 abbrev pub reply_text : Reply → List ℕ
@@ -51,6 +59,7 @@ reply_text reply.NotEnded = codes "not ended"
 reply_text (reply.Waits first) = codes "waits " ++ decimal first
 reply_text (reply.Committed answers) = committed_text answers
 reply_text (reply.Aborted cause fell) = aborted_text cause fell
+reply_text (reply.Refused code fell) = refused_text code fell
 
 -- its line
 abbrev pub text : Reply → List ℕ

@@ -4,7 +4,7 @@ ghost use Rattle.sgt_format.specs.Openings.{Opens, Refuses, IsOpened, RefusesShe
 
 use crate::errors::OpeningError;
 use crate::procedures::read_procedures;
-use crate::sheet::{limits, parts, read_accounts};
+use crate::sheet::{LimitNumbers, limits, parts, read_accounts};
 use crate::tree::read_tree;
 use serde_json::Value;
 use sgt_model::{Database, Limits};
@@ -21,8 +21,9 @@ pub struct Opening {
     pub procedures: Vec<Checked>,
 }
 
-/// The opening that a line spells, without its end: an object with the members `limits`, `[live, begins]`, `accounts`,
-/// `[[name, customer, saving, checking], ..]`, and `procedures`, of which the first has the number 5.
+/// The opening that a line spells, without its end: an object with the members `limits`, `[live, begins]` or
+/// `[live, begins, asks]`, `accounts`, `[[name, customer, saving, checking], ..]`, and `procedures`, of which the first has
+/// the number 5. With `asks` 1 a code that a procedure asks is told at the commit, with 0 or none at the step.
 ///
 /// # Errors
 ///
@@ -44,7 +45,7 @@ pub fn read_opening(alloc: Global, least: u32, line: &[u8]) -> Result<Opening, O
 fn open(
     alloc: Global,
     least: u32,
-    numbers: (i64, i64),
+    numbers: LimitNumbers,
     accounts: &[Account],
     procedures: &[Value],
 ) -> Result<Opening, OpeningError>

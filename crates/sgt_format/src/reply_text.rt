@@ -1,6 +1,6 @@
 ghost use Rattle.std.specs.Prelude.{◌≡◌, ◌++◌, take, IfOk, OnOk, OnErr, vec_len, codes};
 ghost use Rattle.sgt_format.specs.Decimals.{record_text};
-ghost use Rattle.sgt_format.specs.ReplyText.{cause_text, over_text, looked_text, committed_text, aborted_text, reply_text, text};
+ghost use Rattle.sgt_format.specs.ReplyText.{cause_text, over_text, looked_text, committed_text, fell_text, aborted_text, refused_text, reply_text, text};
 
 use crate::decimal_text::{
     append_answers, append_key, append_numbered, append_record, append_tids, append_tids_or_none,
@@ -59,6 +59,7 @@ fn append_words(line: &mut Vec<u8>, reply: &Reply) -> Result<(), AllocError>
         Reply::Waits(first) => append_numbered(line, b"waits ", first.0),
         Reply::Committed(answers) => append_committed(line, answers),
         Reply::Aborted { cause, fell } => append_aborted(line, cause, fell),
+        Reply::Refused { code, fell } => append_refused(line, *code, fell),
     }
 }
 
@@ -113,6 +114,21 @@ fn append_aborted(line: &mut Vec<u8>, cause: &Cause, fell: &Tids) -> Result<(), 
 {
     line.extend_from_slice(b"aborted ")?;
     append_cause(line, cause)?;
+    append_fell(line, fell)
+}
+
+fn append_refused(line: &mut Vec<u8>, code: u16, fell: &Tids) -> Result<(), AllocError>
+    ensures ok { OnOk result (line.new.items ≡ line.old.items ++ refused_text code fell.now) }
+    ensures err { OnErr result (take (vec_len line.old) line.new.items ≡ line.old.items) }
+{
+    append_numbered(line, b"refused ", code)?;
+    append_fell(line, fell)
+}
+
+fn append_fell(line: &mut Vec<u8>, fell: &Tids) -> Result<(), AllocError>
+    ensures ok { OnOk result (line.new.items ≡ line.old.items ++ fell_text fell.now) }
+    ensures err { OnErr result (take (vec_len line.old) line.new.items ≡ line.old.items) }
+{
     line.extend_from_slice(b" fell")?;
     append_tids_or_none(line, fell)
 }

@@ -2,34 +2,55 @@ ghost use Rattle.std.specs.Prelude.{◌≡◌, IfOk, IfSome, IsNone, map, option
 ghost use Rattle.serde_json.specs.View.{view};
 ghost use Rattle.sgt_model.specs.declared.limits.Limits.{Limits as L};
 ghost use Rattle.sgt_format.specs.Trees.{each};
-ghost use Rattle.sgt_format.specs.Openings.{pair, account_in, parts_in, AreLimits};
+ghost use Rattle.sgt_model.specs.declared.limits.Asks.{Asks as When};
+ghost use Rattle.sgt_format.specs.Openings.{limit_numbers, account_in, parts_in, AreAsks, AreLimits};
 
 use crate::tree::items;
 use serde_json::Value;
-use sgt_model::{Limits, NoMemory};
+use sgt_model::{Asks, Limits, NoMemory};
 use sgt_smallbank::Account;
 use std::alloc::Global;
 
-/// The two limits, and the trees of the accounts and of the procedures.
+/// The numbers of an opening's limits, as a line spells them: in their ranges or not.
+#[derive(Clone, Copy)]
+pub(crate) struct LimitNumbers {
+    /// How many transactions may be live at once.
+    pub live: i64,
+    /// How many may be started in all.
+    pub begins: i64,
+    /// When one is told that its procedure asks a code: 0 at the step, also where the line does not say, 1 at the commit.
+    pub asks: i64,
+}
+
+/// The numbers of the limits, and the trees of the accounts and of the procedures.
 #[tactic(auto, using(crate::proofs::Shapes::count_members))]
-pub(crate) fn parts(tree: &Value) -> Option<((i64, i64), &[Value], &[Value])>
+pub(crate) fn parts(tree: &Value) -> Option<(LimitNumbers, &[Value], &[Value])>
     ensures { option_map (λ p. (p.0, map view p.1.now, map view p.2.now)) result
         ≡ parts_in (view tree.now) }
 {
     if tree.as_object()?.len() != 3 {
         return None;
     }
-    let limits = pair(tree.get("limits")?)?;
+    let limits = limit_numbers(tree.get("limits")?)?;
     let accounts = items(tree.get("accounts")?)?;
     let procedures = items(tree.get("procedures")?)?;
     Some((limits, accounts, procedures))
 }
 
-fn pair(tree: &Value) -> Option<(i64, i64)>
-    ensures { result ≡ pair (view tree.now) }
+fn limit_numbers(tree: &Value) -> Option<LimitNumbers>
+    ensures { result ≡ limit_numbers (view tree.now) }
 {
     match items(tree)? {
-        [first, second] => Some((first.as_i64()?, second.as_i64()?)),
+        [live, begins] => Some(LimitNumbers {
+            live: live.as_i64()?,
+            begins: begins.as_i64()?,
+            asks: 0,
+        }),
+        [live, begins, asks] => Some(LimitNumbers {
+            live: live.as_i64()?,
+            begins: begins.as_i64()?,
+            asks: asks.as_i64()?,
+        }),
         _ => None,
     }
 }
@@ -67,17 +88,29 @@ fn account(tree: &Value) -> Option<Account>
 }
 
 /// Limits of these numbers, or none where one is out of its range, or fewer may be live than are wanted at least.
-pub(crate) fn limits(least: u32, numbers: (i64, i64)) -> Option<Limits>
+pub(crate) fn limits(least: u32, numbers: LimitNumbers) -> Option<Limits>
     ensures some { IfSome result (AreLimits least numbers) }
     ensures none { IsNone result → (limits : L) → ¬ AreLimits least numbers limits }
 {
     let limits = Limits {
-        live: u32::try_from(numbers.0).ok()?,
-        begins: u32::try_from(numbers.1).ok()?,
+        live: u32::try_from(numbers.live).ok()?,
+        begins: u32::try_from(numbers.begins).ok()?,
+        asks: asks(numbers.asks)?,
     };
     if limits.are_in_range() && limits.live >= least {
         Some(limits)
     } else {
         None
+    }
+}
+
+fn asks(number: i64) -> Option<Asks>
+    ensures some { IfSome result (AreAsks number) }
+    ensures none { IsNone result → (asks : When) → ¬ AreAsks number asks }
+{
+    match number {
+        0 => Some(Asks::AtStep),
+        1 => Some(Asks::AtCommit),
+        _ => None,
     }
 }

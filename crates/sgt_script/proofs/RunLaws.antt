@@ -22,7 +22,20 @@ use Rattle.sgt_script.specs.RunLaws.{line_telling, results_left, replies_telling
 tells-one : (r : Reply) (past : List Entry) → replies_telling (told past) past ≡ replies past
     → replies_telling (results_left (told_in r ++ told past) r) past ++ line_telling (told_in r ++ told past) r ≡ replies past ++ text r
 tells-one (reply.Committed answers) past before = ap (λ l. l ++ text (reply.Committed answers)) before
-tells-one r past before = ap (λ l. l ++ text r) before
+tells-one (reply.Refused code fell) past before = ap (λ l. l ++ text (reply.Refused code fell)) before
+tells-one (reply.Started t) past before = ap (λ l. l ++ text (reply.Started t)) before
+tells-one reply.NoProcedure past before = ap (λ l. l ++ text reply.NoProcedure) before
+tells-one reply.BadArgs past before = ap (λ l. l ++ text reply.BadArgs) before
+tells-one reply.Spent past before = ap (λ l. l ++ text reply.Spent) before
+tells-one reply.Full past before = ap (λ l. l ++ text reply.Full) before
+tells-one reply.Unknown past before = ap (λ l. l ++ text reply.Unknown) before
+tells-one (reply.Over ended) past before = ap (λ l. l ++ text (reply.Over ended)) before
+tells-one (reply.Looked k v) past before = ap (λ l. l ++ text (reply.Looked k v)) before
+tells-one (reply.Wrote k v) past before = ap (λ l. l ++ text (reply.Wrote k v)) before
+tells-one reply.Ended past before = ap (λ l. l ++ text reply.Ended) before
+tells-one reply.NotEnded past before = ap (λ l. l ++ text reply.NotEnded) before
+tells-one (reply.Waits t) past before = ap (λ l. l ++ text (reply.Waits t)) before
+tells-one (reply.Aborted why fell) past before = ap (λ l. l ++ text (reply.Aborted why fell)) before
 
 -- the replies tell what was told
 tells : (past : List Entry) → replies_telling (told past) past ≡ replies past

@@ -1,4 +1,4 @@
--- Each committed transaction of one of the five did the bank's arithmetic.
+-- Each committed or refused transaction of one of the five did the bank's arithmetic.
 use Rattle.std.proofs.Common.{◌≡◌, refl, sym, ◌∙◌, ap, subst, ℕ, zero, suc, ◌<◌, T, ℤ, pos, negsuc, Bool, true, false, cond, List, [], ◌∷◌, ◌++◌, length, Option, Some, None, arith}
 use Rattle.std.specs.Prelude.{slice_get, int_le, IfSome}
 use Rattle.std.specs.Option.{option_map, option_or}
@@ -17,7 +17,7 @@ use Rattle.sgt_model.specs.Settings.{Setting, run_if}
 use Rattle.sgt_model.specs.Fates.{subject}
 use Rattle.sgt_model.specs.Progress.{Call, call_of, run_of}
 use Rattle.sgt_model.specs.Admissions.{IsAdmitted, AreAdmitted}
-use Rattle.sgt_model.specs.Replay.{RunResult, GaveAnswers, result_of, run_in_turn, committed_call_in, committed_calls, told_in, told}
+use Rattle.sgt_model.specs.Replay.{RunResult, GaveAnswers, AskedCode, result_of, run_in_turn, told_call_in, told_calls, told_in, told}
 use Rattle.sgt_model.specs.StoredValues.{HoldValues, ReplaysHoldValues}
 use Rattle.sgt_model.specs.Legality.{Legal}
 use Rattle.sgt_model.specs.Laws.{ReplayIsSerial, CommittedAreAdmitted}
@@ -29,7 +29,7 @@ use Rattle.sgt_smallbank.specs.Accounts.{name_key, saving_key, checking_key, wit
 use Rattle.sgt_smallbank.specs.Replays.{CommitIsBank, CommitsAreBank, bank_setting, ReplayIsBank, OpeningsHoldValues}
 use Rattle.sgt_smallbank.proofs.Banks.{serial_is_bank}
 
--- ---- one committed transaction
+-- ---- one transaction that was committed or refused
 
 -- the bank's procedures stand first
 pub record IsOneOf (others : List Program) (n : ℕ) : Type 0 where
@@ -50,6 +50,11 @@ done_with : (o : Outcome) (m : Contents) (answers : List ℤ) → result_of o �
 done_with (Done given last) m answers e = ap (λ l. Done l last) cc
 done_with (Asked code) m answers e = absurd (cc)
 
+-- an outcome with this code
+asked_with : (o : Outcome) (code : ℕ) → result_of o ≡ AskedCode code → o ≡ Asked code
+asked_with (Done given last) code e = absurd (cc)
+asked_with (Asked n) code e = cc
+
 same_count : (a b : ℕ) → Some a ≡ Some b → a ≡ b
 same_count a b e = cc
 
@@ -61,11 +66,9 @@ module _ (replay_is_serial : ReplayIsSerial) (admitted : CommittedAreAdmitted) (
   abbrev the_setting : Setting
   the_setting = bank_setting opening others limits
 
-  agrees : (c : Call) (before : List Call) (answers : List ℤ) → IsAdmitted the_setting c
-      → result_of (serial (run_of the_setting.rules c) (run_in_turn the_setting before).last) ≡ GaveAnswers answers
-      → c.procedure < 5 → bank c.procedure c.args (run_in_turn the_setting before).last ≡ Done answers
-      (run_in_turn the_setting (c ∷ before)).last
-  agrees c before answers fits gives below =
+  does : (c : Call) (before : List Call) → IsAdmitted the_setting c → c.procedure < 5
+      → serial (run_of the_setting.rules c) (run_in_turn the_setting before).last ≡ bank c.procedure c.args (run_in_turn the_setting before).last
+  does c before fits below =
       let m : Contents = (run_in_turn the_setting before).last in
       let one = one_of_five others c.procedure below in
       let count : length c.args ≡ one.program.args =
@@ -76,15 +79,46 @@ module _ (replay_is_serial : ReplayIsSerial) (admitted : CommittedAreAdmitted) (
       let banks : serial (run_with one.program c.args) m ≡ bank c.procedure c.args m =
       serial_is_bank c.procedure one.program c.args m one.of_bank count fits.values
       (hold_values opening (procedures ++ others) limits before hold) in
-      sym banks ∙ (sym runs ∙ done_with (serial (run_of the_setting.rules c) m) m answers gives)
+      runs ∙ banks
+
+  agrees : (c : Call) (before : List Call) (answers : List ℤ) → IsAdmitted the_setting c
+      → result_of (serial (run_of the_setting.rules c) (run_in_turn the_setting before).last) ≡ GaveAnswers answers
+      → c.procedure < 5 → bank c.procedure c.args (run_in_turn the_setting before).last ≡ Done answers
+      (run_in_turn the_setting (c ∷ before)).last
+  agrees c before answers fits gives below =
+      let m : Contents = (run_in_turn the_setting before).last in
+      sym (does c before fits below) ∙ done_with (serial (run_of the_setting.rules c) m) m answers gives
+
+  asks : (c : Call) (before : List Call) (code : ℕ) → IsAdmitted the_setting c
+      → result_of (serial (run_of the_setting.rules c) (run_in_turn the_setting before).last) ≡ AskedCode code
+      → c.procedure < 5 → (bank c.procedure c.args (run_in_turn the_setting before).last ≡ Asked code)
+      × ((run_in_turn the_setting (c ∷ before)).last ≡ (run_in_turn the_setting before).last)
+  asks c before code fits gives below =
+      let m : Contents = (run_in_turn the_setting before).last in
+      let asked = asked_with (serial (run_of the_setting.rules c) m) code gives in
+      (sym (does c before fits below) ∙ asked, ap (λ o. contents_after o m) asked)
 
   at_entry : (past : List Entry) (event : Event) (r : Reply) → AreAdmitted the_setting
-      (committed_call_in past event r ++ committed_calls past)
-      → (run_in_turn the_setting (committed_call_in past event r ++ committed_calls past)).results ≡ told_in r ++ told past
+      (told_call_in past event r ++ told_calls past)
+      → (run_in_turn the_setting (told_call_in past event r ++ told_calls past)).results ≡ told_in r ++ told past
       → CommitIsBank the_setting past event r
   at_entry past event (reply.Committed answers) fit told = λ below. agrees (call_of past (subject event))
-      (committed_calls past) answers fit.1 (first_same _ _ _ _ told) below
-  at_entry past event _ fit told = tt
+      (told_calls past) answers fit.1 (first_same _ _ _ _ told) below
+  at_entry past event (reply.Refused code fell) fit told = λ below. asks (call_of past (subject event))
+      (told_calls past) code fit.1 (first_same _ _ _ _ told) below
+  at_entry past event (reply.Started t) fit told = tt
+  at_entry past event reply.NoProcedure fit told = tt
+  at_entry past event reply.BadArgs fit told = tt
+  at_entry past event reply.Spent fit told = tt
+  at_entry past event reply.Full fit told = tt
+  at_entry past event reply.Unknown fit told = tt
+  at_entry past event (reply.Over ended) fit told = tt
+  at_entry past event (reply.Looked k v) fit told = tt
+  at_entry past event (reply.Wrote k v) fit told = tt
+  at_entry past event reply.Ended fit told = tt
+  at_entry past event reply.NotEnded fit told = tt
+  at_entry past event (reply.Waits t) fit told = tt
+  at_entry past event (reply.Aborted why fell) fit told = tt
 
   commits_are_bank : (past : List Entry) → Legal the_setting past → CommitsAreBank the_setting past
   commits_are_bank [] legal = tt

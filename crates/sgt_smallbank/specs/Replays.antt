@@ -1,4 +1,4 @@
--- The bank in a replay: what each committed transaction of one of the five procedures did and was told.
+-- The bank in a replay: what each committed or refused transaction of one of the five procedures did and was told.
 use Rattle.std.specs.Prelude.{◌≡◌, ◌<◌, List, [], ◌∷◌, ◌++◌, None}
 use Rattle.sgt_model.specs.declared.entry.Entry.{Entry}
 use Rattle.sgt_model.specs.declared.limits.Limits.{Limits}
@@ -7,7 +7,7 @@ use Rattle.sgt_model.specs.declared.reply.Reply.{Reply}
 use Rattle.sgt_model.specs.declared.reply.Reply.TheVariants as reply
 use Rattle.sgt_model.specs.Contents.{Contents}
 use Rattle.sgt_model.specs.Syntax.{Program}
-use Rattle.sgt_model.specs.Runs.{Done}
+use Rattle.sgt_model.specs.Runs.{Done, Asked}
 use Rattle.sgt_model.specs.Settings.{Setting, setting}
 use Rattle.sgt_model.specs.Legality.{Legal}
 use Rattle.sgt_model.specs.Fates.{subject}
@@ -20,13 +20,30 @@ use Rattle.sgt_smallbank.specs.Arithmetic.{bank}
 use Rattle.sgt_smallbank.specs.Accounts.{opened, fault_of}
 
 -- where an entry commits a transaction of one of the five procedures, which are numbered from 0: the bank's arithmetic, on the
--- contents that those committed before it left, is done with the answers that the transaction was told, and leaves the contents
--- that the replay goes on with
+-- contents that those before it left, is done with the answers that the transaction was told, and leaves the contents that the
+-- replay goes on with. Where an entry refuses one, the bank's arithmetic on those contents asks the code that it was told, and
+-- the replay goes on with the same contents
 abbrev pub CommitIsBank : Setting → List Entry → Event → Reply → Type 0
 CommitIsBank s past event (reply.Committed answers) =
     (call_of past (subject event)).procedure < 5
     → bank (call_of past (subject event)).procedure (call_of past (subject event)).args (folded s past).last ≡ Done answers (folded s (record { event = event; reply = reply.Committed answers } ∷ past)).last
-CommitIsBank s past event _ = Unit {0}
+CommitIsBank s past event (reply.Refused code fell) =
+    (call_of past (subject event)).procedure < 5
+    → (bank (call_of past (subject event)).procedure (call_of past (subject event)).args (folded s past).last ≡ Asked code)
+    × ((folded s (record { event = event; reply = reply.Refused code fell } ∷ past)).last ≡ (folded s past).last)
+CommitIsBank s past event (reply.Started t) = Unit {0}
+CommitIsBank s past event reply.NoProcedure = Unit {0}
+CommitIsBank s past event reply.BadArgs = Unit {0}
+CommitIsBank s past event reply.Spent = Unit {0}
+CommitIsBank s past event reply.Full = Unit {0}
+CommitIsBank s past event reply.Unknown = Unit {0}
+CommitIsBank s past event (reply.Over ended) = Unit {0}
+CommitIsBank s past event (reply.Looked k v) = Unit {0}
+CommitIsBank s past event (reply.Wrote k v) = Unit {0}
+CommitIsBank s past event reply.Ended = Unit {0}
+CommitIsBank s past event reply.NotEnded = Unit {0}
+CommitIsBank s past event (reply.Waits t) = Unit {0}
+CommitIsBank s past event (reply.Aborted why fell) = Unit {0}
 
 -- so it is at each entry
 abbrev pub CommitsAreBank : Setting → List Entry → Type 0
