@@ -8,6 +8,9 @@ import tempfile
 HERE = pathlib.Path(__file__).resolve().parent
 SECONDS = 60
 
+# No program makes so many allocations.
+FOREVER = 10**18
+
 
 class Differs(Exception):
     """What came is not what was wanted."""
@@ -18,17 +21,17 @@ def same(what, wanted, came):
         raise Differs(f"{what}: wanted {wanted!r:.400}, came {came!r:.400}")
 
 
-def tell(cases, *given):
+def tell(cases, *given, of="sgt"):
     """Runs each case on what is given, tells how it went, counts them in a last line, and gives the status."""
     failed = 0
     for case in cases:
         name = case.__name__.replace("_", " ")
         try:
             told = case(*given)
-            print(f"sgt {name}" + (f": {told}" if told else ""), flush=True)
+            print(f"{of} {name}" + (f": {told}" if told else ""), flush=True)
         except (Differs, OSError) as why:
             failed += 1
-            print(f"FAILED: sgt {name}: {why}", flush=True)
+            print(f"FAILED: {of} {name}: {why}", flush=True)
     print(f"{len(cases) - failed} passed, {failed} failed")
     return 1 if failed else 0
 
@@ -50,7 +53,7 @@ class Failing:
             raise Differs(f"{words} {failing}: no end after {SECONDS} seconds") from None
         return ran.returncode, ran.stdout.decode(), ran.stderr.decode()
 
-    def allocations(self, *words, given):
+    def allocations(self, *words, given=""):
         return self.counted(*words, given=given, count_allocations=1)
 
     def counted(self, *words, given="", **failing):
@@ -61,7 +64,7 @@ class Failing:
         return int(told.splitlines()[-1])
 
 
-def tell_failing(cases, *paths):
+def tell_failing(cases, *paths, of="sgt"):
     """As `tell`, with each of these programs under the library of `failing.c`, which is made first."""
     with tempfile.TemporaryDirectory() as folder:
         library = os.path.join(folder, "failing.so")
@@ -72,4 +75,4 @@ def tell_failing(cases, *paths):
             print(f"FAILED: no library that fails calls, which takes a compiler for C: {why}")
             print(f"0 passed, {len(cases)} failed")
             return 1
-        return tell(cases, *(Failing(path, library) for path in paths))
+        return tell(cases, *(Failing(path, library) for path in paths), of=of)

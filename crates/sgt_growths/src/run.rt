@@ -1,0 +1,134 @@
+use crate::row::open;
+use sgt_format::append_reply;
+use sgt_model::{Entry, Event, Key, MOST_LIVE, NoMemory, Reply, Tid, Tids};
+use sgt_program::SgtEngine;
+use std::alloc::Global;
+use std::io;
+use std::io::{ErrorKind, Print, Write};
+
+/// At least as many bytes as the line of a reply can have.
+const LONGEST_REPLY: usize = 1024;
+
+/// At least as many entries as a run can have.
+const MOST_ENTRIES: usize = 100;
+
+/// The records that the row's events touch, by table and number.
+const RECORDS: [(u8, i64); 6] = [(0, 1), (0, 2), (1, 101), (1, 102), (2, 101), (2, 102)];
+
+/// Who of the live ones is quit next.
+#[derive(Clone, Copy)]
+pub enum Order {
+    Oldest,
+    Newest,
+}
+
+/// A run of events on the row's engine. All that it keeps for itself is taken when it is made: from then on it asks for
+/// memory only where the engine does.
+#[derive(Drop)]
+pub struct Run {
+    engine: SgtEngine,
+    /// The events that were answered, with the replies that came.
+    answered: Vec<Entry>,
+    line: Vec<u8>,
+}
+
+/// What callers see of an engine beside its history.
+#[derive(Drop, PartialEq)]
+struct Seen {
+    committed: [Option<i64>; 6],
+    live: Tids,
+}
+
+impl Run {
+    /// A run that has answered nothing.
+    pub fn new(alloc: Global) -> Result<Self, NoMemory> {
+        Ok(Run {
+            answered: Vec::with_capacity(alloc, MOST_ENTRIES)?,
+            line: Vec::with_capacity(alloc, LONGEST_REPLY)?,
+            engine: open(alloc)?,
+        })
+    }
+
+    /// Applies an event and tells its reply. Where it was refused memory, that is told, and whether all is as before; and the
+    /// answer is false.
+    pub fn apply(&mut self, rt: &impl Print, event: &Event) -> io::Result<bool> {
+        let before = self.seen();
+        match self.engine.apply(event.copied()) {
+            Ok(reply) => {
+                self.tell(rt, &reply)?;
+                let event = event.copied();
+                self.answered.push(Entry { event, reply })?;
+                Ok(true)
+            }
+            Err(NoMemory) => {
+                println!(rt; "refused: history {}", verdict(self.has_history()))?;
+                println!(rt;
+                    "refused: committed values and who is live {}",
+                    verdict(self.seen() == before)
+                )?;
+                Ok(false)
+            }
+        }
+    }
+
+    /// Quits those who are live, in this order.
+    pub fn quit_all(&mut self, rt: &impl Print, order: Order) -> io::Result<()> {
+        for _ in 0..MOST_LIVE {
+            let Some(t) = self.next_live(order) else {
+                return Ok(());
+            };
+            self.apply(rt, &Event::Quit(t))?;
+        }
+        Ok(())
+    }
+
+    /// Tells the committed values, each with its record, and what is left.
+    pub fn tell_end(&self, rt: &impl Print) -> io::Result<()> {
+        for (table, id) in RECORDS {
+            match self.committed(table, id) {
+                Some(value) => println!(rt; "{table}/{id} {value}")?,
+                None => println!(rt; "{table}/{id} none")?,
+            }
+        }
+        println!(rt; "{} live", self.engine.sched().live().len())?;
+        println!(rt; "history {}", verdict(self.has_history()))
+    }
+
+    /// Tells a reply's line.
+    fn tell(&mut self, rt: &impl Print, reply: &Reply) -> io::Result<()> {
+        self.line.clear();
+        match append_reply(&mut self.line, reply) {
+            Ok(()) => io::writer(rt).write_all(self.line.as_slice()),
+            Err(NoMemory) => Err(io::Error::from(ErrorKind::OutOfMemory)),
+        }
+    }
+
+    /// Whether the engine's history is what was answered.
+    fn has_history(&self) -> bool {
+        self.engine.history() == self.answered.as_slice()
+    }
+
+    fn seen(&self) -> Seen {
+        Seen {
+            committed: RECORDS.map(|(table, id)| self.committed(table, id)),
+            live: self.engine.sched().live(),
+        }
+    }
+
+    fn committed(&self, table: u8, id: i64) -> Option<i64> {
+        self.engine.committed(Key::new(table, id)?)
+    }
+
+    fn next_live(&self, order: Order) -> Option<Tid> {
+        let live = self.engine.sched().live();
+        let next = match order {
+            Order::Oldest => live.as_slice().first(),
+            Order::Newest => live.as_slice().last(),
+        };
+        next.copied()
+    }
+}
+
+fn verdict(is_as_before: bool) -> &'static str {
+    if is_as_before { "as before" } else { "CHANGED" }
+}
