@@ -86,7 +86,27 @@ def write_check(name, amount):
     return checking
 
 
-PROCEDURES = ((balance, 1), (deposit_checking, 2), (transact_saving, 2), (amalgamate, 2), (write_check, 2))
+def store_in_two_steps():
+    """Stores 0 and then 100: what lies between is in no serial run."""
+    yield "store", (3, 7), 0
+    yield "store", (3, 7), 100
+
+
+def find_all():
+    """Answers what the two steps store, and asks where it is less."""
+    value = yield from look(3, 7, 6)
+    if value < 100:
+        raise Asks(99)
+    return value
+
+
+# The trees of the last two, which an opening has to bring.
+IN_TWO_STEPS = (
+    '[0,[["put",3,7,0],["put",3,7,100]]],'
+    '[0,[["look",0,3,7,6],["if",["less",["reg",0],100],[["ask",99]],[]],["answer",["reg",0]]]]'
+)
+
+PROCEDURES = ((balance, 1), (deposit_checking, 2), (transact_saving, 2), (amalgamate, 2), (write_check, 2), (store_in_two_steps, 0), (find_all, 0))
 
 
 class Run:
@@ -105,6 +125,12 @@ class Run:
             self.code = asks.args[0]
         except StopIteration as end:
             self.answer = end.value
+
+    def told(self):
+        """What its caller is told at the end: the code that it asks, or its answer."""
+        if self.code is not None:
+            return f"asked {self.code}"
+        return f"committed {'none' if self.answer is None else self.answer}"
 
 
 def rows_of(opening):
@@ -127,12 +153,14 @@ class Checker:
     """Takes the entries of a history one after another, and tells the first that is not legal."""
 
     def __init__(self, opening):
-        self.most_live, self.begins = json.loads(opening)["limits"]
+        self.most_live, self.begins, *asks = json.loads(opening)["limits"]
+        self.asks_at_commit = asks == [1]
+        self.procedures = 5 + len(json.loads(opening)["procedures"])
         self.opened = rows_of(opening)
         self.settled = dict(self.opened)
         self.runs = []  # of each transaction that was started
         self.fates = {}  # of each that has ended, as a reply behind `over`
-        self.committed = []  # the calls, in the order of their commits, with their answers
+        self.told = []  # the calls of those that committed or were refused, in the order of these replies, with what each was told
         self.accesses = []  # of those that are live, in their order: who, look or store, key, value
         self.pairs = set()  # among those that are live: of two accesses in conflict the first one's, the second one's
         self.reads = set()  # who read from whom, while both are live
@@ -149,7 +177,7 @@ class Checker:
         self.busiest = max(self.busiest, len(self.live()))
 
     def start(self, procedure, args):
-        if procedure >= len(PROCEDURES):
+        if procedure >= self.procedures:
             return "no procedure"
         if len(args) != PROCEDURES[procedure][1] or any(abs(arg) > MOST for arg in args):
             return "bad args"
@@ -171,7 +199,7 @@ class Checker:
 
     def step(self, t, reply):
         run = self.runs[t]
-        if run.code is not None:
+        if run.code is not None and not self.asks_at_commit:
             return self.abort(t, f"asked {run.code}")
         if run.access is None:
             return "ended"
@@ -215,6 +243,10 @@ class Checker:
         return " ".join(words[1 : words.index("fell")])
 
     def abort(self, t, cause):
+        return f"aborted {cause} fell {self.undo(t, cause)}"
+
+    def undo(self, t, cause):
+        """Ends t and those that read from it, and tells these."""
         fell, new = set(), {t}
         while new:
             new = {reader for reader, writer in self.reads if writer in new} - fell
@@ -222,19 +254,22 @@ class Checker:
         self.end(t, f"aborted {cause}")
         for u in fell:
             self.end(u, f"fell {t}")
-        return f"aborted {cause} fell " + (" ".join(map(str, sorted(fell))) or "none")
+        return " ".join(map(str, sorted(fell))) or "none"
 
     def commit(self, t):
         run = self.runs[t]
-        if run.access is not None or run.code is not None:
+        if run.access is not None or run.code is not None and not self.asks_at_commit:
             return "not ended"
         before = [u for u, v in self.pairs if v == t]
         if before:
             return f"waits {min(before)}"
+        if run.code is not None:
+            self.told.append((run.call, f"asked {run.code}"))
+            return f"refused {run.code} fell {self.undo(t, f'asked {run.code}')}"
         self.settled |= {key: value for u, kind, key, value in self.accesses if u == t and kind == "store"}
         self.end(t, "committed")
-        self.committed.append((run.call, run.answer))
-        return f"committed {run.answer}"
+        self.told.append((run.call, run.told()))
+        return run.told()
 
     def end(self, t, fate):
         self.fates[t] = fate
@@ -243,15 +278,17 @@ class Checker:
         self.reads = {pair for pair in self.reads if t not in pair}
 
     def serial(self):
-        """The database that the committed transactions leave, run one after another. Each has to give the answer that it gave."""
+        """The database that the committed and refused transactions leave, run one after another. Each has to give what it was told."""
         rows = dict(self.opened)
-        for (procedure, args), answer in self.committed:
-            run = Run(procedure, args)
+        for (procedure, args), told in self.told:
+            run, own = Run(procedure, args), dict(rows)
             while run.access is not None:
                 kind, key, value = run.access
                 if kind == "store":
-                    rows[key] = value
-                run.go(rows.get(key))
-            if run.answer != answer:
-                raise Illegal(f"the serial run of {procedure} {args} gives {run.answer}, and not {answer}")
+                    own[key] = value
+                run.go(own.get(key))
+            if run.told() != told:
+                raise Illegal(f"the serial run of {procedure} {args} gives {run.told()}, and not {told}")
+            if run.code is None:
+                rows = own
         return rows

@@ -145,7 +145,11 @@ fn tell_refusal<W: Threads + Wait + Sync + Print>(
     tries: u32,
 ) -> io::Result<()> {
     let jobs = [job(first, BALANCE, &[1]), job(1, BALANCE, &[1])];
-    let limits = Limits { live, begins: 100 };
+    let limits = Limits {
+        live,
+        begins: 100,
+        asks: Asks::AtStep,
+    };
     print!(rt; "job {first}, {live} live, {workers} workers, {tries} tries: ")?;
     let ran = run_on::<SlabRecords, PerKey, BitGraph, Open, W>(
         rt, alloc, limits, &jobs, workers, tries, &Open,

@@ -1,7 +1,7 @@
 //! The events of the row `two_level_cascade`, and what they run on.
 
 use sgt_format::Opening;
-use sgt_model::{Args, Event, Limits, NoMemory, Tid};
+use sgt_model::{Args, Asks, Event, Limits, NoMemory, Tid};
 use sgt_program::{SgtEngine, open_engine};
 use sgt_smallbank::{Account, opening};
 use std::alloc::Global;
@@ -30,6 +30,7 @@ pub fn open(alloc: Global) -> Result<SgtEngine, NoMemory> {
     let limits = Limits {
         live: 8,
         begins: 100,
+        asks: Asks::AtStep,
     };
     let opening = Opening {
         limits,

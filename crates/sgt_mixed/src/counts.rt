@@ -9,6 +9,8 @@ pub struct Counts {
     cycles: u64,
     asks: u64,
     quits: u64,
+    /// Refusals at a commit.
+    refusals: u64,
     /// The transactions that fell with these.
     fallen: u64,
     waits: u64,
@@ -23,6 +25,7 @@ impl Counts {
             cycles: 0,
             asks: 0,
             quits: 0,
+            refusals: 0,
             fallen: 0,
             waits: 0,
         };
@@ -33,13 +36,14 @@ impl Counts {
     }
 
     /// Each kind in words, with its count.
-    pub fn by_kind(&self) -> [(&'static str, u64); 7] {
+    pub fn by_kind(&self) -> [(&'static str, u64); 8] {
         [
             ("starts", self.starts),
             ("commits", self.commits),
             ("aborts by cycle", self.cycles),
             ("aborts by ask", self.asks),
             ("aborts by quit", self.quits),
+            ("refusals", self.refusals),
             ("fallen", self.fallen),
             ("waits", self.waits),
         ]
@@ -52,6 +56,10 @@ impl Counts {
             Reply::Committed(_) => self.commits = self.commits.saturating_add(1),
             Reply::Waits(_) => self.waits = self.waits.saturating_add(1),
             Reply::Aborted { cause, fell } => self.note_abort(cause, fell),
+            Reply::Refused { fell, .. } => {
+                self.refusals = self.refusals.saturating_add(1);
+                self.note_fallen(fell);
+            }
             _ => {}
         }
     }
@@ -63,6 +71,11 @@ impl Counts {
             Cause::Asked(_) => self.asks = self.asks.saturating_add(1),
             Cause::Quit => self.quits = self.quits.saturating_add(1),
         }
+        self.note_fallen(fell);
+    }
+
+    /// Counts those that fell.
+    fn note_fallen(&mut self, fell: &Tids) {
         self.fallen = self.fallen.saturating_add(fell.len() as u64);
     }
 }

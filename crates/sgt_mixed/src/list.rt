@@ -4,7 +4,7 @@ use crate::refusals::Refusals;
 use sgt_access::Accesses;
 use sgt_engine::Engine;
 use sgt_graph::Graph;
-use sgt_model::{Event, Limits, NoMemory};
+use sgt_model::{Asks, Event, Limits, NoMemory};
 use sgt_records::Records;
 use sgt_smallbank::{Account, opening, procedures};
 use std::alloc::Global;
@@ -37,35 +37,48 @@ const ACCOUNTS: [Account; 3] = [
     },
 ];
 
-/// An engine over any bodies of the layers, with the accounts and no event yet, where so many may be live; or none where memory
-/// was wanting, twice.
+/// The limits of a run: how many may be live, and when an ask is answered.
+pub fn limits(live: u32, asks: Asks) -> Limits {
+    Limits {
+        live,
+        begins: 4_000_000_000,
+        asks,
+    }
+}
+
+/// Where an ask is answered, in a word.
+pub fn place_of(asks: Asks) -> &'static str {
+    match asks {
+        Asks::AtStep => "step",
+        Asks::AtCommit => "commit",
+    }
+}
+
+/// An engine over any bodies of the layers, with the accounts and no event yet, of these limits; or none where memory was
+/// wanting, twice.
 pub fn open<R: Records, A: Accesses, G: Graph>(
     alloc: Global,
-    live: u32,
+    limits: Limits,
     refusals: &mut Refusals,
 ) -> Option<Engine<R, A, G>> {
-    let first = open_once(alloc, live);
+    let first = open_once(alloc, limits);
     if !refusals.note(first.is_none()) {
         return first;
     }
-    let second = open_once(alloc, live);
+    let second = open_once(alloc, limits);
     refusals.note(second.is_none());
     second
 }
 
 fn open_once<R: Records, A: Accesses, G: Graph>(
     alloc: Global,
-    live: u32,
+    limits: Limits,
 ) -> Option<Engine<R, A, G>> {
     let Ok(database) = opening(alloc, &ACCOUNTS) else {
         return None;
     };
     let Ok(procedures) = procedures(alloc) else {
         return None;
-    };
-    let limits = Limits {
-        live,
-        begins: 4_000_000_000,
     };
     Engine::new(alloc, database, procedures, limits).ok()
 }

@@ -1,8 +1,9 @@
 //! Runs a list of 10,000 mixed events as the test command does, and compares: on an engine with three accounts, where up to eight
-//! transactions of SmallBank's five procedures are live at once. It tells how many of each kind of reply there were, what the
-//! committed accounts hold in all, and a digest of the replies' lines. Then it runs the list over other bodies of the layers
-//! too, with up to 8 and up to 32 live, and tells the digests for each: of the replies, of the replies where each walk is
-//! told by its first member alone, and of the committed database. What it has to tell stands in `stdout`.
+//! transactions of SmallBank's five procedures are live at once, with asks answered at the step and at the commit. It tells how
+//! many of each kind of reply there were, what the committed accounts hold in all, and a digest of the replies' lines. Then it
+//! runs the list over other bodies of the layers too, with up to 8 and up to 32 live and asks answered in both ways, and tells
+//! the digests for each: of the replies, of the replies where each walk is told by its first member alone, and of the committed
+//! database. What it has to tell stands in `stdout`.
 //!
 //! Which event comes next is read off a number that a generator draws, and off who is live then. So the list is the same each
 //! time, and one wrong reply changes what comes after it. What is refused memory once is tried again, so that whichever one
@@ -19,14 +20,15 @@ mod runs;
 
 use crate::counts::Counts;
 use crate::digest::Digests;
-use crate::list::{CUSTOMERS, apply_all, open};
+use crate::list::{CUSTOMERS, apply_all, limits, open, place_of};
 use crate::refusals::Refusals;
 use crate::runs::tell_runs;
 use sgt_access::PerKey;
 use sgt_engine::Engine;
 use sgt_graph::BitGraph;
-use sgt_model::{Entry, Event, Key, NoMemory};
+use sgt_model::{Asks, Entry, Event, Key, NoMemory};
 use sgt_records::SlabRecords;
+use std::alloc::AllocGlobal;
 use std::io;
 use std::io::Print;
 
@@ -69,25 +71,39 @@ fn balance(engine: &SgtEngine, table: u8, customer: i64) -> i64 {
     }
 }
 
-fn main(rt: HostRuntime) -> io::Result<()> {
+/// Runs the list on the engine of the program, and tells what became of it.
+fn tell_engine<R: AllocGlobal + Print>(
+    rt: &R,
+    asks: Asks,
+    refusals: &mut Refusals,
+) -> io::Result<()> {
     let alloc = rt.alloc();
-    let mut refusals = Refusals::new();
-    let Some(mut engine) = open::<SlabRecords, PerKey, BitGraph>(alloc, 8, &mut refusals) else {
+    let limits = limits(8, asks);
+    let Some(mut engine) = open::<SlabRecords, PerKey, BitGraph>(alloc, limits, refusals) else {
         return println!(rt; "no memory");
     };
-    if apply_all(&mut engine, &mut refusals).is_err() {
+    if apply_all(&mut engine, refusals).is_err() {
         println!(rt; "no memory")?;
     }
-    tell_counts(&rt, engine.history())?;
-    match Digests::of(alloc, &engine, &mut refusals) {
+    println!(rt; "asks at the {}", place_of(asks))?;
+    tell_counts(rt, engine.history())?;
+    match Digests::of(alloc, &engine, refusals) {
         Ok(digests) => println!(rt; "digest {:016x}", digests.replies)?,
         Err(NoMemory) => println!(rt; "no memory")?,
     }
     println!(rt; "live at the end {}", engine.sched().live().len())?;
-    quit_all(&mut engine, &mut refusals);
+    quit_all(&mut engine, refusals);
     println!(rt; "live when all have quit {}", engine.sched().live().len())?;
-    println!(rt; "committed total {}", total(&engine))?;
-    tell_runs(&rt, 8, &mut refusals)?;
-    tell_runs(&rt, 32, &mut refusals)?;
+    println!(rt; "committed total {}", total(&engine))
+}
+
+fn main(rt: HostRuntime) -> io::Result<()> {
+    let mut refusals = Refusals::new();
+    tell_engine(&rt, Asks::AtStep, &mut refusals)?;
+    tell_engine(&rt, Asks::AtCommit, &mut refusals)?;
+    for live in [8, 32] {
+        tell_runs(&rt, limits(live, Asks::AtStep), &mut refusals)?;
+        tell_runs(&rt, limits(live, Asks::AtCommit), &mut refusals)?;
+    }
     println!(rt; "refused memory {}", refusals.calls())
 }

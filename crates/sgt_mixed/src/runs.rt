@@ -1,42 +1,45 @@
 use crate::digest::Digests;
-use crate::list::{apply_all, open};
+use crate::list::{apply_all, open, place_of};
 use crate::refusals::Refusals;
 use sgt_access::{Accesses, OneList, PerKey};
 use sgt_graph::{BitGraph, Graph, PairGraph};
-use sgt_model::NoMemory;
+use sgt_model::{Limits, NoMemory};
 use sgt_records::{ListRecords, Records, SlabRecords};
 use std::alloc::{AllocGlobal, Global};
 use std::io;
 use std::io::Print;
 
-/// Runs the list with up to so many live: over the plain bodies of the layers, with each other body in turn, and with all of
+/// Runs the list by these limits: over the plain bodies of the layers, with each other body in turn, and with all of
 /// these, as `sgt` has them. Tells the digests of each run.
 pub fn tell_runs<R: AllocGlobal + Print>(
     rt: &R,
-    live: u32,
+    limits: Limits,
     refusals: &mut Refusals,
 ) -> io::Result<()> {
     let a = rt.alloc();
-    println!(rt; "up to {live} live: replies, replies by first members, database")?;
-    let plain = run::<ListRecords, OneList, PairGraph>(a, live, refusals);
+    let (live, when) = (limits.live, place_of(limits.asks));
+    println!(rt;
+        "up to {live} live, asks at the {when}: replies, replies by first members, database"
+    )?;
+    let plain = run::<ListRecords, OneList, PairGraph>(a, limits, refusals);
     tell(rt, plain, "ListRecords OneList PairGraph")?;
-    let by_key = run::<ListRecords, PerKey, PairGraph>(a, live, refusals);
+    let by_key = run::<ListRecords, PerKey, PairGraph>(a, limits, refusals);
     tell(rt, by_key, "ListRecords PerKey PairGraph")?;
-    let in_slab = run::<SlabRecords, OneList, PairGraph>(a, live, refusals);
+    let in_slab = run::<SlabRecords, OneList, PairGraph>(a, limits, refusals);
     tell(rt, in_slab, "SlabRecords OneList PairGraph")?;
-    let by_bits = run::<ListRecords, OneList, BitGraph>(a, live, refusals);
+    let by_bits = run::<ListRecords, OneList, BitGraph>(a, limits, refusals);
     tell(rt, by_bits, "ListRecords OneList BitGraph")?;
-    let all = run::<SlabRecords, PerKey, BitGraph>(a, live, refusals);
+    let all = run::<SlabRecords, PerKey, BitGraph>(a, limits, refusals);
     tell(rt, all, "SlabRecords PerKey BitGraph")
 }
 
 /// The digests of a run over these bodies.
 fn run<R: Records, A: Accesses, G: Graph>(
     alloc: Global,
-    live: u32,
+    limits: Limits,
     refusals: &mut Refusals,
 ) -> Result<Digests, NoMemory> {
-    let Some(mut engine) = open::<R, A, G>(alloc, live, refusals) else {
+    let Some(mut engine) = open::<R, A, G>(alloc, limits, refusals) else {
         return Err(NoMemory);
     };
     apply_all(&mut engine, refusals)?;

@@ -6,7 +6,7 @@ ghost use Rattle.sgt_engine.specs.EngineView.{setting_of};
 use sgt_access::PerKey;
 use sgt_engine::Engine;
 use sgt_graph::BitGraph;
-use sgt_model::{Args, Cause, Event, Limits, MakeError, Reply, Tid};
+use sgt_model::{Args, Asks, Cause, Event, Limits, MakeError, Reply, Tid};
 use sgt_records::SlabRecords;
 use sgt_session::{Named, Session, Shared};
 use sgt_smallbank::{Account, opening, procedures};
@@ -24,6 +24,7 @@ type SharedEngine<N> = Shared<N, SlabRecords, PerKey, BitGraph>;
 const LIMITS: Limits = Limits {
     live: 32,
     begins: 1000,
+    asks: Asks::AtStep,
 };
 
 const ACCOUNT: Account = Account {
