@@ -21,7 +21,7 @@ use crate::gates::{BothRead, LeavesAt, Open, SecondFirst};
 use sgt_access::PerKey;
 use sgt_dispatch::Job;
 use sgt_graph::BitGraph;
-use sgt_model::{Entry, Event, Limits, Reply};
+use sgt_model::{Asks, Entry, Event, Limits, Reply};
 use sgt_records::SlabRecords;
 use sgt_workers::{Gate, PoolError, Report};
 use std::alloc::Global;
@@ -143,7 +143,11 @@ fn tell_refusal<W: Threads + Wait + Sync + Print>(
     tries: u32,
 ) -> io::Result<()> {
     let jobs = [job(first, BALANCE, &[1]), job(1, BALANCE, &[1])];
-    let limits = Limits { live, begins: 100 };
+    let limits = Limits {
+        live,
+        begins: 100,
+        asks: Asks::AtStep,
+    };
     print!(rt; "job {first}, {live} live, {workers} workers, {tries} tries: ")?;
     let ran = run_on::<SlabRecords, PerKey, BitGraph, Open, W>(
         rt, alloc, limits, &jobs, workers, tries, &Open,

@@ -52,7 +52,17 @@ impl Counts {
             Reply::Committed(_) => self.commits = self.commits.saturating_add(1),
             Reply::Waits(_) => self.waits = self.waits.saturating_add(1),
             Reply::Aborted { cause, fell } => self.note_abort(cause, fell),
-            _ => {}
+            Reply::Refused { code, fell } => self.note_abort(&Cause::Asked(*code), fell),
+            Reply::NoProcedure
+            | Reply::BadArgs
+            | Reply::Spent
+            | Reply::Full
+            | Reply::Unknown
+            | Reply::Over(_)
+            | Reply::Looked { .. }
+            | Reply::Wrote { .. }
+            | Reply::Ended
+            | Reply::NotEnded => {}
         }
     }
 

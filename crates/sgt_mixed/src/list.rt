@@ -4,7 +4,7 @@ use crate::refusals::Refusals;
 use sgt_access::Accesses;
 use sgt_engine::Engine;
 use sgt_graph::Graph;
-use sgt_model::{Event, Limits, NoMemory};
+use sgt_model::{Asks, Event, Limits, NoMemory};
 use sgt_records::Records;
 use sgt_smallbank::{Account, opening, procedures};
 use std::alloc::Global;
@@ -66,6 +66,7 @@ fn open_once<R: Records, A: Accesses, G: Graph>(
     let limits = Limits {
         live,
         begins: 4_000_000_000,
+        asks: Asks::AtStep,
     };
     Engine::new(alloc, database, procedures, limits).ok()
 }
