@@ -1,7 +1,7 @@
 use sgt_access::Accesses;
 use sgt_dispatch::Job;
 use sgt_graph::Graph;
-use sgt_model::{Args, Database, Key, Limits};
+use sgt_model::{Args, Asks, Database, Key, Limits};
 use sgt_records::Records;
 use sgt_smallbank::{Account, opening, procedures};
 use sgt_workers::{Bank, Gate, PoolError, Report, run};
@@ -25,6 +25,7 @@ pub const ACCOUNTS: u32 = 5;
 pub const LIMITS: Limits = Limits {
     live: 32,
     begins: 4_000_000_000,
+    asks: Asks::AtStep,
 };
 
 /// The account of this name. All begin with the same.

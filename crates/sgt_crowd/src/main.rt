@@ -23,7 +23,7 @@ use crate::leavers::{all_leave, deep_fall, leave_at_each_call};
 use sgt_access::PerKey;
 use sgt_dispatch::Job;
 use sgt_graph::BitGraph;
-use sgt_model::{Entry, Event, Limits, Reply};
+use sgt_model::{Asks, Entry, Event, Limits, Reply};
 use sgt_records::SlabRecords;
 use sgt_workers::{Gate, PoolError, Report};
 use std::alloc::Global;

@@ -4,7 +4,9 @@ use crate::spelled::spelled;
 use sgt_access::OneList;
 use sgt_cascade::fallers;
 use sgt_graph::PairGraph;
-use sgt_model::{Args, Cause, Database, Event, Fate, Key, Limits, NoMemory, Reply, Tid, Tids};
+use sgt_model::{
+    Args, Asks, Cause, Database, Event, Fate, Key, Limits, NoMemory, Reply, Tid, Tids,
+};
 use sgt_records::{ListRecords, Records};
 use sgt_sched::Sched;
 use std::alloc::AllocGlobal;
@@ -65,6 +67,7 @@ fn chained<R: AllocGlobal + Abort>(rt: &R) -> Result<ListSched, Fail> {
     let limits = Limits {
         live: 3,
         begins: 10,
+        asks: Asks::AtStep,
     };
     let mut opening = Database::empty(a);
     if let Some(key) = Key::new(3, 0) {

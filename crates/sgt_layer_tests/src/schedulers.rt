@@ -3,7 +3,9 @@
 use crate::spelled::spelled;
 use sgt_access::{Accesses, OneList};
 use sgt_graph::{Graph, PairGraph};
-use sgt_model::{Answers, Args, Cause, Database, Event, Fate, Key, Kind, Limits, Reply, Tid, Tids};
+use sgt_model::{
+    Answers, Args, Asks, Cause, Database, Event, Fate, Key, Kind, Limits, Reply, Tid, Tids,
+};
 use sgt_records::{ListRecords, Records};
 use sgt_sched::{Brief, Sched};
 use std::alloc::AllocGlobal;
@@ -166,7 +168,11 @@ fn scheduler<R: AllocGlobal + Abort>(rt: &R) -> Result<ListSched, Fail> {
     let mut opening = Database::empty(a);
     opening.put(Key::new(3, 7).unwrap(), 1)?;
     let procedures = vec![in a; spelled(rt, PAY)?]?;
-    let limits = Limits { live: 2, begins: 3 };
+    let limits = Limits {
+        live: 2,
+        begins: 3,
+        asks: Asks::AtStep,
+    };
     Ok(Sched::new(a, &opening, procedures, limits)?)
 }
 

@@ -1,7 +1,8 @@
 -- A setting for those who pick their own.
 use Rattle.std.specs.Prelude.{[], None}
+use Rattle.sgt_model.specs.declared.limits.Asks.TheVariants.{AtStep}
 use Rattle.sgt_model.specs.Settings.{Setting, setting}
 
 -- nothing at all
 abbrev pub none : Setting
-none = setting (λ k. None) [] (record { live = 0; begins = 0 })
+none = setting (λ k. None) [] (record { live = 0; begins = 0; asks = AtStep })

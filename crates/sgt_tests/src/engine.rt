@@ -6,7 +6,7 @@ use sgt_access::OneList;
 use sgt_engine::{Engine, Ran, run_list};
 use sgt_format::{append_database, append_reply, read_event};
 use sgt_graph::PairGraph;
-use sgt_model::{Args, Database, Entry, Event, Key, Limits, MakeError, NoMemory, Tid};
+use sgt_model::{Args, Asks, Database, Entry, Event, Key, Limits, MakeError, NoMemory, Tid};
 use sgt_proc::{Checked, check};
 use sgt_records::ListRecords;
 use std::alloc::{AllocGlobal, Global};
@@ -37,6 +37,7 @@ fn ran(a: Global, lines: &str) -> Result<SimpleRan, Fail> {
     let limits = Limits {
         live: 1,
         begins: 10,
+        asks: Asks::AtStep,
     };
     let database = Database::empty(a);
     Ok(run_list(a, database, procedures(a)?, limits, events.as_slice())?)
@@ -131,7 +132,11 @@ over committed
 
 /// Whether an engine of these limits is refused for them.
 fn has_bad_limits(a: Global, live: u32, begins: u32) -> bool {
-    let limits = Limits { live, begins };
+    let limits = Limits {
+        live,
+        begins,
+        asks: Asks::AtStep,
+    };
     let made = Engine::<ListRecords, OneList, PairGraph>::new(
         a,
         Database::empty(a),
@@ -173,6 +178,7 @@ fn applied(a: Global, count: u32) -> Result<usize, Fail> {
     let limits = Limits {
         live: 8,
         begins: 1_000,
+        asks: Asks::AtStep,
     };
     let events = whole_runs(a, count)?;
     let ran: SimpleRan = run_list(

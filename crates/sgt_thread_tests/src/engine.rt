@@ -4,7 +4,7 @@ ghost use Rattle.std.specs.Prelude.{◌≡◌, [], IfOk};
 use sgt_access::OneList;
 use sgt_engine::{Engine, run_list};
 use sgt_graph::PairGraph;
-use sgt_model::{Args, Database, Event, Limits, MakeError};
+use sgt_model::{Args, Asks, Database, Event, Limits, MakeError};
 use sgt_records::ListRecords;
 use sgt_session::Shared;
 use sgt_smallbank::{Account, opening, procedures};
@@ -27,6 +27,7 @@ pub const WRITE_CHECK: u16 = 4;
 const LIMITS: Limits = Limits {
     live: 32,
     begins: 4_000_000_000,
+    asks: Asks::AtStep,
 };
 
 /// The account of this name. All accounts begin alike.
