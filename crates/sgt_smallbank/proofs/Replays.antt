@@ -67,7 +67,8 @@ module _ (replay_is_serial : ReplayIsSerial) (admitted : CommittedAreAdmitted) (
   the_setting = bank_setting opening others limits
 
   does : (c : Call) (before : List Call) → IsAdmitted the_setting c → c.procedure < 5
-      → serial (run_of the_setting.rules c) (run_in_turn the_setting before).last ≡ bank c.procedure c.args (run_in_turn the_setting before).last
+      → serial (run_of the_setting.rules c) (run_in_turn the_setting before).last
+      ≡ bank c.procedure c.args (run_in_turn the_setting before).last
   does c before fits below =
       let m : Contents = (run_in_turn the_setting before).last in
       let one = one_of_five others c.procedure below in
