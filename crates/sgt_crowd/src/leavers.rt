@@ -32,7 +32,10 @@ fn tell_reply<W: Print>(rt: &W, alloc: Global, entry: &Entry) -> io::Result<()> 
 /// Tells how many entries the history has, and whether the database is as it was opened.
 fn tell_size<W: Print>(rt: &W, report: &Report<u64>) -> io::Result<()> {
     let is_as_opened = report.database.rows() == report.opening.rows();
-    println!(rt; "{} entries, as opened: {is_as_opened}", report.history.len())
+    println!(rt;
+        "{} entries, as opened: {is_as_opened}",
+        report.history.len()
+    )
 }
 
 /// Tells the aborts of a history, each on a line.

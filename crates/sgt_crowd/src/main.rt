@@ -2,7 +2,8 @@
 //!
 //! The first runs have gates of their own, which hold each worker until the others have come to where they are wanted: so it is
 //! told here, and by no proof, that workers run side by side, that the lock is let go between two calls, and that the gate is
-//! asked. The last has sixteen workers on five accounts, and compares with its jobs run by one worker in the order of their
+//! asked. Then workers leave: one at each call of a job, the first of sixteen that have read from each other, and all at once.
+//! The last has sixteen workers on five accounts, and compares with its jobs run by one worker in the order of their
 //! commits.
 #![tactic(auto)]
 

@@ -152,7 +152,10 @@ fn play<N: Named, W: Wait + Print>(
         return Err(io::Error::from(ErrorKind::Other));
     };
     println!(rt; "{}", call(rt, &shared, session, balance()).words())?;
-    println!(rt; "{}", call(rt, &shared, session, Event::Quit(Tid(0))).words())?;
+    println!(rt;
+        "{}",
+        call(rt, &shared, session, Event::Quit(Tid(0))).words()
+    )?;
     let (started, told) = start_many(rt, &shared, session);
     println!(rt; "{started} started, then {}", told.words())?;
     println!(rt; "{} quit", quit_many(rt, &shared, session, 1, started))
