@@ -28,6 +28,13 @@ pub const LIMITS: Limits = Limits {
     asks: Asks::AtStep,
 };
 
+/// The same, where asks are answered at the commit.
+pub const LIMITS_AT_COMMIT: Limits = Limits {
+    live: 32,
+    begins: 4_000_000_000,
+    asks: Asks::AtCommit,
+};
+
 /// The account of this name. All begin with the same.
 fn account(name: i64) -> Account {
     Account {

@@ -1,10 +1,10 @@
 //! Many workers on few accounts, and the same jobs on one worker.
-use crate::bank::{ACCOUNTS, AMALGAMATE, BALANCE, DEPOSIT_CHECKING, LIMITS, held, job, run_on};
+use crate::bank::{ACCOUNTS, AMALGAMATE, BALANCE, DEPOSIT_CHECKING, held, job, run_on};
 use crate::gates::Open;
 use sgt_access::{OneList, PerKey};
 use sgt_dispatch::Job;
 use sgt_graph::{BitGraph, PairGraph};
-use sgt_model::{Entry, Reply};
+use sgt_model::{Entry, Limits, Reply};
 use sgt_records::{ListRecords, SlabRecords};
 use sgt_workers::{Outcome, PoolError, Report};
 use std::alloc::{AllocError, Global};
@@ -32,13 +32,17 @@ pub struct Compared {
 }
 
 /// Runs the crowd, and then its jobs by one worker over other bodies of the layers.
-pub fn compare<W: Threads + Wait + Sync>(rt: &W, alloc: Global) -> Result<Compared, PoolError> {
+pub fn compare<W: Threads + Wait + Sync>(
+    rt: &W,
+    alloc: Global,
+    limits: Limits,
+) -> Result<Compared, PoolError> {
     let Ok(jobs) = many_jobs(alloc) else {
         return Err(PoolError::NoMemory);
     };
     let jobs = jobs.as_slice();
     let crowd = run_on::<SlabRecords, PerKey, BitGraph, Open, W>(
-        rt, alloc, LIMITS, jobs, WORKERS, TRIES, &Open,
+        rt, alloc, limits, jobs, WORKERS, TRIES, &Open,
     )?;
     let Ok(done) = done_jobs(alloc, jobs, &crowd) else {
         return Err(PoolError::NoMemory);
@@ -46,7 +50,7 @@ pub fn compare<W: Threads + Wait + Sync>(rt: &W, alloc: Global) -> Result<Compar
     let alone = run_on::<ListRecords, OneList, PairGraph, Open, W>(
         rt,
         alloc,
-        LIMITS,
+        limits,
         done.as_slice(),
         1,
         1,

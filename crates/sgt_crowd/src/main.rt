@@ -14,8 +14,8 @@ mod gates;
 mod leavers;
 
 use crate::bank::{
-    ACCOUNTS, BALANCE, DEPOSIT_CHECKING, LIMITS, TRANSACT_SAVING, WRITE_CHECK, checking, job,
-    run_on,
+    ACCOUNTS, BALANCE, DEPOSIT_CHECKING, LIMITS, LIMITS_AT_COMMIT, TRANSACT_SAVING, WRITE_CHECK,
+    checking, job, run_on,
 };
 use crate::counts::Counts;
 use crate::crowd::{JOBS, compare};
@@ -120,8 +120,13 @@ fn one_gives_up<W: Threads + Wait + Sync + Print>(
     tell(rt, run(rt, alloc, &jobs, 2, tries, &BothRead::new()))
 }
 
-/// One worker, which is made to leave in the midst of its fifth job.
-fn each_outcome<W: Threads + Wait + Sync + Print>(rt: &W, alloc: Global) -> io::Result<()> {
+/// One worker, which is made to leave after so many calls, in the midst of its fifth job.
+fn each_outcome<W: Threads + Wait + Sync + Print>(
+    rt: &W,
+    alloc: Global,
+    limits: Limits,
+    calls: u64,
+) -> io::Result<()> {
     let jobs = [
         job(0, TRANSACT_SAVING, &[2, -501]),
         job(1, 99, &[]),
@@ -130,9 +135,12 @@ fn each_outcome<W: Threads + Wait + Sync + Print>(rt: &W, alloc: Global) -> io::
         job(4, DEPOSIT_CHECKING, &[1, 10]),
         job(5, DEPOSIT_CHECKING, &[1, 10]),
     ];
-    let gate = LeavesAt::new(13);
-    println!(rt; "one worker, which leaves after 13 calls:")?;
-    tell(rt, run(rt, alloc, &jobs, 1, 100, &gate))?;
+    let gate = LeavesAt::new(calls);
+    println!(rt; "one worker, which leaves after {calls} calls:")?;
+    let ran = run_on::<SlabRecords, PerKey, BitGraph, LeavesAt, W>(
+        rt, alloc, limits, &jobs, 1, 100, &gate,
+    );
+    tell(rt, ran)?;
     println!(rt; "told of {} jobs", gate.finished())
 }
 
@@ -175,9 +183,13 @@ fn refusals<W: Threads + Wait + Sync + Print>(rt: &W, alloc: Global) -> io::Resu
 }
 
 /// Sixteen workers on five accounts.
-fn tell_crowd<W: Threads + Wait + Sync + Print>(rt: &W, alloc: Global) -> io::Result<()> {
+fn tell_crowd<W: Threads + Wait + Sync + Print>(
+    rt: &W,
+    alloc: Global,
+    limits: Limits,
+) -> io::Result<()> {
     println!(rt; "{JOBS} jobs:")?;
-    match compare(rt, alloc) {
+    match compare(rt, alloc, limits) {
         Ok(compared) => {
             print!(rt; "done {}, held {}, ", compared.done, compared.held)?;
             println!(rt;
@@ -194,10 +206,12 @@ fn main(rt: HostRuntime) -> io::Result<()> {
     second_commits_first(&rt, alloc)?;
     one_gives_up(&rt, alloc, 1)?;
     one_gives_up(&rt, alloc, 2)?;
-    each_outcome(&rt, alloc)?;
+    each_outcome(&rt, alloc, LIMITS, 13)?;
+    each_outcome(&rt, alloc, LIMITS_AT_COMMIT, 14)?;
     leave_at_each_call(&rt, alloc)?;
     deep_fall(&rt, alloc)?;
     all_leave(&rt, alloc)?;
     refusals(&rt, alloc)?;
-    tell_crowd(&rt, alloc)
+    tell_crowd(&rt, alloc, LIMITS)?;
+    tell_crowd(&rt, alloc, LIMITS_AT_COMMIT)
 }
