@@ -209,10 +209,7 @@ impl Reply {
     {
         matches!(
             self,
-            Reply::Over(_)
-                | Reply::Committed(_)
-                | Reply::Aborted { .. }
-                | Reply::Refused { .. }
+            Reply::Aborted { .. } | Reply::Refused { .. } | Reply::Committed(_) | Reply::Over(_)
         )
     }
 }

@@ -49,10 +49,8 @@ impl Brief {
             Reply::Ended => Brief::Ended,
             Reply::NotEnded => Brief::NotEnded,
             Reply::Waits(first) => Brief::Waits(*first),
-            Reply::Over(_)
-            | Reply::Committed(_)
-            | Reply::Aborted { .. }
-            | Reply::Refused { .. } => Brief::Placed,
+            Reply::Over(_) | Reply::Committed(_) | Reply::Aborted { .. } | Reply::Refused { .. } =>
+                Brief::Placed,
         }
     }
 
