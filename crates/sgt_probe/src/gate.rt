@@ -1,7 +1,8 @@
 use sgt_workers::{Gate, Outcome, Pass};
+use std::thread;
 
-/// Makes workers leave at random: before one call of `odds`, drawn by the seed, the worker and the calls that it has made. With
-/// odds of 0 nobody leaves.
+/// Makes workers leave at random: before one call of `odds`, drawn by the seed, the worker and the calls that it has made. Before
+/// each call a worker gives way to others, so that many transactions are live at once. With odds of 0 it lets everybody go.
 #[derive(Drop)]
 pub struct RandomLeave {
     pub seed: u32,
@@ -22,6 +23,7 @@ impl Gate for RandomLeave {
         if self.odds == 0 {
             return Pass::Go;
         }
+        thread::yield_now();
         let own = drawn(u64::from(self.seed)).wrapping_add(u64::from(worker));
         let draw = drawn(drawn(own).wrapping_add(calls));
         if draw % u64::from(self.odds) == 0 {
