@@ -1,9 +1,10 @@
-//! Runs the events of the row `two_level_cascade` on `Engine::apply`, and tells their replies and then the committed values. What
-//! it has to tell stands in `stdout`.
+//! Runs the events of the row `two_level_cascade` on `Engine::apply`, and tells their replies and then the committed values.
+//! What it has to tell stands in `stdout`.
 //!
 //! It is made to be run where memory is refused, as `tests/growths` does. An event that is refused memory it tells, and whether
 //! the history, the committed values and who is live are as before. What it does then is said by its one word: `again` makes
-//! the event once more and goes on, `oldest` and `newest` quit those who are live, from that end on, and apply no further event.
+//! the event once more and goes on, `oldest` and `newest` quit those who are live, from that end on, and apply no further
+//! event.
 #![tactic(auto)]
 
 mod row;

@@ -40,8 +40,8 @@ pub fn open(alloc: Global) -> Result<SgtEngine, NoMemory> {
     open_engine(alloc, opening)
 }
 
-/// The row's events: a deposit, an Amalgamate that reads what it stored, and a Balance that reads what that one stored. Then the
-/// deposit is quit.
+/// The row's events: a deposit, an Amalgamate that reads what it stored, and a Balance that reads what that one stored. Then
+/// the deposit is quit.
 pub fn events(alloc: Global) -> Result<Vec<Event>, NoMemory> {
     let mut events = Vec::new(alloc);
     push_steps(&mut events, Tid(0), 1, &[1, 10], 3)?;
