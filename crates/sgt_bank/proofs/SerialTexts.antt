@@ -21,7 +21,7 @@ use Rattle.sgt_model.specs.Questions.{is_commit}
 use Rattle.sgt_workers.specs.Outcomes.{OutcomeStands}
 use Rattle.sgt_bank.specs.OutcomeText.{commit_words, ask_words, words_at, outcome_words, outcome_line}
 use Rattle.sgt_bank.specs.Reports.{outcome_lines, report_text}
-use Rattle.sgt_bank.specs.SerialText.{serial_results, told_before, result_words, result_at, is_refused, serial_ask, serial_words, serial_lines, serial_text}
+use Rattle.sgt_bank.specs.SerialText.{told_before, result_words, result_at, is_refused, serial_ask, serial_words, serial_lines, serial_text}
 
 -- what a history told, the oldest entry first
 abbrev in_order : List Entry → List RunResult

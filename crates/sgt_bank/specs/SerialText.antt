@@ -58,11 +58,7 @@ serial_ask s history n (Some e) = cond (is_refused e.reply) (result_at s history
 abbrev pub serial_words : {N : Type 0} → Setting → List Entry → Outcome N → List ℕ
 serial_words s history (outcome.Done n) = result_at s history n
 serial_words s history (outcome.Asked n) = serial_ask s history n (slice_get history n)
-serial_words s history (outcome.Gave attempts) = outcome_words history (outcome.Gave attempts)
-serial_words s history (outcome.Refused n) = outcome_words history (outcome.Refused n)
-serial_words s history (outcome.Left note) = outcome_words history (outcome.Left note)
-serial_words s history outcome.Untaken = outcome_words history outcome.Untaken
-serial_words s history outcome.NoMemory = outcome_words history outcome.NoMemory
+serial_words s history o = outcome_words history o
 
 -- the lines of outcomes, of the jobs from number n on
 abbrev pub serial_lines : {N : Type 0} → ℕ → Setting → List Entry → List (Outcome N) → List ℕ
