@@ -107,6 +107,9 @@ gives
   refused     it was not started: 1 no such procedure, 2 bad arguments, 3 no start is left, 4 no place is left
   no memory   a call for it was refused memory, and it changed nothing
 
+With a third limit of 1, as in [32,1000,1], each code is the one that the jobs ask when they run one after another, as answers are:
+take it where codes are acted on. Without it a code may rest on what another job had stored and then undone.
+
 All jobs are read before the first one runs, at most 1000000. A bad line is told on standard error, and no job runs then. A line
 has at most 65536 bytes, the input 16777216, and a value or a key is a whole number of at most fifteen digits. The first number
 of the limits, from 1 to 32, has to be at least the number of workers. Which of two jobs comes first is not said, but run one

@@ -47,8 +47,9 @@ pub record AreRun (opening : Opening) (jobs : List Job) (workers tries : ℕ) (h
   pub by_key : IsByKey rows
 
 -- what is written for an input of these bytes: the text of a report on the jobs that it asks for. Each `committed` line of it has
--- the answers that the serial run gives the job's transaction. Each committed transaction of one of SmallBank's five procedures
--- did the bank's arithmetic, on what those committed before it left
+-- the answers that the serial run gives the job's transaction, and each `asked` line of one that was refused at its commit the
+-- code. Each committed or refused transaction of one of SmallBank's five procedures did the bank's arithmetic, on what those
+-- before it left
 pub record IsReport (workers tries : ℕ) (bytes out : List ℕ) : Type 0 where
   pub opening : Opening
   pub jobs : List Job

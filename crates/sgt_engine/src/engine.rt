@@ -38,7 +38,8 @@ use std::marker::Model;
 /// For every list of events, running the committed transactions' procedures one after another in commit order on the opening
 /// database, as a plain map, gives each the answers it was told and ends in the engine's committed database; and a
 /// transaction is aborted only where its step would close a conflict cycle, it read from an aborted one, or its procedure or
-/// caller asked.
+/// caller asked. Where asks are answered at the commit, this is said of the committed and refused transactions, in reply order,
+/// and of the answers or the code that each was told.
 ///
 /// At every moment the history is legal: each reply is the one that the definitions of histories allow after the entries
 /// before it. Each event that is answered, refusals among them, is one entry. An event that was refused memory is none, and
