@@ -1,4 +1,5 @@
-"""What a history of SmallBank's procedures may be, written anew from docs/DEFINITIONS.md and docs/FORMATS.md, and the serial run.
+"""What a history of SmallBank's procedures may be, written anew from docs/DEFINITIONS.md and docs/FORMATS.md, and the serial
+run.
 
 It knows entries by their texts alone: an event as `["step",0]`, a reply as `wrote 2/101 1100`.
 """
@@ -243,7 +244,7 @@ class Checker:
         self.reads = {pair for pair in self.reads if t not in pair}
 
     def serial(self):
-        """The database that the committed transactions leave, run one after another. Each has to give the answer that it gave."""
+        """What the committed transactions leave, run one after another. Each has to give the answer that it gave."""
         rows = dict(self.opened)
         for (procedure, args), answer in self.committed:
             run = Run(procedure, args)
