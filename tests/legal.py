@@ -1,4 +1,5 @@
-"""What a history of SmallBank's procedures may be, written anew from docs/DEFINITIONS.md and docs/FORMATS.md, and the serial run.
+"""What a history of SmallBank's procedures may be, written anew from docs/DEFINITIONS.md and docs/FORMATS.md, and the serial
+run.
 
 It knows entries by their texts alone: an event as `["step",0]`, a reply as `wrote 2/101 1100`.
 """
@@ -160,7 +161,7 @@ class Checker:
         self.settled = dict(self.opened)
         self.runs = []  # of each transaction that was started
         self.fates = {}  # of each that has ended, as a reply behind `over`
-        self.told = []  # the calls of those that committed or were refused, in the order of these replies, with what each was told
+        self.told = []  # the calls that were committed or refused, in that order, with what each was told
         self.accesses = []  # of those that are live, in their order: who, look or store, key, value
         self.pairs = set()  # among those that are live: of two accesses in conflict the first one's, the second one's
         self.reads = set()  # who read from whom, while both are live
@@ -278,7 +279,7 @@ class Checker:
         self.reads = {pair for pair in self.reads if t not in pair}
 
     def serial(self):
-        """The database that the committed and refused transactions leave, run one after another. Each has to give what it was told."""
+        """What the committed and refused ones leave, run one after another. Each has to give what it was told."""
         rows = dict(self.opened)
         for (procedure, args), told in self.told:
             run, own = Run(procedure, args), dict(rows)

@@ -22,8 +22,8 @@ use Rattle.sgt_bank.specs.Inputs.{InputAsks}
 use Rattle.sgt_bank.specs.Reports.{report_text}
 use Rattle.sgt_bank.specs.SerialText.{serial_text}
 
--- the job was taken, and its worker did not leave: it committed, its procedure asked, its tries were spent, its start was refused,
--- or a call for it was refused memory
+-- the job was taken, and its worker did not leave: it committed, its procedure asked, its tries were spent, its start was
+-- refused, or a call for it was refused memory
 abbrev pub HasRun : {N : Type 0} → Outcome N → Type 0
 HasRun (outcome.Done n) = ⊤
 HasRun (outcome.Asked n) = ⊤

@@ -1,5 +1,5 @@
-//! A bank, run as `sgt bank` does, and told with its history: of each entry the line that asks for it in a script and the line of
-//! its reply, and then the report.
+//! A bank, run as `sgt bank` does, and told with its history: of each entry the line that asks for it in a script and the line
+//! of its reply, and then the report.
 use crate::gate::RandomLeave;
 use sgt_access::PerKey;
 use sgt_bank::{read_input, report_text};

@@ -1,8 +1,9 @@
 use sgt_workers::{Gate, Outcome, Pass};
 use std::thread;
 
-/// Makes workers leave at random: before one call of `odds`, drawn by the seed, the worker and the calls that it has made. Before
-/// each call a worker gives way to others, so that many transactions are live at once. With odds of 0 it lets everybody go.
+/// Makes workers leave at random: before one call of `odds`, drawn by the seed, the worker and the calls that it has made.
+/// Before each call a worker gives way to others, so that many transactions are live at once. With odds of 0 it lets everybody
+/// go.
 #[derive(Drop)]
 pub struct RandomLeave {
     pub seed: u32,

@@ -1,5 +1,5 @@
-//! What `tests/workers` and the measures in `bench` run and look at from outside: a bank with the history behind its report, whose
-//! workers may leave at random, and a session whose quit is refused all memory.
+//! What `tests/workers` and the measures in `bench` run and look at from outside: a bank with the history behind its report,
+//! whose workers may leave at random, and a session whose quit is refused all memory.
 //!
 //!     sgt_probe bank WORKERS TRIES [SEED ODDS]    the bank of standard input; one call of so many makes its worker leave
 //!     sgt_probe quit

@@ -1,5 +1,5 @@
-//! A session that quits what it has started. Behind its first line it has no need of memory but for further starts, so that from
-//! there on all memory may be refused from outside.
+//! A session that quits what it has started. Behind its first line it has no need of memory but for further starts, so that
+//! from there on all memory may be refused from outside.
 ghost use Rattle.std.specs.Prelude.{◌≡◌, [], IfOk};
 ghost use Rattle.sgt_engine.specs.EngineView.{setting_of};
 
