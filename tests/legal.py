@@ -107,7 +107,16 @@ IN_TWO_STEPS = (
     '[0,[["look",0,3,7,6],["if",["less",["reg",0],100],[["ask",99]],[]],["answer",["reg",0]]]]'
 )
 
-PROCEDURES = ((balance, 1), (deposit_checking, 2), (transact_saving, 2), (amalgamate, 2), (write_check, 2), (store_in_two_steps, 0), (find_all, 0))
+# Each with how many arguments it takes.
+PROCEDURES = (
+    (balance, 1),
+    (deposit_checking, 2),
+    (transact_saving, 2),
+    (amalgamate, 2),
+    (write_check, 2),
+    (store_in_two_steps, 0),
+    (find_all, 0),
+)
 
 
 class Run:
