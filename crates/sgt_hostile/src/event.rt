@@ -8,7 +8,7 @@ use sgt_stream::Fault;
 use std::alloc::Global;
 
 /// The most bytes of a line.
-const LONGEST: usize = 65_536;
+pub const LONGEST: usize = 65_536;
 
 /// The event of the line of this number, or its fault.
 pub fn read_line(alloc: Global, line: &[u8], number: u64) -> Result<Event, Fault> {

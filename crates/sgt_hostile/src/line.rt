@@ -1,15 +1,13 @@
 //! The lines that are drawn.
 
 use crate::draws::Draws;
+use crate::event::LONGEST;
 use crate::mutation::{byte, mutate};
 use crate::numeral::{long_number, number};
 use crate::tree::{nesting, tree};
 use crate::words::{blanks, escaped_text, word};
 use sgt_model::NoMemory;
 use std::alloc::Global;
-
-/// The most bytes of a line.
-const LONGEST: usize = 65_536;
 
 /// An opening.
 const OPENING: &[u8] =
@@ -30,7 +28,7 @@ pub enum Kind {
     LongLine,
 }
 
-/// How many kinds there are, and their names.
+/// The names of the kinds, in their order.
 pub const KINDS: [&str; 10] = [
     "events",
     "mutated events",

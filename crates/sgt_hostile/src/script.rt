@@ -2,7 +2,7 @@
 
 use crate::event::read_line;
 use crate::place::{Place, UNKNOWN, records};
-use sgt_model::{Event, NoMemory};
+use sgt_model::NoMemory;
 use sgt_script::run_script;
 use sgt_stream::{Fault, Reader, Writer};
 use std::alloc::Global;

@@ -1,6 +1,6 @@
 //! Bytes that are text, and texts within JSON.
 
-ghost use Rattle.std.specs.Prelude.{◌<◌, ◌≤◌, length, IfSome};
+ghost use Rattle.std.specs.Prelude.{◌<◌, length, IfSome};
 
 /// Whether bytes are UTF-8: each character in its shortest form, and no surrogate.
 pub fn is_utf8(bytes: &[u8]) -> bool {
