@@ -3,3 +3,4 @@ pub mod Strictness
 pub mod Inclusions
 pub mod CommitOrder
 pub mod Sources
+pub mod DirtyReads

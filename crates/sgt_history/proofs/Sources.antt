@@ -17,10 +17,10 @@ done_later : (h : List Operation) (t i j : ℕ) → i ≤ j → AbortedBefore h 
 done_later h t i j most done = (done.0, omega (arith, most, done.1), done.2)
 
 -- two that do at one place are one
-same_doer : (h : List Operation) (i t u : ℕ) (a b : Action) → Does h i t a → Does h i u b → t ≡ u
+pub same_doer : (h : List Operation) (i t u : ℕ) (a b : Action) → Does h i t a → Does h i u b → t ≡ u
 same_doer h i t u a b one other = ap (λ (o : Operation). o.transaction) (does_same h i _ u b one other)
 
-same_action : (h : List Operation) (i t u : ℕ) (a b : Action) → Does h i t a → Does h i u b → a ≡ b
+pub same_action : (h : List Operation) (i t u : ℕ) (a b : Action) → Does h i t a → Does h i u b → a ≡ b
 same_action h i t u a b one other = ap (λ (o : Operation). o.action) (does_same h i _ u b one other)
 
 -- all above the place below an aborted top have aborted
@@ -176,34 +176,30 @@ abort_sources h p t tops below commits aborts aborts' does are here others =
     }
 
 -- one operation further, where it violates nothing
-avoids_next : (h : List Operation) (p : ℕ) → AvoidsBefore h p → ((i : ℕ) → ¬ BreaksAvoidance h i p) → AvoidsBefore h (p + 1)
+pub avoids_next : (h : List Operation) (p : ℕ) → AvoidsBefore h p → ((i : ℕ) → ¬ BreaksAvoidance h i p) → AvoidsBefore h (p + 1)
 avoids_next h p before here i j less broken = elim (before_next j p less) [
   | inl earlier ↦ before i j earlier broken
   | inr same ↦ here i (subst (λ k. BreaksAvoidance h i k) same broken)
 ]
 
 -- an operation that does not read
-pub avoids_no_read : (h : List Operation) (p t : ℕ) (a : Action) → Does h p t a → ((x : ℕ) → a ≢ Read x) → AvoidsBefore h p
-    → AvoidsBefore h (p + 1)
-avoids_no_read h p t a does other before = avoids_next h p before
-    (λ i broken. other broken.item (same_action h p t broken.reader a _ does broken.reads.read))
+pub avoids_no_read : (h : List Operation) (p t : ℕ) (a : Action) → Does h p t a → ((x : ℕ) → a ≢ Read x) → (i : ℕ)
+    → ¬ BreaksAvoidance h i p
+avoids_no_read h p t a does other i broken = other broken.item (same_action h p t broken.reader a _ does broken.reads.read)
 
 -- a read of what stands as it was first
-pub avoids_no_write : (h : List Operation) (p t x : ℕ) → Does h p t (Read x) → IsTopWrite h p x None → AvoidsBefore h p
-    → AvoidsBefore h (p + 1)
-avoids_no_write h p t x does top before = avoids_next h p before go
-  where
-    go : (i : ℕ) → ¬ BreaksAvoidance h i p
-    go i broken =
-        let item : broken.item ≡ x = grind (arith, common_steps, same_action h p t broken.reader _ _ does broken.reads.read) in
-        broken.reads.standing (top i broken.writer broken.reads.earlier
-        (subst (λ y. Does h i broken.writer (Write y)) item broken.reads.written))
+pub avoids_no_write : (h : List Operation) (p t x : ℕ) → Does h p t (Read x) → IsTopWrite h p x None → (i : ℕ)
+    → ¬ BreaksAvoidance h i p
+avoids_no_write h p t x does top i broken =
+    let item : broken.item ≡ x = grind (arith, common_steps, same_action h p t broken.reader _ _ does broken.reads.read) in
+    broken.reads.standing (top i broken.writer broken.reads.earlier
+    (subst (λ y. Does h i broken.writer (Write y)) item broken.reads.written))
 
 -- a read of what its own transaction wrote, or a committed one
 pub avoids_committed : (h : List Operation) (p t x i w : ℕ) → Does h p t (Read x) → IsTopWrite h p x (Some i) → Does h i w (Write x)
-    → ((u : ℕ) → Does h i u (Write x) → ¬ AbortedBefore h u p) → (w ≡ t) ⊎ CommittedBefore h w p → AvoidsBefore h p
-    → AvoidsBefore h (p + 1)
-avoids_committed h p t x i w does top written standing fine before = avoids_next h p before go
+    → ((u : ℕ) → Does h i u (Write x) → ¬ AbortedBefore h u p) → (w ≡ t) ⊎ CommittedBefore h w p → (k : ℕ)
+    → ¬ BreaksAvoidance h k p
+avoids_committed h p t x i w does top written standing fine = go
   where
     fine_of : (k u v : ℕ) → v ≡ t → u ≢ v → ¬ CommittedBefore h u p → Does h k u (Write x) → k ≢ i
     fine_of k u v reader differ uncommitted at here =

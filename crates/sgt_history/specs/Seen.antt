@@ -4,10 +4,11 @@ use Rattle.std.specs.BTreeMap.{get}
 use Rattle.std.specs.Ordering.{nat_cmp}
 use Rattle.sgt_history.specs.declared.operation.Operation.{Operation}
 use Rattle.sgt_history.specs.declared.avoiding.Sources.{Sources}
+use Rattle.sgt_history.specs.declared.recoverable.DirtyReads.{DirtyReads}
 use Rattle.sgt_history.specs.declared.operation.Action.{Action}
-use Rattle.sgt_history.specs.declared.operation.Action.TheVariants.{Write, Commit, Abort}
-use Rattle.sgt_history.specs.Histories.{Does, AbortedBefore, EndedBefore}
-use Rattle.sgt_history.specs.Classes.{BreaksStrictness, BreaksAvoidance}
+use Rattle.sgt_history.specs.declared.operation.Action.TheVariants.{Read, Write, Commit, Abort}
+use Rattle.sgt_history.specs.Histories.{Does, AbortedBefore, CommittedBefore, EndedBefore}
+use Rattle.sgt_history.specs.Classes.{BreaksStrictness, BreaksAvoidance, BreaksRecoverability}
 
 -- the last write of the item before place j, or none
 abbrev pub IsLastWrite : List Operation → ℕ → ℕ → Option ℕ → Type 0
@@ -60,3 +61,38 @@ height (Some i) = i + 1
 -- no operation before place j violates the avoidance of cascading aborts
 abbrev pub AvoidsBefore : List Operation → ℕ → Type 0
 AvoidsBefore h place = (i j : ℕ) → j < place → ¬ BreaksAvoidance h i j
+
+-- a dirty read: at place k, t reads from another transaction that has not committed
+abbrev pub IsDirtyRead : List Operation → ℕ → ℕ → Type 0
+IsDirtyRead h k t = ((x : ℕ) × Does h k t (Read x)) × ((i : ℕ) × BreaksAvoidance h i k)
+
+-- the last dirty read of the transaction before place j, or none
+abbrev pub IsLastDirtyRead : List Operation → ℕ → ℕ → Option ℕ → Type 0
+IsLastDirtyRead h j t None = (k : ℕ) → k < j → ¬ IsDirtyRead h k t
+IsLastDirtyRead h j t (Some i) = (i < j) × IsDirtyRead h i t × ((k : ℕ) → i < k → k < j → ¬ IsDirtyRead h k t)
+
+-- what is kept to tell which dirty reads a transaction has done
+pub record AreDirtyReads (h : List Operation) (j : ℕ) (lasts earlier writers : ℕ → Option ℕ) : Type 0 where
+  pub lasts_are : (t : ℕ) → IsLastDirtyRead h j t (lasts t)
+  pub earlier_are : (k t : ℕ) → k < j → IsDirtyRead h k t → IsLastDirtyRead h k t (earlier k)
+  pub fresh : (k : ℕ) → j ≤ k → earlier k ≡ None
+  pub writers_are : (i k : ℕ) → k < j → (read : BreaksAvoidance h i k) → writers k ≡ Some read.writer
+
+-- what the checker of recoverability keeps of the operations before place j
+abbrev pub KnowsDirtyReads : List Operation → ℕ → DirtyReads → Type 0
+KnowsDirtyReads h j s =
+    KnowsSources h j s.sources × AreDirtyReads h j (get nat_cmp s.lasts) (get nat_cmp s.earlier) (get nat_cmp s.writers)
+
+-- whoever wrote what is read at place k has committed before place j
+abbrev pub IsCleanBy : List Operation → ℕ → ℕ → Type 0
+IsCleanBy h k j = (i : ℕ) (read : BreaksAvoidance h i k) → CommittedBefore h read.writer j
+
+-- The dirty reads of t before place j, and after the given place, are clean by j; at the given place is one.
+abbrev pub AreCleanAbove : List Operation → ℕ → ℕ → Option ℕ → Type 0
+AreCleanAbove h j t None = (k : ℕ) → k < j → IsDirtyRead h k t → IsCleanBy h k j
+AreCleanAbove h j t (Some i) =
+    (i < j) × IsDirtyRead h i t × ((k : ℕ) → i < k → k < j → IsDirtyRead h k t → IsCleanBy h k j)
+
+-- no operation before place j violates recoverability
+abbrev pub IsRecoverableBefore : List Operation → ℕ → Type 0
+IsRecoverableBefore h place = (k j : ℕ) → j < place → ¬ BreaksRecoverability h k j

@@ -1,7 +1,8 @@
 //! The avoidance of cascading aborts, and from which write an operation reads.
-ghost use Rattle.std.specs.Prelude.{◌≡◌, ◌≢◌, ◌<◌, ◌+◌, ℕ, Some, None, length, IfSome, IfOk, OnOk, IsNone};
+ghost use Rattle.std.specs.Prelude.{◌≡◌, ◌≢◌, ◌<◌, ◌+◌, ℕ, List, Some, None, length, is_some, IfSome, IfOk, OnOk, IsNone};
 ghost use Rattle.std.specs.BTreeMap.{get};
 ghost use Rattle.std.specs.Ordering.{nat_cmp};
+ghost use Rattle.sgt_history.specs.declared.operation.Operation.{Operation};
 ghost use Rattle.sgt_history.specs.declared.operation.Action.TheVariants.{Write};
 ghost use Rattle.sgt_history.specs.Histories.{Does, AbortedBefore};
 ghost use Rattle.sgt_history.specs.Classes.{BreaksAvoidance, IsFirstViolation};
@@ -27,12 +28,7 @@ pub fn avoidance_violation(
 ) -> Result<Option<Violation>, NoMemory>
     ensures { IfOk result (IsFirstViolation (BreaksAvoidance history.now)) }
 {
-    let mut seen = Sources {
-        tops: BTreeMap::new(alloc),
-        below: BTreeMap::new(alloc),
-        commits: BTreeMap::new(alloc),
-        aborts: BTreeMap::new(alloc),
-    };
+    let mut seen = Sources::new(alloc);
     for place in 0..history.len() {
         if let Some(earlier) = seen.uncommitted(history, place)? {
             return Ok(Some(Violation {
@@ -47,7 +43,7 @@ pub fn avoidance_violation(
 
 /// What is kept of the operations before a place, to tell from which write the next one reads.
 #[derive(Drop)]
-struct Sources {
+pub struct Sources {
     /// The place of an item's last write whose transaction is not known to have aborted.
     tops: BTreeMap<u32, usize>,
     /// For the place of a write that of one of its item below, which is the top once the writer has aborted.
@@ -59,18 +55,36 @@ struct Sources {
 }
 
 impl Sources {
+    /// What is kept before the first operation.
+    pub fn new(alloc: Global) -> Self
+        ensures { (h : List Operation) → KnowsSources h 0 result }
+    {
+        Sources {
+            tops: BTreeMap::new(alloc),
+            below: BTreeMap::new(alloc),
+            commits: BTreeMap::new(alloc),
+            aborts: BTreeMap::new(alloc),
+        }
+    }
+
+    /// Whether the transaction has committed.
+    pub fn has_committed(&self, transaction: u32) -> bool
+        ensures { result ≡ is_some (get nat_cmp self.now.commits transaction) }
+    {
+        self.commits.contains_key(&transaction)
+    }
+
     /// The write that the operation reads, where another transaction wrote it that has not committed.
-    fn uncommitted(
+    pub fn uncommitted(
         &mut self,
         history: &[Operation],
         place: usize,
     ) -> Result<Option<usize>, NoMemory>
         requires within { place < length history.now }
         requires sources { KnowsSources history.now place self.old }
-        requires avoids { AvoidsBefore history.now place }
         ensures sources { OnOk result (KnowsSources history.now place self.new) }
         ensures some { IfOk result (λ found. IfSome found (λ i. BreaksAvoidance history.now i place)) }
-        ensures none { IfOk result (λ found. IsNone found → AvoidsBefore history.now (place + 1)) }
+        ensures none { IfOk result (λ found. IsNone found → (i : ℕ) → ¬ BreaksAvoidance history.now i place) }
     {
         let operation = history[place];
         let Action::Read(item) = operation.action else {
@@ -82,7 +96,7 @@ impl Sources {
             return Ok(None);
         };
         let writer = history[earlier].transaction;
-        if writer == operation.transaction || self.commits.contains_key(&writer) {
+        if writer == operation.transaction || self.has_committed(writer) {
             return Ok(None);
         }
         Ok(Some(earlier))
@@ -106,7 +120,7 @@ impl Sources {
     }
 
     /// Notes the operation: its write, or how its transaction has ended.
-    fn note(&mut self, history: &[Operation], place: usize) -> Result<(), NoMemory>
+    pub fn note(&mut self, history: &[Operation], place: usize) -> Result<(), NoMemory>
         requires within { place < length history.now }
         requires sources { KnowsSources history.now place self.old }
         ensures { OnOk result (KnowsSources history.now (place + 1) self.new) }
@@ -136,8 +150,8 @@ fn set_top(tops: &mut BTreeMap<u32, usize>, item: u32, top: Option<usize>) -> Re
     Ok(())
 }
 
-/// Puts a write on top of the item's.
-fn put_on_top(
+/// Puts a place on top of a number's: of the writes of an item, say.
+pub fn put_on_top(
     tops: &mut BTreeMap<u32, usize>,
     below: &mut BTreeMap<usize, usize>,
     item: u32,

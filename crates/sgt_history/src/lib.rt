@@ -17,6 +17,7 @@
 mod avoiding;
 mod laws;
 mod operation;
+mod recoverable;
 mod strict;
 
 pub use avoiding::avoidance_violation;
@@ -25,4 +26,5 @@ pub use laws::{
     strict_avoid_cascading_aborts,
 };
 pub use operation::{Action, Operation, Violation};
+pub use recoverable::recoverable_violation;
 pub use strict::strict_violation;

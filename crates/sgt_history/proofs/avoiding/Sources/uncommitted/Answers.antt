@@ -4,7 +4,7 @@ use Rattle.sgt_history.specs.Seen.{IsTopWrite}
 use Rattle.sgt_history.proofs.Places.{there, does_at}
 use Rattle.sgt_history.proofs.Sources.{avoids_no_read, avoids_no_write, avoids_committed, avoidance_broken, top_write}
 use Rattle.sgt_history.proofs.avoiding.Sources.uncommitted.Goals as goal
-use Rattle.sgt_history.proofs.avoiding.Sources.uncommitted.Goals.{then-writer-operation-via-then-writer-operation, then-writer-operation-via-else-writer-operation+then-contains_key}
+use Rattle.sgt_history.proofs.avoiding.Sources.uncommitted.Goals.{then-writer-operation-via-then-writer-operation, then-writer-operation-via-else-writer-operation+then-has_committed}
 
 pub returns-in_default : goal.returns-in_default
 returns-in_default c =
@@ -12,7 +12,7 @@ returns-in_default c =
     let p = c.args.place in record {
       sources = c.requires.sources;
       some = tt;
-      none = λ _. avoids_no_read h p _ _ (does_at h p _ _ (there h p c.requires.within) refl) c.in_default.not-Read c.requires.avoids;
+      none = λ _. avoids_no_read h p _ _ (does_at h p _ _ (there h p c.requires.within) refl) c.in_default.not-Read;
     }
 
 pub returns-in_default-source-clause-none : goal.returns-in_default-source-clause-none
@@ -21,7 +21,7 @@ returns-in_default-source-clause-none c =
     let p = c.args.place in
     let x = c.in-Read.item in
     λ _. avoids_no_write h p _ x (does_at h p _ (Read x) (there h p c.requires.within) c.in-Read.is)
-    (subst (λ o. IsTopWrite h p x o) c.in_default-source.is c.standing-source.ensures.top) c.requires.avoids
+    (subst (λ o. IsTopWrite h p x o) c.in_default-source.is c.standing-source.ensures.top)
 
 pub returns-then-writer-operation-clause-none : goal.returns-then-writer-operation-clause-none
 returns-then-writer-operation-clause-none c =
@@ -35,8 +35,8 @@ returns-then-writer-operation-clause-none c =
     c.in-Some.ensures.standing
     (elim c.then-writer-operation.branch [
       | then-writer-operation-via-then-writer-operation w ↦ inl (search rules)
-      | then-writer-operation-via-else-writer-operation+then-contains_key w ↦ inr ((c.requires.sources.commits_are _).0 (search rules))
-    ]) c.requires.avoids
+      | then-writer-operation-via-else-writer-operation+then-has_committed w ↦ inr ((c.requires.sources.commits_are _).0 (search rules))
+    ])
 
 pub returns-clause-some : goal.returns-clause-some
 returns-clause-some c =

@@ -1,0 +1,108 @@
+//! Recoverability.
+ghost use Rattle.std.specs.Prelude.{◌<◌, ◌+◌, ℕ, length, IfSome, IfOk, OnOk, IsNone};
+ghost use Rattle.sgt_history.specs.Classes.{BreaksRecoverability, IsFirstViolation};
+ghost use Rattle.std.specs.BTreeMap.{get};
+ghost use Rattle.std.specs.Ordering.{nat_cmp};
+ghost use Rattle.sgt_history.specs.Seen.{KnowsSources, KnowsDirtyReads, AreDirtyReads};
+
+use crate::avoiding::{Sources, put_on_top};
+use crate::operation::{Action, Operation, Violation};
+use sgt_model::NoMemory;
+use std::alloc::Global;
+use std::collections::BTreeMap;
+
+/// The first commit of a transaction that has read from another that has not committed by then, with that read. `None` where
+/// the history is recoverable.
+///
+/// Bernstein, Hadzilacos and Goodman (1987), chapter 2: recoverable.
+///
+/// Over what the avoidance of cascading aborts costs, a read from one that has not committed costs four look-ups in a map, of
+/// which two at the commit of its reader.
+pub fn recoverable_violation(
+    alloc: Global,
+    history: &[Operation],
+) -> Result<Option<Violation>, NoMemory>
+    ensures { IfOk result (IsFirstViolation (BreaksRecoverability history.now)) }
+{
+    let mut seen = DirtyReads {
+        sources: Sources::new(alloc),
+        lasts: BTreeMap::new(alloc),
+        earlier: BTreeMap::new(alloc),
+        writers: BTreeMap::new(alloc),
+    };
+    for place in 0..history.len() {
+        if let Some(earlier) = seen.unrecoverable(history, place) {
+            return Ok(Some(Violation {
+                earlier,
+                later: place,
+            }));
+        }
+        seen.note(history, place)?;
+    }
+    Ok(None)
+}
+
+/// The dirty reads before a place: of what another transaction has written that had not committed.
+#[derive(Drop)]
+struct DirtyReads {
+    /// From which write the next operation reads.
+    sources: Sources,
+    /// The place of a transaction's last dirty read.
+    lasts: BTreeMap<u32, usize>,
+    /// For the place of a dirty read that of its transaction's next earlier one.
+    earlier: BTreeMap<usize, usize>,
+    /// For the place of a dirty read the transaction that it reads from.
+    writers: BTreeMap<usize, u32>,
+}
+
+impl DirtyReads {
+    /// The read by which the operation breaks recoverability.
+    fn unrecoverable(&self, history: &[Operation], place: usize) -> Option<usize>
+        requires within { place < length history.now }
+        requires reads { KnowsDirtyReads history.now place self.now }
+        ensures some { IfSome result (λ k. BreaksRecoverability history.now k place) }
+        ensures none { IsNone result → (k : ℕ) → ¬ BreaksRecoverability history.now k place }
+    {
+        let operation = history[place];
+        let Action::Commit = operation.action else {
+            return None;
+        };
+        let mut read = self.lasts.get(&operation.transaction).copied();
+        while let Some(dirty) = read {
+            let Some(writer) = self.writers.get(&dirty) else {
+                unreachable!()
+            };
+            if !self.sources.has_committed(*writer) {
+                return read;
+            }
+            read = self.earlier.get(&dirty).copied();
+        }
+        None
+    }
+
+    /// Notes the operation: its dirty read, its write, or how its transaction has ended.
+    fn note(&mut self, history: &[Operation], place: usize) -> Result<(), NoMemory>
+        requires within { place < length history.now }
+        requires reads { KnowsDirtyReads history.now place self.old }
+        ensures { OnOk result (KnowsDirtyReads history.now (place + 1) self.new) }
+    {
+        self.note_read(history, place)?;
+        self.sources.note(history, place)
+    }
+
+    /// Notes the operation if it is a dirty read.
+    fn note_read(&mut self, history: &[Operation], place: usize) -> Result<(), NoMemory>
+        requires within { place < length history.now }
+        requires reads { KnowsDirtyReads history.now place self.old }
+        ensures sources { OnOk result (KnowsSources history.now place self.new.sources) }
+        ensures reads { OnOk result (AreDirtyReads history.now (place + 1) (get nat_cmp self.new.lasts) (get nat_cmp self.new.earlier) (get nat_cmp self.new.writers)) }
+    {
+        let Some(write) = self.sources.uncommitted(history, place)? else {
+            return Ok(());
+        };
+        let reader = history[place].transaction;
+        self.writers.insert(place, history[write].transaction)?;
+        put_on_top(&mut self.lasts, &mut self.earlier, reader, place)?;
+        Ok(())
+    }
+}
