@@ -72,12 +72,12 @@ pub dirty_noted : (h : List Operation) (p i t w : ℕ) (lasts earlier writers la
     → earlier' p ≡ lasts t → ((k : ℕ) → k ≢ p → earlier' k ≡ earlier k)
     → writers' p ≡ Some read.writer → ((k : ℕ) → k ≢ p → writers' k ≡ writers k) → AreDirtyReads h (p + 1) lasts' earlier' writers'
 dirty_noted h p i t w lasts earlier writers lasts' earlier' writers' does read are here others lower others_earlier wrote others_writers =
-  record {
-    lasts_are = lasts_are;
-    earlier_are = earlier_are;
-    fresh = λ k most. others_earlier k (omega (arith, most)) ∙ are.fresh k (omega (arith, most));
-    writers_are = writers_are;
-  }
+    record {
+      lasts_are = lasts_are;
+      earlier_are = earlier_are;
+      fresh = λ k most. others_earlier k (omega (arith, most)) ∙ are.fresh k (omega (arith, most));
+      writers_are = writers_are;
+    }
   where
     lasts_are : (u : ℕ) → IsLastDirtyRead h (p + 1) u (lasts' u)
     lasts_are u = elim (cases_eq u t) [

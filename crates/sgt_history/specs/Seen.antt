@@ -78,10 +78,13 @@ pub record AreDirtyReads (h : List Operation) (j : ℕ) (lasts earlier writers :
   pub fresh : (k : ℕ) → j ≤ k → earlier k ≡ None
   pub writers_are : (i k : ℕ) → k < j → (read : BreaksAvoidance h i k) → writers k ≡ Some read.writer
 
+-- the dirty reads before place j, of what the checker of recoverability keeps
+abbrev pub KeepsDirtyReads : List Operation → ℕ → DirtyReads → Type 0
+KeepsDirtyReads h j s = AreDirtyReads h j (get nat_cmp s.lasts) (get nat_cmp s.earlier) (get nat_cmp s.writers)
+
 -- what the checker of recoverability keeps of the operations before place j
 abbrev pub KnowsDirtyReads : List Operation → ℕ → DirtyReads → Type 0
-KnowsDirtyReads h j s =
-    KnowsSources h j s.sources × AreDirtyReads h j (get nat_cmp s.lasts) (get nat_cmp s.earlier) (get nat_cmp s.writers)
+KnowsDirtyReads h j s = KnowsSources h j s.sources × KeepsDirtyReads h j s
 
 -- whoever wrote what is read at place k has committed before place j
 abbrev pub IsCleanBy : List Operation → ℕ → ℕ → Type 0

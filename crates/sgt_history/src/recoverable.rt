@@ -1,9 +1,7 @@
 //! Recoverability.
 ghost use Rattle.std.specs.Prelude.{◌<◌, ◌+◌, ℕ, length, IfSome, IfOk, OnOk, IsNone};
 ghost use Rattle.sgt_history.specs.Classes.{BreaksRecoverability, IsFirstViolation};
-ghost use Rattle.std.specs.BTreeMap.{get};
-ghost use Rattle.std.specs.Ordering.{nat_cmp};
-ghost use Rattle.sgt_history.specs.Seen.{KnowsSources, KnowsDirtyReads, AreDirtyReads};
+ghost use Rattle.sgt_history.specs.Seen.{KnowsSources, KnowsDirtyReads, KeepsDirtyReads};
 
 use crate::avoiding::{Sources, put_on_top};
 use crate::operation::{Action, Operation, Violation};
@@ -16,8 +14,8 @@ use std::collections::BTreeMap;
 ///
 /// Bernstein, Hadzilacos and Goodman (1987), chapter 2: recoverable.
 ///
-/// Over what the avoidance of cascading aborts costs, a read from one that has not committed costs four look-ups in a map, of
-/// which two at the commit of its reader.
+/// It costs what `avoidance_violation` costs, a look-up in a map for each commit, and for each read from one that has not
+/// committed three at the read and three at the commit of its reader.
 pub fn recoverable_violation(
     alloc: Global,
     history: &[Operation],
@@ -95,7 +93,7 @@ impl DirtyReads {
         requires within { place < length history.now }
         requires reads { KnowsDirtyReads history.now place self.old }
         ensures sources { OnOk result (KnowsSources history.now place self.new.sources) }
-        ensures reads { OnOk result (AreDirtyReads history.now (place + 1) (get nat_cmp self.new.lasts) (get nat_cmp self.new.earlier) (get nat_cmp self.new.writers)) }
+        ensures reads { OnOk result (KeepsDirtyReads history.now (place + 1) self.new) }
     {
         let Some(write) = self.sources.uncommitted(history, place)? else {
             return Ok(());

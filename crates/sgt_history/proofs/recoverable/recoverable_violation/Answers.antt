@@ -15,4 +15,5 @@ loop-place-preserved c = record {
 }
 
 pub returns : goal.returns
-returns c = recoverable_whole c.args.history.now c.loop-place.place (omega (arith, c.loop-place-test.false)) c.loop-place.invariant.recoverable
+returns c = recoverable_whole c.args.history.now c.loop-place.place (omega (arith, c.loop-place-test.false))
+    c.loop-place.invariant.recoverable

@@ -24,7 +24,8 @@ returns-clause-reads c =
     let reader = ap (λ (o : Operation). o.transaction) (does_same h p _ read.reader _ (there h p c.requires.within) read.reads.read) in
     let writer = writer_is h i read.writer read.item _
     (there h i (omega (arith, read.reads.earlier, c.requires.within))) read.reads.written in
-    let wrote : get nat_cmp c.insert.new.self p ≡ Some (slice_index_or h i (record { transaction = 0; action = Read 0 })).transaction = search rules in
+    let doer : ℕ = (slice_index_or h i (record { transaction = 0; action = Read 0 })).transaction in
+    let wrote : get nat_cmp c.insert.new.self p ≡ Some doer = search rules in
     dirty_noted h p i _ read.item _ _ _ _ _ _ (subst (λ u. Does h p u (Read read.item)) (sym reader) read.reads.read) read
     c.requires.reads.1 c.in_ok-put_on_top.ensures.top c.in_ok-put_on_top.ensures.other_tops c.in_ok-put_on_top.ensures.lower
     c.in_ok-put_on_top.ensures.others_below
