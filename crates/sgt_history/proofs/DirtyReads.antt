@@ -5,7 +5,6 @@ use Rattle.std.proofs.lemmas.Bool.{cases_eq, cases_lt}
 use Rattle.std.proofs.lemmas.Grind.{common_steps}
 use Rattle.std.proofs.lemmas.Option.{slice_get_within}
 use Rattle.sgt_history.specs.declared.operation.Operation.{Operation}
-use Rattle.sgt_history.specs.declared.operation.Action.{Action}
 use Rattle.sgt_history.specs.declared.operation.Action.TheVariants.{Read, Write, Commit}
 use Rattle.sgt_history.specs.Histories.{Does, CommittedBefore}
 use Rattle.sgt_history.specs.Classes.{BreaksAvoidance, BreaksRecoverability, IsRecoverable}
@@ -153,11 +152,6 @@ recoverable_next h p before here k j less broken = elim (before_next j p less) [
   | inl earlier ↦ before k j earlier broken
   | inr same ↦ here k (subst (λ n. BreaksRecoverability h k n) same broken)
 ]
-
--- an operation that commits nothing
-pub recoverable_no_commit : (h : List Operation) (p t : ℕ) (a : Action) → Does h p t a → a ≢ Commit → (k : ℕ)
-    → ¬ BreaksRecoverability h k p
-recoverable_no_commit h p t a does other k broken = other (same_action h p t broken.reader a Commit does broken.commits)
 
 -- what breaks recoverability is a dirty read
 dirty_of : (h : List Operation) (k p : ℕ) (broken : BreaksRecoverability h k p) → BreaksAvoidance h broken.write k
