@@ -4,3 +4,4 @@ pub mod Inclusions
 pub mod CommitOrder
 pub mod Sources
 pub mod DirtyReads
+pub mod Rigorousness

@@ -1,14 +1,15 @@
 -- What is kept of the operations before a place.
-use Rattle.std.specs.Prelude.{◌≡◌, ◌<◌, ◌≤◌, ◌↔◌, ◌+◌, ℕ, List, Option, Some, None, IsSome}
+use Rattle.std.specs.Prelude.{◌≡◌, ◌<◌, ◌≤◌, ◌↔◌, ◌⊎◌, ◌+◌, ℕ, List, Option, Some, None, IsSome}
 use Rattle.std.specs.BTreeMap.{get}
 use Rattle.std.specs.Ordering.{nat_cmp}
 use Rattle.sgt_history.specs.declared.operation.Operation.{Operation}
 use Rattle.sgt_history.specs.declared.avoiding.Sources.{Sources}
 use Rattle.sgt_history.specs.declared.recoverable.DirtyReads.{DirtyReads}
+use Rattle.sgt_history.specs.declared.rigorous.Accesses.{Accesses}
 use Rattle.sgt_history.specs.declared.operation.Action.{Action}
 use Rattle.sgt_history.specs.declared.operation.Action.TheVariants.{Read, Write, Commit, Abort}
 use Rattle.sgt_history.specs.Histories.{Does, AbortedBefore, CommittedBefore, EndedBefore}
-use Rattle.sgt_history.specs.Classes.{BreaksStrictness, BreaksAvoidance, BreaksRecoverability}
+use Rattle.sgt_history.specs.Classes.{BreaksStrictness, BreaksAvoidance, BreaksRecoverability, BreaksRigorousness}
 
 -- the last write of the item before place j, or none
 abbrev pub IsLastWrite : List Operation → ℕ → ℕ → Option ℕ → Type 0
@@ -99,3 +100,36 @@ AreCleanAbove h j t (Some i) =
 -- no operation before place j violates recoverability
 abbrev pub IsRecoverableBefore : List Operation → ℕ → Type 0
 IsRecoverableBefore h place = (k j : ℕ) → j < place → ¬ BreaksRecoverability h k j
+
+-- the item is written after place k and before place j
+abbrev pub IsOverwritten : List Operation → ℕ → ℕ → ℕ → Type 0
+IsOverwritten h k j x = (m : ℕ) × (u : ℕ) × (k < m) × (m < j) × Does h m u (Write x)
+
+-- the last read of the item before place j, or none since its last write
+abbrev pub IsLastRead : List Operation → ℕ → ℕ → Option ℕ → Type 0
+IsLastRead h j x None = (k t : ℕ) → k < j → Does h k t (Read x) → IsOverwritten h k j x
+IsLastRead h j x (Some i) =
+    (i < j) × ((t : ℕ) × Does h i t (Read x)) × ((k t : ℕ) → i < k → k < j → Does h k t (Read x) → IsOverwritten h k j x)
+
+-- what is kept to tell who has read an item since its last write
+pub record AreReads (h : List Operation) (j : ℕ) (lasts earlier : ℕ → Option ℕ) : Type 0 where
+  pub lasts_are : (x : ℕ) → IsLastRead h j x (lasts x)
+  pub earlier_are : (k t x : ℕ) → k < j → Does h k t (Read x) → IsLastRead h k x (earlier k)
+  pub fresh : (k : ℕ) → j ≤ k → earlier k ≡ None
+
+-- what the checker of rigorousness keeps of the operations before place j
+pub record KnowsAccesses (h : List Operation) (j : ℕ) (s : Accesses) : Type 0 where
+  pub last : AreLastWrites h j (get nat_cmp s.writes.writers)
+  pub ends : AreEnded h j (get nat_cmp s.writes.ended)
+  pub reads : AreReads h j (get nat_cmp s.lasts) (get nat_cmp s.earlier)
+
+-- The reads of the item before place j, and after the given place, are overwritten, by t, or of an ended transaction.
+abbrev pub AreFineAbove : List Operation → ℕ → ℕ → ℕ → Option ℕ → Type 0
+AreFineAbove h j x t None =
+    (k r : ℕ) → k < j → Does h k r (Read x) → IsOverwritten h k j x ⊎ ((r ≡ t) ⊎ EndedBefore h r j)
+AreFineAbove h j x t (Some i) = (i < j) × ((r : ℕ) × Does h i r (Read x))
+    × ((k r : ℕ) → i < k → k < j → Does h k r (Read x) → IsOverwritten h k j x ⊎ ((r ≡ t) ⊎ EndedBefore h r j))
+
+-- no operation before place j violates rigorousness
+abbrev pub IsRigorousBefore : List Operation → ℕ → Type 0
+IsRigorousBefore h place = (i j : ℕ) → j < place → ¬ BreaksRigorousness h i j

@@ -18,6 +18,7 @@ mod avoiding;
 mod laws;
 mod operation;
 mod recoverable;
+mod rigorous;
 mod strict;
 
 pub use avoiding::avoidance_violation;
@@ -27,4 +28,5 @@ pub use laws::{
 };
 pub use operation::{Action, Operation, Violation};
 pub use recoverable::recoverable_violation;
+pub use rigorous::rigorous_violation;
 pub use strict::strict_violation;

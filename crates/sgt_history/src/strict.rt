@@ -1,7 +1,8 @@
 //! Strictness.
-ghost use Rattle.std.specs.Prelude.{◌≡◌, ◌≢◌, ◌<◌, ◌+◌, ℕ, Some, length, IfSome, IfOk, OnOk, IsNone};
+ghost use Rattle.std.specs.Prelude.{◌≡◌, ◌≢◌, ◌<◌, ◌+◌, ℕ, List, Some, length, is_some, IfSome, IfOk, OnOk, IsNone};
 ghost use Rattle.std.specs.BTreeMap.{get};
 ghost use Rattle.std.specs.Ordering.{nat_cmp};
+ghost use Rattle.sgt_history.specs.declared.operation.Operation.{Operation};
 ghost use Rattle.sgt_history.specs.Classes.{BreaksStrictness, IsFirstViolation};
 ghost use Rattle.sgt_history.specs.Seen.{AreLastWrites, AreEnded, IsStrictBefore};
 
@@ -19,10 +20,7 @@ use std::collections::BTreeMap;
 pub fn strict_violation(alloc: Global, history: &[Operation]) -> Result<Option<Violation>, NoMemory>
     ensures { IfOk result (IsFirstViolation (BreaksStrictness history.now)) }
 {
-    let mut seen = Writes {
-        writers: BTreeMap::new(alloc),
-        ended: BTreeMap::new(alloc),
-    };
+    let mut seen = Writes::new(alloc);
     for place in 0..history.len() {
         if let Some(earlier) = seen.unended(history, place) {
             return Ok(Some(Violation {
@@ -37,7 +35,7 @@ pub fn strict_violation(alloc: Global, history: &[Operation]) -> Result<Option<V
 
 /// The last write of each item and who has ended, before a place.
 #[derive(Drop)]
-struct Writes {
+pub struct Writes {
     /// The place of an item's last write.
     writers: BTreeMap<u32, usize>,
     /// Where a transaction has ended.
@@ -45,8 +43,26 @@ struct Writes {
 }
 
 impl Writes {
+    /// What is kept before the first operation.
+    pub fn new(alloc: Global) -> Self
+        ensures last { (h : List Operation) → AreLastWrites h 0 (get nat_cmp result.writers) }
+        ensures ends { (h : List Operation) → AreEnded h 0 (get nat_cmp result.ended) }
+    {
+        Writes {
+            writers: BTreeMap::new(alloc),
+            ended: BTreeMap::new(alloc),
+        }
+    }
+
+    /// Whether the transaction has ended.
+    pub fn has_ended(&self, transaction: u32) -> bool
+        ensures { result ≡ is_some (get nat_cmp self.now.ended transaction) }
+    {
+        self.ended.contains_key(&transaction)
+    }
+
     /// The last write of the item that the operation reads or writes, where another transaction wrote it that has not ended.
-    fn unended(&self, history: &[Operation], place: usize) -> Option<usize>
+    pub fn unended(&self, history: &[Operation], place: usize) -> Option<usize>
         requires within { place < length history.now }
         requires last { AreLastWrites history.now place (get nat_cmp self.now.writers) }
         requires ends { AreEnded history.now place (get nat_cmp self.now.ended) }
@@ -58,14 +74,14 @@ impl Writes {
         let item = operation.action.item()?;
         let earlier = *self.writers.get(&item)?;
         let writer = history[earlier].transaction;
-        if writer == operation.transaction || self.ended.contains_key(&writer) {
+        if writer == operation.transaction || self.has_ended(writer) {
             return None;
         }
         Some(earlier)
     }
 
     /// Notes the operation: its write, or that its transaction has ended.
-    fn note(&mut self, history: &[Operation], place: usize) -> Result<(), NoMemory>
+    pub fn note(&mut self, history: &[Operation], place: usize) -> Result<(), NoMemory>
         requires within { place < length history.now }
         requires last { AreLastWrites history.now place (get nat_cmp self.old.writers) }
         requires ends { AreEnded history.now place (get nat_cmp self.old.ended) }

@@ -2,6 +2,13 @@ use Rattle.std.proofs.Common.{rules, arith}
 use Rattle.sgt_history.proofs.Strictness.{strict_whole}
 use Rattle.sgt_history.proofs.strict.strict_violation.Goals as goal
 
+pub loop-place-init : goal.loop-place-init
+loop-place-init c = record {
+  last = c.new-seen.ensures.last _;
+  ends = c.new-seen.ensures.ends _;
+  strict = λ i j less broken. omega (arith, less);
+}
+
 pub loop-place-preserved : goal.loop-place-preserved
 loop-place-preserved c = record {
   last = c.in_ok-note.ensures.last;

@@ -3,7 +3,7 @@ use Rattle.sgt_history.specs.Seen.{IsLastWrite}
 use Rattle.sgt_history.proofs.Places.{there}
 use Rattle.sgt_history.proofs.Strictness.{strict_no_item, strict_no_write, strict_ended, strict_broken}
 use Rattle.sgt_history.proofs.strict.Writes.unended.Goals as goal
-use Rattle.sgt_history.proofs.strict.Writes.unended.Goals.{then-writer-operation-via-then-writer-operation, then-writer-operation-via-else-writer-operation+then-contains_key}
+use Rattle.sgt_history.proofs.strict.Writes.unended.Goals.{then-writer-operation-via-then-writer-operation, then-writer-operation-via-else-writer-operation+then-has_ended}
 
 pub returns-in_err-item-clause-none : goal.returns-in_err-item-clause-none
 returns-in_err-item-clause-none c = λ _.
@@ -25,7 +25,7 @@ returns-then-writer-operation-clause-none c =
     (there h i (omega (arith, last.0, c.requires.within))) last
     (elim c.then-writer-operation.branch [
       | then-writer-operation-via-then-writer-operation w ↦ inl (search rules)
-      | then-writer-operation-via-else-writer-operation+then-contains_key w ↦ inr ((c.requires.ends _).0 (search rules))
+      | then-writer-operation-via-else-writer-operation+then-has_ended w ↦ inr ((c.requires.ends _).0 (search rules))
     ]) c.requires.strict
 
 pub returns-clause-some : goal.returns-clause-some

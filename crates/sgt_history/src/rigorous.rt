@@ -1,0 +1,124 @@
+//! Rigorousness.
+ghost use Rattle.std.specs.Prelude.{◌≡◌, ◌<◌, ◌+◌, ℕ, length, IfSome, IfOk, OnOk, IsNone};
+ghost use Rattle.std.specs.BTreeMap.{get};
+ghost use Rattle.std.specs.Ordering.{nat_cmp};
+ghost use Rattle.sgt_history.specs.Classes.{BreaksStrictness, OverwritesReader, BreaksRigorousness, IsFirstViolation};
+ghost use Rattle.sgt_history.specs.Seen.{KnowsAccesses, AreReads, IsRigorousBefore};
+
+use crate::avoiding::put_on_top;
+use crate::operation::{Action, Operation, Violation};
+use crate::strict::Writes;
+use sgt_model::NoMemory;
+use std::alloc::Global;
+use std::collections::BTreeMap;
+
+/// The first operation that breaks strictness, or overwrites what another transaction has read that has not ended, with the
+/// write or the read that it breaks it by. `None` where the history is rigorous.
+///
+/// Breitbart and others (1991): rigorous.
+///
+/// Each read is passed once more in the whole, at the next write of its item; but for that an operation costs four look-ups in
+/// a map at most.
+pub fn rigorous_violation(
+    alloc: Global,
+    history: &[Operation],
+) -> Result<Option<Violation>, NoMemory>
+    ensures { IfOk result (IsFirstViolation (BreaksRigorousness history.now)) }
+{
+    let mut seen = Accesses {
+        writes: Writes::new(alloc),
+        lasts: BTreeMap::new(alloc),
+        earlier: BTreeMap::new(alloc),
+    };
+    for place in 0..history.len() {
+        if let Some(earlier) = seen.unended(history, place) {
+            return Ok(Some(Violation {
+                earlier,
+                later: place,
+            }));
+        }
+        seen.note(history, place)?;
+    }
+    Ok(None)
+}
+
+/// Who has used each item and who has ended, before a place.
+#[derive(Drop)]
+struct Accesses {
+    /// The last writes, and who has ended.
+    writes: Writes,
+    /// The place of an item's last read since its last write.
+    lasts: BTreeMap<u32, usize>,
+    /// For the place of a read that of the item's next earlier one since the write before.
+    earlier: BTreeMap<usize, usize>,
+}
+
+impl Accesses {
+    /// The use by another transaction, which has not ended, that the operation conflicts with.
+    fn unended(&self, history: &[Operation], place: usize) -> Option<usize>
+        requires within { place < length history.now }
+        requires uses { KnowsAccesses history.now place self.now }
+        requires rigorous { IsRigorousBefore history.now place }
+        ensures some { IfSome result (λ i. BreaksRigorousness history.now i place) }
+        ensures none { IsNone result → (i : ℕ) → ¬ BreaksRigorousness history.now i place }
+    {
+        let write = self.writes.unended(history, place);
+        if write.is_some() {
+            return write;
+        }
+        self.unended_reader(history, place)
+    }
+
+    /// The read by another transaction, which has not ended, that the operation overwrites.
+    fn unended_reader(&self, history: &[Operation], place: usize) -> Option<usize>
+        requires within { place < length history.now }
+        requires uses { KnowsAccesses history.now place self.now }
+        requires rigorous { IsRigorousBefore history.now place }
+        requires strict { (i : ℕ) → ¬ BreaksStrictness history.now i place }
+        ensures some { IfSome result (λ i. OverwritesReader history.now i place) }
+        ensures none { IsNone result → (i : ℕ) → ¬ OverwritesReader history.now i place }
+    {
+        let operation = history[place];
+        let Action::Write(item) = operation.action else {
+            return None;
+        };
+        let mut read = self.lasts.get(&item).copied();
+        while let Some(earlier) = read {
+            let reader = history[earlier].transaction;
+            if reader != operation.transaction && !self.writes.has_ended(reader) {
+                return read;
+            }
+            read = self.earlier.get(&earlier).copied();
+        }
+        None
+    }
+
+    /// Notes the operation: its read, its write, or that its transaction has ended.
+    fn note(&mut self, history: &[Operation], place: usize) -> Result<(), NoMemory>
+        requires within { place < length history.now }
+        requires uses { KnowsAccesses history.now place self.old }
+        ensures { OnOk result (KnowsAccesses history.now (place + 1) self.new) }
+    {
+        self.note_read(history, place)?;
+        self.writes.note(history, place)?;
+        Ok(())
+    }
+
+    /// Notes the operation if it is a read, and takes the reads of its item out if it is a write.
+    fn note_read(&mut self, history: &[Operation], place: usize) -> Result<(), NoMemory>
+        requires within { place < length history.now }
+        requires reads { AreReads history.now place (get nat_cmp self.old.lasts) (get nat_cmp self.old.earlier) }
+        ensures same { OnOk result (self.new.writes ≡ self.old.writes) }
+        ensures reads { OnOk result (AreReads history.now (place + 1) (get nat_cmp self.new.lasts) (get nat_cmp self.new.earlier)) }
+    {
+        let operation = history[place];
+        match operation.action {
+            Action::Read(item) => put_on_top(&mut self.lasts, &mut self.earlier, item, place)?,
+            Action::Write(item) => {
+                self.lasts.remove(&item);
+            }
+            Action::Commit | Action::Abort => (),
+        }
+        Ok(())
+    }
+}
