@@ -57,7 +57,8 @@ returns-then-not-has_ended-clause-some c =
     subst (λ o. AreFineAbove h p x t o) c.in-Some.is (c.loop-read.invariant t x own) in
     let i : ℕ = c.in-Some.earlier in
     let r : ℕ = (slice_index_or h i (record { transaction = 0; action = Read 0 })).transaction in
-    let same : r ≡ top.1.0 = ap (λ (o : Operation). o.transaction) (does_same h i _ top.1.0 (Read x) (there h i (omega (arith, top.0, c.requires.within))) top.1.1) in
+    let same : r ≡ top.1.0 = ap (λ (o : Operation). o.transaction)
+    (does_same h i _ top.1.0 (Read x) (there h i (omega (arith, top.0, c.requires.within))) top.1.1) in
     let read : Does h i r (Read x) = subst (λ u. Does h i u (Read x)) (sym same) top.1.1 in
     record {
       item = x;
@@ -94,7 +95,8 @@ loop-read-preserved c u y does =
     subst (λ o. AreFineAbove h p x t o) c.in-Some.is (c.loop-read.invariant t x own) in
     let i : ℕ = c.in-Some.earlier in
     let r : ℕ = (slice_index_or h i (record { transaction = 0; action = Read 0 })).transaction in
-    let same : r ≡ top.1.0 = ap (λ (o : Operation). o.transaction) (does_same h i _ top.1.0 (Read x) (there h i (omega (arith, top.0, c.requires.within))) top.1.1) in
+    let same : r ≡ top.1.0 = ap (λ (o : Operation). o.transaction)
+    (does_same h i _ top.1.0 (Read x) (there h i (omega (arith, top.0, c.requires.within))) top.1.1) in
     let read : Does h i r (Read x) = subst (λ u. Does h i u (Read x)) (sym same) top.1.1 in
     let lower : IsLastRead h c.in-Some.earlier x c.copied-read-in-Some.result = subst (λ o. IsLastRead h c.in-Some.earlier x o)
     (sym (c.copied-read-in-Some.ensures ∙ c.get-in-Some.ensures.value)) (c.requires.uses.reads.earlier_are _ top.1.0 x top.0 top.1.1) in
