@@ -141,11 +141,6 @@ pub height_read : (h : List Operation) (i x : ℕ) (o : Option ℕ) → IsLastRe
 height_read h i x None none = omega arith
 height_read h i x (Some n) is = omega (arith, is.0)
 
--- an operation that writes nothing
-pub no_overwrite : (h : List Operation) (p t : ℕ) (a : Action) → Does h p t a → ((x : ℕ) → a ≢ Write x) → (i : ℕ)
-    → ¬ OverwritesReader h i p
-no_overwrite h p t a does other i broken = other broken.item (same_action h p t broken.writer a _ does broken.written)
-
 -- a write after fine reads alone
 pub fine_overwrite : (h : List Operation) (p t x : ℕ) → Does h p t (Write x) → AreFineAbove h p x t None → IsRigorousBefore h p
     → ((i : ℕ) → ¬ BreaksStrictness h i p) → (i : ℕ) → ¬ OverwritesReader h i p
