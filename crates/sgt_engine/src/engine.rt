@@ -18,6 +18,10 @@ ghost use Rattle.sgt_model.specs.Questions.{is_ending};
 ghost use Rattle.sgt_sched.specs.Scheduler.{parts, state};
 ghost use Rattle.sgt_engine.specs.EngineView.{setting_of, made_of, with_entry};
 
+mod cut;
+
+pub use cut::CutError;
+
 use crate::past::Past;
 use crate::room::{file, make_room};
 use sgt_access::Accesses;

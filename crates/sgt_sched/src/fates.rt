@@ -60,6 +60,15 @@ impl Fates {
         }
     }
 
+    /// Forgets them all, so that numbers begin anew. This takes no memory.
+    pub fn clear(&mut self)
+        ensures { self.new.fates ≡ [] }
+    {
+        self.ends.clear();
+        self.walks.clear();
+        self.live = 0;
+    }
+
     /// How many were started.
     pub fn len(&self) -> usize
         ensures { result ≡ length self.now.fates }
