@@ -20,10 +20,9 @@ ghost use Rattle.sgt_engine.specs.EngineView.{setting_of, made_of, with_entry};
 
 mod cut;
 
-pub use cut::CutError;
-
 use crate::past::Past;
 use crate::room::{file, make_room};
+pub use cut::CutError;
 use sgt_access::Accesses;
 use sgt_graph::Graph;
 use sgt_model::{

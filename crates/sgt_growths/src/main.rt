@@ -4,18 +4,41 @@
 //! It is made to be run where memory is refused, as `tests/growths` does. An event that is refused memory it tells, and whether
 //! the history, the committed values and who is live are as before. What it does then is said by its one word: `again` makes
 //! the event once more and goes on, `oldest` and `newest` quit those who are live, from that end on, and apply no further
-//! event.
+//! event. `cut` goes on in the same way, and cuts the history off behind the row, then while a transaction is live, and then
+//! behind its quit.
 #![tactic(auto)]
 
 mod row;
 mod run;
 
-use row::events;
+use row::{events, one_more};
 use run::{Order, Run};
 use sgt_model::{Event, NoMemory};
 use std::alloc::Global;
 use std::io::Print;
 use std::{env, io};
+
+/// What a run does by its one word.
+#[derive(Clone, Copy)]
+enum Plan {
+    /// It makes an event that was refused memory once more.
+    Again,
+    /// The same, and then it cuts.
+    Cut,
+    /// Where an event was refused memory it quits all who are live.
+    Quit(Order),
+}
+
+/// The plan that the word names.
+fn plan_of(word: &str) -> Option<Plan> {
+    match word {
+        "again" => Some(Plan::Again),
+        "cut" => Some(Plan::Cut),
+        "oldest" => Some(Plan::Quit(Order::Oldest)),
+        "newest" => Some(Plan::Quit(Order::Newest)),
+        _ => None,
+    }
+}
 
 /// The run that has answered nothing, and the events for it.
 fn begin(alloc: Global) -> Result<(Run, Vec<Event>), NoMemory> {
@@ -24,19 +47,14 @@ fn begin(alloc: Global) -> Result<(Run, Vec<Event>), NoMemory> {
     Ok((run, events))
 }
 
-/// Applies the events. Where one is refused memory, all who are live are quit in this order, if there is one; else the event is
-/// made once more.
-fn apply_all(
-    rt: &impl Print,
-    run: &mut Run,
-    events: &[Event],
-    quits: Option<Order>,
-) -> io::Result<()> {
+/// Applies the events. Where one is refused memory, all who are live are quit, if this is the plan; else the event is made once
+/// more.
+fn apply_all(rt: &impl Print, run: &mut Run, events: &[Event], plan: Plan) -> io::Result<()> {
     for event in events {
         if run.apply(rt, event)? {
             continue;
         }
-        if let Some(order) = quits {
+        if let Plan::Quit(order) = plan {
             return run.quit_all(rt, order);
         }
         run.apply(rt, event)?;
@@ -44,20 +62,41 @@ fn apply_all(
     Ok(())
 }
 
+/// Cuts the history off; once more where that was refused memory.
+fn cut(rt: &impl Print, alloc: Global, run: Run) -> io::Result<(Run, bool)> {
+    match run.cut(rt, alloc)? {
+        (run, true) => Ok((run, true)),
+        (run, false) => run.cut(rt, alloc),
+    }
+}
+
+/// Cuts, starts one more transaction, is told that it is live, quits it, and cuts again.
+fn cut_and_go_on(rt: &impl Print, alloc: Global, run: Run) -> io::Result<Run> {
+    let (mut run, is_cut) = cut(rt, alloc, run)?;
+    if !is_cut {
+        return Ok(run);
+    }
+    apply_all(rt, &mut run, &[one_more()], Plan::Again)?;
+    let (mut run, _) = run.cut(rt, alloc)?;
+    run.quit_all(rt, Order::Oldest)?;
+    let (run, _) = cut(rt, alloc, run)?;
+    Ok(run)
+}
+
 fn main(rt: HostRuntime) -> io::Result<()> {
     let Ok(mut words) = env::args(&rt) else {
         return println!(rt; "no memory");
     };
     let word = words.nth(1);
-    let quits = match word.as_ref().map(|word| word.as_str()) {
-        Some("again") => None,
-        Some("oldest") => Some(Order::Oldest),
-        Some("newest") => Some(Order::Newest),
-        _ => return println!(rt; "usage: sgt_growths again|oldest|newest"),
+    let Some(plan) = word.as_ref().and_then(|word| plan_of(word.as_str())) else {
+        return println!(rt; "usage: sgt_growths again|oldest|newest|cut");
     };
     let Ok((mut run, events)) = begin(rt.alloc()) else {
         return println!(rt; "no memory");
     };
-    apply_all(&rt, &mut run, events.as_slice(), quits)?;
+    apply_all(&rt, &mut run, events.as_slice(), plan)?;
+    if let Plan::Cut = plan {
+        run = cut_and_go_on(&rt, rt.alloc(), run)?;
+    }
     run.tell_end(&rt)
 }

@@ -51,6 +51,14 @@ pub fn events(alloc: Global) -> Result<Vec<Event>, NoMemory> {
     Ok(events)
 }
 
+/// The start of one more transaction: a Balance of the first account.
+pub fn one_more() -> Event {
+    Event::Start {
+        procedure: 0,
+        args: Args::from_slice(&[1]).unwrap_or(Args::new()),
+    }
+}
+
 /// Adds the start of a transaction, which gets this number, and so many of its steps.
 fn push_steps(
     events: &mut Vec<Event>,

@@ -1,4 +1,5 @@
 use crate::row::open;
+use sgt_engine::CutError;
 use sgt_format::append_reply;
 use sgt_model::{Entry, Event, Key, MOST_LIVE, NoMemory, Reply, Tid, Tids};
 use sgt_program::SgtEngine;
@@ -61,14 +62,40 @@ impl Run {
                 Ok(true)
             }
             Err(NoMemory) => {
-                println!(rt; "refused: history {}", verdict(self.has_history()))?;
-                println!(rt;
-                    "refused: committed values and who is live {}",
-                    verdict(self.seen() == before)
-                )?;
+                self.tell_unchanged(rt, "refused", &before)?;
                 Ok(false)
             }
         }
+    }
+
+    /// Cuts the history off, and tells how many entries it had and whether they are those that were answered. Where it was
+    /// refused, that is told, and whether all is as before; and the answer is false.
+    pub fn cut(self, rt: &impl Print, alloc: Global) -> io::Result<(Self, bool)> {
+        let before = self.seen();
+        let Run {
+            engine,
+            mut answered,
+            line,
+        } = self;
+        let (engine, refusal) = match engine.cut(alloc) {
+            Ok((past, engine)) => {
+                let is_whole = past.history.as_slice() == answered.as_slice();
+                println!(rt; "cut {}: history {}", past.history.len(), verdict(is_whole))?;
+                answered.clear();
+                (engine, None)
+            }
+            Err(CutError::StillLive(engine)) => (engine, Some("still live")),
+            Err(CutError::NoMemory(engine)) => (engine, Some("refused")),
+        };
+        let run = Run {
+            engine,
+            answered,
+            line,
+        };
+        if let Some(refusal) = refusal {
+            run.tell_unchanged(rt, refusal, &before)?;
+        }
+        Ok((run, refusal.is_none()))
     }
 
     /// Quits those who are live, in this order.
@@ -92,6 +119,15 @@ impl Run {
         }
         println!(rt; "{} live", self.engine.sched().live().len())?;
         println!(rt; "history {}", verdict(self.has_history()))
+    }
+
+    /// Tells of what was refused whether all is as before.
+    fn tell_unchanged(&self, rt: &impl Print, refusal: &str, before: &Seen) -> io::Result<()> {
+        println!(rt; "{refusal}: history {}", verdict(self.has_history()))?;
+        println!(rt;
+            "{refusal}: committed values and who is live {}",
+            verdict(self.seen() == *before)
+        )
     }
 
     /// Tells a reply's line.
