@@ -71,6 +71,24 @@
 //! ghosts-two_threads-N-Named g a = record { setting = setting_of a.engine; sessions = a.blank.parts }
 //! ```
 //!
+//! The history grows with each call. Threads that run for days end their transactions now and then, start no more until all have
+//! ended, and close; the history is cut off, and new threads go on with new sessions, from the committed database. Each part has
+//! a name of its own, and so a setting of its own:
+//!
+//! ```
+//! fn part<R: Threads + Wait + Sync>(
+//!     rt: &R,
+//!     alloc: Global,
+//!     engine: Engine<ListRecords, OneList, PairGraph>,
+//! ) -> Option<(Past, Engine<ListRecords, OneList, PairGraph>)>
+//!     requires empty { engine.past ≡ [] }
+//!     ensures empty { IfSome result (λ r. r.1.past ≡ []) }
+//! {
+//!     let engine = two_threads::<Brand, _>(rt, alloc, engine, Blank::new(2))?;
+//!     engine.cut(alloc).ok()      // an error would hand the engine back, with its history
+//! }
+//! ```
+//!
 //! That a reference to a `Shared` may cross threads is too deep for one search. `shared_sync` of `proofs/Crossing.antt` says it;
 //! an `Answers.antt` gives it to the search, with what says the same of the layers.
 #![tactic(auto)]

@@ -318,20 +318,59 @@ const ASKED: [Told; 6] = [
 ];
 
 /// Whether the two transactions of the threads that met were told so.
-fn have_met(engine: Option<ListEngine>) -> bool {
+fn have_met(engine: Option<ListEngine>, deposited: &[Told], asked: &[Told]) -> bool {
     match engine {
         Some(engine) => {
-            is_told(engine.history(), Tid(0), DEPOSITED.as_slice())
-                && is_told(engine.history(), Tid(1), ASKED.as_slice())
+            is_told(engine.history(), Tid(0), deposited) && is_told(engine.history(), Tid(1), asked)
         }
         None => false,
     }
+}
+
+/// The same, told of the accounts that those before them have left.
+const DEPOSITED_AGAIN: [Told; 5] = [
+    Told::Started,
+    Told::Looked(Some(101)),
+    Told::Looked(Some(1100)),
+    Told::Wrote(1200),
+    Told::Committed(Some(1200)),
+];
+
+const ASKED_AGAIN: [Told; 6] = [
+    Told::Started,
+    Told::Looked(Some(101)),
+    Told::Looked(Some(500)),
+    Told::Looked(Some(1200)),
+    Told::Waits(Tid(0)),
+    Told::Committed(Some(1700)),
+];
+
+/// Cuts the history off, and lets two new sessions meet on what is left.
+fn meet_behind_a_cut<R: Threads + Wait + Sync>(
+    rt: &R,
+    alloc: Global,
+    engine: ListEngine,
+) -> Option<ListEngine> {
+    let (_, engine) = engine.cut(alloc).ok()?;
+    run::<Brand, _>(rt, alloc, engine, Blank::new(2), 2, Play::Meet)
+}
+
+#[test]
+fn new_sessions_go_on_behind_a_cut(rt: HostRuntime) -> Result<(), Fail> {
+    let engine = new_engine(rt.alloc())?;
+    let engine = run::<Brand, _>(&rt, rt.alloc(), engine, Blank::new(2), 2, Play::Meet);
+    let again = match engine {
+        Some(engine) => meet_behind_a_cut(&rt, rt.alloc(), engine),
+        None => None,
+    };
+    assert!(rt; have_met(again, DEPOSITED_AGAIN.as_slice(), ASKED_AGAIN.as_slice()));
+    Ok(())
 }
 
 #[test]
 fn two_sessions_meet(rt: HostRuntime) -> Result<(), Fail> {
     let engine = new_engine(rt.alloc())?;
     let engine = run::<Brand, _>(&rt, rt.alloc(), engine, Blank::new(2), 2, Play::Meet);
-    assert!(rt; have_met(engine));
+    assert!(rt; have_met(engine, DEPOSITED.as_slice(), ASKED.as_slice()));
     Ok(())
 }
