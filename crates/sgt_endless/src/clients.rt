@@ -130,7 +130,7 @@ impl Clients {
         args.push(name);
         match procedure {
             0 => {}
-            1 => args.push(10),
+            1 => args.push(100),
             2 => args.push(-3),
             3 => args.push((name + 1) % ACCOUNTS as i64),
             _ => args.push(7),
