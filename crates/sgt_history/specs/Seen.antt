@@ -1,15 +1,18 @@
 -- What is kept of the operations before a place.
-use Rattle.std.specs.Prelude.{◌≡◌, ◌<◌, ◌≤◌, ◌↔◌, ◌⊎◌, ◌+◌, ℕ, List, Option, Some, None, IsSome}
+use Rattle.std.specs.Prelude.{◌≡◌, ◌<◌, ◌≤◌, ◌↔◌, ◌⊎◌, ◌+◌, ℕ, List, Option, Some, None, IsSome, if◌then◌else◌, nat_lt, length}
 use Rattle.std.specs.BTreeMap.{get}
 use Rattle.std.specs.Ordering.{nat_cmp}
 use Rattle.sgt_history.specs.declared.operation.Operation.{Operation}
 use Rattle.sgt_history.specs.declared.avoiding.Sources.{Sources}
 use Rattle.sgt_history.specs.declared.recoverable.DirtyReads.{DirtyReads}
 use Rattle.sgt_history.specs.declared.rigorous.Accesses.{Accesses}
+use Rattle.sgt_history.specs.declared.commit_order.LatestUse.{LatestUse}
+use Rattle.sgt_history.specs.declared.commit_order.LatestUses.{LatestUses}
 use Rattle.sgt_history.specs.declared.operation.Action.{Action}
 use Rattle.sgt_history.specs.declared.operation.Action.TheVariants.{Read, Write, Commit, Abort}
 use Rattle.sgt_history.specs.Histories.{Does, AbortedBefore, CommittedBefore, EndedBefore}
 use Rattle.sgt_history.specs.Classes.{BreaksStrictness, BreaksAvoidance, BreaksRecoverability, BreaksRigorousness}
+use Rattle.sgt_history.specs.Serializability.{BreaksCommitOrder}
 
 -- the last write of the item before place j, or none
 abbrev pub IsLastWrite : List Operation → ℕ → ℕ → Option ℕ → Type 0
@@ -133,3 +136,43 @@ AreFineAbove h j x t (Some i) = (i < j) × ((r : ℕ) × Does h i r (Read x))
 -- no operation before place j violates rigorousness
 abbrev pub IsRigorousBefore : List Operation → ℕ → Type 0
 IsRigorousBefore h place = (i j : ℕ) → j < place → ¬ BreaksRigorousness h i j
+
+-- where the transaction has first committed before place j, or none
+abbrev pub IsFirstCommit : List Operation → ℕ → ℕ → Option ℕ → Type 0
+IsFirstCommit h j t None = ¬ CommittedBefore h t j
+IsFirstCommit h j t (Some c) = (c < j) × Does h c t Commit × ¬ CommittedBefore h t c
+
+-- where each transaction has first committed before place j
+abbrev pub AreFirstCommits : List Operation → ℕ → (ℕ → Option ℕ) → Type 0
+AreFirstCommits h j commits = (t : ℕ) → IsFirstCommit h j t (commits t)
+
+-- Of those before place j that do the action and commit, the one that commits last, or none.
+abbrev pub IsLatestUse : List Operation → (ℕ → Option ℕ) → ℕ → Action → Option LatestUse → Type 0
+IsLatestUse h commits j a None = (k t : ℕ) → k < j → Does h k t a → commits t ≡ None
+IsLatestUse h commits j a (Some known) =
+    (known.place < j) × ((t : ℕ) × Does h known.place t a × (commits t ≡ Some known.commit))
+    × ((k t c : ℕ) → k < j → Does h k t a → commits t ≡ Some c → c ≤ known.commit)
+
+-- what is kept of the reads and the writes before place j of those that commit
+pub record AreLatestUses (h : List Operation) (commits : ℕ → Option ℕ) (j : ℕ) (reads writes : ℕ → Option LatestUse) : Type 0 where
+  pub reads_are : (x : ℕ) → IsLatestUse h commits j (Read x) (reads x)
+  pub writes_are : (x : ℕ) → IsLatestUse h commits j (Write x) (writes x)
+
+-- what the checker of the commit order keeps of the operations before place j
+pub record KnowsLatestUses (h : List Operation) (j : ℕ) (s : LatestUses) : Type 0 where
+  pub commits_are : AreFirstCommits h (length h) (get nat_cmp s.commits)
+  pub uses_are : AreLatestUses h (get nat_cmp s.commits) j (get nat_cmp s.reads) (get nat_cmp s.writes)
+
+-- the one of two uses that commits later
+abbrev pub later_use : Option LatestUse → LatestUse → LatestUse
+later_use None new = new
+later_use (Some known) new = if nat_lt known.commit new.commit then new else known
+
+-- the use that commits after the given commit, or none
+abbrev pub use_after : Option LatestUse → ℕ → Option ℕ
+use_after None commit = None
+use_after (Some known) commit = if nat_lt commit known.commit then Some known.place else None
+
+-- no operation before place j violates the commit order
+abbrev pub IsCommitOrderedBefore : List Operation → ℕ → Type 0
+IsCommitOrderedBefore h place = (i j : ℕ) → j < place → ¬ BreaksCommitOrder h i j

@@ -3,7 +3,7 @@
 use Rattle.std.specs.Prelude.{◌≢◌, ◌<◌, ◌⊎◌, ℕ, List, [], ◌∷◌}
 use Rattle.sgt_history.specs.declared.operation.Operation.{Operation}
 use Rattle.sgt_history.specs.declared.operation.Action.TheVariants.{Write, Commit}
-use Rattle.sgt_history.specs.Histories.{Does, Uses}
+use Rattle.sgt_history.specs.Histories.{Does, Uses, CommittedBefore}
 
 -- t commits
 abbrev pub Commits : List Operation → ℕ → Type 0
@@ -34,18 +34,17 @@ abbrev pub IsSerializable : List Operation → Type 0
 IsSerializable h = (t : ℕ) (others : List ℕ) → ¬ IsPath h t others t
 
 -- Commit ordered: of two operations of committed transactions that conflict, the transaction of the earlier one commits first.
--- Here, by their operations at places i and j, one is to commit before the other, and commits after it.
+-- Here the one of the operation at place j commits while the other, of the conflicting one at place i, still has to.
 pub record BreaksCommitOrder (h : List Operation) (i j : ℕ) : Type 0 where
   pub before : ℕ
   pub after : ℕ
   pub commit : ℕ
-  pub other : ℕ
   pub differ : before ≢ after
   pub earlier : i < j
   pub conflict : Conflict h i before j after
-  pub commits : Does h commit before Commit
-  pub commits_other : Does h other after Commit
-  pub inverted : other < commit
+  pub commits : Commits h before
+  pub commits_after : Does h commit after Commit
+  pub inverted : ¬ CommittedBefore h before commit
 
 -- no two operations violate it
 abbrev pub IsCommitOrdered : List Operation → Type 0

@@ -15,6 +15,7 @@
 #![tactic(auto)]
 
 mod avoiding;
+mod commit_order;
 mod laws;
 mod operation;
 mod recoverable;
@@ -22,6 +23,7 @@ mod rigorous;
 mod strict;
 
 pub use avoiding::avoidance_violation;
+pub use commit_order::commit_order_violation;
 pub use laws::{
     avoiding_are_recoverable, commit_ordered_are_serializable, rigorous_are_strict,
     strict_avoid_cascading_aborts,
