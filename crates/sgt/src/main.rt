@@ -55,6 +55,7 @@ const SCRIPT_HELP: &str =
   ["step",0]
   ["commit",0]
   ["quit",0]
+  ["cut"]
 
   limits      the most live transactions, from 1 to 32, the most starts, from 1 to 4000000000, and 0 or 1 behind them, or no
               more: with 1 a code that a procedure asks is told at its commit, and is true in the serial order; without it at
@@ -66,15 +67,18 @@ const SCRIPT_HELP: &str =
   step        the transaction's next access
   commit      commits it, where its procedure is at its end
   quit        aborts it
+  cut         cuts the history off, where nobody is live: numbers begin again from 0, and so does what the limits count
 
-These four events are answered
+These lines are answered
 
   started 0
   read 0/1 101
   not ended
   aborted quit fell none
+  cut 4
 
-where 0/1 is record 1 of table 0. A transaction is named by the number that its start was answered with.
+where 0/1 is record 1 of table 0, and 4 events were answered since the opening. A transaction is named by the number that its
+start was answered with.
 
 The first bad line ends the script: the replies to the lines before it are written, and the fault on standard error. A line has
 at most 65536 bytes, the input 16777216, and a value or a key is a whole number of at most fifteen digits.
