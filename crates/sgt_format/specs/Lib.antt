@@ -1,8 +1,10 @@
 pub mod Decimals
 pub mod ReplyText
+pub mod CutText
 pub mod DatabaseText
 pub mod Trees
 pub mod EventLines
+pub mod ScriptLines
 pub mod JobLines
 pub mod Procedures
 pub mod Openings

@@ -1,7 +1,7 @@
-ghost use Rattle.std.specs.Prelude.{◌≡◌, ◌≢◌, Ok, Err, IfOk, IfErr};
+ghost use Rattle.std.specs.Prelude.{◌≡◌, ◌≢◌, Ok, Err, IfOk, IfErr, map};
 ghost use Rattle.std.specs.Option.{option_map};
 ghost use Rattle.serde_json.specs.View.{view};
-ghost use Rattle.sgt_format.specs.EventLines.{tid, procedure, arguments, of_transaction, of_procedure, event_in, event_of};
+ghost use Rattle.sgt_format.specs.EventLines.{tid, procedure, arguments, of_transaction, of_procedure, event_from, event_in, event_of};
 ghost use Rattle.sgt_format.specs.declared.errors.LineError.TheVariants.{NoMemory};
 
 use crate::errors::LineError;
@@ -25,7 +25,13 @@ pub fn read_event(alloc: Global, line: &[u8]) -> Result<Event, LineError>
 fn event_in(tree: &Value) -> Option<Event>
     ensures { result ≡ event_in (view tree.now) }
 {
-    match items(tree)? {
+    event_from(items(tree)?)
+}
+
+pub(crate) fn event_from(trees: &[Value]) -> Option<Event>
+    ensures { result ≡ event_from (map view trees.now) }
+{
+    match trees {
         [word, number] => of_transaction(word.as_str()?, tid(number)?),
         [word, number, list] => of_procedure(word.as_str()?, procedure(number)?, arguments(list)?),
         _ => None,

@@ -15,6 +15,7 @@
 #![tactic(auto)]
 
 mod call;
+mod cut_text;
 mod database_text;
 mod decimal_text;
 mod errors;
@@ -23,10 +24,12 @@ mod job_line;
 mod opening;
 mod procedures;
 mod reply_text;
+mod script_line;
 mod sheet;
 mod tree;
 
 pub use call::JobCall;
+pub use cut_text::{append_cut, append_still_live};
 pub use database_text::append_database;
 pub use decimal_text::{append_answers, append_number, append_numbered};
 pub use errors::{LineError, OpeningError};
@@ -34,3 +37,4 @@ pub use event_line::read_event;
 pub use job_line::read_job;
 pub use opening::{Opening, read_opening};
 pub use reply_text::{append_reply, reply_line};
+pub use script_line::{ScriptLine, read_script_line};

@@ -17,4 +17,4 @@ mod engine;
 mod laws;
 
 pub use engine::{SgtAccesses, SgtEngine, SgtGraph, SgtRecords, all_procedures, open_engine};
-pub use laws::opened_is_bank;
+pub use laws::{opened_hold_values, opened_is_bank};

@@ -1,0 +1,49 @@
+ghost use Rattle.std.specs.Prelude.{◌≡◌, ◌≢◌, Ok, Err, IfOk, IfErr};
+ghost use Rattle.serde_json.specs.View.{view};
+ghost use Rattle.sgt_format.specs.ScriptLines.{of_word, script_line_in, script_line_of};
+ghost use Rattle.sgt_format.specs.declared.errors.LineError.TheVariants.{NoMemory};
+
+use crate::errors::LineError;
+use crate::event_line::event_from;
+use crate::tree::{items, read_tree};
+use serde_json::Value;
+use sgt_model::Event;
+use std::alloc::Global;
+
+/// What a line of a script asks for, behind its opening.
+#[derive(Debug, Drop, PartialEq, Eq)]
+pub enum ScriptLine {
+    /// An event, which is answered by the engine and becomes an entry of its history.
+    Event(Event),
+    /// That the history be cut off here. This is no event.
+    Cut,
+}
+
+/// What a line of a script asks for, without its end: an event as [`crate::read_event`] reads it, or `["cut"]`.
+///
+/// A line that is no JSON is `NotJson`, a line of any other form `BadLine`. An argument may be any whole number of 64 bits.
+pub fn read_script_line(alloc: Global, line: &[u8]) -> Result<ScriptLine, LineError>
+    ensures line { IfOk result (λ asked. script_line_of line.now ≡ Ok asked) }
+    ensures error { IfErr result (λ error. error ≢ NoMemory → script_line_of line.now ≡ Err error) }
+{
+    let tree = read_tree(alloc, line)?.ok_or(LineError::NotJson)?;
+    script_line_in(&tree).ok_or(LineError::BadLine)
+}
+
+fn script_line_in(tree: &Value) -> Option<ScriptLine>
+    ensures { result ≡ script_line_in (view tree.now) }
+{
+    match items(tree)? {
+        [word] => of_word(word.as_str()?),
+        trees => Some(ScriptLine::Event(event_from(trees)?)),
+    }
+}
+
+fn of_word(word: &str) -> Option<ScriptLine>
+    ensures { result ≡ of_word word.now }
+{
+    match word {
+        "cut" => Some(ScriptLine::Cut),
+        _ => None,
+    }
+}
