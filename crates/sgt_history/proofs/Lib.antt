@@ -3,6 +3,8 @@ pub mod Strictness
 pub mod Inclusions
 pub mod CommitOrder
 pub mod LatestUses
+pub mod Edges
+pub mod Projection
 pub mod Sources
 pub mod DirtyReads
 pub mod Rigorousness

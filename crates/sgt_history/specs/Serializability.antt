@@ -1,8 +1,9 @@
 -- Serializable and commit ordered histories (Bernstein, Hadzilacos and Goodman (1987), chapter 2), of the committed
 -- projection: the operations of those that commit.
-use Rattle.std.specs.Prelude.{◌≢◌, ◌<◌, ◌⊎◌, ℕ, List, [], ◌∷◌}
+use Rattle.std.specs.Prelude.{◌≡◌, ◌≢◌, ◌<◌, ◌⊎◌, ◌↔◌, ℕ, List, [], ◌∷◌, Some, slice_get}
 use Rattle.sgt_history.specs.declared.operation.Operation.{Operation}
-use Rattle.sgt_history.specs.declared.operation.Action.TheVariants.{Write, Commit}
+use Rattle.sgt_history.specs.declared.graph.Edge.{Edge}
+use Rattle.sgt_history.specs.declared.operation.Action.TheVariants.{Read, Write, Commit}
 use Rattle.sgt_history.specs.Histories.{Does, Uses, CommittedBefore}
 
 -- t commits
@@ -53,3 +54,25 @@ IsCommitOrdered h = (i j : ℕ) → ¬ BreaksCommitOrder h i j
 -- a commit ordered history is serializable
 abbrev pub CommitOrderedAreSerializable : Type 0
 CommitOrderedAreSerializable = (h : List Operation) → IsCommitOrdered h → IsSerializable h
+
+-- the edge is one of the serialization graph, by its two operations
+pub record IsEdgeBy (h : List Operation) (e : Edge) : Type 0 where
+  pub differ : e.from ≢ e.to
+  pub commits_first : Commits h e.from
+  pub commits_second : Commits h e.to
+  pub order : e.earlier < e.later
+  pub conflict : Conflict h e.earlier e.from e.later e.to
+
+-- The committed projection: the reads and the writes of those that commit, at their places.
+abbrev pub IsProjection : List Operation → List Operation → Type 0
+IsProjection h q = (i t x : ℕ) → (Does q i t (Read x) ↔ (Does h i t (Read x) × Commits h t))
+    × (Does q i t (Write x) ↔ (Does h i t (Write x) × Commits h t))
+
+-- numbers of transactions that rise along the edges
+abbrev pub Rises : (ℕ → ℕ) → List Edge → Type 0
+Rises rank edges = (k : ℕ) (e : Edge) → slice_get edges k ≡ Some e → rank e.from < rank e.to
+
+-- Edges of the serialization graph that reach what all do: numbers that rise along them rise along all its edges.
+pub record ReachAll (h : List Operation) (edges : List Edge) : Type 0 where
+  pub are_edges : (k : ℕ) (e : Edge) → slice_get edges k ≡ Some e → IsEdgeBy h e
+  pub are_enough : (rank : ℕ → ℕ) → Rises rank edges → (t u : ℕ) → IsEdge h t u → rank t < rank u
