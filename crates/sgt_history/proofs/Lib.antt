@@ -5,6 +5,7 @@ pub mod CommitOrder
 pub mod LatestUses
 pub mod Edges
 pub mod Projection
+pub mod Witnesses
 pub mod Sources
 pub mod DirtyReads
 pub mod Rigorousness

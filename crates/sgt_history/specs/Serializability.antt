@@ -1,6 +1,6 @@
 -- Serializable and commit ordered histories (Bernstein, Hadzilacos and Goodman (1987), chapter 2), of the committed
 -- projection: the operations of those that commit.
-use Rattle.std.specs.Prelude.{◌≡◌, ◌≢◌, ◌<◌, ◌⊎◌, ◌↔◌, ℕ, List, [], ◌∷◌, Some, slice_get}
+use Rattle.std.specs.Prelude.{◌≡◌, ◌≢◌, ◌<◌, ◌⊎◌, ◌↔◌, ℕ, List, [], ◌∷◌, Some, slice_get, length, ◌-◌, ◌+◌}
 use Rattle.sgt_history.specs.declared.operation.Operation.{Operation}
 use Rattle.sgt_history.specs.declared.graph.Edge.{Edge}
 use Rattle.sgt_history.specs.declared.operation.Action.TheVariants.{Read, Write, Commit}
@@ -76,3 +76,26 @@ Rises rank edges = (k : ℕ) (e : Edge) → slice_get edges k ≡ Some e → ran
 pub record ReachAll (h : List Operation) (edges : List Edge) : Type 0 where
   pub are_edges : (k : ℕ) (e : Edge) → slice_get edges k ≡ Some e → IsEdgeBy h e
   pub are_enough : (rank : ℕ → ℕ) → Rises rank edges → (t u : ℕ) → IsEdge h t u → rank t < rank u
+
+-- A serial order of the committed transactions: each once, and each edge of the serialization graph leads on.
+pub record IsSerialOrder (h : List Operation) (order : List ℕ) : Type 0 where
+  pub once : (i j t : ℕ) → slice_get order i ≡ Some t → slice_get order j ≡ Some t → i ≡ j
+  pub are_committed : (t : ℕ) → Commits h t ↔ ((i : ℕ) × (slice_get order i ≡ Some t))
+  pub leads_on : (i j t u : ℕ) → IsEdge h t u → slice_get order i ≡ Some t → slice_get order j ≡ Some u → i < j
+
+-- A cycle of the serialization graph: each edge begins where the one before it ends, the first where the last does, and no
+-- two at one transaction.
+pub record IsCycle (h : List Operation) (edges : List Edge) : Type 0 where
+  pub some : 0 < length edges
+  pub are_edges : (i : ℕ) (e : Edge) → slice_get edges i ≡ Some e → IsEdgeBy h e
+  pub follow : (i : ℕ) (e f : Edge) → slice_get edges i ≡ Some e → slice_get edges (i + 1) ≡ Some f → e.to ≡ f.from
+  pub closes : (e f : Edge) → slice_get edges 0 ≡ Some e → slice_get edges (length edges - 1) ≡ Some f → f.to ≡ e.from
+  pub once : (i j : ℕ) (e f : Edge) → slice_get edges i ≡ Some e → slice_get edges j ≡ Some f → e.from ≡ f.from → i ≡ j
+
+-- what has a serial order of its committed transactions is serializable
+abbrev pub SerialOrdersAreEnough : Type 0
+SerialOrdersAreEnough = (h : List Operation) (order : List ℕ) → IsSerialOrder h order → IsSerializable h
+
+-- what has a cycle is not serializable
+abbrev pub CyclesAreEnough : Type 0
+CyclesAreEnough = (h : List Operation) (edges : List Edge) → IsCycle h edges → ¬ IsSerializable h
