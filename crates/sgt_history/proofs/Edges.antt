@@ -1,5 +1,5 @@
 -- Few edges of a serialization graph.
-use Rattle.std.proofs.Common.{◌≡◌, ◌≢◌, ◌<◌, ◌+◌, ◌≤◌, ◌⊎◌, ℕ, zero, suc, List, [], ◌∷◌, ◌++◌, Option, Some, None, refl, sym, ap, ◌∙◌, subst, inl, inr, arith}
+use Rattle.std.proofs.Common.{◌≡◌, ◌≢◌, ◌<◌, ◌+◌, ◌⊎◌, ℕ, zero, suc, List, [], ◌∷◌, ◌++◌, Option, Some, None, refl, sym, ap, subst, inl, inr, arith}
 use Rattle.std.specs.Prelude.{length, slice_get}
 use Rattle.std.proofs.lemmas.Bool.{cases_eq, cases_lt}
 use Rattle.std.proofs.lemmas.Grind.{common_steps}
@@ -10,7 +10,7 @@ use Rattle.sgt_history.specs.declared.operation.Action.TheVariants.{Read, Write}
 use Rattle.sgt_history.specs.declared.graph.Edge.{Edge}
 use Rattle.sgt_history.specs.Histories.{Does, Uses, item_of}
 use Rattle.sgt_history.specs.Serializability.{Conflict}
-use Rattle.sgt_history.specs.Seen.{IsLastWrite, AreLastWrites, IsLastRead, IsOverwritten, HasEdge, IsLastInto, IsConflictBy, AreInto, IsNextConflict, HasConflicts, HasReadConflicts, HasWriteConflicts, AreConnectedAbove, height}
+use Rattle.sgt_history.specs.Seen.{IsLastWrite, AreLastWrites, IsLastRead, IsOverwritten, HasEdge, IsConflictBy, IsNextConflict, HasConflicts, HasReadConflicts, HasWriteConflicts, AreConnectedAbove, height}
 use Rattle.sgt_history.proofs.Places.{before_next, uses_item}
 use Rattle.sgt_history.proofs.Sources.{same_doer, same_action}
 
@@ -48,38 +48,6 @@ has_kept es new t u has = (has.0, has.1, kept_pushed es new has.1 has.0 has.2, h
 pub has_new : (es : List Edge) (new : Edge) → HasEdge (es ++ new ∷ []) new.from new.to
 has_new es new = (length es, new, at_end es new, refl, refl)
 
--- the last of those before a number stays
-into_longer : (es : List Edge) (new : Edge) (j t : ℕ) (o : Option ℕ) → j ≤ length es → IsLastInto es j t o
-    → IsLastInto (es ++ new ∷ []) j t o
-into_longer es new j t None most none = λ k e less at. elim (pushed es new e k at) [
-  | inl w ↦ none k e less w.1
-  | inr w ↦ absurd (omega (arith, w.0, less, most))
-]
-into_longer es new j t (Some i) most is = (
-  is.0,
-  (is.1.0, kept_pushed es new is.1.0 i is.1.1, is.1.2),
-  λ k e after less at. elim (pushed es new e k at) [
-    | inl w ↦ is.2 k e after less w.1
-    | inr w ↦ absurd (omega (arith, w.0, less, most))
-  ],
-)
-
--- the last stays where the new one leads elsewhere
-into_kept : (es : List Edge) (new : Edge) (t : ℕ) (o : Option ℕ) → new.to ≢ t → IsLastInto es (length es) t o
-    → IsLastInto (es ++ new ∷ []) (length (es ++ new ∷ [])) t o
-into_kept es new t None apart none = λ k e less at. elim (pushed es new e k at) [
-  | inl w ↦ none k e w.0 w.1
-  | inr w ↦ subst (λ (f : Edge). f.to ≢ t) w.1 apart
-]
-into_kept es new t (Some i) apart is = (
-  (let more = longer es new in omega (arith, is.0, more)),
-  (is.1.0, kept_pushed es new is.1.0 i is.1.1, is.1.2),
-  λ k e after less at. elim (pushed es new e k at) [
-    | inl w ↦ is.2 k e after w.0 w.1
-    | inr w ↦ subst (λ (f : Edge). f.to ≢ t) w.1 apart
-  ],
-)
-
 -- one more edge by two operations that conflict
 pub conflicts_pushed : (q : List Operation) (es : List Edge) (new : Edge)
     → ((k : ℕ) (e : Edge) → slice_get es k ≡ Some e → IsConflictBy q e) → IsConflictBy q new
@@ -88,39 +56,6 @@ conflicts_pushed q es new are conflict k e at = elim (pushed es new e k at) [
   | inl w ↦ are k e w.1
   | inr w ↦ subst (λ f. IsConflictBy q f) w.1 conflict
 ]
-
--- where one more edge leads
-pub into_pushed : (es : List Edge) (new : Edge) (lasts earlier lasts' earlier' : ℕ → Option ℕ) → AreInto es lasts earlier
-    → lasts' new.to ≡ Some (length es) → ((t : ℕ) → t ≢ new.to → lasts' t ≡ lasts t)
-    → earlier' (length es) ≡ lasts new.to → ((k : ℕ) → k ≢ length es → earlier' k ≡ earlier k)
-    → AreInto (es ++ new ∷ []) lasts' earlier'
-into_pushed es new lasts earlier lasts' earlier' are here others lower others_earlier = record {
-  lasts_are = lasts_are;
-  earlier_are = earlier_are;
-  fresh = λ k most. let more = longer es new in
-      others_earlier k (omega (arith, most, more)) ∙ are.fresh k (omega (arith, most, more));
-}
-  where
-    lasts_are : (t : ℕ) → IsLastInto (es ++ new ∷ []) (length (es ++ new ∷ [])) t (lasts' t)
-    lasts_are t = elim (cases_eq t new.to) [
-      | inl same ↦ subst (λ o. IsLastInto (es ++ new ∷ []) (length (es ++ new ∷ [])) t o) (sym (ap lasts' same ∙ here)) (
-        (let more = longer es new in omega (arith, more)),
-        (new, at_end es new, sym same),
-        λ k e after less at. let more = longer es new in absurd (omega (arith, after, less, more)),
-      )
-      | inr differ ↦ subst (λ o. IsLastInto (es ++ new ∷ []) (length (es ++ new ∷ [])) t o) (sym (others t differ))
-          (into_kept es new t (lasts t) (λ e. differ (sym e)) (are.lasts_are t))
-    ]
-
-    earlier_are : (k : ℕ) (e : Edge) → slice_get (es ++ new ∷ []) k ≡ Some e → IsLastInto (es ++ new ∷ []) k e.to (earlier' k)
-    earlier_are k e at = elim (pushed es new e k at) [
-      | inl w ↦ subst (λ o. IsLastInto (es ++ new ∷ []) k e.to o) (sym (others_earlier k (omega (arith, w.0))))
-          (into_longer es new k e.to (earlier k) (omega (arith, w.0)) (are.earlier_are k e w.1))
-      | inr w ↦ subst (λ (f : Edge). IsLastInto (es ++ new ∷ []) k f.to (earlier' k)) w.1
-          (subst (λ o. IsLastInto (es ++ new ∷ []) k new.to o) (sym (ap earlier' w.0 ∙ lower))
-          (subst (λ n. IsLastInto (es ++ new ∷ []) n new.to (lasts new.to)) (sym w.0)
-          (into_longer es new (length es) new.to (lasts new.to) (omega arith) (are.lasts_are new.to))))
-    ]
 
 -- the write that a conflict with no write between begins with is the last
 pub write_next : (q : List Operation) (p i t u x : ℕ) (o : Option ℕ) → IsLastWrite q p x o → IsNextConflict q i t p u x

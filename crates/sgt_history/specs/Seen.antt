@@ -189,22 +189,9 @@ pub record IsConflictBy (q : List Operation) (e : Edge) : Type 0 where
 abbrev pub HasEdge : List Edge → ℕ → ℕ → Type 0
 HasEdge edges t u = (k : ℕ) × (e : Edge) × (slice_get edges k ≡ Some e) × (e.from ≡ t) × (e.to ≡ u)
 
--- the last of the edges before number j that lead to t, or none
-abbrev pub IsLastInto : List Edge → ℕ → ℕ → Option ℕ → Type 0
-IsLastInto edges j t None = (k : ℕ) (e : Edge) → k < j → slice_get edges k ≡ Some e → e.to ≢ t
-IsLastInto edges j t (Some i) = (i < j) × ((e : Edge) × (slice_get edges i ≡ Some e) × (e.to ≡ t))
-    × ((k : ℕ) (e : Edge) → i < k → k < j → slice_get edges k ≡ Some e → e.to ≢ t)
-
--- the edges that lead to a transaction, from the last to the first
-pub record AreInto (edges : List Edge) (lasts earlier : ℕ → Option ℕ) : Type 0 where
-  pub lasts_are : (t : ℕ) → IsLastInto edges (length edges) t (lasts t)
-  pub earlier_are : (k : ℕ) (e : Edge) → slice_get edges k ≡ Some e → IsLastInto edges k e.to (earlier k)
-  pub fresh : (k : ℕ) → length edges ≤ k → earlier k ≡ None
-
--- edges of a committed projection, each by two operations that conflict, and to be found by where they lead
-pub record IsGraph (q : List Operation) (g : Graph) : Type 0 where
-  pub are_conflicts : (k : ℕ) (e : Edge) → slice_get g.edges.items k ≡ Some e → IsConflictBy q e
-  pub are_into : AreInto g.edges.items (get nat_cmp g.lasts) (get nat_cmp g.earlier)
+-- edges of a committed projection, each by two operations that conflict
+abbrev pub IsGraph : List Operation → Graph → Type 0
+IsGraph q g = (k : ℕ) (e : Edge) → slice_get g.edges.items k ≡ Some e → IsConflictBy q e
 
 -- two operations on an item, one of them a write, with no write of it between
 pub record IsNextConflict (q : List Operation) (i t j u x : ℕ) : Type 0 where

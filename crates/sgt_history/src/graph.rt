@@ -9,7 +9,6 @@ ghost use Rattle.sgt_history.specs.Histories.{Does, Uses};
 ghost use Rattle.sgt_history.specs.Serializability.{Conflict, IsProjection, ReachAll};
 ghost use Rattle.sgt_history.specs.Seen.{AreFirstCommits, KnowsAccesses, IsGraph, HasEdge, HasConflicts, HasWriteConflicts, HasReadConflicts};
 
-use crate::avoiding::put_on_top;
 use crate::commit_order::first_commits;
 use crate::operation::{Action, Operation};
 use crate::rigorous::Accesses;
@@ -37,7 +36,7 @@ pub struct Edge {
 ///
 /// Bernstein, Hadzilacos and Goodman (1987), chapter 2: serialization graph, of the committed projection.
 ///
-/// At most two edges for each operation. An operation costs seven look-ups in a map at most, and each edge two more.
+/// At most two edges for each operation. An operation costs six look-ups in a map at most.
 pub fn serialization_edges(alloc: Global, history: &[Operation]) -> Result<Vec<Edge>, NoMemory>
     ensures { IfOk result (λ edges. ReachAll history.now edges.items) }
 {
@@ -52,10 +51,6 @@ pub fn serialization_edges(alloc: Global, history: &[Operation]) -> Result<Vec<E
 pub struct Graph {
     /// The edges, in the order of their later operations.
     edges: Vec<Edge>,
-    /// The number of the last edge that leads to a transaction.
-    lasts: BTreeMap<u32, usize>,
-    /// For the number of an edge that of the next earlier one that leads to the same.
-    earlier: BTreeMap<usize, usize>,
 }
 
 impl Graph {
@@ -66,8 +61,6 @@ impl Graph {
     {
         let mut graph = Graph {
             edges: Vec::new(alloc),
-            lasts: BTreeMap::new(alloc),
-            earlier: BTreeMap::new(alloc),
         };
         let mut seen = Accesses::new(alloc);
         for place in 0..operations.len() {
@@ -147,7 +140,6 @@ impl Graph {
         if from == to {
             return Ok(());
         }
-        put_on_top(&mut self.lasts, &mut self.earlier, to, self.edges.len())?;
         self.edges.push(Edge {
             from,
             to,

@@ -12,6 +12,6 @@ returns c =
     let same : c.as_slice.result.now ≡ q = c.as_slice.ensures.value in
     let is = c.in_ok-projection.ensures.projection in record {
       are_edges = λ k e at. edge_by h q e is
-          (subst (λ l. IsConflictBy l e) same (c.in_ok-graph.ensures.graph.are_conflicts k e at));
+          (subst (λ l. IsConflictBy l e) same (c.in_ok-graph.ensures.graph k e at));
       are_enough = rises_all h q es is (subst (λ l. HasConflicts l es (length l)) same c.in_ok-graph.ensures.conflicts);
     }

@@ -1,13 +1,11 @@
-use Rattle.std.proofs.Common.{rules, ◌≡◌, ◌++◌, [], ◌∷◌, ℕ, Some, refl, sym, ap, ◌∙◌, subst, arith}
-use Rattle.std.specs.Prelude.{slice_get, slice_index_or, length}
-use Rattle.std.specs.BTreeMap.{get}
-use Rattle.std.specs.Ordering.{nat_cmp}
+use Rattle.std.proofs.Common.{rules, ◌≡◌, ◌++◌, [], ◌∷◌, ℕ, Some, refl, sym, subst, arith}
+use Rattle.std.specs.Prelude.{slice_get, slice_index_or}
 use Rattle.sgt_history.specs.declared.operation.Action.TheVariants.{Read}
 use Rattle.sgt_history.specs.declared.graph.Edge.{Edge}
-use Rattle.sgt_history.specs.Seen.{IsConflictBy, AreInto, HasEdge}
+use Rattle.sgt_history.specs.Seen.{IsConflictBy, HasEdge}
 use Rattle.sgt_history.proofs.Places.{there, does_at}
 use Rattle.sgt_history.proofs.Sources.{same_doer}
-use Rattle.sgt_history.proofs.Edges.{into_pushed, conflicts_pushed, has_kept, has_new}
+use Rattle.sgt_history.proofs.Edges.{conflicts_pushed, has_kept, has_new}
 use Rattle.sgt_history.proofs.graph.Graph.connect.Goals as goal
 
 new_edge : goal.In_ok-push → Edge
@@ -24,7 +22,6 @@ returns-clause-graph c =
     let q = c.args.operations.now in
     let es = c.args.self.now.edges.items in
     let new = new_edge c in
-    let n : c.len.result ≡ length es = search rules in
     let items : c.push.new.self.items ≡ es ++ new ∷ [] = c.in_ok-push.ensures.items in
     let first = does_at q c.args.earlier _ _ (there q c.args.earlier (omega (arith, c.requires.order, c.requires.within))) refl in
     let second = does_at q c.args.later _ _ (there q c.args.later c.requires.within) refl in
@@ -32,15 +29,9 @@ returns-clause-graph c =
       differ = search rules;
       order = c.requires.order;
       conflict = c.requires.conflict _ _ _ _ first second;
-    } in record {
-      are_conflicts = subst (λ l. (k : ℕ) (e : Edge) → slice_get l k ≡ Some e → IsConflictBy q e) (sym items)
-          (conflicts_pushed q es new c.requires.graph.are_conflicts conflict);
-      are_into = subst (λ l. AreInto l (get nat_cmp c.put_on_top.new.tops) (get nat_cmp c.put_on_top.new.below)) (sym items)
-          (into_pushed es new _ _ (get nat_cmp c.put_on_top.new.tops) (get nat_cmp c.put_on_top.new.below) c.requires.graph.are_into
-          (c.in_ok-put_on_top.ensures.top ∙ ap Some n) c.in_ok-put_on_top.ensures.other_tops
-          (subst (λ m. get nat_cmp c.put_on_top.new.below m ≡ get nat_cmp c.args.self.now.lasts new.to) n c.in_ok-put_on_top.ensures.lower)
-          (λ k apart. c.in_ok-put_on_top.ensures.others_below k (λ e. apart (e ∙ n))));
-    }
+    } in
+    subst (λ l. (k : ℕ) (e : Edge) → slice_get l k ≡ Some e → IsConflictBy q e) (sym items)
+    (conflicts_pushed q es new c.requires.graph conflict)
 
 pub returns-clause-kept : goal.returns-clause-kept
 unfolding new_edge

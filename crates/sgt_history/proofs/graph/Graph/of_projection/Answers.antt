@@ -4,10 +4,7 @@ use Rattle.sgt_history.proofs.graph.Graph.of_projection.Goals as goal
 
 pub loop-place-init : goal.loop-place-init
 loop-place-init c = record {
-  graph = record {
-    are_conflicts = λ k e at. search rules;
-    are_into = record { lasts_are = λ t. search rules; earlier_are = λ k e at. search rules; fresh = λ k most. search rules };
-  };
+  graph = λ k e at. search rules;
   conflicts = λ i t j u x less next. absurd (omega (arith, less));
   uses = c.new-seen.ensures _;
 }
