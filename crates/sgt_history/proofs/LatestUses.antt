@@ -1,6 +1,6 @@
 -- The uses by those that commit last, and the commit order, one operation further.
 use Rattle.std.proofs.Common.{◌≡◌, ◌≢◌, ◌<◌, ◌+◌, ◌≤◌, ◌⊎◌, ℕ, List, Option, Some, None, refl, sym, ◌∙◌, subst, inl, inr, arith}
-use Rattle.std.specs.Prelude.{length, IfSome, IsNone, slice_get}
+use Rattle.std.specs.Prelude.{length, IfSome, IsNone}
 use Rattle.std.proofs.lemmas.Bool.{cases_eq, cases_lt, lt-ltb, le-ltb, true≢false}
 use Rattle.std.proofs.lemmas.Grind.{common_steps}
 use Rattle.std.proofs.lemmas.Option.{slice_get_within}
@@ -11,39 +11,8 @@ use Rattle.sgt_history.specs.declared.commit_order.LatestUse.{LatestUse}
 use Rattle.sgt_history.specs.Histories.{Does, Uses, CommittedBefore, item_of}
 use Rattle.sgt_history.specs.Serializability.{BreaksCommitOrder, IsCommitOrdered}
 use Rattle.sgt_history.specs.Seen.{IsFirstCommit, AreFirstCommits, IsLatestUse, AreLatestUses, later_use, use_after, IsCommitOrderedBefore}
-use Rattle.sgt_history.proofs.Places.{before_next, uses_within, uses_item, one_ender}
+use Rattle.sgt_history.proofs.Places.{before_next, uses_within, one_ender}
 use Rattle.sgt_history.proofs.Sources.{same_doer, same_action}
-
--- where the operation is no commit, or none that is the transaction's first, the first commits stay
-first_kept : (h : List Operation) (p t : ℕ) (o : Option ℕ) → (Does h p t Commit → CommittedBefore h t p) → IsFirstCommit h p t o
-    → IsFirstCommit h (p + 1) t o
-first_kept h p t None again none = λ committed. elim (before_next committed.0 p committed.1) [
-  | inl less ↦ none (committed.0, less, committed.2)
-  | inr here ↦ none (again (subst (λ n. Does h n t Commit) here committed.2))
-]
-first_kept h p t (Some c) again is = (omega (arith, is.0), is.1, is.2)
-
--- where a transaction has committed it stays so
-committed_at : (h : List Operation) (p t : ℕ) (o : Option ℕ) → o ≢ None → IsFirstCommit h p t o → CommittedBefore h t p
-committed_at h p t None some none = absurd (some refl)
-committed_at h p t (Some c) some is = (c, is.0, is.1)
-
--- the first commits stay
-pub firsts_kept : (h : List Operation) (p t : ℕ) (a : Action) (f : ℕ → Option ℕ) → Does h p t a → (a ≡ Commit → f t ≢ None)
-    → AreFirstCommits h p f → AreFirstCommits h (p + 1) f
-firsts_kept h p t a f does again are u = first_kept h p u (f u)
-    (λ commits. let mine : t ≡ u = same_doer h p t u _ _ does commits in
-    committed_at h p u (f u) (subst (λ v. f v ≢ None) mine (again (same_action h p t u _ _ does commits))) (are u)) (are u)
-
--- what is noted of a first commit
-pub first_noted : (h : List Operation) (p t : ℕ) (f g : ℕ → Option ℕ) → Does h p t Commit → f t ≡ None → g t ≡ Some p
-    → ((u : ℕ) → u ≢ t → g u ≡ f u) → AreFirstCommits h p f → AreFirstCommits h (p + 1) g
-first_noted h p t f g does new here others are u = elim (cases_eq u t) [
-  | inl same ↦ subst (λ v. IsFirstCommit h (p + 1) v (g v)) (sym same) (subst (λ o. IsFirstCommit h (p + 1) t o) (sym here)
-      (omega arith, does, subst (λ o. IsFirstCommit h p t o) new (are t)))
-  | inr differ ↦ subst (λ o. IsFirstCommit h (p + 1) u o) (sym (others u differ))
-      (first_kept h p u (f u) (λ commits. absurd (differ (same_doer h p u t _ _ commits does))) (are u))
-]
 
 -- the latest use stays where the operation is none by one that commits
 pub use_kept : (h : List Operation) (commits : ℕ → Option ℕ) (p : ℕ) (a : Action) (o : Option LatestUse)
@@ -171,7 +140,7 @@ ordered_whole h p all before i j broken =
     let within = uses_within h j broken.after _ broken.conflict.2 in before i j (omega (arith, all, within)) broken
 
 -- a transaction that commits has a first commit, no later than any
-first_of : (h : List Operation) (t : ℕ) (o : Option ℕ) (c : ℕ) → IsFirstCommit h (length h) t o → Does h c t Commit
+pub first_of : (h : List Operation) (t : ℕ) (o : Option ℕ) (c : ℕ) → IsFirstCommit h (length h) t o → Does h c t Commit
     → (d : ℕ) × (o ≡ Some d) × (d ≤ c)
 first_of h t None c none commits = absurd (none (c, slice_get_within h c _ commits, commits))
 first_of h t (Some d) c is commits = elim (cases_lt c d) [
@@ -300,18 +269,3 @@ ordered_here h commits p t x c r w o are first uses writes reads is none no_read
       | inl at ↦ (same_doer h p t u _ _ at does, grind (arith, common_steps, same_action h p t u _ _ at does))
       | inr at ↦ (same_doer h p t u _ _ at does, grind (arith, common_steps, same_action h p t u _ _ at does))
     ]
-
--- an operation on no item
-pub ordered_no_item : (h : List Operation) (p : ℕ) (op : Operation) → slice_get h p ≡ Some op → item_of op.action ≡ None → (i : ℕ)
-    → ¬ BreaksCommitOrder h i p
-ordered_no_item h p op at none i broken =
-    let used = uses_item h p op broken.after _ at broken.conflict.2 in grind (arith, common_steps, none, used.1)
-
--- an operation by one that does not commit
-pub ordered_uncommitted : (h : List Operation) (commits : ℕ → Option ℕ) (p t : ℕ) (a : Action) → Does h p t a
-    → AreFirstCommits h (length h) commits → commits t ≡ None → (i : ℕ) → ¬ BreaksCommitOrder h i p
-ordered_uncommitted h commits p t a does are none i broken =
-    let first = first_of h broken.after (commits broken.after) broken.commit (are broken.after) broken.commits_after in
-    let same : broken.after ≡ t = sym (uses_item h p _ broken.after _ does broken.conflict.2).0 in
-    let again : commits t ≡ Some first.0 = subst (λ u. commits u ≡ Some first.0) same first.1 in
-    grind (arith, common_steps, none, again)

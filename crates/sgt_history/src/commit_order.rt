@@ -17,7 +17,7 @@ use std::collections::BTreeMap;
 ///
 /// Bernstein, Hadzilacos and Goodman (1987), chapter 2: conflict. A transaction commits where it does so first.
 ///
-/// An operation costs five look-ups in a map at most, of the items and of the committed transactions.
+/// An operation costs six look-ups in a map at most, of the items and of the committed transactions.
 pub fn commit_order_violation(
     alloc: Global,
     history: &[Operation],
