@@ -1,4 +1,4 @@
-ghost use Rattle.std.specs.Prelude.{◌≡◌, ◌↔◌, [], Err, All, IfOk, IfErr, vec_len};
+ghost use Rattle.std.specs.Prelude.{◌≡◌, ◌↔◌, [], Err, IfOk, IfErr};
 ghost use Rattle.sgt_engine.specs.EngineView.{setting_of as made_with};
 ghost use Rattle.sgt_workers.specs.declared.errors.PoolError.TheVariants as PoolError;
 ghost use Rattle.sgt_workers.specs.Banks.{engine_setting, AreWorkers, AreTries, AreLimitsFor, AreJobs};
@@ -11,13 +11,12 @@ use crate::errors::PoolError;
 use crate::gate::Gate;
 use crate::outcome::Outcome;
 use crate::report::{Report, report_of};
-use crate::worker::Worker;
 use sgt_access::Accesses;
-use sgt_dispatch::{Feed, Job, Putter};
+use sgt_dispatch::{Feed, Job};
 use sgt_engine::Engine;
 use sgt_graph::Graph;
 use sgt_records::Records;
-use sgt_session::{Closed, Named, Session, Shared};
+use sgt_session::{Closed, Named, Shared};
 use std::alloc::Global;
 use std::marker::Brand;
 use std::sync::ledger::Blank;
@@ -122,8 +121,20 @@ fn run_named<
     let Ok((shared, sessions)) = Shared::<N, R, A, G>::new(alloc, engine, blank, workers) else {
         return Err(PoolError::NoMemory);
     };
-    let (putter, team) = new_team(alloc, tries, calls, jobs.len(), workers, sessions)?;
-    let sessions = run_team(rt, alloc, &shared, gate, &outcomes, jobs, putter, team)?;
+    // It holds all jobs at once, so that nobody waits for room in it.
+    let Ok((putter, takers)) = Feed::make_for(alloc, jobs.len(), usize::from(workers)) else {
+        return Err(PoolError::NoMemory);
+    };
+    let team = team_of(
+        alloc,
+        tries,
+        calls / usize::from(workers),
+        &putter,
+        sessions,
+        takers,
+    )?;
+    let (putter, ended) = run_crew(rt, alloc, &shared, gate, &outcomes, jobs, putter, team)?;
+    let sessions = join_passes(alloc, putter, ended)?;
     let Ok(
         Closed {
             engine,
@@ -134,54 +145,6 @@ fn run_named<
         return Err(PoolError::Mismatch);
     };
     Ok((engine, outcomes.into_inner()))
-}
-
-/// A feed for so many jobs, and a worker for each session, which share the room for so many calls.
-fn new_team<N: Named>(
-    alloc: Global,
-    tries: u32,
-    calls: usize,
-    jobs: usize,
-    workers: u16,
-    sessions: Vec<Session<N>>,
-) -> Result<(Putter, Vec<Worker<N>>), PoolError>
-    requires workers { AreWorkers workers }
-    requires count { vec_len sessions ≡ workers }
-    ensures feed { IfOk result (λ r. All (λ w. w.taker.feed ≡ r.0.feed) r.1.items) }
-    ensures error { IfErr result IsRunError }
-{
-    // It holds all jobs at once, so that nobody waits for room in it.
-    let Ok((putter, takers)) = Feed::make_for(alloc, jobs, usize::from(workers)) else {
-        return Err(PoolError::NoMemory);
-    };
-    let calls = calls / usize::from(workers);
-    let team = team_of(alloc, tries, calls, &putter, sessions, takers)?;
-    Ok((putter, team))
-}
-
-/// Runs the jobs by these workers, and gives their sessions when all have ended.
-fn run_team<
-    N: Named + Send + Sync,
-    R: Records,
-    A: Accesses,
-    G: Graph,
-    T: Gate + Sync,
-    W: Threads + Wait + Sync,
->(
-    rt: &W,
-    alloc: Global,
-    shared: &Shared<N, R, A, G>,
-    gate: &T,
-    outcomes: &Mutex<Vec<Outcome<T::Note>>>,
-    jobs: &[Job],
-    putter: Putter,
-    team: Vec<Worker<N>>,
-) -> Result<Vec<Session<N>>, PoolError>
-    requires { All (λ w. w.taker.feed ≡ putter.feed) team.items }
-    ensures error { IfErr result IsRunError }
-{
-    let (putter, ended) = run_crew(rt, alloc, shared, gate, outcomes, jobs, putter, team)?;
-    join_passes(alloc, putter, ended)
 }
 
 /// An outcome for each job, which nobody has taken yet.

@@ -7,14 +7,15 @@ pub join-putter-requires : goal.join-putter-requires
 join-putter-requires g c =
     let i = c.loop-one.invariant in
     (first_and_rest c.loop-one.one-iterator.rest.items c.next.new.self.rest.items c.in-Some.one
-    (λ e. e.stub.feed ≡ c.args.putter.feed) c.in-Some.ensures.steps.0 i.2).0 ∙ sym i.3
+    (λ e. e.stub.feed ≡ c.loop-one.putter.feed) c.in-Some.ensures.steps.0 i.2).0
 
 pub loop-one-preserved : goal.loop-one-preserved
 loop-one-preserved g c =
     let i = c.loop-one.invariant in
     let steps = c.in-Some.ensures.steps in
     let push = c.push_reserved.ensures in
-    let rest = first_and_rest c.loop-one.one-iterator.rest.items c.next.new.self.rest.items c.in-Some.one
-    (λ e. e.stub.feed ≡ c.args.putter.feed) steps.0 i.2 in
-    let feed = ap (λ (p : PutterState). p.feed) c.join-putter.ensures.joined ∙ i.3 in
-    (tt, tt, rest.1, feed, omega (arith, i.4, push.len, ap length steps.0), omega (arith, i.5, push.capacity))
+    let count = ap length steps.0 in
+    let same = ap (λ (p : PutterState). p.feed) c.join-putter.ensures.joined in
+    let rest = (first_and_rest c.loop-one.one-iterator.rest.items c.next.new.self.rest.items c.in-Some.one
+    (λ e. e.stub.feed ≡ c.loop-one.putter.feed) steps.0 i.2).1 in
+    (tt, tt, (λ k d lt. rest k d lt ∙ sym same), omega (arith, i.3, push.len, count), omega (arith, i.4, push.capacity))

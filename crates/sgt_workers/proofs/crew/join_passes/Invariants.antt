@@ -4,7 +4,6 @@ use Rattle.sgt_workers.proofs.crew.join_passes.Given as goal
 abbrev pub invariant-loop-one : goal.invariant-loop-one
 invariant-loop-one g l =
     (goal.iterator-loop-one g).can_next l.one-iterator × (goal.iterator-loop-one g).is_finite l.one-iterator
-    × All (λ e. e.stub.feed ≡ l.fn.putter.feed) l.one-iterator.rest.items
-    × (l.putter.feed ≡ l.fn.putter.feed)
+    × All (λ e. e.stub.feed ≡ l.putter.feed) l.one-iterator.rest.items
     × (vec_len l.sessions + length l.one-iterator.rest.items ≡ vec_len l.fn.ended)
     × (vec_len l.fn.ended ≤ vec_capacity l.sessions)
