@@ -1,7 +1,7 @@
 -- The laws of a script's run: of each part, since its history is legal, and of what was written.
 use Rattle.std.proofs.Common.{◌≡◌, refl, sym, ap, ◌∙◌, subst, List, [], ◌∷◌, ◌++◌}
 use Rattle.std.proofs.Math.Path.{fun_ext}
-use Rattle.std.specs.Prelude.{ℕ, Option, None, Some, IfSome, Ok, Err, All}
+use Rattle.std.specs.Prelude.{ℕ, Option, None, Some, IfSome, Ok, Err}
 use Rattle.std.specs.Io.KnownBytes.{Appends}
 use Rattle.sgt_model.specs.declared.limits.Limits.{Limits}
 use Rattle.sgt_model.specs.declared.reply.Reply.{Reply}
@@ -22,7 +22,7 @@ use Rattle.sgt_stream.specs.Lines.{Ending, cut}
 use Rattle.sgt_stream.specs.Ends.{End}
 use Rattle.sgt_script.specs.Parts.{Answer, Replied, WasCut, StillLive, LegalRun, Part, answer_text, cut_off, left_by, part_of, replies}
 use Rattle.sgt_script.specs.Scripts.{Execution, Closing, RunOutput, Script, ScriptOf}
-use Rattle.sgt_script.specs.RunLaws.{IsSerialText, PartLaws, RunLaws, carried, chained, line_telling, opened_on, replies_telling, results_left}
+use Rattle.sgt_script.specs.RunLaws.{InEachPart, IsSerialText, PartLaws, RunLaws, carried, chained, line_telling, opened_on, replies_telling, results_left}
 use Rattle.sgt_script.proofs.Parts.{legal-part}
 
 -- one more reply, which tells what it tells, behind a text
@@ -135,7 +135,7 @@ module _ (headline : HeadlineHolds) where
           }
 
       cut-laws : (s : Setting) (answers : List Answer) → s.rules ≡ rules_from (procedures ++ others) limits → HoldValues s.opening
-          → LegalRun s answers → All PartLaws (cut_off s answers)
+          → LegalRun s answers → InEachPart (cut_off s answers)
       cut-laws s [] is values legal = tt
       cut-laws s (Replied e ∷ answers) is values legal = cut-laws s answers is values legal.0
       cut-laws s (WasCut entries ∷ answers) is values legal =

@@ -1,5 +1,5 @@
 -- What is true of every run of a script: the headline, each part by itself, and on what was written.
-use Rattle.std.specs.Prelude.{◌≡◌, ℕ, List, [], ◌∷◌, ◌++◌, All}
+use Rattle.std.specs.Prelude.{◌≡◌, ℕ, List, [], ◌∷◌, ◌++◌, ⊤}
 use Rattle.sgt_model.specs.declared.reply.Reply.{Reply}
 use Rattle.sgt_model.specs.declared.reply.Reply.TheVariants as reply
 use Rattle.sgt_model.specs.Walks.{Acyclic}
@@ -112,7 +112,12 @@ pub record PartLaws (p : Part) : Type 0 where
   pub order : CommitsInOrder p.past
   pub bank : CommitsAreBank p.setting p.past
 
+-- they hold of each of these parts
+abbrev pub InEachPart : List Part → Type 0
+InEachPart [] = ⊤
+InEachPart (p ∷ parts) = PartLaws p × InEachPart parts
+
 -- they hold of each part of a run, between its cuts, and what was written is what one serial run tells
 pub record RunLaws (run : Execution) (out : List ℕ) (end : End) : Type 0 where
-  pub parts : All PartLaws (parts_of run.setting run.answers)
+  pub parts : InEachPart (parts_of run.setting run.answers)
   pub written : IsSerialText run out end
