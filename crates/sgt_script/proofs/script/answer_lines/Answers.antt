@@ -1,0 +1,88 @@
+use Rattle.std.proofs.Common.{rules, Err, ◌+◌, refl}
+use Rattle.sgt_format.specs.declared.script_line.ScriptLine.TheVariants as script_line
+use Rattle.sgt_stream.specs.Intake.{bytes_left, cut_left}
+use Rattle.sgt_stream.specs.declared.fault.Fault.TheVariants as fault
+use Rattle.sgt_engine.specs.EngineView.{setting_of}
+use Rattle.sgt_script.specs.Parts.{part_at}
+use Rattle.sgt_script.proofs.Parts.{replied}
+use Rattle.sgt_script.proofs.Beginnings.{all-so, answered-flushed, answered-next, answered-none, fault-stop, some-failed, some-stop, some-written}
+use Rattle.sgt_script.proofs.WholeLines.{read-failed}
+use Rattle.sgt_script.proofs.script.answer_lines.Goals as goal
+
+pub loop-gathered-init : goal.loop-gathered-init
+loop-gathered-init g c = record {
+  so = answered-none c.args.lines.now (g.S.Source.rest c.args.source.now) (g.T.Sink.held c.args.sink.now) (setting_of c.args.engine)
+      c.args.engine.past c.requires.fresh;
+  ended = λ going. going;
+  counted = search rules;
+  few = search rules;
+  reading = search rules;
+  writing = search rules;
+}
+
+pub loop-gathered-preserved-in-Ok : goal.loop-gathered-preserved-in-Ok
+loop-gathered-preserved-in-Ok g c =
+    let one = c.in-Ok.ensures.answered in
+    record {
+      so = answered-next (setting_of c.args.engine) (c.args.lines.now.number + 1) (cut_left c.args.lines.now (g.S.Source.rest c.args.source.now))
+    (bytes_left c.args.lines.now (g.S.Source.rest c.args.source.now)) (g.T.Sink.held c.args.sink.now)
+          c.loop-gathered.lines c.next_script_line.new.lines (g.S.Source.rest c.loop-gathered.source) (g.S.Source.rest c.next_script_line.new.source) (g.T.Sink.held c.flush_before_read.new.sink) c.flush_before_read.new.gathered.items
+          c.answer_event.new.replies.items (part_at c.loop-gathered.engine) (part_at c.answer_event.new.engine) (script_line.Event c.in-Ok-Some-Event.event)
+          (answered-flushed (setting_of c.args.engine) (c.args.lines.now.number + 1) (cut_left c.args.lines.now (g.S.Source.rest c.args.source.now))
+    (bytes_left c.args.lines.now (g.S.Source.rest c.args.source.now)) (g.T.Sink.held c.args.sink.now)
+    c.loop-gathered.lines (g.S.Source.rest c.loop-gathered.source) (g.T.Sink.held c.loop-gathered.sink) (g.T.Sink.held c.flush_before_read.new.sink) c.loop-gathered.gathered.items c.flush_before_read.new.gathered.items (part_at c.loop-gathered.engine)
+    c.loop-gathered.invariant.so c.in_ok-flush_before_read.ensures.bytes)
+          c.in-Ok-Some-Event.ensures.line c.in-Ok-Some-Event.ensures.at (c.in-Ok-Some-Event.ensures.taken tt) (c.in-Ok-Some-Event.ensures.unbroken tt)
+          (c.in-Ok-Some-Event.ensures.number tt) c.next_script_line.ensures.ended
+          (replied one.0 c.in-Ok-Some-Event.event c.loop-gathered.engine c.answer_event.new.engine _ _ c.answer_event.ensures.setting one.1 one.2 one.3
+          c.answer_event.ensures.legal);
+      ended = λ going. c.loop-gathered.invariant.ended (c.next_script_line.ensures.ended going);
+      counted = search rules;
+      few = search rules;
+      reading = search rules;
+      writing = search rules;
+    }
+
+pub loop-gathered-preserved : goal.loop-gathered-preserved
+loop-gathered-preserved g c =
+    record {
+      so = answered-next (setting_of c.args.engine) (c.args.lines.now.number + 1) (cut_left c.args.lines.now (g.S.Source.rest c.args.source.now))
+    (bytes_left c.args.lines.now (g.S.Source.rest c.args.source.now)) (g.T.Sink.held c.args.sink.now)
+          c.loop-gathered.lines c.next_script_line.new.lines (g.S.Source.rest c.loop-gathered.source) (g.S.Source.rest c.next_script_line.new.source) (g.T.Sink.held c.flush_before_read.new.sink) c.flush_before_read.new.gathered.items
+          c.answer_cut.new.replies.items (part_at c.loop-gathered.engine) (part_at c.in-Ok-answer_cut.next) script_line.Cut
+          (answered-flushed (setting_of c.args.engine) (c.args.lines.now.number + 1) (cut_left c.args.lines.now (g.S.Source.rest c.args.source.now))
+    (bytes_left c.args.lines.now (g.S.Source.rest c.args.source.now)) (g.T.Sink.held c.args.sink.now)
+    c.loop-gathered.lines (g.S.Source.rest c.loop-gathered.source) (g.T.Sink.held c.loop-gathered.sink) (g.T.Sink.held c.flush_before_read.new.sink) c.loop-gathered.gathered.items c.flush_before_read.new.gathered.items (part_at c.loop-gathered.engine)
+    c.loop-gathered.invariant.so c.in_ok-flush_before_read.ensures.bytes)
+          c.in-Ok-Some-Cut.ensures.line c.in-Ok-Some-Cut.ensures.at (c.in-Ok-Some-Cut.ensures.taken tt) (c.in-Ok-Some-Cut.ensures.unbroken tt)
+          (c.in-Ok-Some-Cut.ensures.number tt) c.next_script_line.ensures.ended
+          c.in-Ok-answer_cut.ensures.answered;
+      ended = λ going. c.loop-gathered.invariant.ended (c.next_script_line.ensures.ended going);
+      counted = search rules;
+      few = search rules;
+      reading = search rules;
+      writing = search rules;
+    }
+
+pub returns-in_err-flush_before_read-clause-some : goal.returns-in_err-flush_before_read-clause-some
+returns-in_err-flush_before_read-clause-some g c =
+    some-failed (setting_of c.args.engine) (c.args.lines.now.number + 1) (cut_left c.args.lines.now (g.S.Source.rest c.args.source.now))
+    (bytes_left c.args.lines.now (g.S.Source.rest c.args.source.now)) (g.T.Sink.held c.args.sink.now)
+    c.loop-gathered.lines (g.S.Source.rest c.loop-gathered.source) (g.S.Source.rest c.loop-gathered.source) (g.T.Sink.held c.loop-gathered.sink) (g.T.Sink.held c.flush_before_read.new.sink) c.loop-gathered.gathered.items (part_at c.loop-gathered.engine) c.from_residual.result
+    c.loop-gathered.invariant.so c.in_err-flush_before_read.ensures.part (search rules)
+
+pub returns-in-Err-clause-some : goal.returns-in-Err-clause-some
+returns-in-Err-clause-some g c =
+    some-stop (setting_of c.args.engine) (c.args.lines.now.number + 1) (cut_left c.args.lines.now (g.S.Source.rest c.args.source.now))
+    (bytes_left c.args.lines.now (g.S.Source.rest c.args.source.now)) (g.T.Sink.held c.args.sink.now)
+    c.loop-gathered.lines (g.S.Source.rest c.loop-gathered.source) (g.S.Source.rest c.next_script_line.new.source) (g.T.Sink.held c.flush_before_read.new.sink) (g.T.Sink.held c.stop.new.sink) c.flush_before_read.new.gathered.items (part_at c.loop-gathered.engine) (Err c.stop.result) c.in-Err.fault c.stop.result
+    (answered-flushed (setting_of c.args.engine) (c.args.lines.now.number + 1) (cut_left c.args.lines.now (g.S.Source.rest c.args.source.now))
+    (bytes_left c.args.lines.now (g.S.Source.rest c.args.source.now)) (g.T.Sink.held c.args.sink.now)
+    c.loop-gathered.lines (g.S.Source.rest c.loop-gathered.source) (g.T.Sink.held c.loop-gathered.sink) (g.T.Sink.held c.flush_before_read.new.sink) c.loop-gathered.gathered.items c.flush_before_read.new.gathered.items (part_at c.loop-gathered.engine)
+    c.loop-gathered.invariant.so c.in_ok-flush_before_read.ensures.bytes)
+    c.stop.ensures.written refl
+    (λ reading.
+    let none = c.next_script_line.ensures.unread (search rules) in
+    read-failed (c.args.lines.now.number + 1) (c.loop-gathered.lines.number + 1)
+    (bytes_left c.args.lines.now (g.S.Source.rest c.args.source.now)) c.loop-gathered.lines c.next_script_line.new.lines (g.S.Source.rest c.loop-gathered.source) (g.S.Source.rest c.next_script_line.new.source) c.loop-gathered.invariant.so.answers
+    (c.loop-gathered.invariant.so.read (c.next_script_line.ensures.ended none.2)) none)
