@@ -48,14 +48,13 @@ All is kept in memory, and nothing on disk: what was committed is gone when the 
 
 /// What `sgt script --help` tells behind the options.
 const SCRIPT_HELP: &str =
-    r#"Line 1 opens, each later line is an event or a cut and is answered by a line, and at the end comes the committed database:
+    r#"Line 1 opens, each later line is an event and is answered by a line, and at the end comes the committed database:
 
   {"limits":[1,10],"accounts":[[1,101,500,1000]],"procedures":[]}
   ["start",0,[1]]
   ["step",0]
   ["commit",0]
   ["quit",0]
-  ["cut"]
 
   limits      the most live transactions, from 1 to 32, the most starts, from 1 to 4000000000, and 0 or 1 behind them, or no
               more: with 1 a code that a procedure asks is told at its commit, and is true in the serial order; without it at
@@ -67,10 +66,8 @@ const SCRIPT_HELP: &str =
   step        the transaction's next access
   commit      commits it, where its procedure is at its end
   quit        aborts it
-  cut         forgets what was asked and answered so far, where no transaction is live, and goes on from what is committed, with
-              numbers from 0: "cut" and the number of events answered. Where one is live: "still live"
 
-The four events are answered
+These four events are answered
 
   started 0
   read 0/1 101
