@@ -75,12 +75,12 @@ pub returns-in-Err-clause-some : goal.returns-in-Err-clause-some
 returns-in-Err-clause-some g c =
     some-stop (setting_of c.args.engine) (c.args.lines.now.number + 1) (cut_left c.args.lines.now (g.S.Source.rest c.args.source.now))
     (bytes_left c.args.lines.now (g.S.Source.rest c.args.source.now)) (g.T.Sink.held c.args.sink.now)
-    c.loop-gathered.lines (g.S.Source.rest c.loop-gathered.source) (g.S.Source.rest c.next_script_line.new.source) (g.T.Sink.held c.flush_before_read.new.sink) (g.T.Sink.held c.stop.new.sink) c.flush_before_read.new.gathered.items (part_at c.loop-gathered.engine) (Err c.stop.result) c.in-Err.fault c.stop.result
+    c.loop-gathered.lines (g.S.Source.rest c.loop-gathered.source) (g.S.Source.rest c.next_script_line.new.source) (g.T.Sink.held c.flush_before_read.new.sink) (g.T.Sink.held c.stop-in-Err.new.sink) c.flush_before_read.new.gathered.items (part_at c.loop-gathered.engine) (Err c.stop-in-Err.result) c.in-Err.fault c.stop-in-Err.result
     (answered-flushed (setting_of c.args.engine) (c.args.lines.now.number + 1) (cut_left c.args.lines.now (g.S.Source.rest c.args.source.now))
     (bytes_left c.args.lines.now (g.S.Source.rest c.args.source.now)) (g.T.Sink.held c.args.sink.now)
     c.loop-gathered.lines (g.S.Source.rest c.loop-gathered.source) (g.T.Sink.held c.loop-gathered.sink) (g.T.Sink.held c.flush_before_read.new.sink) c.loop-gathered.gathered.items c.flush_before_read.new.gathered.items (part_at c.loop-gathered.engine)
     c.loop-gathered.invariant.so c.in_ok-flush_before_read.ensures.bytes)
-    c.stop.ensures.written refl
+    c.stop-in-Err.ensures.written refl
     (λ reading.
     let none = c.next_script_line.ensures.unread (search rules) in
     read-failed (c.args.lines.now.number + 1) (c.loop-gathered.lines.number + 1)
