@@ -5,38 +5,41 @@ use Rattle.std.proofs.lemmas.Grind.{reverse_onto}
 use Rattle.std.specs.Prelude.{map, reverse, Option, None, Some, IfSome, IfErr, OnOk, Ok, Err}
 use Rattle.sgt_model.specs.Contents.{Key}
 use Rattle.sgt_model.specs.Databases.{Row, IsByKey, contents_of}
-use Rattle.sgt_model.specs.Values.{settled}
 use Rattle.sgt_format.specs.DatabaseText.{database_text}
 use Rattle.sgt_stream.specs.declared.fault.Fault.{Fault}
-use Rattle.sgt_model.specs.Legality.{Legal}
 use Rattle.sgt_model.specs.Settings.{Setting}
 use Rattle.sgt_stream.specs.declared.fault.Fault.TheVariants as fault
-use Rattle.sgt_model.specs.declared.entry.Entry.{Entry}
 use Rattle.std.specs.Io.KnownBytes.{Appends}
-use Rattle.sgt_format.specs.ReplyText.{text}
 use Rattle.sgt_stream.specs.Lines.{Cut}
 use Rattle.sgt_stream.specs.Ends.{End, IsExact, IsOfInput}
 use Rattle.sgt_stream.specs.Spelled.{spelled, end_of}
-use Rattle.sgt_script.specs.Scripts.{RunHistory, RunOutput, event_at, replies, Closing}
-use Rattle.sgt_script.specs.Answering.{Answered, AllAnswered}
-use Rattle.sgt_model.specs.Histories.{events_of}
+use Rattle.sgt_script.specs.Parts.{Answer, LegalRun, Part, asked, left_by, lines_of, part_of, replies}
+use Rattle.sgt_script.specs.Scripts.{Execution, RunOutput, script_line_at, Closing}
+use Rattle.sgt_script.specs.Answering.{AllAnswered, AnswersAll, BeginWith, NoLine}
 
--- the events of a history with one entry more
-pub events_of-entry : (e : Entry) (past : List Entry) → events_of (e ∷ past) ≡ events_of past ++ e.event ∷ []
-events_of-entry e past = ap (map (λ (x : Entry). x.event)) (reverse_onto past e []) ∙ map-append (λ (x : Entry). x.event)
-    (reverse past) (e ∷ [])
+-- what the lines ask for, with one answer more
+pub lines_of-answer : (a : Answer) (answers : List Answer) → lines_of (a ∷ answers) ≡ lines_of answers ++ asked a ∷ []
+lines_of-answer a answers = ap (map asked) (reverse_onto answers a []) ∙ map-append asked (reverse answers) (a ∷ [])
 
--- one more line answered
-pub answered-next : (n m k : ℕ) (a b c : Option Cut) (past : List Entry) (e : Entry) → Answered n a past m b
-    → Answered m b (e ∷ []) k c → Answered n a (e ∷ past) k c
-answered-next n m k None b c past e first next = tt
-answered-next n m k (Some a) None c past e first next = absurd first
-answered-next n m k (Some a) (Some b) None past e first next = next
-answered-next n m k (Some a) (Some b) (Some c) past e first next =
-    let more : events_of past ++ e.event ∷ spelled event_at k c.given ≡ events_of (e ∷ past) ++ spelled event_at k c.given =
-    sym (append_assoc (events_of past) (e.event ∷ []) (spelled event_at k c.given)) ∙ ap (λ l. l ++ spelled event_at k c.given)
-    (sym (events_of-entry e past)) in
-    (first.0 ∙ ap (λ l. events_of past ++ l) next.0 ∙ more, first.1 ∙ next.1)
+-- one more line
+pub begin-next : (n m k : ℕ) (a b c : Option Cut) (answers : List Answer) (x : Answer) → BeginWith n a (lines_of answers) m b
+    → BeginWith m b (asked x ∷ []) k c → BeginWith n a (lines_of (x ∷ answers)) k c
+begin-next n m k None b c answers x first next = tt
+begin-next n m k (Some a) None c answers x first next = absurd first
+begin-next n m k (Some a) (Some b) None answers x first next = next
+begin-next n m k (Some a) (Some b) (Some c) answers x first next =
+    let more : lines_of answers ++ asked x ∷ spelled script_line_at k c.given ≡ lines_of (x ∷ answers) ++ spelled script_line_at k c.given =
+    sym (append_assoc (lines_of answers) (asked x ∷ []) (spelled script_line_at k c.given)) ∙ ap (λ l. l ++ spelled script_line_at k c.given)
+    (sym (lines_of-answer x answers)) in
+    (first.0 ∙ ap (λ l. lines_of answers ++ l) next.0 ∙ more, first.1 ∙ next.1)
+
+-- the last line
+pub all-answered : (n m : ℕ) (a b : Option Cut) (answers : List Answer) (end : End) → BeginWith n a (lines_of answers) m b
+    → NoLine m b end → AllAnswered n a answers end
+all-answered n m None b answers end first none = tt
+all-answered n m (Some a) None answers end first none = absurd first
+all-answered n m (Some a) (Some b) answers end first none =
+    (first.0 ∙ ap (λ l. lines_of answers ++ l) none.0 ∙ append-nil (lines_of answers), first.1 ∙ none.1)
 
 -- what is written in two parts
 pub appends-trans : (a b c : Option (List ℕ)) (xs ys : List ℕ) → Appends a b xs → Appends b c ys → Appends a c (xs ++ ys)
@@ -45,39 +48,27 @@ appends-trans (Some ws) None c xs ys first second = absurd first
 appends-trans (Some ws) (Some bs) None xs ys first second = second
 appends-trans (Some ws) (Some bs) (Some cs) xs ys first second = second ∙ ap (λ l. l ++ ys) first ∙ append_assoc ws xs ys
 
--- what was written and what is gathered, where some of it is written out and a reply is gathered
-pub written-next : (a b c : Option (List ℕ)) (past past' : List Entry) (e : Entry) (held held' held'' : List ℕ)
-    → ((bytes : List ℕ) × Appends a b bytes × (replies past ≡ bytes ++ held))
-    → ((bytes : List ℕ) × Appends b c bytes × (held ≡ bytes ++ held')) → past' ≡ e ∷ past → held'' ≡ held' ++ text e.reply
-    → (bytes : List ℕ) × Appends a c bytes × (replies past' ≡ bytes ++ held'')
-written-next a b c past past' e held held' held'' (xs, first, all) (ys, second, rest) one more = (
-  xs ++ ys,
-  appends-trans a b c xs ys first second,
-  ap replies one ∙ ap (λ l. l ++ text e.reply) (all ∙ ap (λ l. xs ++ l) rest ∙ sym (append_assoc xs ys held'))
-      ∙ append_assoc (xs ++ ys) held' (text e.reply) ∙ ap (λ l. (xs ++ ys) ++ l) (sym more),
-)
-
 -- what a run over known lines writes, with what it started from
 abbrev pub Output : Setting → Option Cut → Option (List ℕ) → Option (List ℕ) → End → Type 0
 Output s known held held' end =
-    IfSome known (λ c. (run : RunHistory) × (run.setting ≡ s) × (out : List ℕ) × Appends held held' out
+    IfSome known (λ c. (run : Execution) × (run.setting ≡ s) × (out : List ℕ) × Appends held held' out
     × RunOutput run c.given c.ending out end)
 
 -- a run whose lines are all answered, with what it wrote
-pub output-all : (s : Setting) (n : ℕ) (known : Option Cut) (past : List Entry) (end : End) (last : List ℕ)
-    (held held' : Option (List ℕ)) → n ≡ 2 → Legal s past → AllAnswered n known past end → Closing (settled s.opening past) end last
-    → Appends held held' (replies past ++ last) → Output s known held held' end
-output-all s n None past end last held held' second legal all closing written = tt
-output-all s n (Some c) past end last held held' second legal all closing written = (
-  record { setting = s; past = past },
+pub output-all : (s : Setting) (n : ℕ) (known : Option Cut) (answers : List Answer) (end : End) (last : List ℕ)
+    (held held' : Option (List ℕ)) → n ≡ 2 → LegalRun s answers → AllAnswered n known answers end
+    → Closing (left_by (part_of s answers)) end last → Appends held held' (replies answers ++ last) → Output s known held held' end
+output-all s n None answers end last held held' second legal all closing written = tt
+output-all s n (Some c) answers end last held held' second legal all closing written = (
+  record { setting = s; answers = answers },
   refl,
-  replies past ++ last,
+  replies answers ++ last,
   written,
   record {
     last = last;
     legal = legal;
-    events_are = sym all.0 ∙ ap (λ k. spelled event_at k c.given) second;
-    end_is = sym all.1 ∙ ap (λ k. end_of event_at k c.given c.ending) second;
+    lines_are = sym all.0 ∙ ap (λ k. spelled script_line_at k c.given) second;
+    end_is = sym all.1 ∙ ap (λ k. end_of script_line_at k c.given c.ending) second;
     closing = closing;
     text = refl;
   },
@@ -89,29 +80,28 @@ exact-flush (Ok tt') err exact = refl
 exact-flush (Err f) err exact = absurd (subst IsOfInput err exact)
 
 -- what a run writes that ended at a fault of the script
-pub output-fault : (s s' : Setting) (n : ℕ) (known : Option Cut) (past : List Entry) (r r' : End) (f : Fault)
-    (held held' : Option (List ℕ)) → s' ≡ s → n + 1 ≡ 2 → r ≡ r' → r' ≡ Err f → Legal s' past
-    → (IsExact r' → AllAnswered (n + 1) known past r') → (IsExact r' → Appends held held' (replies past)) → IsExact r
-    → Output s known held held' r
-output-fault s s' n known past r r' f held held' kept second same failed legal answered written exact =
-    let exact' : IsExact r' = subst IsExact same exact in
-    let all : AllAnswered (n + 1) known past (Err f) = subst (AllAnswered (n + 1) known past) failed (answered exact') in
-    subst (Output s known held held') (sym (same ∙ failed))
-    (output-all s (n + 1) known past (Err f) [] held held' second (subst (λ (t : Setting). Legal t past) kept legal) all refl
-    (subst (Appends held held') (sym (append-nil (replies past))) (written exact')))
+pub output-fault : (s : Setting) (n : ℕ) (known : Option Cut) (r : End) (f : Fault) (held held' : Option (List ℕ)) → n + 1 ≡ 2
+    → r ≡ Err f → (IsOfInput f → AnswersAll s (n + 1) known held held' (Err f)) → IsExact r → Output s known held held' r
+output-fault s n known r f held held' second failed answered exact =
+    let all = answered (subst IsExact failed exact) in
+    subst (Output s known held held') (sym failed)
+    (output-all s (n + 1) known all.answers (Err f) [] held held' second all.legal all.all refl
+    (subst (Appends held held') (sym (append-nil (replies all.answers))) all.written))
+
+-- the database behind an engine's part
+pub closes-part : (p q : Part) (rows : List Row) (last : List ℕ) → p ≡ q → IsByKey rows → ((k : Key) → contents_of rows k ≡ left_by q k)
+    → last ≡ database_text rows → Closing (left_by p) (Ok tt) last
+closes-part p q rows last same by_key contents text = (rows, by_key, λ k. contents k ∙ ap (λ (x : Part). left_by x k) (sym same), text)
 
 -- what a run writes that ended well
-pub output-well : (s s' : Setting) (n : ℕ) (known : Option Cut) (past : List Entry) (r r' : End) (rows : List Row)
-    (gathered : List ℕ) (held held' held'' : Option (List ℕ)) → s' ≡ s → n + 1 ≡ 2 → r' ≡ Ok tt → r ≡ Ok tt → Legal s' past
-    → (IsExact r' → AllAnswered (n + 1) known past r') → (IsExact r' → Appends held held' (replies past)) → IsByKey rows
-    → ((k : Key) → contents_of rows k ≡ settled s'.opening past k) → gathered ≡ database_text rows
-    → OnOk r (Appends held' held'' gathered) → Output s known held held'' r
-output-well s s' n known past r r' rows gathered held held' held'' kept second well wrote legal answered written by_key contents text last =
-    let exact' : IsExact r' = subst IsExact (sym well) tt in
-    let all : AllAnswered (n + 1) known past (Ok tt) = subst (AllAnswered (n + 1) known past) well (answered exact') in
+pub output-well : (s : Setting) (n : ℕ) (known : Option Cut) (q : Part) (r : End) (rows : List Row) (gathered : List ℕ)
+    (held held' held'' : Option (List ℕ)) → n + 1 ≡ 2 → r ≡ Ok tt
+    → (all : AnswersAll s (n + 1) known held held' (Ok tt)) × (part_of s all.answers ≡ q) → IsByKey rows
+    → ((k : Key) → contents_of rows k ≡ left_by q k) → gathered ≡ database_text rows → OnOk r (Appends held' held'' gathered)
+    → Output s known held held'' r
+output-well s n known q r rows gathered held held' held'' second wrote (all, part) by_key contents text last =
     let more : Appends held' held'' gathered = subst (λ (e : End). OnOk e (Appends held' held'' gathered)) wrote last in
     subst (Output s known held held'') (sym wrote)
-    (output-all s (n + 1) known past (Ok tt) (database_text rows) held held'' second (subst (λ (t : Setting). Legal t past) kept legal) all
-    (rows, by_key, λ k. contents k ∙ ap (λ (t : Setting). settled t.opening past k) kept, refl)
-    (subst (λ l. Appends held held'' (replies past ++ l)) text (appends-trans held held' held'' (replies past) gathered
-    (written exact') more)))
+    (output-all s (n + 1) known all.answers (Ok tt) gathered held held'' second all.legal all.all
+    (closes-part (part_of s all.answers) q rows gathered part by_key contents text)
+    (appends-trans held held' held'' (replies all.answers) gathered all.written more))

@@ -1,49 +1,58 @@
 -- Laws of a run that stopped on the way: it wrote the beginning of what a whole run writes.
-use Rattle.std.proofs.Common.{◌≡◌, ◌≢◌, ℕ, ◌+◌, List, [], ◌∷◌, ◌++◌, refl, ap, sym, ◌∙◌, append_assoc, append-nil, subst, inl, inr, ◌⊎◌}
-use Rattle.std.proofs.lemmas.List.{map-append, reverse-append, take-append-drop}
+use Rattle.std.proofs.Common.{◌≡◌, ◌≢◌, ℕ, ◌+◌, List, [], ◌∷◌, ◌++◌, refl, ap, sym, ◌∙◌, append_assoc, append-nil, subst, inl, inr, ◌⊎◌, arith}
+use Rattle.std.proofs.lemmas.List.{take-append-drop}
 use Rattle.std.specs.Result.{is_err}
-use Rattle.std.specs.Prelude.{map, reverse, take, drop, true, false, Result, Option, None, Some, IfSome, IfErr, OnOk, OnErr, Ok, Err}
+use Rattle.std.specs.Prelude.{take, drop, true, false, Result, Option, None, Some, IfSome, OnErr, Ok, Err}
 use Rattle.std.specs.Io.KnownBytes.{Appends, Consumes}
 use Rattle.sgt_model.specs.declared.entry.Entry.{Entry}
 use Rattle.sgt_model.specs.Contents.{Key}
-use Rattle.sgt_model.specs.Continuations.{HistoriesGoOn, SettledAreRows}
+use Rattle.sgt_model.specs.Continuations.{SettledAreRows}
 use Rattle.sgt_model.specs.Databases.{Row, IsByKey, contents_of}
-use Rattle.sgt_model.specs.Histories.{events_of}
-use Rattle.sgt_model.specs.Legality.{Legal}
+use Rattle.sgt_model.specs.OneReply.{SomeReplyIsLegal}
 use Rattle.sgt_model.specs.Settings.{Setting}
 use Rattle.sgt_model.specs.Values.{settled}
 use Rattle.sgt_format.specs.DatabaseText.{database_text}
-use Rattle.sgt_format.specs.ReplyText.{text}
 use Rattle.sgt_format.specs.Openings.{Opens}
 use Rattle.sgt_format.specs.declared.opening.Opening.{Opening}
+use Rattle.sgt_format.specs.declared.script_line.ScriptLine.{ScriptLine}
 use Rattle.sgt_program.specs.Openings.{opened_setting}
 use Rattle.sgt_stream.specs.declared.fault.Fault.{Fault}
 use Rattle.sgt_stream.specs.declared.fault.Fault.TheVariants as fault
 use Rattle.sgt_stream.specs.Lines.{Cut, Ending, cut, has_break}
 use Rattle.sgt_stream.specs.Intake.{Intake, before_input, bytes_left, cut_left, taken, Gives}
-use Rattle.sgt_stream.specs.Ends.{End, IsExact}
+use Rattle.sgt_stream.specs.Ends.{End, IsExact, IsOfInput}
 use Rattle.sgt_stream.specs.Spelled.{spelled, end_of}
-use Rattle.sgt_script.specs.Scripts.{RunOutput, ScriptOf, event_at, replies, Closing}
-use Rattle.sgt_script.specs.Answering.{Answered, AllAnswered, AnswersRead, AnswersScriptRead, AnswersSome}
-use Rattle.sgt_script.specs.Beginnings.{AppendsPart, Begins, IsStop, LineRuns, ScriptRuns}
-use Rattle.sgt_script.proofs.Answers.{appends-trans}
-use Rattle.sgt_script.proofs.WholeLines.{read-opened}
+use Rattle.sgt_script.specs.Parts.{Answer, LegalAnswer, LegalRun, Part, answer_text, left_by, lines_of, part_behind, part_of, replies}
+use Rattle.sgt_script.specs.Scripts.{RunOutput, ScriptOf, script_line_at, Closing}
+use Rattle.sgt_script.specs.Answering.{AnswersAll, AnswersLine, AnswersRead, AnswersScriptRead, AnswersSome, BeginWith, NoLine}
+use Rattle.sgt_script.specs.Beginnings.{AppendsPart, Begins, IsStop, LineRuns, ScriptRuns, WritesAt}
+use Rattle.sgt_script.proofs.Answers.{all-answered, appends-trans, begin-next, closes-part}
+use Rattle.sgt_script.proofs.Parts.{lines-newer, part-rows, replies-newer, runs-go-on}
+use Rattle.sgt_script.proofs.WholeLines.{IsReadSo, read-next, read-opened}
 use Rattle.sgt_script.proofs.Runs.{appends-none}
 
 -- what is written, and what is gathered
 
--- what was written of the replies, and what is gathered of them
-abbrev pub Gathers : Option (List ℕ) → Option (List ℕ) → List Entry → List ℕ → Type 0
-Gathers old now past gathered = (bytes : List ℕ) × Appends old now bytes × (replies past ≡ bytes ++ gathered)
+-- what was written of the answers, and what is gathered of them
+abbrev pub Gathers : Option (List ℕ) → Option (List ℕ) → List Answer → List ℕ → Type 0
+Gathers old now answers gathered = (bytes : List ℕ) × Appends old now bytes × (replies answers ≡ bytes ++ gathered)
 
--- where some of what is gathered is written out, and nothing is added to the rest
-pub gathers-less : (a b c : Option (List ℕ)) (past : List Entry) (held held' held'' : List ℕ) → Gathers a b past held
-    → ((bytes : List ℕ) × Appends b c bytes × (held ≡ bytes ++ held')) → held'' ≡ held' → Gathers a c past held''
-gathers-less a b c past held held' held'' (xs, first, all) (ys, second, rest) same = (
+-- some of what is gathered was written out
+abbrev pub Flushed : Option (List ℕ) → Option (List ℕ) → List ℕ → List ℕ → Type 0
+Flushed old now gathered left = (bytes : List ℕ) × Appends old now bytes × (gathered ≡ bytes ++ left)
+
+gathers-less : (a b c : Option (List ℕ)) (answers : List Answer) (held held' : List ℕ) → Gathers a b answers held → Flushed b c held held'
+    → Gathers a c answers held'
+gathers-less a b c answers held held' (xs, first, all) (ys, second, rest) = (
   xs ++ ys,
   appends-trans a b c xs ys first second,
-  all ∙ ap (λ l. xs ++ l) (rest ∙ ap (λ l. ys ++ l) (sym same)) ∙ sym (append_assoc xs ys held''),
+  all ∙ ap (λ l. xs ++ l) rest ∙ sym (append_assoc xs ys held'),
 )
+
+gathers-next : (a b : Option (List ℕ)) (answers : List Answer) (x : Answer) (held held' : List ℕ) → Gathers a b answers held
+    → held' ≡ held ++ answer_text x → Gathers a b (x ∷ answers) held'
+gathers-next a b answers x held held' (xs, first, all) more =
+    (xs, first, ap (λ l. l ++ answer_text x) all ∙ append_assoc xs held (answer_text x) ∙ ap (λ l. xs ++ l) (sym more))
 
 -- a failed write of these bytes wrote the first of them
 pub part-of : {A E : Type 0} (r : Result A E) (a b : Option (List ℕ)) (bytes seen : List ℕ) → seen ≡ bytes → is_err r ≡ true
@@ -70,82 +79,177 @@ well-other r well is = absurd (cc (sym well ∙ is))
 pub on-failed : {P : Type 0} (r : End) (f : Fault) → r ≡ Err f → OnErr r P → P
 on-failed {P} r f is holds = subst (λ (e : End). OnErr e P) is holds
 
--- where all of it is written out
-pub some-all : (s s' : Setting) (n m : ℕ) (known left : Option Cut) (past : List Entry) (from to a b c : Option (List ℕ)) (held : List ℕ)
-    (end : End) → s' ≡ s → Legal s' past → Answered n known past m left → Gathers a b past held → Appends b c held
-    → (end ≡ Err fault.Reading → AnswersRead n from to past) → AnswersSome s n known from to a c end
-some-all s s' n m known left past from to a b c held end same legal answered (xs, first, all) second read = record {
-  past = past;
-  next = m;
-  left = left;
-  legal = subst (λ (t : Setting). Legal t past) same legal;
-  answered = answered;
-  written = xs ++ held;
-  appends = appends-trans a b c xs held first second;
-  rest = [];
-  parts = all ∙ sym (append-nil (xs ++ held));
-  all = λ _. refl;
-  read = read;
+-- behind some lines
+
+-- of known lines from number n on, those before this intake were answered, and here an engine's part and what is gathered stand
+pub record IsAnsweredSo (s : Setting) (n : ℕ) (known : Option Cut) (from old : Option (List ℕ)) (i : Intake) (rest held : Option (List ℕ)) (gathered : List ℕ) (p : Part) : Type 0 where
+  pub answers : List Answer
+  pub legal : LegalRun s answers
+  pub part : part_of s answers ≡ p
+  pub answered : BeginWith n known (lines_of answers) (i.number + 1) (cut_left i rest)
+  pub read : i.ended ≡ false → IsReadSo n from (bytes_left i rest) answers (i.number + 1)
+  pub written : Gathers old held answers gathered
+
+begin-here : (n : ℕ) (known : Option Cut) → BeginWith n known [] n known
+begin-here n None = tt
+begin-here n (Some c) = (refl, refl)
+
+consumes-none : (now : Option (List ℕ)) → Consumes now now []
+consumes-none None = tt
+consumes-none (Some xs) = refl
+
+-- before the first
+pub answered-none : (i : Intake) (rest held : Option (List ℕ)) (s : Setting) (past : List Entry) → past ≡ []
+    → IsAnsweredSo s (i.number + 1) (cut_left i rest) (bytes_left i rest) held i rest held [] (record { setting = s; past = past })
+answered-none i rest held s past none = record {
+  answers = [];
+  legal = tt;
+  part = ap (λ (es : List Entry). record { setting = s; past = es }) (sym none);
+  answered = begin-here (i.number + 1) (cut_left i rest);
+  read = λ going. record {
+    bytes = [];
+    lines = [];
+    consumes = consumes-none (bytes_left i rest);
+    whole = λ more. refl;
+    are = (refl, refl);
+    number = omega arith;
+  };
+  written = ([], appends-none held, refl);
 }
 
--- where the write of it failed
-pub some-part : (s s' : Setting) (n m : ℕ) (known left : Option Cut) (past : List Entry) (from to a b c : Option (List ℕ)) (held : List ℕ)
-    (end : End) → s' ≡ s → Legal s' past → Answered n known past m left → Gathers a b past held → AppendsPart b c held
-    → end ≡ Err fault.Writing → AnswersSome s n known from to a c end
-some-part s s' n m known left past from to a b c held end same legal answered (xs, first, all) part failed = record {
-  past = past;
-  next = m;
-  left = left;
-  legal = subst (λ (t : Setting). Legal t past) same legal;
-  answered = answered;
-  written = xs ++ part.written;
-  appends = appends-trans a b c xs part.written first part.appends;
-  rest = part.rest;
-  parts = all ∙ ap (λ l. xs ++ l) part.parts ∙ sym (append_assoc xs part.written part.rest);
-  all = λ other. absurd (other failed);
-  read = λ reading. absurd (cc (sym failed ∙ reading));
-}
+module _ (s : Setting) (n : ℕ) (known : Option Cut) (from old : Option (List ℕ)) where
+  -- where some of what is gathered is written out
+  pub answered-flushed : (i : Intake) (rest b c : Option (List ℕ)) (held held' : List ℕ) (p : Part)
+      → IsAnsweredSo s n known from old i rest b held p → Flushed b c held held' → IsAnsweredSo s n known from old i rest c held' p
+  answered-flushed i rest b c held held' p so flushed = record {
+    answers = so.answers;
+    legal = so.legal;
+    part = so.part;
+    answered = so.answered;
+    read = so.read;
+    written = gathers-less old b c so.answers held held' so.written flushed;
+  }
 
--- where it was to be written out last
-pub some-flush : (s s' : Setting) (n m : ℕ) (known left : Option Cut) (past : List Entry) (from to a b c : Option (List ℕ)) (held : List ℕ)
-    (end : End) → s' ≡ s → Legal s' past → Answered n known past m left → Gathers a b past held → OnOk end (Appends b c held)
-    → OnErr end (AppendsPart b c held) → IfErr end (λ f. f ≡ fault.Writing) → AnswersSome s n known from to a c end
-some-flush s s' n m known left past from to a b c held (Ok tt') same legal answered gathers good bad is =
-    some-all s s' n m known left past from to a b c held (Ok tt') same legal answered gathers good (λ reading. absurd (cc reading))
-some-flush s s' n m known left past from to a b c held (Err f) same legal answered gathers good bad is =
-    some-part s s' n m known left past from to a b c held (Err f) same legal answered gathers bad (ap (λ g. Err g) is)
+  -- behind one more
+  pub answered-next : (i i' : Intake) (rest rest' held : Option (List ℕ)) (gathered gathered' : List ℕ) (p p' : Part) (line : ScriptLine)
+      → IsAnsweredSo s n known from old i rest held gathered p
+      → BeginWith (i.number + 1) (cut_left i rest) (line ∷ []) (i'.number + 1) (cut_left i' rest')
+      → script_line_at i'.number i'.line ≡ Ok line → Consumes (bytes_left i rest) (bytes_left i' rest') (taken i')
+      → has_break i'.line ≡ false → i'.number ≡ i.number + 1 → (i'.ended ≡ false → i.ended ≡ false)
+      → AnswersLine line p p' gathered gathered' → IsAnsweredSo s n known from old i' rest' held gathered' p'
+  answered-next i i' rest rest' held gathered gathered' p p' line so begin at took unbroken number before step = record {
+    answers = step.answer ∷ so.answers;
+    legal = (so.legal, subst (λ (q : Part). LegalAnswer q step.answer) (sym so.part) step.legal);
+    part = ap (part_behind step.answer) so.part ∙ sym step.part;
+    answered = begin-next n (i.number + 1) (i'.number + 1) known (cut_left i rest) (cut_left i' rest') so.answers step.answer so.answered
+        (subst (λ (l : ScriptLine). BeginWith (i.number + 1) (cut_left i rest) (l ∷ []) (i'.number + 1) (cut_left i' rest'))
+        (sym step.of_line) begin);
+    read = read-next n from i i' rest rest' so.answers step.answer so.read before took unbroken
+        (at ∙ ap (λ (l : ScriptLine). Ok l) (sym step.of_line)) number;
+    written = gathers-next old held so.answers step.answer gathered gathered' so.written step.text;
+  }
+
+  -- where what is gathered is written out
+  pub some-written : (i : Intake) (rest to b c : Option (List ℕ)) (held : List ℕ) (p : Part) (wrote unread : Type 0)
+      → (so : IsAnsweredSo s n known from old i rest b held p) → Appends b c held → (unread → AnswersRead n from to so.answers)
+      → AnswersSome s n known from to old c wrote unread
+  some-written i rest to b c held p wrote unread so last read = record {
+    answers = so.answers;
+    next = i.number + 1;
+    left = cut_left i rest;
+    legal = so.legal;
+    answered = so.answered;
+    written = so.written.0 ++ held;
+    appends = appends-trans old b c so.written.0 held so.written.1 last;
+    rest = [];
+    parts = so.written.2 ∙ sym (append-nil (so.written.0 ++ held));
+    all = λ _. refl;
+    read = read;
+  }
+
+  -- where the write of it failed
+  pub some-part : (i : Intake) (rest to b c : Option (List ℕ)) (held : List ℕ) (p : Part) (wrote unread : Type 0)
+      → (so : IsAnsweredSo s n known from old i rest b held p) → AppendsPart b c held → ¬ wrote → ¬ unread
+      → AnswersSome s n known from to old c wrote unread
+  some-part i rest to b c held p wrote unread so part failed unread' = record {
+    answers = so.answers;
+    next = i.number + 1;
+    left = cut_left i rest;
+    legal = so.legal;
+    answered = so.answered;
+    written = so.written.0 ++ part.written;
+    appends = appends-trans old b c so.written.0 part.written so.written.1 part.appends;
+    rest = part.rest;
+    parts = so.written.2 ∙ ap (λ l. so.written.0 ++ l) part.parts ∙ sym (append_assoc so.written.0 part.written part.rest);
+    all = λ well. absurd (failed well);
+    read = λ reading. absurd (unread' reading);
+  }
+
+  -- where the run ends there with a failed write
+  pub some-failed : {A : Type 0} (i : Intake) (rest to b c : Option (List ℕ)) (held : List ℕ) (p : Part) (r : Result A Fault)
+      → (so : IsAnsweredSo s n known from old i rest b held p) → AppendsPart b c held → r ≡ Err fault.Writing
+      → AnswersSome s n known from to old c (r ≢ Err fault.Writing) (r ≡ Err fault.Reading)
+  some-failed i rest to b c held p r so part is =
+      some-part i rest to b c held p (r ≢ Err fault.Writing) (r ≡ Err fault.Reading) so part (λ other. other is)
+      (λ reading. absurd (cc (sym reading ∙ is)))
+
+  -- where it stops there
+  pub some-stop : {A : Type 0} (i : Intake) (rest to b c : Option (List ℕ)) (held : List ℕ) (p : Part) (r : Result A Fault)
+      (f told : Fault) → (so : IsAnsweredSo s n known from old i rest b held p) → WritesAt f told b c held → r ≡ Err told
+      → (f ≡ fault.Reading → AnswersRead n from to so.answers)
+      → AnswersSome s n known from to old c (r ≢ Err fault.Writing) (r ≡ Err fault.Reading)
+  some-stop i rest to b c held p r f told so (inl (same, written)) is read =
+      some-written i rest to b c held p (r ≢ Err fault.Writing) (r ≡ Err fault.Reading) so written
+      (λ reading. read (cc (sym reading ∙ is ∙ ap (λ (g : Fault). Err g) same)))
+  some-stop i rest to b c held p r f told so (inr (failed, part)) is read =
+      some-failed i rest to b c held p r so part (is ∙ ap (λ (g : Fault). Err g) failed)
+
+  -- where these were all lines
+  pub all-so : (i : Intake) (rest b c : Option (List ℕ)) (held : List ℕ) (p : Part) (end : End)
+      → (so : IsAnsweredSo s n known from old i rest b held p) → NoLine (i.number + 1) (cut_left i rest) end → Appends b c held
+      → (all : AnswersAll s n known old c end) × (part_of s all.answers ≡ p)
+  all-so i rest b c held p end so none last = (
+    record {
+      answers = so.answers;
+      legal = so.legal;
+      all = all-answered n (i.number + 1) known (cut_left i rest) so.answers end so.answered none;
+      written = subst (Appends old c) (sym so.written.2) (appends-trans old b c so.written.0 held so.written.1 last);
+    },
+    so.part,
+  )
+
+  -- where they end at a fault of the input
+  pub fault-stop : (i : Intake) (rest b c : Option (List ℕ)) (held : List ℕ) (p : Part) (f told : Fault)
+      → (so : IsAnsweredSo s n known from old i rest b held p) → WritesAt f told b c held
+      → (IsOfInput f → NoLine (i.number + 1) (cut_left i rest) (Err f)) → IsOfInput told → AnswersAll s n known old c (Err told)
+  fault-stop i rest b c held p f told so (inl (same, written)) none exact =
+      subst (λ (g : Fault). AnswersAll s n known old c (Err g)) (sym same)
+      (all-so i rest b c held p (Err f) so (none (subst IsOfInput same exact)) written).0
+  fault-stop i rest b c held p f told so (inr (failed, part)) none exact = absurd (subst IsOfInput failed exact)
 
 -- whole runs
 
--- the replies of a history with newer entries
-replies-newer : (newer past : List Entry) → replies (newer ++ past) ≡ replies past ++ replies newer
-replies-newer [] past = sym (append-nil (replies past))
-replies-newer (e ∷ newer) past = ap (λ l. l ++ text e.reply) (replies-newer newer past)
-    ∙ append_assoc (replies past) (replies newer) (text e.reply)
-
--- and its events
-events-newer : (newer past : List Entry) → events_of (newer ++ past) ≡ events_of past ++ events_of newer
-events-newer newer past = ap (map (λ (e : Entry). e.event)) (reverse-append newer past)
-    ∙ map-append (λ (e : Entry). e.event) (reverse past) (reverse newer)
-
--- what stands behind the replies
-closes : SettledAreRows → (s : Setting) (rows : List Row) (past : List Entry) (end : End) → s.opening ≡ contents_of rows
-    → (last : List ℕ) × Closing (settled s.opening past) end last
-closes are_rows s rows past (Ok tt') is =
-    let told = are_rows rows past in
-    (database_text told.0, (told.0, told.1, λ k. told.2 k ∙ ap (λ m. settled m past k) (sym is), refl))
-closes are_rows s rows past (Err f) is = ([], refl)
+-- what stands behind the answers
+closes : SettledAreRows → (s : Setting) (rows : List Row) (answers : List Answer) (end : End) → s.opening ≡ contents_of rows
+    → (last : List ℕ) × Closing (left_by (part_of s answers)) end last
+closes are_rows s rows answers (Ok tt') is =
+    let opened = part-rows are_rows s rows answers is in
+    let told = are_rows opened.0 (part_of s answers).past in (
+      database_text told.0,
+      (told.0, told.1, λ k. told.2 k ∙ ap (λ m. settled m (part_of s answers).past k) (sym opened.1), refl),
+    )
+closes are_rows s rows answers (Err f) is = ([], refl)
 
 -- what was answered goes on to a whole run
-goes-on : HistoriesGoOn → SettledAreRows → (s : Setting) (rows : List Row) (n m : ℕ) (c : Cut) (left : Option Cut) (past : List Entry)
-    (out rest : List ℕ) → s.opening ≡ contents_of rows → n ≡ 2 → Legal s past → Answered n (Some c) past m left
-    → replies past ≡ out ++ rest → Begins (LineRuns s c) past out
-goes-on go_on are_rows s rows n m c None past out rest is second legal answered parts = absurd answered
-goes-on go_on are_rows s rows n m c (Some left) past out rest is second legal answered parts =
-    let more = go_on s past (spelled event_at m left.given) legal in
-    let end : End = end_of event_at 2 c.given c.ending in
-    let closing = closes are_rows s rows (more.0 ++ past) end is in record {
-      run = record { setting = s; past = more.0 ++ past };
+goes-on : SomeReplyIsLegal → SettledAreRows → (s : Setting) (rows : List Row) (n m : ℕ) (c : Cut) (left : Option Cut)
+    (answers : List Answer) (out rest : List ℕ) → s.opening ≡ contents_of rows → n ≡ 2 → LegalRun s answers
+    → BeginWith n (Some c) (lines_of answers) m left → replies answers ≡ out ++ rest → Begins (LineRuns s c) answers out
+goes-on some are_rows s rows n m c None answers out rest is second legal answered parts = absurd answered
+goes-on some are_rows s rows n m c (Some left) answers out rest is second legal answered parts =
+    let more = runs-go-on some s answers (spelled script_line_at m left.given) legal in
+    let end : End = end_of script_line_at 2 c.given c.ending in
+    let closing = closes are_rows s rows (more.0 ++ answers) end is in record {
+      run = record { setting = s; answers = more.0 ++ answers };
       newer = more.0;
       begins = refl;
       rest = rest ++ (replies more.0 ++ closing.0);
@@ -155,11 +259,11 @@ goes-on go_on are_rows s rows n m c (Some left) past out rest is second legal an
         record {
           last = closing.0;
           legal = more.1;
-          events_are = events-newer more.0 past ∙ ap (λ l. events_of past ++ l) more.2 ∙ sym answered.0
-              ∙ ap (λ k. spelled event_at k c.given) second;
+          lines_are = lines-newer more.0 answers ∙ ap (λ l. lines_of answers ++ l) more.2 ∙ sym answered.0
+              ∙ ap (λ k. spelled script_line_at k c.given) second;
           end_is = refl;
           closing = closing.1;
-          text = sym (ap (λ l. l ++ closing.0) (replies-newer more.0 past ∙ ap (λ l. l ++ replies more.0) parts)
+          text = sym (ap (λ l. l ++ closing.0) (replies-newer more.0 answers ∙ ap (λ l. l ++ replies more.0) parts)
               ∙ append_assoc (out ++ rest) (replies more.0) closing.0 ∙ append_assoc out rest (replies more.0 ++ closing.0));
         },
       );
@@ -167,76 +271,76 @@ goes-on go_on are_rows s rows n m c (Some left) past out rest is second legal an
 
 -- what a run over known lines wrote that stopped behind a reply
 abbrev pub Stops : Setting → Option Cut → (from to old new : Option (List ℕ)) → End → Type 0
-Stops s known from to old new end = IfSome known (λ c. (answered : List Entry) × Appends old new (replies answered)
+Stops s known from to old new end = IfSome known (λ c. (answered : List Answer) × Appends old new (replies answered)
     × Begins (LineRuns s c) answered (replies answered) × (end ≡ Err fault.Reading → AnswersRead 2 from to answered))
 
 -- and what one wrote whose write failed
 abbrev pub Fails : Setting → Option Cut → Option (List ℕ) → Option (List ℕ) → Type 0
-Fails s known old new = IfSome known (λ c. (answered : List Entry) × (out : List ℕ) × Appends old new out
+Fails s known old new = IfSome known (λ c. (answered : List Answer) × (out : List ℕ) × Appends old new out
     × Begins (LineRuns s c) answered out)
 
-pub stops-from : HistoriesGoOn → SettledAreRows → (s : Setting) (rows : List Row) (n : ℕ) (known : Option Cut)
-    (from to old new : Option (List ℕ)) (end end' : End) → s.opening ≡ contents_of rows → n + 1 ≡ 2 → end ≢ Err fault.Writing
-    → (end' ≡ Err fault.Reading → end ≡ Err fault.Reading) → AnswersSome s (n + 1) known from to old new end
-    → Stops s known from to old new end'
-stops-from go_on are_rows s rows n None from to old new end end' is second other failed some = tt
-stops-from go_on are_rows s rows n (Some c) from to old new end end' is second other failed some =
-    let whole : replies some.past ≡ some.written = some.parts ∙ ap (λ l. some.written ++ l) (some.all other) ∙ append-nil some.written in (
-      some.past,
+pub stops-from : SomeReplyIsLegal → SettledAreRows → (s : Setting) (rows : List Row) (n : ℕ) (known : Option Cut)
+    (from to old new : Option (List ℕ)) (wrote unread : Type 0) (end : End) → s.opening ≡ contents_of rows → n + 1 ≡ 2 → wrote
+    → (end ≡ Err fault.Reading → unread) → AnswersSome s (n + 1) known from to old new wrote unread
+    → Stops s known from to old new end
+stops-from answer are_rows s rows n None from to old new wrote unread end is second well failed some = tt
+stops-from answer are_rows s rows n (Some c) from to old new wrote unread end is second well failed some =
+    let whole : replies some.answers ≡ some.written =
+    some.parts ∙ ap (λ l. some.written ++ l) (some.all well) ∙ append-nil some.written in (
+      some.answers,
       subst (Appends old new) (sym whole) some.appends,
-      goes-on go_on are_rows s rows (n + 1) some.next c some.left some.past (replies some.past) [] is second some.legal some.answered
-          (sym (append-nil (replies some.past))),
-      λ reading. subst (λ k. AnswersRead k from to some.past) second (some.read (failed reading)),
+      goes-on answer are_rows s rows (n + 1) some.next c some.left some.answers (replies some.answers) [] is second some.legal
+          some.answered (sym (append-nil (replies some.answers))),
+      λ reading. subst (λ k. AnswersRead k from to some.answers) second (some.read (failed reading)),
     )
 
-pub fails-from : HistoriesGoOn → SettledAreRows → (s : Setting) (rows : List Row) (n : ℕ) (known : Option Cut)
-    (from to old new : Option (List ℕ)) (end : End) → s.opening ≡ contents_of rows → n + 1 ≡ 2
-    → AnswersSome s (n + 1) known from to old new end → Fails s known old new
-fails-from go_on are_rows s rows n None from to old new end is second some = tt
-fails-from go_on are_rows s rows n (Some c) from to old new end is second some = (
-  some.past,
+pub fails-from : SomeReplyIsLegal → SettledAreRows → (s : Setting) (rows : List Row) (n : ℕ) (known : Option Cut)
+    (from to old new : Option (List ℕ)) (wrote unread : Type 0) → s.opening ≡ contents_of rows → n + 1 ≡ 2
+    → AnswersSome s (n + 1) known from to old new wrote unread → Fails s known old new
+fails-from answer are_rows s rows n None from to old new wrote unread is second some = tt
+fails-from answer are_rows s rows n (Some c) from to old new wrote unread is second some = (
+  some.answers,
   some.written,
   some.appends,
-  goes-on go_on are_rows s rows (n + 1) some.next c some.left some.past some.written some.rest is second some.legal some.answered some.parts,
+  goes-on answer are_rows s rows (n + 1) some.next c some.left some.answers some.written some.rest is second some.legal some.answered
+      some.parts,
 )
 
 -- where the write of the database failed
-pub fails-last : (s s' : Setting) (n : ℕ) (known : Option Cut) (past : List Entry) (r' : End) (rows : List Row) (gathered : List ℕ)
-    (held held' held'' : Option (List ℕ)) → s' ≡ s → n + 1 ≡ 2 → r' ≡ Ok tt → Legal s' past
-    → (IsExact r' → AllAnswered (n + 1) known past r') → (IsExact r' → Appends held held' (replies past)) → IsByKey rows
-    → ((k : Key) → contents_of rows k ≡ settled s'.opening past k) → gathered ≡ database_text rows
-    → AppendsPart held' held'' gathered → Fails s known held held''
-fails-last s s' n None past r' rows gathered held held' held'' kept second well legal answered written by_key contents is part = tt
-fails-last s s' n (Some c) past r' rows gathered held held' held'' kept second well legal answered written by_key contents is part =
-    let exact : IsExact r' = subst IsExact (sym well) tt in
-    let all : AllAnswered (n + 1) (Some c) past (Ok tt) = subst (AllAnswered (n + 1) (Some c) past) well (answered exact) in (
-      past,
-      replies past ++ part.written,
-      appends-trans held held' held'' (replies past) part.written (written exact) part.appends,
+pub fails-last : (s : Setting) (n : ℕ) (known : Option Cut) (q : Part) (rows : List Row) (gathered : List ℕ)
+    (held held' held'' : Option (List ℕ)) → n + 1 ≡ 2
+    → (all : AnswersAll s (n + 1) known held held' (Ok tt)) × (part_of s all.answers ≡ q) → IsByKey rows
+    → ((k : Key) → contents_of rows k ≡ left_by q k) → gathered ≡ database_text rows → AppendsPart held' held'' gathered
+    → Fails s known held held''
+fails-last s n None q rows gathered held held' held'' second answered by_key contents is part = tt
+fails-last s n (Some c) q rows gathered held held' held'' second (all, present) by_key contents is part = (
+  all.answers,
+  replies all.answers ++ part.written,
+  appends-trans held held' held'' (replies all.answers) part.written all.written part.appends,
+  record {
+    run = record { setting = s; answers = all.answers };
+    newer = [];
+    begins = refl;
+    rest = part.rest;
+    end = Ok tt;
+    whole = (
+      refl,
       record {
-        run = record { setting = s; past = past };
-        newer = [];
-        begins = refl;
-        rest = part.rest;
-        end = Ok tt;
-        whole = (
-          refl,
-          record {
-            last = gathered;
-            legal = subst (λ (t : Setting). Legal t past) kept legal;
-            events_are = sym all.0 ∙ ap (λ k. spelled event_at k c.given) second;
-            end_is = sym all.1 ∙ ap (λ k. end_of event_at k c.given c.ending) second;
-            closing = (rows, by_key, λ k. contents k ∙ ap (λ (t : Setting). settled t.opening past k) kept, is);
-            text = append_assoc (replies past) part.written part.rest ∙ ap (λ l. replies past ++ l) (sym part.parts);
-          },
-        );
+        last = gathered;
+        legal = all.legal;
+        lines_are = sym all.all.0 ∙ ap (λ k. spelled script_line_at k c.given) second;
+        end_is = sym all.all.1 ∙ ap (λ k. end_of script_line_at k c.given c.ending) second;
+        closing = closes-part (part_of s all.answers) q rows gathered present by_key contents is;
+        text = append_assoc (replies all.answers) part.written part.rest ∙ ap (λ l. replies all.answers ++ l) (sym part.parts);
       },
-    )
+    );
+  },
+)
 
 -- from the first line
 
 -- a whole run behind an opening is one of the script
-of-script : (s : Setting) (bytes line : List ℕ) (c : Cut) (o : Opening) (answered : List Entry) (out : List ℕ)
+of-script : (s : Setting) (bytes line : List ℕ) (c : Cut) (o : Opening) (answered : List Answer) (out : List ℕ)
     → Gives (cut_left before_input (Some bytes)) line (Some c) → Opens 1 line o → s ≡ opened_setting o
     → Begins (LineRuns s c) answered out → Begins (ScriptRuns bytes) answered out
 of-script s bytes line c o answered out gives opens is begun = record {
@@ -256,12 +360,12 @@ of-script s bytes line c o answered out gives opens is begun = record {
 
 -- what a script's run wrote that stopped, or whose write failed
 abbrev pub ScriptStops : (rest to old new : Option (List ℕ)) → End → Type 0
-ScriptStops rest to old new end = IfSome rest (λ bytes. (answered : List Entry) × Appends old new (replies answered)
+ScriptStops rest to old new end = IfSome rest (λ bytes. (answered : List Answer) × Appends old new (replies answered)
     × ((answered ≡ []) ⊎ Begins (ScriptRuns bytes) answered (replies answered))
     × (end ≡ Err fault.Reading → AnswersScriptRead rest to answered))
 
 abbrev pub ScriptFails : Option (List ℕ) → Option (List ℕ) → Option (List ℕ) → Type 0
-ScriptFails rest old new = IfSome rest (λ bytes. (answered : List Entry) × (out : List ℕ) × Appends old new out
+ScriptFails rest old new = IfSome rest (λ bytes. (answered : List Answer) × (out : List ℕ) × Appends old new out
     × Begins (ScriptRuns bytes) answered out)
 
 -- before an opening nothing is written

@@ -1,4 +1,5 @@
 pub mod Answers
+pub mod Parts
 pub mod WholeLines
 pub mod Runs
 pub mod RunLaws

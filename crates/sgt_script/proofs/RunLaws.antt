@@ -1,85 +1,170 @@
--- The laws of a script's run: of its history, since it is legal, and of what was written.
+-- The laws of a script's run: of each part, since its history is legal, and of what was written.
 use Rattle.std.proofs.Common.{◌≡◌, refl, sym, ap, ◌∙◌, subst, List, [], ◌∷◌, ◌++◌}
+use Rattle.std.proofs.Math.Path.{fun_ext}
 use Rattle.std.specs.Prelude.{ℕ, Option, None, Some, IfSome, Ok, Err}
 use Rattle.std.specs.Io.KnownBytes.{Appends}
-use Rattle.sgt_model.specs.declared.entry.Entry.{Entry}
+use Rattle.sgt_model.specs.declared.limits.Limits.{Limits}
 use Rattle.sgt_model.specs.declared.reply.Reply.{Reply}
 use Rattle.sgt_model.specs.declared.reply.Reply.TheVariants as reply
 use Rattle.sgt_model.specs.Contents.{Key, Contents}
-use Rattle.sgt_model.specs.Settings.{Setting}
-use Rattle.sgt_model.specs.Legality.{Legal}
+use Rattle.sgt_model.specs.Databases.{contents_of}
+use Rattle.sgt_model.specs.Settings.{Setting, Rules, rules_from, setting}
+use Rattle.sgt_model.specs.StoredValues.{HoldValues, CommittedAreValues}
+use Rattle.sgt_model.specs.Syntax.{Program}
 use Rattle.sgt_model.specs.Laws.{HeadlineHolds}
-use Rattle.sgt_model.specs.Replay.{told_in, told, IsSerializable}
-use Rattle.sgt_smallbank.specs.Replays.{CommitsAreBank}
-use Rattle.sgt_program.specs.Openings.{OpenedIsBank}
+use Rattle.sgt_model.specs.Legality.{Legal}
+use Rattle.sgt_model.specs.Replay.{RunResult, folded, told_in, told}
+use Rattle.sgt_smallbank.specs.Replays.{CommitsAreBank, ReplayIsBank}
+use Rattle.sgt_smallbank.specs.Texts.{procedures}
+use Rattle.sgt_program.specs.Openings.{OpenedHoldValues}
 use Rattle.sgt_format.specs.ReplyText.{text}
 use Rattle.sgt_stream.specs.Lines.{Ending, cut}
 use Rattle.sgt_stream.specs.Ends.{End}
-use Rattle.sgt_script.specs.Scripts.{RunHistory, Closing, RunOutput, Script, ScriptOf, replies}
-use Rattle.sgt_script.specs.RunLaws.{line_telling, results_left, replies_telling, IsSerialText, RunLaws}
+use Rattle.sgt_script.specs.Parts.{Answer, Replied, WasCut, StillLive, LegalRun, Part, answer_text, cut_off, left_by, part_of, replies}
+use Rattle.sgt_script.specs.Scripts.{Execution, Closing, RunOutput, Script, ScriptOf}
+use Rattle.sgt_script.specs.RunLaws.{InEachPart, IsSerialText, PartLaws, RunLaws, carried, chained, line_telling, opened_on, replies_telling, results_left}
+use Rattle.sgt_script.proofs.Parts.{legal-part}
 
--- one more reply, which tells what it tells
-tells-one : (r : Reply) (past : List Entry) → replies_telling (told past) past ≡ replies past
-    → replies_telling (results_left (told_in r ++ told past) r) past ++ line_telling (told_in r ++ told past) r ≡ replies past ++ text r
-tells-one (reply.Committed answers) past before = ap (λ l. l ++ text (reply.Committed answers)) before
-tells-one (reply.Refused code fell) past before = ap (λ l. l ++ text (reply.Refused code fell)) before
-tells-one (reply.Started t) past before = ap (λ l. l ++ text (reply.Started t)) before
-tells-one reply.NoProcedure past before = ap (λ l. l ++ text reply.NoProcedure) before
-tells-one reply.BadArgs past before = ap (λ l. l ++ text reply.BadArgs) before
-tells-one reply.Spent past before = ap (λ l. l ++ text reply.Spent) before
-tells-one reply.Full past before = ap (λ l. l ++ text reply.Full) before
-tells-one reply.Unknown past before = ap (λ l. l ++ text reply.Unknown) before
-tells-one (reply.Over ended) past before = ap (λ l. l ++ text (reply.Over ended)) before
-tells-one (reply.Looked k v) past before = ap (λ l. l ++ text (reply.Looked k v)) before
-tells-one (reply.Wrote k v) past before = ap (λ l. l ++ text (reply.Wrote k v)) before
-tells-one reply.Ended past before = ap (λ l. l ++ text reply.Ended) before
-tells-one reply.NotEnded past before = ap (λ l. l ++ text reply.NotEnded) before
-tells-one (reply.Waits t) past before = ap (λ l. l ++ text (reply.Waits t)) before
-tells-one (reply.Aborted why fell) past before = ap (λ l. l ++ text (reply.Aborted why fell)) before
-
--- the replies tell what was told
-tells : (past : List Entry) → replies_telling (told past) past ≡ replies past
-tells [] = refl
-tells (e ∷ past) = tells-one e.reply past (tells past)
+-- one more reply, which tells what it tells, behind a text
+tells-one : (r : Reply) (results : List RunResult) (before : List ℕ) (telling : List RunResult → List ℕ) → telling results ≡ before
+    → telling (results_left (told_in r ++ results) r) ++ line_telling (told_in r ++ results) r ≡ before ++ text r
+tells-one (reply.Committed answers) results before telling is = ap (λ l. l ++ text (reply.Committed answers)) is
+tells-one (reply.Refused code fell) results before telling is = ap (λ l. l ++ text (reply.Refused code fell)) is
+tells-one (reply.Started t) results before telling is = ap (λ l. l ++ text (reply.Started t)) is
+tells-one reply.NoProcedure results before telling is = ap (λ l. l ++ text reply.NoProcedure) is
+tells-one reply.BadArgs results before telling is = ap (λ l. l ++ text reply.BadArgs) is
+tells-one reply.Spent results before telling is = ap (λ l. l ++ text reply.Spent) is
+tells-one reply.Full results before telling is = ap (λ l. l ++ text reply.Full) is
+tells-one reply.Unknown results before telling is = ap (λ l. l ++ text reply.Unknown) is
+tells-one (reply.Over ended) results before telling is = ap (λ l. l ++ text (reply.Over ended)) is
+tells-one (reply.Looked k v) results before telling is = ap (λ l. l ++ text (reply.Looked k v)) is
+tells-one (reply.Wrote k v) results before telling is = ap (λ l. l ++ text (reply.Wrote k v)) is
+tells-one reply.Ended results before telling is = ap (λ l. l ++ text reply.Ended) is
+tells-one reply.NotEnded results before telling is = ap (λ l. l ++ text reply.NotEnded) is
+tells-one (reply.Waits t) results before telling is = ap (λ l. l ++ text (reply.Waits t)) is
+tells-one (reply.Aborted why fell) results before telling is = ap (λ l. l ++ text (reply.Aborted why fell)) is
 
 -- contents that are the same, at the end
 closing-same : (m n : Contents) (end : End) (last : List ℕ) → ((k : Key) → n k ≡ m k) → Closing m end last → Closing n end last
 closing-same m n (Ok done) last same (rows, by_key, contents, is) = (rows, by_key, (λ k. contents k ∙ sym (same k)), is)
 closing-same m n (Err fault) last same is = is
 
-serial-text : (run : RunHistory) (later : List (List ℕ)) (ending : Ending) (out : List ℕ) (end : End)
-    → RunOutput run later ending out end → IsSerializable run.setting run.past → IsSerialText run out end
-serial-text run later ending out end output replay = record {
-  last = output.last;
-  closing = closing-same _ _ end output.last replay.database output.closing;
-  text = output.text ∙ ap (λ l. l ++ output.last) (sym (tells run.past) ∙ ap (λ results. replies_telling results run.past)
-      (sym replay.answers));
-}
+module _ (headline : HeadlineHolds) where
+  -- each part starts from what the serial run of those before it leaves
+  chain : (s : Setting) (answers : List Answer) → LegalRun s answers → (part_of s answers).setting ≡ opened_on (carried s answers) s
+  chain s [] legal = refl
+  chain s (Replied e ∷ answers) legal = chain s answers legal.0
+  chain s (WasCut entries ∷ answers) legal =
+      let p = part_of s answers in
+      let before = chain s answers legal.0 in
+      let replay = (headline p.setting p.past (legal-part s answers legal.0)).replay in
+      let left : left_by p ≡ (folded (opened_on (carried s answers) s) p.past).last =
+      fun_ext (λ k. sym (replay.database k)) ∙ ap (λ (t : Setting). (folded t p.past).last) before in
+      ap (λ (m : Contents). record { opening = m; rules = p.setting.rules }) left
+      ∙ ap (λ (r : Rules). record { opening = (folded (opened_on (carried s answers) s) p.past).last; rules = r })
+      (ap (λ (t : Setting). t.rules) before)
+  chain s (StillLive ∷ answers) legal = chain s answers legal.0
 
-module _ (headline : HeadlineHolds) (bank : OpenedIsBank) where
-  run-laws : (ls : List (List ℕ)) (ending : Ending) (run : Option RunHistory) (out : List ℕ) (end : End)
-      → ScriptOf ls ending run out end → IfSome run (λ r. RunLaws r out end)
-  run-laws [] ending None out end s = tt
-  run-laws [] ending (Some run) out end s = absurd s
-  run-laws (l ∷ ls) ending None out end s = tt
-  run-laws (l ∷ ls) ending (Some run) out end s =
-      let parts = headline run.setting run.past s.output.legal in
-      let legal = subst (λ (t : Setting). Legal t run.past) s.setting s.output.legal in
-      record {
-        replay = parts.replay;
-        written = serial-text run ls ending out end s.output parts.replay;
-        no_cycle = parts.no_cycle;
-        causes = parts.causes;
-        order = parts.order;
-        bank = subst (λ (t : Setting). CommitsAreBank t run.past) (sym s.setting)
-            (bank 1 l s.opening run.past s.opens legal);
-      }
+  -- so the serial run of a part tells what was told in it
+  chain-tells : (s : Setting) (answers : List Answer) → LegalRun s answers → (chained s answers).results ≡ told (part_of s answers).past
+  chain-tells s answers legal =
+      let p = part_of s answers in
+      ap (λ (t : Setting). (folded t p.past).results) (sym (chain s answers legal))
+      ∙ (headline p.setting p.past (legal-part s answers legal)).replay.answers
 
-  -- what a run wrote, with its laws beside it
-  pub with-laws : (rest held held' : Option (List ℕ)) (end : End)
-      → IfSome rest (λ bytes. (run : Option RunHistory) × (out : List ℕ) × Appends held held' out × Script bytes run out end)
-      → IfSome rest (λ bytes. (run : Option RunHistory) × (out : List ℕ) × Appends held held' out × Script bytes run out end
-      × IfSome run (λ r. RunLaws r out end))
-  with-laws None held held' end wrote = tt
-  with-laws (Some bytes) held held' end (run, out, appended, script) =
-      (run, out, appended, script, run-laws (cut bytes).given (cut bytes).ending run out end script)
+  chain-leaves : (s : Setting) (answers : List Answer) → LegalRun s answers → (k : Key)
+      → (chained s answers).last k ≡ left_by (part_of s answers) k
+  chain-leaves s answers legal k =
+      let p = part_of s answers in
+      ap (λ (t : Setting). (folded t p.past).last k) (sym (chain s answers legal))
+      ∙ (headline p.setting p.past (legal-part s answers legal)).replay.database k
+
+  tells : (s : Setting) (answers : List Answer) → LegalRun s answers
+      → replies_telling s (told (part_of s answers).past) answers ≡ replies answers
+  tells s [] legal = refl
+  tells s (Replied e ∷ answers) legal =
+      tells-one e.reply (told (part_of s answers).past) (replies answers) (λ results. replies_telling s results answers)
+      (tells s answers legal.0)
+  tells s (WasCut entries ∷ answers) legal = ap (λ l. l ++ answer_text (WasCut entries))
+      (ap (λ results. replies_telling s results answers) (chain-tells s answers legal.0) ∙ tells s answers legal.0)
+  tells s (StillLive ∷ answers) legal = ap (λ l. l ++ answer_text StillLive) (tells s answers legal.0)
+
+  serial-text : (run : Execution) (later : List (List ℕ)) (ending : Ending) (out : List ℕ) (end : End)
+      → RunOutput run later ending out end → IsSerialText run out end
+  serial-text run later ending out end output = record {
+    last = output.last;
+    closing = closing-same _ _ end output.last (chain-leaves run.setting run.answers output.legal) output.closing;
+    text = output.text ∙ ap (λ l. l ++ output.last) (sym (tells run.setting run.answers output.legal)
+        ∙ ap (λ results. replies_telling run.setting results run.answers) (sym (chain-tells run.setting run.answers output.legal)));
+  }
+
+  module _ (opened : OpenedHoldValues) (settle : CommittedAreValues) (bank : ReplayIsBank) where
+    -- the rules stay, and what a part starts from holds values
+    rules-stay : (s : Setting) (answers : List Answer) → LegalRun s answers → (part_of s answers).setting.rules ≡ s.rules
+    rules-stay s answers legal = ap (λ (t : Setting). t.rules) (chain s answers legal)
+
+    module _ (others : List Program) (limits : Limits) where
+      same-setting : (s : Setting) (answers : List Answer) → s.rules ≡ rules_from (procedures ++ others) limits → LegalRun s answers
+          → (part_of s answers).setting ≡ setting (part_of s answers).setting.opening (procedures ++ others) limits
+      same-setting s answers is legal =
+          ap (λ (r : Rules). record { opening = (part_of s answers).setting.opening; rules = r }) (rules-stay s answers legal ∙ is)
+
+      part-values : (s : Setting) (answers : List Answer) → s.rules ≡ rules_from (procedures ++ others) limits → HoldValues s.opening
+          → LegalRun s answers → HoldValues (part_of s answers).setting.opening
+      part-values s [] is values legal = values
+      part-values s (Replied e ∷ answers) is values legal = part-values s answers is values legal.0
+      part-values s (WasCut entries ∷ answers) is values legal =
+          settle (part_of s answers).setting.opening (procedures ++ others) limits (part_of s answers).past (part-values s answers is values legal.0)
+          (subst (λ (t : Setting). Legal t (part_of s answers).past) (same-setting s answers is legal.0) (legal-part s answers legal.0))
+      part-values s (StillLive ∷ answers) is values legal = part-values s answers is values legal.0
+
+      part-laws : (s : Setting) (answers : List Answer) → s.rules ≡ rules_from (procedures ++ others) limits → HoldValues s.opening
+          → LegalRun s answers → PartLaws (part_of s answers)
+      part-laws s answers is values legal =
+          let p = part_of s answers in
+          let parts = headline p.setting p.past (legal-part s answers legal) in
+          let same = same-setting s answers is legal in
+          record {
+            replay = parts.replay;
+            no_cycle = parts.no_cycle;
+            causes = parts.causes;
+            order = parts.order;
+            bank = subst (λ (t : Setting). CommitsAreBank t p.past) (sym same)
+                (bank p.setting.opening others limits p.past (part-values s answers is values legal)
+                (subst (λ (t : Setting). Legal t p.past) same (legal-part s answers legal)));
+          }
+
+      cut-laws : (s : Setting) (answers : List Answer) → s.rules ≡ rules_from (procedures ++ others) limits → HoldValues s.opening
+          → LegalRun s answers → InEachPart (cut_off s answers)
+      cut-laws s [] is values legal = tt
+      cut-laws s (Replied e ∷ answers) is values legal = cut-laws s answers is values legal.0
+      cut-laws s (WasCut entries ∷ answers) is values legal =
+          (part-laws s answers is values legal.0, cut-laws s answers is values legal.0)
+      cut-laws s (StillLive ∷ answers) is values legal = cut-laws s answers is values legal.0
+
+    run-laws : (ls : List (List ℕ)) (ending : Ending) (run : Option Execution) (out : List ℕ) (end : End)
+        → ScriptOf ls ending run out end → IfSome run (λ r. RunLaws r out end)
+    run-laws [] ending None out end s = tt
+    run-laws [] ending (Some run) out end s = absurd s
+    run-laws (l ∷ ls) ending None out end s = tt
+    run-laws (l ∷ ls) ending (Some run) out end s =
+        let rules = ap (λ (t : Setting). t.rules) s.setting in
+        let values = subst (λ (t : Setting). HoldValues t.opening) (sym s.setting) (opened 1 l s.opening s.opens) in
+        let others = s.opening.procedures.items in
+        let limits = s.opening.limits in
+        record {
+          parts = (
+            part-laws others limits run.setting run.answers rules values s.output.legal,
+            cut-laws others limits run.setting run.answers rules values s.output.legal,
+          );
+          written = serial-text run ls ending out end s.output;
+        }
+
+    -- what a run wrote, with its laws beside it
+    pub with-laws : (rest held held' : Option (List ℕ)) (end : End)
+        → IfSome rest (λ bytes. (run : Option Execution) × (out : List ℕ) × Appends held held' out × Script bytes run out end)
+        → IfSome rest (λ bytes. (run : Option Execution) × (out : List ℕ) × Appends held held' out × Script bytes run out end
+        × IfSome run (λ r. RunLaws r out end))
+    with-laws None held held' end wrote = tt
+    with-laws (Some bytes) held held' end (run, out, appended, script) =
+        (run, out, appended, script, run-laws (cut bytes).given (cut bytes).ending run out end script)

@@ -10,7 +10,7 @@ use Rattle.sgt_format.specs.declared.errors.OpeningError.TheVariants as opening_
 use Rattle.sgt_stream.specs.Lines.{Cut, Ending, cut}
 use Rattle.sgt_stream.specs.Intake.{Intake, before_input, cut_left, Gives, EndsAs, Explains}
 use Rattle.sgt_stream.specs.Ends.{End, no_opening, fault_of_opening, IsExact}
-use Rattle.sgt_script.specs.Scripts.{RunHistory, Script, ScriptOf, RunOutput}
+use Rattle.sgt_script.specs.Scripts.{Execution, Script, ScriptOf, RunOutput}
 use Rattle.sgt_program.specs.Openings.{opened_setting}
 use Rattle.sgt_script.proofs.Answers.{Output}
 use Rattle.sgt_stream.specs.declared.fault.Fault.{Fault}
@@ -21,7 +21,7 @@ use Rattle.std.specs.Prelude.{Err, ◌+◌}
 -- what a run wrote over bytes that are known
 abbrev pub Wrote : Option (List ℕ) → Option (List ℕ) → Option (List ℕ) → End → Type 0
 Wrote rest held held' r =
-    IfSome rest (λ bytes. (run : Option RunHistory) × (out : List ℕ) × Appends held held' out × Script bytes run out r)
+    IfSome rest (λ bytes. (run : Option Execution) × (out : List ℕ) × Appends held held' out × Script bytes run out r)
 
 -- nothing written
 pub appends-none : (held : Option (List ℕ)) → Appends held held []

@@ -1,18 +1,19 @@
--- Laws of bytes that are read line by line: the whole lines among them, and the events that these spell.
+-- Laws of bytes that are read line by line: the whole lines among them, and what these ask for.
 use Rattle.std.proofs.Common.{◌≡◌, ℕ, ◌+◌, false, List, [], ◌∷◌, ◌++◌, length, refl, ap, sym, ◌∙◌, append_assoc, append-nil, subst, arith}
 use Rattle.std.proofs.lemmas.List.{length-append}
 use Rattle.std.specs.Prelude.{Result, Option, None, Some, Ok, Err}
 use Rattle.std.specs.Io.KnownBytes.{Consumes, Keeps, prepend_known}
-use Rattle.sgt_model.specs.declared.entry.Entry.{Entry}
+use Rattle.sgt_format.specs.declared.script_line.ScriptLine.{ScriptLine}
 use Rattle.sgt_stream.specs.declared.fault.Fault.{Fault}
 use Rattle.sgt_stream.specs.Lines.{AtEnd, has_break, whole_lines}
 use Rattle.sgt_stream.specs.Intake.{Intake, before_input, bytes_left, taken}
 use Rattle.sgt_stream.specs.Ends.{End}
 use Rattle.sgt_stream.specs.Spelled.{and_later, or_later, spelled, end_of}
 use Rattle.sgt_stream.proofs.Cuts.{whole_lines-first}
-use Rattle.sgt_script.specs.Scripts.{event_at}
-use Rattle.sgt_script.specs.Answering.{AreEvents, AnswersRead, AreLaterEvents, AnswersScriptRead, NoLineCame}
-use Rattle.sgt_script.proofs.Answers.{events_of-entry}
+use Rattle.sgt_script.specs.Parts.{Answer, asked}
+use Rattle.sgt_script.specs.Scripts.{script_line_at}
+use Rattle.sgt_script.specs.Answering.{AreAnswered, AnswersRead, AreLaterAnswered, AnswersScriptRead, NoLineCame}
+use Rattle.sgt_script.proofs.Answers.{lines_of-answer}
 
 -- one more line behind lines that all spell something
 
@@ -34,11 +35,11 @@ spelled-more read n (l ∷ ls) line x well is =
     (end_of read (n + 1) ls AtEnd) (end_of read (n + 1) (ls ++ line ∷ []) AtEnd) well
     (λ later. spelled-more read (n + 1) ls line x later (ap (λ k. read k line) (omega arith) ∙ is))
 
-events-more : (n : ℕ) (ls : List (List ℕ)) (line : List ℕ) (past : List Entry) (e : Entry) → AreEvents n ls past
-    → event_at (n + length ls) line ≡ Ok e.event → AreEvents n (ls ++ line ∷ []) (e ∷ past)
-events-more n ls line past e are is =
-    let more = spelled-more event_at n ls line e.event are.1 is in
-    (more.0 ∙ ap (λ l. l ++ e.event ∷ []) are.0 ∙ sym (events_of-entry e past), more.1)
+answered-more : (n : ℕ) (ls : List (List ℕ)) (line : List ℕ) (answers : List Answer) (a : Answer) → AreAnswered n ls answers
+    → script_line_at (n + length ls) line ≡ Ok (asked a) → AreAnswered n (ls ++ line ∷ []) (a ∷ answers)
+answered-more n ls line answers a are is =
+    let more = spelled-more script_line_at n ls line (asked a) are.1 is in
+    (more.0 ∙ ap (λ l. l ++ asked a ∷ []) are.0 ∙ sym (lines_of-answer a answers), more.1)
 
 -- bytes read one after another
 
@@ -48,41 +49,41 @@ consumes-trans (Some ls) None c xs ys first second = absurd first
 consumes-trans (Some ls) (Some ms) None xs ys first second = second
 consumes-trans (Some ls) (Some ms) (Some ns) xs ys first second = first ∙ ap (λ l. xs ++ l) second ∙ sym (append_assoc xs ys ns)
 
--- from there to here just these lines were read, from number n to before m, and they are the history's events
-pub record IsReadSo (n : ℕ) (old now : Option (List ℕ)) (past : List Entry) (m : ℕ) : Type 0 where
+-- from there to here just these lines were read, from number n to before m, and they got these answers
+pub record IsReadSo (n : ℕ) (old now : Option (List ℕ)) (answers : List Answer) (m : ℕ) : Type 0 where
   pub bytes : List ℕ
   pub lines : List (List ℕ)
   pub consumes : Consumes old now bytes
   pub whole : (rest : List ℕ) → whole_lines (bytes ++ rest) ≡ lines ++ whole_lines rest
-  pub events : AreEvents n lines past
+  pub are : AreAnswered n lines answers
   pub number : m ≡ n + length lines
 
 -- a line with its byte 10
-read-line : (n m m' : ℕ) (a b c : Option (List ℕ)) (past : List Entry) (e : Entry) (line : List ℕ) → IsReadSo n a b past m
-    → Consumes b c (line ++ 10 ∷ []) → has_break line ≡ false → event_at m line ≡ Ok e.event → m' ≡ m + 1
-    → IsReadSo n a c (e ∷ past) m'
-read-line n m m' a b c past e line read taken unbroken is next = record {
+read-line : (n m m' : ℕ) (a b c : Option (List ℕ)) (answers : List Answer) (x : Answer) (line : List ℕ) → IsReadSo n a b answers m
+    → Consumes b c (line ++ 10 ∷ []) → has_break line ≡ false → script_line_at m line ≡ Ok (asked x) → m' ≡ m + 1
+    → IsReadSo n a c (x ∷ answers) m'
+read-line n m m' a b c answers x line read taken unbroken is next = record {
   bytes = read.bytes ++ (line ++ 10 ∷ []);
   lines = read.lines ++ line ∷ [];
   consumes = consumes-trans a b c read.bytes (line ++ 10 ∷ []) read.consumes taken;
   whole = λ rest. ap whole_lines (append_assoc read.bytes (line ++ 10 ∷ []) rest ∙ ap (λ l. read.bytes ++ l) (append_assoc line (10 ∷ []) rest))
       ∙ read.whole (line ++ 10 ∷ rest) ∙ ap (λ ls. read.lines ++ ls) (whole_lines-first line rest unbroken)
       ∙ sym (append_assoc read.lines (line ∷ []) (whole_lines rest));
-  events = events-more n read.lines line past e read.events (ap (λ k. event_at k line) (sym read.number) ∙ is);
+  are = answered-more n read.lines line answers x read.are (ap (λ k. script_line_at k line) (sym read.number) ∙ is);
   number = omega (arith, next, read.number, length-append read.lines (line ∷ []));
 }
 
 -- the next line, where the source has not ended with it
-pub read-next : (n : ℕ) (from : Option (List ℕ)) (i i' : Intake) (rest rest' : Option (List ℕ)) (past past' : List Entry) (e : Entry)
-    → (i.ended ≡ false → IsReadSo n from (bytes_left i rest) past (i.number + 1)) → (i'.ended ≡ false → i.ended ≡ false)
-    → Consumes (bytes_left i rest) (bytes_left i' rest') (taken i') → has_break i'.line ≡ false → event_at i'.number i'.line ≡ Ok e.event
-    → i'.number ≡ i.number + 1 → past' ≡ e ∷ past → i'.ended ≡ false → IsReadSo n from (bytes_left i' rest') past' (i'.number + 1)
-read-next n from i i' rest rest' past past' e read before took unbroken is number more going =
+pub read-next : (n : ℕ) (from : Option (List ℕ)) (i i' : Intake) (rest rest' : Option (List ℕ)) (answers : List Answer) (x : Answer)
+    → (i.ended ≡ false → IsReadSo n from (bytes_left i rest) answers (i.number + 1)) → (i'.ended ≡ false → i.ended ≡ false)
+    → Consumes (bytes_left i rest) (bytes_left i' rest') (taken i') → has_break i'.line ≡ false
+    → script_line_at i'.number i'.line ≡ Ok (asked x) → i'.number ≡ i.number + 1 → i'.ended ≡ false
+    → IsReadSo n from (bytes_left i' rest') (x ∷ answers) (i'.number + 1)
+read-next n from i i' rest rest' answers x read before took unbroken is number going =
     let line : taken i' ≡ i'.line ++ 10 ∷ [] = rw going refl in
-    subst (λ (p : List Entry). IsReadSo n from (bytes_left i' rest') p (i'.number + 1)) (sym more)
-    (read-line n (i.number + 1) (i'.number + 1) from (bytes_left i rest) (bytes_left i' rest') past e i'.line (read (before going))
-    (subst (Consumes (bytes_left i rest) (bytes_left i' rest')) line took) unbroken (ap (λ k. event_at k i'.line) (sym number) ∙ is)
-    (omega (arith, number)))
+    read-line n (i.number + 1) (i'.number + 1) from (bytes_left i rest) (bytes_left i' rest') answers x i'.line (read (before going))
+    (subst (Consumes (bytes_left i rest) (bytes_left i' rest')) line took) unbroken (ap (λ k. script_line_at k i'.line) (sym number) ∙ is)
+    (omega (arith, number))
 
 -- where a read failed
 
@@ -98,14 +99,14 @@ consumes-held (Some xs) (Some ys) (Some zs) bytes held took kept =
 left-going : (i : Intake) (rest : Option (List ℕ)) → i.ended ≡ false → bytes_left i rest ≡ prepend_known i.held rest
 left-going i rest going = rw going refl
 
-pub read-failed : (n m : ℕ) (from : Option (List ℕ)) (i i' : Intake) (rest rest' : Option (List ℕ)) (past : List Entry)
-    → IsReadSo n from (bytes_left i rest) past m → NoLineCame i rest i' rest' → AnswersRead n from rest' past
-read-failed n m from i i' rest rest' past read none = (
+pub read-failed : (n m : ℕ) (from : Option (List ℕ)) (i i' : Intake) (rest rest' : Option (List ℕ)) (answers : List Answer)
+    → IsReadSo n from (bytes_left i rest) answers m → NoLineCame i rest i' rest' → AnswersRead n from rest' answers
+read-failed n m from i i' rest rest' answers read none = (
   read.bytes ++ i'.held,
   consumes-held from (bytes_left i rest) rest' read.bytes i'.held read.consumes
       (subst (Keeps (bytes_left i rest)) (left-going i' rest' none.2) none.0),
-  subst (λ (ls : List (List ℕ)). AreEvents n ls past)
-      (sym (read.whole i'.held ∙ ap (λ ls. read.lines ++ ls) none.1 ∙ append-nil read.lines)) read.events,
+  subst (λ (ls : List (List ℕ)). AreAnswered n ls answers)
+      (sym (read.whole i'.held ∙ ap (λ ls. read.lines ++ ls) none.1 ∙ append-nil read.lines)) read.are,
 )
 
 -- from the first line
@@ -113,26 +114,26 @@ read-failed n m from i i' rest rest' past read none = (
 -- where it was not whole
 pub read-nothing : (i i' : Intake) (rest rest' : Option (List ℕ)) → i ≡ before_input → NoLineCame i rest i' rest'
     → AnswersScriptRead rest rest' []
-read-nothing i i' None rest' start none = (i'.held, tt, subst (λ (ls : List (List ℕ)). AreLaterEvents ls []) (sym none.1) refl)
+read-nothing i i' None rest' start none = (i'.held, tt, subst (λ (ls : List (List ℕ)). AreLaterAnswered ls []) (sym none.1) refl)
 read-nothing i i' (Some bytes) rest' start none =
     let left : bytes_left i (Some bytes) ≡ Some bytes = ap (λ (j : Intake). bytes_left j (Some bytes)) start in (
       i'.held,
       consumes-held (Some bytes) (bytes_left i (Some bytes)) rest' [] i'.held
           (subst (λ (k : Option (List ℕ)). Consumes (Some bytes) k []) (sym left) refl)
           (subst (Keeps (bytes_left i (Some bytes))) (left-going i' rest' none.2) none.0),
-      subst (λ (ls : List (List ℕ)). AreLaterEvents ls []) (sym none.1) refl,
+      subst (λ (ls : List (List ℕ)). AreLaterAnswered ls []) (sym none.1) refl,
     )
 
 -- behind an opening
-pub read-opened : (i i' : Intake) (rest rest' to : Option (List ℕ)) (past : List Entry) → i ≡ before_input
+pub read-opened : (i i' : Intake) (rest rest' to : Option (List ℕ)) (answers : List Answer) → i ≡ before_input
     → Consumes (bytes_left i rest) (bytes_left i' rest') (taken i') → has_break i'.line ≡ false → i'.ended ≡ false
-    → AnswersRead 2 (bytes_left i' rest') to past → AnswersScriptRead rest to past
-read-opened i i' None rest' to past start took unbroken going (read, then, events) = (
+    → AnswersRead 2 (bytes_left i' rest') to answers → AnswersScriptRead rest to answers
+read-opened i i' None rest' to answers start took unbroken going (read, then, events) = (
   i'.line ++ 10 ∷ read,
   tt,
-  subst (λ (ls : List (List ℕ)). AreLaterEvents ls past) (sym (whole_lines-first i'.line read unbroken)) events,
+  subst (λ (ls : List (List ℕ)). AreLaterAnswered ls answers) (sym (whole_lines-first i'.line read unbroken)) events,
 )
-read-opened i i' (Some bytes) rest' to past start took unbroken going (read, then, events) =
+read-opened i i' (Some bytes) rest' to answers start took unbroken going (read, then, events) =
     let left : bytes_left i (Some bytes) ≡ Some bytes = ap (λ (j : Intake). bytes_left j (Some bytes)) start in
     let line : taken i' ≡ i'.line ++ 10 ∷ [] = rw going refl in (
       i'.line ++ 10 ∷ read,
@@ -140,5 +141,5 @@ read-opened i i' (Some bytes) rest' to past start took unbroken going (read, the
           (consumes-trans (Some bytes) (bytes_left i' rest') to (i'.line ++ 10 ∷ []) read
           (subst (Consumes (Some bytes) (bytes_left i' rest')) line
           (subst (λ (k : Option (List ℕ)). Consumes k (bytes_left i' rest') (taken i')) left took)) then),
-      subst (λ (ls : List (List ℕ)). AreLaterEvents ls past) (sym (whole_lines-first i'.line read unbroken)) events,
+      subst (λ (ls : List (List ℕ)). AreLaterAnswered ls answers) (sym (whole_lines-first i'.line read unbroken)) events,
     )

@@ -1,65 +1,78 @@
 -- How far the lines of a script are answered.
 use Rattle.std.specs.Prelude.{◌≡◌, ◌≢◌, ℕ, ⊤, false, List, [], ◌∷◌, ◌++◌, Option, None, Some, Ok, Err}
 use Rattle.std.specs.Io.KnownBytes.{Appends, Consumes, Keeps}
-use Rattle.sgt_model.specs.declared.entry.Entry.{Entry}
-use Rattle.sgt_model.specs.Histories.{events_of}
 use Rattle.sgt_model.specs.Settings.{Setting}
-use Rattle.sgt_model.specs.Legality.{Legal}
-use Rattle.sgt_stream.specs.declared.fault.Fault.TheVariants as fault
+use Rattle.sgt_format.specs.declared.script_line.ScriptLine.{ScriptLine}
 use Rattle.sgt_stream.specs.Lines.{Cut, AtEnd, whole_lines}
 use Rattle.sgt_stream.specs.Intake.{Intake, bytes_left}
 use Rattle.sgt_stream.specs.Ends.{End}
 use Rattle.sgt_stream.specs.Spelled.{spelled, end_of}
-use Rattle.sgt_script.specs.Scripts.{event_at, replies}
+use Rattle.sgt_script.specs.Parts.{Answer, LegalAnswer, LegalRun, Part, answer_text, asked, lines_of, part_behind, part_of, replies}
+use Rattle.sgt_script.specs.Scripts.{script_line_at}
 
--- known lines from number n on begin with those of a history's events; behind them, from number m on, are these
-abbrev pub Answered : ℕ → Option Cut → List Entry → ℕ → Option Cut → Type 0
-Answered n None past m new = ⊤
-Answered n (Some old) past m None = ⊥
-Answered n (Some old) past m (Some new) = (spelled event_at n old.given ≡ events_of past ++ spelled event_at m new.given) × (end_of event_at n old.given old.ending ≡ end_of event_at m new.given new.ending)
+-- known lines from number n on begin with those that ask for this; behind them, from number m on, are these
+abbrev pub BeginWith : ℕ → Option Cut → List ScriptLine → ℕ → Option Cut → Type 0
+BeginWith n None asked m new = ⊤
+BeginWith n (Some old) asked m None = ⊥
+BeginWith n (Some old) asked m (Some new) = (spelled script_line_at n old.given ≡ asked ++ spelled script_line_at m new.given) × (end_of script_line_at n old.given old.ending ≡ end_of script_line_at m new.given new.ending)
 
--- known lines from number n on give no event, and end so
-abbrev pub NoEvent : ℕ → Option Cut → End → Type 0
-NoEvent n None end = ⊤
-NoEvent n (Some c) end = (spelled event_at n c.given ≡ []) × (end_of event_at n c.given c.ending ≡ end)
+-- known lines from number n on ask for nothing, and end so
+abbrev pub NoLine : ℕ → Option Cut → End → Type 0
+NoLine n None end = ⊤
+NoLine n (Some c) end = (spelled script_line_at n c.given ≡ []) × (end_of script_line_at n c.given c.ending ≡ end)
 
--- known lines from number n on have just a history's events, and end so
-abbrev pub AllAnswered : ℕ → Option Cut → List Entry → End → Type 0
-AllAnswered n None past end = ⊤
-AllAnswered n (Some c) past end = (spelled event_at n c.given ≡ events_of past) × (end_of event_at n c.given c.ending ≡ end)
+-- known lines from number n on are just those that got these answers, and end so
+abbrev pub AllAnswered : ℕ → Option Cut → List Answer → End → Type 0
+AllAnswered n None answers end = ⊤
+AllAnswered n (Some c) answers end = (spelled script_line_at n c.given ≡ lines_of answers) × (end_of script_line_at n c.given c.ending ≡ end)
 
--- these lines from number n on are events, each of them, and the history's are they
-abbrev pub AreEvents : ℕ → List (List ℕ) → List Entry → Type 0
-AreEvents n ls past = (spelled event_at n ls ≡ events_of past) × (end_of event_at n ls AtEnd ≡ Ok tt)
+-- these lines from number n on ask for something, each of them, and got these answers
+abbrev pub AreAnswered : ℕ → List (List ℕ) → List Answer → Type 0
+AreAnswered n ls answers = (spelled script_line_at n ls ≡ lines_of answers) × (end_of script_line_at n ls AtEnd ≡ Ok tt)
 
--- from there to here bytes were read whose whole lines, from number n on, are the history's events
-abbrev pub AnswersRead : ℕ → Option (List ℕ) → Option (List ℕ) → List Entry → Type 0
-AnswersRead n old new past = (read : List ℕ) × Consumes old new read × AreEvents n (whole_lines read) past
+-- from there to here bytes were read whose whole lines, from number n on, got these answers
+abbrev pub AnswersRead : ℕ → Option (List ℕ) → Option (List ℕ) → List Answer → Type 0
+AnswersRead n old new answers = (read : List ℕ) × Consumes old new read × AreAnswered n (whole_lines read) answers
 
--- of these whole lines of a script, those behind line 1 are the history's events
-abbrev pub AreLaterEvents : List (List ℕ) → List Entry → Type 0
-AreLaterEvents [] past = past ≡ []
-AreLaterEvents (line ∷ later) past = AreEvents 2 later past
+-- of these whole lines of a script, those behind line 1 got these answers
+abbrev pub AreLaterAnswered : List (List ℕ) → List Answer → Type 0
+AreLaterAnswered [] answers = answers ≡ []
+AreLaterAnswered (line ∷ later) answers = AreAnswered 2 later answers
 
--- of a script these bytes were read, and the events of their whole lines are the history's
-abbrev pub AnswersScriptRead : Option (List ℕ) → Option (List ℕ) → List Entry → Type 0
-AnswersScriptRead old new past = (read : List ℕ) × Consumes old new read × AreLaterEvents (whole_lines read) past
+-- of a script these bytes were read, and their whole lines got these answers
+abbrev pub AnswersScriptRead : Option (List ℕ) → Option (List ℕ) → List Answer → Type 0
+AnswersScriptRead old new answers = (read : List ℕ) × Consumes old new read × AreLaterAnswered (whole_lines read) answers
 
 -- no line came: the bytes left are as they were, the source has not ended, and no whole line is held
 abbrev pub NoLineCame : Intake → Option (List ℕ) → Intake → Option (List ℕ) → Type 0
 NoLineCame i rest i' rest' = Keeps (bytes_left i rest) (bytes_left i' rest') × (whole_lines i'.held ≡ []) × (i'.ended ≡ false)
 
--- of known lines from number n on, the first were answered: this is a legal history of their events, and what is written is its
--- replies but for the rest, which is none where no write failed; and where a read failed, these are all whole lines read
-pub record AnswersSome (s : Setting) (n : ℕ) (known : Option Cut) (from to old new : Option (List ℕ)) (end : End) : Type 0 where
-  pub past : List Entry
+-- what a line asks for was answered: the present part has become the one behind that answer, whose text was added
+pub record AnswersLine (line : ScriptLine) (old new : Part) (before after : List ℕ) : Type 0 where
+  pub answer : Answer
+  pub of_line : asked answer ≡ line
+  pub legal : LegalAnswer old answer
+  pub part : new ≡ part_behind answer old
+  pub text : after ≡ before ++ answer_text answer
+
+-- of known lines from number n on, all were answered, up to this end: the answers are legal, and their text was written
+pub record AnswersAll (s : Setting) (n : ℕ) (known : Option Cut) (old new : Option (List ℕ)) (end : End) : Type 0 where
+  pub answers : List Answer
+  pub legal : LegalRun s answers
+  pub all : AllAnswered n known answers end
+  pub written : Appends old new (replies answers)
+
+-- of known lines from number n on, the first were answered: the answers are legal, and what is written is their text but for the
+-- rest, which is none where no write failed; and where a read failed, these are all whole lines read
+pub record AnswersSome (s : Setting) (n : ℕ) (known : Option Cut) (from to old new : Option (List ℕ)) (wrote unread : Type 0) : Type 0 where
+  pub answers : List Answer
   pub next : ℕ
   pub left : Option Cut
-  pub legal : Legal s past
-  pub answered : Answered n known past next left
+  pub legal : LegalRun s answers
+  pub answered : BeginWith n known (lines_of answers) next left
   pub written : List ℕ
   pub appends : Appends old new written
   pub rest : List ℕ
-  pub parts : replies past ≡ written ++ rest
-  pub all : end ≢ Err fault.Writing → rest ≡ []
-  pub read : end ≡ Err fault.Reading → AnswersRead n from to past
+  pub parts : replies answers ≡ written ++ rest
+  pub all : wrote → rest ≡ []
+  pub read : unread → AnswersRead n from to answers

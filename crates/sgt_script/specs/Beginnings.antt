@@ -1,12 +1,13 @@
 -- What a run has written that stopped on the way: the beginning of what a whole run writes.
-use Rattle.std.specs.Prelude.{◌≡◌, ℕ, ⊤, List, ◌++◌, Option, Some, Err}
+use Rattle.std.specs.Prelude.{◌≡◌, ℕ, ⊤, List, ◌++◌, Option, Some, Err, ◌⊎◌}
 use Rattle.std.specs.Io.KnownBytes.{Appends}
-use Rattle.sgt_model.specs.declared.entry.Entry.{Entry}
 use Rattle.sgt_model.specs.Settings.{Setting}
+use Rattle.sgt_stream.specs.declared.fault.Fault.{Fault}
 use Rattle.sgt_stream.specs.declared.fault.Fault.TheVariants as fault
 use Rattle.sgt_stream.specs.Lines.{Cut}
 use Rattle.sgt_stream.specs.Ends.{End}
-use Rattle.sgt_script.specs.Scripts.{RunHistory, RunOutput, Script}
+use Rattle.sgt_script.specs.Parts.{Answer}
+use Rattle.sgt_script.specs.Scripts.{Execution, RunOutput, Script}
 
 -- known bytes grow by the first of these
 pub record AppendsPart (old new : Option (List ℕ)) (bytes : List ℕ) : Type 0 where
@@ -17,13 +18,13 @@ pub record AppendsPart (old new : Option (List ℕ)) (bytes : List ℕ) : Type 0
 
 -- such a run of a script wrote this text, and how it ended
 abbrev pub Wholes : Type 1
-Wholes = RunHistory → List ℕ → End → Type 0
+Wholes = Execution → List ℕ → End → Type 0
 
--- some whole run writes this text and then the rest of its own: the history of that run begins with these entries
-pub record Begins (Whole : Wholes) (answered : List Entry) (out : List ℕ) : Type 0 where
-  pub run : RunHistory
-  pub newer : List Entry
-  pub begins : run.past ≡ newer ++ answered
+-- some whole run writes this text and then the rest of its own: its first lines got these answers
+pub record Begins (Whole : Wholes) (answered : List Answer) (out : List ℕ) : Type 0 where
+  pub run : Execution
+  pub newer : List Answer
+  pub begins : run.answers ≡ newer ++ answered
   pub rest : List ℕ
   pub end : End
   pub whole : Whole run (out ++ rest) end
@@ -35,6 +36,10 @@ ScriptRuns bytes run out end = Script bytes (Some run) out end
 -- the whole runs behind an opening, over these lines
 abbrev pub LineRuns : Setting → Cut → Wholes
 LineRuns s c run out end = (run.setting ≡ s) × RunOutput run c.given c.ending out end
+
+-- these bytes are written; where not all of them could be, the first are, and the fault is that and not this one
+abbrev pub WritesAt : Fault → Fault → Option (List ℕ) → Option (List ℕ) → List ℕ → Type 0
+WritesAt f told old new bytes = ((told ≡ f) × Appends old new bytes) ⊎ ((told ≡ fault.Writing) × AppendsPart old new bytes)
 
 -- the run stopped behind the reply to a line: a read failed, or a growth was refused
 abbrev pub IsStop : End → Type 0

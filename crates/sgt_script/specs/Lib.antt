@@ -1,3 +1,4 @@
+pub mod Parts
 pub mod Scripts
 pub mod RunLaws
 pub mod Answering

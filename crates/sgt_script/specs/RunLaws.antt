@@ -1,17 +1,19 @@
 -- What is true of every run of a script: the headline, each part by itself, and on what was written.
-use Rattle.std.specs.Prelude.{◌≡◌, ℕ, List, [], ◌∷◌, ◌++◌}
-use Rattle.sgt_model.specs.declared.entry.Entry.{Entry}
+use Rattle.std.specs.Prelude.{◌≡◌, ℕ, List, [], ◌∷◌, ◌++◌, ⊤}
 use Rattle.sgt_model.specs.declared.reply.Reply.{Reply}
 use Rattle.sgt_model.specs.declared.reply.Reply.TheVariants as reply
 use Rattle.sgt_model.specs.Walks.{Acyclic}
 use Rattle.sgt_model.specs.Pairs.{Pair}
-use Rattle.sgt_model.specs.Replay.{RunResult, GaveAnswers, AskedCode, folded, IsSerializable}
+use Rattle.sgt_model.specs.Replay.{RunResult, GaveAnswers, AskedCode, Folded, folded, IsSerializable}
+use Rattle.sgt_model.specs.Contents.{Contents}
+use Rattle.sgt_model.specs.Settings.{Setting}
 use Rattle.sgt_model.specs.Aborts.{AbortsHaveCause}
 use Rattle.sgt_model.specs.CommitOrder.{CommitsInOrder}
 use Rattle.sgt_smallbank.specs.Replays.{CommitsAreBank}
 use Rattle.sgt_format.specs.ReplyText.{text}
 use Rattle.sgt_stream.specs.Ends.{End}
-use Rattle.sgt_script.specs.Scripts.{RunHistory, Closing}
+use Rattle.sgt_script.specs.Parts.{Answer, Replied, WasCut, StillLive, Part, answer_text, part_of, parts_of}
+use Rattle.sgt_script.specs.Scripts.{Execution, Closing}
 
 -- the line that tells the first of these results to a transaction that commits. A code has no such line
 abbrev pub answers_line : List RunResult → List ℕ
@@ -67,24 +69,55 @@ results_left results reply.NotEnded = results
 results_left results (reply.Waits t) = results
 results_left results (reply.Aborted why fell) = results
 
--- the text of a history's replies where the transactions that commit or are refused are told these results, the last reply
--- first
-abbrev pub replies_telling : List RunResult → List Entry → List ℕ
-replies_telling results [] = []
-replies_telling results (e ∷ past) = replies_telling (results_left results e.reply) past ++ line_telling results e.reply
+-- ---- the serial run of all parts
 
--- what was written is what the serial run tells: each `committed` line has the answers that it gives there, each `refused` line
--- the code that it asks there, and the lines at the end, where the run ends well, are the database that it leaves
-pub record IsSerialText (run : RunHistory) (out : List ℕ) (end : End) : Type 0 where
+-- the same rules, on these opening contents
+abbrev pub opened_on : Contents → Setting → Setting
+opened_on m s = record { opening = m; rules = s.rules }
+
+-- the contents that the serial run of the parts cut off leaves: each runs on what the one before it left, the first on the opening
+abbrev pub carried : Setting → List Answer → Contents
+carried s [] = s.opening
+carried s (Replied e ∷ answers) = carried s answers
+carried s (WasCut entries ∷ answers) = (folded (opened_on (carried s answers) s) (part_of s answers).past).last
+carried s (StillLive ∷ answers) = carried s answers
+
+-- the serial run of the present part, on what those cut off left
+abbrev pub chained : Setting → List Answer → Folded
+chained s answers = folded (opened_on (carried s answers) s) (part_of s answers).past
+
+-- the text of these answers where the transactions that commit or are refused are told what the serial run of their part gives:
+-- in the present part these results, the last one first
+abbrev pub replies_telling : Setting → List RunResult → List Answer → List ℕ
+replies_telling s results [] = []
+replies_telling s results (Replied e ∷ answers) = replies_telling s (results_left results e.reply) answers ++ line_telling results e.reply
+replies_telling s results (WasCut entries ∷ answers) = replies_telling s (chained s answers).results answers ++ answer_text (WasCut entries)
+replies_telling s results (StillLive ∷ answers) = replies_telling s results answers ++ answer_text StillLive
+
+-- what was written is what the serial run of all parts tells, one after another: each `committed` line has the answers that it
+-- gives there, each `refused` line the code that it asks there, and the lines at the end, where the run ends well, are the
+-- database that it leaves
+pub record IsSerialText (run : Execution) (out : List ℕ) (end : End) : Type 0 where
   pub last : List ℕ
-  pub closing : Closing (folded run.setting run.past).last end last
-  pub text : out ≡ replies_telling (folded run.setting run.past).results run.past ++ last
+  pub closing : Closing (chained run.setting run.answers).last end last
+  pub text : out ≡ replies_telling run.setting (chained run.setting run.answers).results run.answers ++ last
 
--- the parts of the headline, for the history of the events answered and for what was written; and the bank's arithmetic
-pub record RunLaws (run : RunHistory) (out : List ℕ) (end : End) : Type 0 where
-  pub replay : IsSerializable run.setting run.past
+-- ---- the laws
+
+-- the parts of the headline, for a part of a run; and the bank's arithmetic
+pub record PartLaws (p : Part) : Type 0 where
+  pub replay : IsSerializable p.setting p.past
+  pub no_cycle : Acyclic (Pair p.past)
+  pub causes : AbortsHaveCause p.setting p.past
+  pub order : CommitsInOrder p.past
+  pub bank : CommitsAreBank p.setting p.past
+
+-- they hold of each of these parts
+abbrev pub InEachPart : List Part → Type 0
+InEachPart [] = ⊤
+InEachPart (p ∷ parts) = PartLaws p × InEachPart parts
+
+-- they hold of each part of a run, between its cuts, and what was written is what one serial run tells
+pub record RunLaws (run : Execution) (out : List ℕ) (end : End) : Type 0 where
+  pub parts : InEachPart (parts_of run.setting run.answers)
   pub written : IsSerialText run out end
-  pub no_cycle : Acyclic (Pair run.past)
-  pub causes : AbortsHaveCause run.setting run.past
-  pub order : CommitsInOrder run.past
-  pub bank : CommitsAreBank run.setting run.past

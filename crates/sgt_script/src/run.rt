@@ -4,12 +4,13 @@ ghost use Rattle.sgt_stream.specs.Ends.{IsExact};
 ghost use Rattle.sgt_script.specs.RunLaws.{RunLaws};
 ghost use Rattle.sgt_script.specs.Beginnings.{Begins, IsStop, ScriptRuns};
 ghost use Rattle.sgt_script.specs.Answering.{AnswersScriptRead};
-ghost use Rattle.sgt_script.specs.Scripts.{RunHistory, Script, replies};
-ghost use Rattle.sgt_model.specs.declared.entry.Entry.{Entry};
+ghost use Rattle.sgt_script.specs.Parts.{Answer, replies};
+ghost use Rattle.sgt_script.specs.Scripts.{Execution, Script};
 
 use crate::script::run_with;
-use sgt_model::headline_holds;
-use sgt_program::opened_is_bank;
+use sgt_model::{headline_holds, replays_hold_values};
+use sgt_program::opened_hold_values;
+use sgt_smallbank::replay_is_bank;
 use sgt_stream::{Fault, Sink, Source};
 use std::alloc::Global;
 
@@ -34,15 +35,15 @@ pub fn run_script<S: Source, T: Sink>(
     requires reading { S.failures source.old + 1 < 2 ^ 64 }
     requires writing { T.failures sink.old + 1 < 2 ^ 64 }
     ensures script { IsExact result → IfSome (S.rest source.old) (λ bytes.
-        (run : Option RunHistory) × (out : List ℕ) × Appends (T.held sink.old) (T.held sink.new) out
+        (run : Option Execution) × (out : List ℕ) × Appends (T.held sink.old) (T.held sink.new) out
         × Script bytes run out result × IfSome run (λ r. RunLaws r out result)) }
-    ensures stops { IsStop result → IfSome (S.rest source.old) (λ bytes. (answered : List Entry)
+    ensures stops { IsStop result → IfSome (S.rest source.old) (λ bytes. (answered : List Answer)
         × Appends (T.held sink.old) (T.held sink.new) (replies answered)
         × ((answered ≡ []) ⊎ Begins (ScriptRuns bytes) answered (replies answered))
         × (result ≡ Err Fault.Reading →
         AnswersScriptRead (S.rest source.old) (S.rest source.new) answered)) }
     ensures part { result ≡ Err Fault.Writing → IfSome (S.rest source.old) (λ bytes.
-        (answered : List Entry) × (out : List ℕ) × Appends (T.held sink.old) (T.held sink.new) out
+        (answered : List Answer) × (out : List ℕ) × Appends (T.held sink.old) (T.held sink.new) out
         × Begins (ScriptRuns bytes) answered out) }
     ensures bounded { S.given source.new ≤ S.given source.old + 16777217 }
     ensures read_well { IsExact result → S.failures source.new ≡ S.failures source.old }
@@ -55,7 +56,9 @@ pub fn run_script<S: Source, T: Sink>(
 {
     // Of every legal history the headline holds.
     headline_holds();
-    // And each committed transaction of one of the five procedures did the bank's arithmetic.
-    opened_is_bank();
+    // And each committed transaction of one of the five procedures did the bank's arithmetic, where the part began with values.
+    opened_hold_values();
+    replays_hold_values();
+    replay_is_bank();
     run_with(alloc, source, sink)
 }

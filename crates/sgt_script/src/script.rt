@@ -1,56 +1,51 @@
-ghost use Rattle.std.specs.Prelude.{◌≡◌, ◌≢◌, ℕ, List, Option, false, IsTrue, IsFalse, IfOk, IfErr, OnOk, OnErr, IfSome, Err, Ok, Some, None, ◌⊎◌, [], ◌∷◌, ◌++◌, ◌+◌, ◌^◌, ◌<◌, ◌≤◌};
+ghost use Rattle.std.specs.Prelude.{◌≡◌, ◌≢◌, ℕ, List, Option, false, IfOk, IfErr, OnOk, OnErr, IfSome, IsSome, IsNone, Err, Ok, Some, None, ◌⊎◌, [], ◌∷◌, ◌++◌, ◌+◌, ◌^◌, ◌<◌, ◌≤◌};
 ghost use Rattle.std.specs.Io.KnownBytes.{Appends, Consumes};
-ghost use Rattle.sgt_model.specs.declared.entry.Entry.{Entry};
+ghost use Rattle.sgt_model.specs.declared.entry.Entry.{Entry as Filed};
 ghost use Rattle.sgt_model.specs.Legality.{Legal};
 ghost use Rattle.sgt_engine.specs.EngineView.{setting_of};
 ghost use Rattle.sgt_format.specs.ReplyText.{text};
 ghost use Rattle.sgt_stream.specs.Lines.{has_break};
 ghost use Rattle.sgt_stream.specs.Intake.{bytes_left, come, cut_left, has_whole_line, taken};
 ghost use Rattle.sgt_stream.specs.Ends.{IsOfInput, IsExact};
-ghost use Rattle.sgt_script.specs.Scripts.{RunHistory, RunOutput, Script, event_at, replies};
-ghost use Rattle.sgt_script.specs.Answering.{Answered, NoEvent, AllAnswered, AnswersSome, AnswersRead, AnswersScriptRead, NoLineCame};
-ghost use Rattle.sgt_script.specs.Beginnings.{AppendsPart, Begins, IsStop, LineRuns, ScriptRuns};
+ghost use Rattle.sgt_script.specs.Parts.{Answer, part_at, part_of, replies};
+ghost use Rattle.sgt_script.specs.Scripts.{Execution, RunOutput, Script, script_line_at};
+ghost use Rattle.sgt_script.specs.Answering.{AnswersAll, AnswersLine, AnswersRead, AnswersScriptRead, AnswersSome, BeginWith, NoLine, NoLineCame};
+ghost use Rattle.sgt_script.specs.Beginnings.{AppendsPart, Begins, IsStop, LineRuns, ScriptRuns, WritesAt};
 
-use sgt_format::{append_database, append_reply, read_event};
-use sgt_model::histories_go_on;
+use sgt_engine::CutError;
+use sgt_format::{
+    ScriptLine, append_cut, append_database, append_reply, append_still_live, read_script_line,
+};
+use sgt_model::{Event, NoMemory, histories_go_on, some_reply_is_legal};
 use sgt_program::{SgtEngine, open_engine};
 use sgt_stream::{Fault, Lines, Sink, Source, at_line, opening_of, write_all};
 use std::alloc::Global;
 
-/// Answers the next line, if there is one: the text of its reply is added.
-fn answer_line<S: Source>(
+/// What the next line asks for, if there is one.
+fn next_script_line<S: Source>(
     alloc: Global,
     lines: &mut Lines,
     source: &mut S,
-    engine: &mut SgtEngine,
-    replies: &mut Vec<u8>,
-) -> Result<bool, Fault>
+) -> Result<Option<ScriptLine>, Fault>
     requires { S.failures source.old + 1 < 2 ^ 64 }
-    ensures setting { setting_of engine.new ≡ setting_of engine.old }
-    ensures answered { IfOk result (λ more. IsTrue more → (entry : Entry)
-        × (engine.new.past ≡ entry ∷ engine.old.past)
-        × (replies.new.items ≡ replies.old.items ++ text entry.reply)
-        × Answered (lines.old.number + 1) (cut_left lines.old (S.rest source.old)) (entry ∷ [])
-        (lines.new.number + 1) (cut_left lines.new (S.rest source.new))
-        × (event_at lines.new.number lines.new.line ≡ Ok entry.event)) }
-    ensures taken { IfOk result (λ more. IsTrue more → Consumes
+    ensures line { IfOk result (λ next. IfSome next (λ asked.
+        BeginWith (lines.old.number + 1) (cut_left lines.old (S.rest source.old)) (asked ∷ [])
+        (lines.new.number + 1) (cut_left lines.new (S.rest source.new)))) }
+    ensures at { IfOk result (λ next. IfSome next (λ asked.
+        script_line_at lines.new.number lines.new.line ≡ Ok asked)) }
+    ensures taken { IfOk result (λ next. IsSome next → Consumes
         (bytes_left lines.old (S.rest source.old)) (bytes_left lines.new (S.rest source.new))
         (taken lines.new)) }
-    ensures unbroken { IfOk result (λ more. IsTrue more → has_break lines.new.line ≡ false) }
-    ensures number { IfOk result (λ more. IsTrue more → lines.new.number ≡ lines.old.number + 1) }
+    ensures unbroken { IfOk result (λ next. IsSome next → has_break lines.new.line ≡ false) }
+    ensures number { IfOk result (λ next. IsSome next → lines.new.number ≡ lines.old.number + 1) }
     ensures ended { lines.new.ended ≡ false → lines.old.ended ≡ false }
-    ensures unread { result ≡ Err Fault.Reading → (engine.new.past ≡ engine.old.past)
-        × NoLineCame lines.old (S.rest source.old) lines.new (S.rest source.new) }
-    ensures end { IfOk result (λ more. IsFalse more → (engine.new.past ≡ engine.old.past)
-        × (replies.new.items ≡ replies.old.items)
-        × NoEvent (lines.old.number + 1) (cut_left lines.old (S.rest source.old)) (Ok tt)) }
-    ensures fault { IfErr result (λ f. IsOfInput f → (engine.new.past ≡ engine.old.past)
-        × (replies.new.items ≡ replies.old.items)
-        × NoEvent (lines.old.number + 1) (cut_left lines.old (S.rest source.old)) (Err f)) }
-    ensures kept { OnErr result (replies.new.items ≡ replies.old.items) }
-    ensures legal { Legal (setting_of engine.old) engine.old.past →
-        Legal (setting_of engine.new) engine.new.past }
-    ensures nearer { IfOk result (λ more. IsTrue more → lines.new.within < lines.old.within) }
+    ensures unread { result ≡ Err Fault.Reading →
+        NoLineCame lines.old (S.rest source.old) lines.new (S.rest source.new) }
+    ensures end { IfOk result (λ next. IsNone next →
+        NoLine (lines.old.number + 1) (cut_left lines.old (S.rest source.old)) (Ok tt)) }
+    ensures fault { IfErr result (λ f. IsOfInput f →
+        NoLine (lines.old.number + 1) (cut_left lines.old (S.rest source.old)) (Err f)) }
+    ensures nearer { IfOk result (λ next. IsSome next → lines.new.within < lines.old.within) }
     ensures come { S.given source.new + come lines.old ≤ S.given source.old + come lines.new }
     ensures few { come lines.new ≤ 16777217 }
     ensures writing { result ≢ Err Fault.Writing }
@@ -60,15 +55,48 @@ fn answer_line<S: Source>(
         S.failures source.new ≡ S.failures source.old + 1 }
 {
     if !lines.next_line(source)? {
-        return Ok(false);
+        return Ok(None);
     }
-    let event = at_line(lines.number(), read_event(alloc, lines.line()))?;
+    let asked = at_line(lines.number(), read_script_line(alloc, lines.line()))?;
+    Ok(Some(asked))
+}
+
+/// Answers an event: the text of its reply is added.
+fn answer_event(engine: &mut SgtEngine, event: Event, replies: &mut Vec<u8>) -> Result<(), NoMemory>
+    ensures setting { setting_of engine.new ≡ setting_of engine.old }
+    ensures answered { OnOk result ((entry : Filed) × (engine.new.past ≡ entry ∷ engine.old.past)
+        × (entry.event ≡ event) × (replies.new.items ≡ replies.old.items ++ text entry.reply)) }
+    ensures legal { Legal (setting_of engine.new) engine.new.past }
+    ensures kept { OnErr result (replies.new.items ≡ replies.old.items) }
+{
     engine.answer(event)?;
     match engine.history().last() {
-        Some(entry) => append_reply(replies, &entry.reply)?,
+        Some(entry) => append_reply(replies, &entry.reply),
         None => unreachable!(),
     }
-    Ok(true)
+}
+
+/// Cuts the history off, where nobody is live: the text that answers this is added. What was cut off is dropped.
+fn answer_cut(
+    alloc: Global,
+    engine: SgtEngine,
+    replies: &mut Vec<u8>,
+) -> Result<SgtEngine, NoMemory>
+    ensures answered { IfOk result (λ e. AnswersLine ScriptLine.Cut
+        (part_at engine) (part_at e) replies.old.items replies.new.items) }
+    ensures kept { OnErr result (replies.new.items ≡ replies.old.items) }
+{
+    match engine.cut(alloc) {
+        Ok((past, next)) => {
+            append_cut(replies, past.history.len())?;
+            Ok(next)
+        }
+        Err(CutError::StillLive(engine)) => {
+            append_still_live(replies)?;
+            Ok(engine)
+        }
+        Err(CutError::NoMemory(_)) => Err(NoMemory),
+    }
 }
 
 /// Writes out what was gathered.
@@ -110,31 +138,49 @@ fn flush_before_read<T: Sink>(
     flush(sink, gathered)
 }
 
-/// Answers the lines that are left. The replies are gathered, and written out before each read and at the end.
+/// Writes out what was gathered where a run stops at a fault, and tells the fault: this one, or else that the write failed.
+fn stop<T: Sink>(sink: &mut T, gathered: &mut Vec<u8>, fault: Fault) -> Fault
+    requires writing { T.failures sink.old + 1 < 2 ^ 64 }
+    requires other { fault ≢ Fault.Writing }
+    ensures written { WritesAt fault result (T.held sink.old) (T.held sink.new) gathered.old.items }
+    ensures well { result ≢ Fault.Writing → T.failures sink.new ≡ T.failures sink.old }
+    ensures failed { result ≡ Fault.Writing → T.failures sink.new ≡ T.failures sink.old + 1 }
+{
+    match flush(sink, gathered) {
+        Ok(()) => fault,
+        Err(unwritten) => unwritten,
+    }
+}
+
+/// Answers the lines that are left. The answers are gathered, and written out before each read and at the end.
 fn answer_lines<S: Source, T: Sink>(
     alloc: Global,
     lines: &mut Lines,
     source: &mut S,
     sink: &mut T,
-    engine: &mut SgtEngine,
-) -> Result<(), Fault>
+    mut engine: SgtEngine,
+) -> Result<SgtEngine, Fault>
     requires reading { S.failures source.old + 1 < 2 ^ 64 }
     requires writing { T.failures sink.old + 1 < 2 ^ 64 }
-    requires fresh { engine.old.past ≡ [] }
+    requires fresh { engine.past ≡ [] }
     requires few { come lines.old ≤ 16777217 }
-    ensures setting { setting_of engine.new ≡ setting_of engine.old }
-    ensures legal { Legal (setting_of engine.new) engine.new.past }
     ensures bounded { S.given source.new + come lines.old ≤ S.given source.old + 16777217 }
-    ensures answered { IsExact result → AllAnswered (lines.old.number + 1)
-        (cut_left lines.old (S.rest source.old)) engine.new.past result }
-    ensures written { IsExact result →
-        Appends (T.held sink.old) (T.held sink.new) (replies engine.new.past) }
-    ensures some { AnswersSome (setting_of engine.old) (lines.old.number + 1)
+    ensures all { IfOk result (λ e.
+        (all : AnswersAll (setting_of engine) (lines.old.number + 1)
+        (cut_left lines.old (S.rest source.old)) (T.held sink.old) (T.held sink.new) (Ok tt))
+        × (part_of (setting_of engine) all.answers ≡ part_at e)) }
+    ensures fault { IfErr result (λ f. IsOfInput f →
+        AnswersAll (setting_of engine) (lines.old.number + 1)
+        (cut_left lines.old (S.rest source.old)) (T.held sink.old) (T.held sink.new) (Err f)) }
+    ensures some { AnswersSome (setting_of engine) (lines.old.number + 1)
         (cut_left lines.old (S.rest source.old))
         (bytes_left lines.old (S.rest source.old)) (S.rest source.new)
-        (T.held sink.old) (T.held sink.new) result }
+        (T.held sink.old) (T.held sink.new)
+        (result ≢ Err Fault.Writing) (result ≡ Err Fault.Reading) }
     ensures going { result ≡ Err Fault.Reading → lines.old.ended ≡ false }
-    ensures read_well { IsExact result → S.failures source.new ≡ S.failures source.old }
+    ensures read_well { OnOk result (S.failures source.new ≡ S.failures source.old) }
+    ensures read_of_input { IfErr result (λ f. IsOfInput f →
+        S.failures source.new ≡ S.failures source.old) }
     ensures read_failed { result ≡ Err Fault.Reading →
         S.failures source.new ≡ S.failures source.old + 1 }
     ensures wrote_well { result ≢ Err Fault.Writing →
@@ -145,13 +191,24 @@ fn answer_lines<S: Source, T: Sink>(
     let mut gathered = Vec::new(alloc);
     loop {
         flush_before_read(lines, sink, &mut gathered)?;
-        match answer_line(alloc, lines, source, engine, &mut gathered) {
-            Ok(true) => (),
-            Ok(false) => return flush(sink, &mut gathered),
-            Err(fault) => {
+        match next_script_line(alloc, lines, source) {
+            Ok(Some(ScriptLine::Event(event))) => match answer_event(
+                &mut engine,
+                event,
+                &mut gathered,
+            ) {
+                Ok(()) => (),
+                Err(_) => return Err(stop(sink, &mut gathered, Fault::NoMemory)),
+            },
+            Ok(Some(ScriptLine::Cut)) => match answer_cut(alloc, engine, &mut gathered) {
+                Ok(next) => engine = next,
+                Err(_) => return Err(stop(sink, &mut gathered, Fault::NoMemory)),
+            },
+            Ok(None) => {
                 flush(sink, &mut gathered)?;
-                return Err(fault);
+                return Ok(engine);
             }
+            Err(fault) => return Err(stop(sink, &mut gathered, fault)),
         }
     }
 }
@@ -169,27 +226,27 @@ pub(crate) fn run_opened<S: Source, T: Sink>(
     lines: &mut Lines,
     source: &mut S,
     sink: &mut T,
-    engine: &mut SgtEngine,
+    engine: SgtEngine,
 ) -> Result<(), Fault>
     requires reading { S.failures source.old + 1 < 2 ^ 64 }
     requires writing { T.failures sink.old + 1 < 2 ^ 64 }
-    requires fresh { engine.old.past ≡ [] }
+    requires fresh { engine.past ≡ [] }
     requires second { lines.old.number ≡ 1 }
     requires few { come lines.old ≤ 16777217 }
     ensures output { IsExact result → IfSome (cut_left lines.old (S.rest source.old)) (λ c.
-        (run : RunHistory) × (run.setting ≡ setting_of engine.old)
+        (run : Execution) × (run.setting ≡ setting_of engine)
         × (out : List ℕ) × Appends (T.held sink.old) (T.held sink.new) out
         × RunOutput run c.given c.ending out result) }
     ensures stops { IsStop result → IfSome (cut_left lines.old (S.rest source.old)) (λ c.
-        (answered : List Entry) × Appends (T.held sink.old) (T.held sink.new) (replies answered)
-        × Begins (LineRuns (setting_of engine.old) c) answered (replies answered)
+        (answered : List Answer) × Appends (T.held sink.old) (T.held sink.new) (replies answered)
+        × Begins (LineRuns (setting_of engine) c) answered (replies answered)
         × (result ≡ Err Fault.Reading → AnswersRead 2
         (bytes_left lines.old (S.rest source.old)) (S.rest source.new) answered)) }
     ensures going { result ≡ Err Fault.Reading → lines.old.ended ≡ false }
     ensures part { result ≡ Err Fault.Writing →
         IfSome (cut_left lines.old (S.rest source.old)) (λ c.
-        (answered : List Entry) × (out : List ℕ) × Appends (T.held sink.old) (T.held sink.new) out
-        × Begins (LineRuns (setting_of engine.old) c) answered out) }
+        (answered : List Answer) × (out : List ℕ) × Appends (T.held sink.old) (T.held sink.new) out
+        × Begins (LineRuns (setting_of engine) c) answered out) }
     ensures bounded { S.given source.new + come lines.old ≤ S.given source.old + 16777217 }
     ensures read_well { IsExact result → S.failures source.new ≡ S.failures source.old }
     ensures read_failed { result ≡ Err Fault.Reading →
@@ -200,8 +257,9 @@ pub(crate) fn run_opened<S: Source, T: Sink>(
         T.failures sink.new ≡ T.failures sink.old + 1 }
 {
     // Whatever was answered by then, some whole run goes on from there.
+    some_reply_is_legal();
     histories_go_on();
-    answer_lines(alloc, lines, source, sink, engine)?;
+    let engine = answer_lines(alloc, lines, source, sink, engine)?;
     let database = engine.database(alloc)?;
     let mut text = Vec::new(alloc);
     append_database(&mut text, &database)?;
@@ -223,15 +281,15 @@ pub(crate) fn run_with<S: Source, T: Sink>(
     requires reading { S.failures source.old + 1 < 2 ^ 64 }
     requires writing { T.failures sink.old + 1 < 2 ^ 64 }
     ensures script { IsExact result → IfSome (S.rest source.old) (λ bytes.
-        (run : Option RunHistory) × (out : List ℕ) × Appends (T.held sink.old) (T.held sink.new) out
+        (run : Option Execution) × (out : List ℕ) × Appends (T.held sink.old) (T.held sink.new) out
         × Script bytes run out result) }
-    ensures stops { IsStop result → IfSome (S.rest source.old) (λ bytes. (answered : List Entry)
+    ensures stops { IsStop result → IfSome (S.rest source.old) (λ bytes. (answered : List Answer)
         × Appends (T.held sink.old) (T.held sink.new) (replies answered)
         × ((answered ≡ []) ⊎ Begins (ScriptRuns bytes) answered (replies answered))
         × (result ≡ Err Fault.Reading →
         AnswersScriptRead (S.rest source.old) (S.rest source.new) answered)) }
     ensures part { result ≡ Err Fault.Writing → IfSome (S.rest source.old) (λ bytes.
-        (answered : List Entry) × (out : List ℕ) × Appends (T.held sink.old) (T.held sink.new) out
+        (answered : List Answer) × (out : List ℕ) × Appends (T.held sink.old) (T.held sink.new) out
         × Begins (ScriptRuns bytes) answered out) }
     ensures bounded { S.given source.new ≤ S.given source.old + 16777217 }
     ensures read_well { IsExact result → S.failures source.new ≡ S.failures source.old }
@@ -247,6 +305,6 @@ pub(crate) fn run_with<S: Source, T: Sink>(
         return Err(Fault::NoOpening);
     }
     let opening = opening_of(alloc, 1, &lines)?;
-    let mut engine = open_engine(alloc, opening)?;
-    run_opened(alloc, &mut lines, source, sink, &mut engine)
+    let engine = open_engine(alloc, opening)?;
+    run_opened(alloc, &mut lines, source, sink, engine)
 }

@@ -1,33 +1,63 @@
-use Rattle.std.proofs.Common.{rules, Err, ◌+◌, sym, ◌∙◌, subst, List}
-use Rattle.sgt_model.specs.declared.entry.Entry.{Entry}
+use Rattle.std.proofs.Common.{rules, Err, ◌+◌, refl}
+use Rattle.sgt_format.specs.declared.script_line.ScriptLine.TheVariants as script_line
 use Rattle.sgt_stream.specs.Intake.{bytes_left, cut_left}
-use Rattle.sgt_script.specs.Answering.{Answered}
-use Rattle.sgt_script.proofs.Answers.{answered-next, written-next}
+use Rattle.sgt_stream.specs.declared.fault.Fault.TheVariants as fault
 use Rattle.sgt_engine.specs.EngineView.{setting_of}
-use Rattle.sgt_script.proofs.Beginnings.{gathers-less, some-all, some-part, some-flush}
-use Rattle.sgt_script.proofs.WholeLines.{read-next, read-failed}
+use Rattle.sgt_script.specs.Parts.{part_at}
+use Rattle.sgt_script.proofs.Parts.{replied}
+use Rattle.sgt_script.proofs.Beginnings.{all-so, answered-flushed, answered-next, answered-none, fault-stop, some-failed, some-stop, some-written}
+use Rattle.sgt_script.proofs.WholeLines.{read-failed}
 use Rattle.sgt_script.proofs.script.answer_lines.Goals as goal
+
+pub loop-gathered-init : goal.loop-gathered-init
+loop-gathered-init g c = record {
+  so = answered-none c.args.lines.now (g.S.Source.rest c.args.source.now) (g.T.Sink.held c.args.sink.now) (setting_of c.args.engine)
+      c.args.engine.past c.requires.fresh;
+  ended = λ going. going;
+  counted = search rules;
+  few = search rules;
+  reading = search rules;
+  writing = search rules;
+}
+
+pub loop-gathered-preserved-in-Ok : goal.loop-gathered-preserved-in-Ok
+loop-gathered-preserved-in-Ok g c =
+    let one = c.in-Ok.ensures.answered in
+    record {
+      so = answered-next (setting_of c.args.engine) (c.args.lines.now.number + 1) (cut_left c.args.lines.now (g.S.Source.rest c.args.source.now))
+    (bytes_left c.args.lines.now (g.S.Source.rest c.args.source.now)) (g.T.Sink.held c.args.sink.now)
+          c.loop-gathered.lines c.next_script_line.new.lines (g.S.Source.rest c.loop-gathered.source) (g.S.Source.rest c.next_script_line.new.source) (g.T.Sink.held c.flush_before_read.new.sink) c.flush_before_read.new.gathered.items
+          c.answer_event.new.replies.items (part_at c.loop-gathered.engine) (part_at c.answer_event.new.engine) (script_line.Event c.in-Ok-Some-Event.event)
+          (answered-flushed (setting_of c.args.engine) (c.args.lines.now.number + 1) (cut_left c.args.lines.now (g.S.Source.rest c.args.source.now))
+    (bytes_left c.args.lines.now (g.S.Source.rest c.args.source.now)) (g.T.Sink.held c.args.sink.now)
+    c.loop-gathered.lines (g.S.Source.rest c.loop-gathered.source) (g.T.Sink.held c.loop-gathered.sink) (g.T.Sink.held c.flush_before_read.new.sink) c.loop-gathered.gathered.items c.flush_before_read.new.gathered.items (part_at c.loop-gathered.engine)
+    c.loop-gathered.invariant.so c.in_ok-flush_before_read.ensures.bytes)
+          c.in-Ok-Some-Event.ensures.line c.in-Ok-Some-Event.ensures.at (c.in-Ok-Some-Event.ensures.taken tt) (c.in-Ok-Some-Event.ensures.unbroken tt)
+          (c.in-Ok-Some-Event.ensures.number tt) c.next_script_line.ensures.ended
+          (replied one.0 c.in-Ok-Some-Event.event c.loop-gathered.engine c.answer_event.new.engine _ _ c.answer_event.ensures.setting one.1 one.2 one.3
+          c.answer_event.ensures.legal);
+      ended = λ going. c.loop-gathered.invariant.ended (c.next_script_line.ensures.ended going);
+      counted = search rules;
+      few = search rules;
+      reading = search rules;
+      writing = search rules;
+    }
 
 pub loop-gathered-preserved : goal.loop-gathered-preserved
 loop-gathered-preserved g c =
-    let one = c.in-Ok-true.ensures.answered c.in-Ok-true.field-0-test in
     record {
-      setting = c.answer_line.ensures.setting ∙ c.loop-gathered.invariant.setting;
-      legal = c.answer_line.ensures.legal c.loop-gathered.invariant.legal;
-      answered = subst (λ (past : List Entry). Answered (c.args.lines.now.number + 1)
-          (cut_left c.args.lines.now (g.S.Source.rest c.args.source.now)) past (c.answer_line.new.lines.number + 1)
-          (cut_left c.answer_line.new.lines (g.S.Source.rest c.answer_line.new.source))) (sym one.1)
-          (answered-next (c.args.lines.now.number + 1) (c.loop-gathered.lines.number + 1) (c.answer_line.new.lines.number + 1) _
-          (cut_left c.loop-gathered.lines
-          (g.S.Source.rest c.loop-gathered.source)) _ c.loop-gathered.engine.past one.0 c.loop-gathered.invariant.answered one.3);
-      ended = λ going. c.loop-gathered.invariant.ended (c.answer_line.ensures.ended going);
-      read = read-next (c.args.lines.now.number + 1) (bytes_left c.args.lines.now (g.S.Source.rest c.args.source.now))
-          c.loop-gathered.lines c.answer_line.new.lines (g.S.Source.rest c.loop-gathered.source)
-          (g.S.Source.rest c.answer_line.new.source) c.loop-gathered.engine.past c.answer_line.new.engine.past one.0
-          c.loop-gathered.invariant.read c.answer_line.ensures.ended (c.in-Ok-true.ensures.taken c.in-Ok-true.field-0-test)
-          (c.in-Ok-true.ensures.unbroken c.in-Ok-true.field-0-test) one.4
-          (c.in-Ok-true.ensures.number c.in-Ok-true.field-0-test) one.1;
-      written = written-next _ _ _ c.loop-gathered.engine.past _ one.0 _ _ _ c.loop-gathered.invariant.written c.in_ok-flush_before_read.ensures.bytes one.1 one.2;
+      so = answered-next (setting_of c.args.engine) (c.args.lines.now.number + 1) (cut_left c.args.lines.now (g.S.Source.rest c.args.source.now))
+    (bytes_left c.args.lines.now (g.S.Source.rest c.args.source.now)) (g.T.Sink.held c.args.sink.now)
+          c.loop-gathered.lines c.next_script_line.new.lines (g.S.Source.rest c.loop-gathered.source) (g.S.Source.rest c.next_script_line.new.source) (g.T.Sink.held c.flush_before_read.new.sink) c.flush_before_read.new.gathered.items
+          c.answer_cut.new.replies.items (part_at c.loop-gathered.engine) (part_at c.in-Ok-answer_cut.next) script_line.Cut
+          (answered-flushed (setting_of c.args.engine) (c.args.lines.now.number + 1) (cut_left c.args.lines.now (g.S.Source.rest c.args.source.now))
+    (bytes_left c.args.lines.now (g.S.Source.rest c.args.source.now)) (g.T.Sink.held c.args.sink.now)
+    c.loop-gathered.lines (g.S.Source.rest c.loop-gathered.source) (g.T.Sink.held c.loop-gathered.sink) (g.T.Sink.held c.flush_before_read.new.sink) c.loop-gathered.gathered.items c.flush_before_read.new.gathered.items (part_at c.loop-gathered.engine)
+    c.loop-gathered.invariant.so c.in_ok-flush_before_read.ensures.bytes)
+          c.in-Ok-Some-Cut.ensures.line c.in-Ok-Some-Cut.ensures.at (c.in-Ok-Some-Cut.ensures.taken tt) (c.in-Ok-Some-Cut.ensures.unbroken tt)
+          (c.in-Ok-Some-Cut.ensures.number tt) c.next_script_line.ensures.ended
+          c.in-Ok-answer_cut.ensures.answered;
+      ended = λ going. c.loop-gathered.invariant.ended (c.next_script_line.ensures.ended going);
       counted = search rules;
       few = search rules;
       reading = search rules;
@@ -36,62 +66,23 @@ loop-gathered-preserved g c =
 
 pub returns-in_err-flush_before_read-clause-some : goal.returns-in_err-flush_before_read-clause-some
 returns-in_err-flush_before_read-clause-some g c =
-    some-part (setting_of c.args.engine.now) (setting_of c.loop-gathered.engine) (c.args.lines.now.number + 1)
-    (c.loop-gathered.lines.number + 1) (cut_left c.args.lines.now (g.S.Source.rest c.args.source.now))
-    (cut_left c.loop-gathered.lines (g.S.Source.rest c.loop-gathered.source)) c.loop-gathered.engine.past
-    (bytes_left c.args.lines.now (g.S.Source.rest c.args.source.now)) (g.S.Source.rest c.loop-gathered.source)
-    (g.T.Sink.held c.args.sink.now) (g.T.Sink.held c.loop-gathered.sink) (g.T.Sink.held c.flush_before_read.new.sink)
-    c.loop-gathered.gathered.items c.from_residual.result c.loop-gathered.invariant.setting
-    c.loop-gathered.invariant.legal c.loop-gathered.invariant.answered c.loop-gathered.invariant.written
-    c.in_err-flush_before_read.ensures.part (search rules)
-
-pub returns-in-Ok-false-clause-some : goal.returns-in-Ok-false-clause-some
-returns-in-Ok-false-clause-some g c =
-    some-flush (setting_of c.args.engine.now) (setting_of c.loop-gathered.engine) (c.args.lines.now.number + 1)
-    (c.loop-gathered.lines.number + 1) (cut_left c.args.lines.now (g.S.Source.rest c.args.source.now))
-    (cut_left c.loop-gathered.lines (g.S.Source.rest c.loop-gathered.source)) c.loop-gathered.engine.past
-    (bytes_left c.args.lines.now (g.S.Source.rest c.args.source.now)) (g.S.Source.rest c.answer_line.new.source)
-    (g.T.Sink.held c.args.sink.now) (g.T.Sink.held c.flush_before_read.new.sink) (g.T.Sink.held c.flush.new.sink)
-    c.answer_line.new.replies.items c.flush.result c.loop-gathered.invariant.setting
-    c.loop-gathered.invariant.legal c.loop-gathered.invariant.answered
-    (gathers-less _ _ _ c.loop-gathered.engine.past _ _ _
-    c.loop-gathered.invariant.written c.in_ok-flush_before_read.ensures.bytes (c.in-Ok-false.ensures.end c.in-Ok-false.field-0-test).1)
-    c.flush.ensures.bytes c.flush.ensures.part c.flush.ensures.err
-
-pub returns-in_err-flush-in-Err-clause-some : goal.returns-in_err-flush-in-Err-clause-some
-returns-in_err-flush-in-Err-clause-some g c =
-    some-part (setting_of c.args.engine.now) (setting_of c.loop-gathered.engine) (c.args.lines.now.number + 1)
-    (c.loop-gathered.lines.number + 1) (cut_left c.args.lines.now (g.S.Source.rest c.args.source.now))
-    (cut_left c.loop-gathered.lines (g.S.Source.rest c.loop-gathered.source)) c.loop-gathered.engine.past
-    (bytes_left c.args.lines.now (g.S.Source.rest c.args.source.now)) (g.S.Source.rest c.answer_line.new.source)
-    (g.T.Sink.held c.args.sink.now) (g.T.Sink.held c.flush_before_read.new.sink) (g.T.Sink.held c.flush-in-Err.new.sink)
-    c.answer_line.new.replies.items c.from_residual-in_err-flush-in-Err.result c.loop-gathered.invariant.setting
-    c.loop-gathered.invariant.legal c.loop-gathered.invariant.answered
-    (gathers-less _ _ _ c.loop-gathered.engine.past _ _ _
-    c.loop-gathered.invariant.written c.in_ok-flush_before_read.ensures.bytes c.in-Err.ensures.kept)
-    c.in_err-flush-in-Err.ensures.part (search rules)
+    some-failed (setting_of c.args.engine) (c.args.lines.now.number + 1) (cut_left c.args.lines.now (g.S.Source.rest c.args.source.now))
+    (bytes_left c.args.lines.now (g.S.Source.rest c.args.source.now)) (g.T.Sink.held c.args.sink.now)
+    c.loop-gathered.lines (g.S.Source.rest c.loop-gathered.source) (g.S.Source.rest c.loop-gathered.source) (g.T.Sink.held c.loop-gathered.sink) (g.T.Sink.held c.flush_before_read.new.sink) c.loop-gathered.gathered.items (part_at c.loop-gathered.engine) c.from_residual.result
+    c.loop-gathered.invariant.so c.in_err-flush_before_read.ensures.part (search rules)
 
 pub returns-in-Err-clause-some : goal.returns-in-Err-clause-some
 returns-in-Err-clause-some g c =
-    some-all (setting_of c.args.engine.now) (setting_of c.loop-gathered.engine) (c.args.lines.now.number + 1)
-    (c.loop-gathered.lines.number + 1) (cut_left c.args.lines.now (g.S.Source.rest c.args.source.now))
-    (cut_left c.loop-gathered.lines (g.S.Source.rest c.loop-gathered.source)) c.loop-gathered.engine.past
-    (bytes_left c.args.lines.now (g.S.Source.rest c.args.source.now)) (g.S.Source.rest c.answer_line.new.source)
-    (g.T.Sink.held c.args.sink.now) (g.T.Sink.held c.flush_before_read.new.sink) (g.T.Sink.held c.flush-in-Err.new.sink)
-    c.answer_line.new.replies.items (Err c.in-Err.fault) c.loop-gathered.invariant.setting
-    c.loop-gathered.invariant.legal c.loop-gathered.invariant.answered
-    (gathers-less _ _ _ c.loop-gathered.engine.past _ _ _
-    c.loop-gathered.invariant.written c.in_ok-flush_before_read.ensures.bytes c.in-Err.ensures.kept)
-    c.in_ok-flush-in-Err.ensures.bytes
+    some-stop (setting_of c.args.engine) (c.args.lines.now.number + 1) (cut_left c.args.lines.now (g.S.Source.rest c.args.source.now))
+    (bytes_left c.args.lines.now (g.S.Source.rest c.args.source.now)) (g.T.Sink.held c.args.sink.now)
+    c.loop-gathered.lines (g.S.Source.rest c.loop-gathered.source) (g.S.Source.rest c.next_script_line.new.source) (g.T.Sink.held c.flush_before_read.new.sink) (g.T.Sink.held c.stop-in-Err.new.sink) c.flush_before_read.new.gathered.items (part_at c.loop-gathered.engine) (Err c.stop-in-Err.result) c.in-Err.fault c.stop-in-Err.result
+    (answered-flushed (setting_of c.args.engine) (c.args.lines.now.number + 1) (cut_left c.args.lines.now (g.S.Source.rest c.args.source.now))
+    (bytes_left c.args.lines.now (g.S.Source.rest c.args.source.now)) (g.T.Sink.held c.args.sink.now)
+    c.loop-gathered.lines (g.S.Source.rest c.loop-gathered.source) (g.T.Sink.held c.loop-gathered.sink) (g.T.Sink.held c.flush_before_read.new.sink) c.loop-gathered.gathered.items c.flush_before_read.new.gathered.items (part_at c.loop-gathered.engine)
+    c.loop-gathered.invariant.so c.in_ok-flush_before_read.ensures.bytes)
+    c.stop-in-Err.ensures.written refl
     (λ reading.
-    let unread = c.answer_line.ensures.unread (search rules) in
-    let going = c.answer_line.ensures.ended unread.1.2 in
+    let none = c.next_script_line.ensures.unread (search rules) in
     read-failed (c.args.lines.now.number + 1) (c.loop-gathered.lines.number + 1)
-    (bytes_left c.args.lines.now (g.S.Source.rest c.args.source.now)) c.loop-gathered.lines c.answer_line.new.lines
-    (g.S.Source.rest c.loop-gathered.source) (g.S.Source.rest c.answer_line.new.source) c.loop-gathered.engine.past
-    (c.loop-gathered.invariant.read going) unread.1)
-
-pub returns-in-Err-clause-going : goal.returns-in-Err-clause-going
-returns-in-Err-clause-going g c = λ reading.
-    let unread = c.answer_line.ensures.unread (search rules) in
-    c.loop-gathered.invariant.ended (c.answer_line.ensures.ended unread.1.2)
+    (bytes_left c.args.lines.now (g.S.Source.rest c.args.source.now)) c.loop-gathered.lines c.next_script_line.new.lines (g.S.Source.rest c.loop-gathered.source) (g.S.Source.rest c.next_script_line.new.source) c.loop-gathered.invariant.so.answers
+    (c.loop-gathered.invariant.so.read (c.next_script_line.ensures.ended none.2)) none)

@@ -1,0 +1,98 @@
+-- What the lines of a script are answered, and the parts that its cuts divide a run into.
+use Rattle.std.specs.Prelude.{◌≡◌, ℕ, ⊤, List, [], ◌∷◌, ◌++◌, length, map, reverse}
+use Rattle.sgt_model.specs.declared.entry.Entry.{Entry}
+use Rattle.sgt_model.specs.Contents.{Contents}
+use Rattle.sgt_model.specs.Settings.{Setting}
+use Rattle.sgt_model.specs.Legality.{Legal, LegalReply}
+use Rattle.sgt_model.specs.Values.{settled}
+use Rattle.sgt_engine.specs.Cuts.{NobodyLive, setting_behind}
+use Rattle.sgt_engine.specs.EngineView.{EngineView, setting_of}
+use Rattle.sgt_format.specs.ReplyText.{text}
+use Rattle.sgt_format.specs.CutText.{cut_text, still_live_text}
+use Rattle.sgt_format.specs.declared.script_line.ScriptLine.{ScriptLine}
+use Rattle.sgt_format.specs.declared.script_line.ScriptLine.TheVariants as script_line
+
+-- ---- answers
+
+-- what a line is answered: an event gets a reply, and becomes an entry; a cut is told how many entries were cut off, or that a
+-- transaction is live
+pub data Answer : Type 0 where
+  Replied : Entry → Answer
+  WasCut : ℕ → Answer
+  StillLive : Answer
+
+-- what the line asks for
+abbrev pub asked : Answer → ScriptLine
+asked (Replied e) = script_line.Event e.event
+asked (WasCut entries) = script_line.Cut
+asked StillLive = script_line.Cut
+
+-- what the lines ask for that got these answers, oldest first
+abbrev pub lines_of : List Answer → List ScriptLine
+lines_of answers = map asked (reverse answers)
+
+-- the text of an answer
+abbrev pub answer_text : Answer → List ℕ
+answer_text (Replied e) = text e.reply
+answer_text (WasCut entries) = cut_text entries
+answer_text StillLive = still_live_text
+
+-- the text of these answers, the oldest first
+abbrev pub replies : List Answer → List ℕ
+replies [] = []
+replies (a ∷ answers) = replies answers ++ answer_text a
+
+-- ---- parts
+
+-- a part of a run: what it started from, and the history of the events answered since
+pub record Part : Type 0 where
+  pub setting : Setting
+  pub past : List Entry
+
+-- the committed contents that a part leaves
+abbrev pub left_by : Part → Contents
+left_by p = settled p.setting.opening p.past
+
+-- the part that is an engine's
+abbrev pub part_at : EngineView → Part
+part_at e = record { setting = setting_of e; past = e.past }
+
+-- the present part behind one more answer: an event is an entry of it, and a cut begins a new one on what it leaves
+abbrev pub part_behind : Answer → Part → Part
+part_behind (Replied e) p = record { setting = p.setting; past = e ∷ p.past }
+part_behind (WasCut entries) p = record { setting = setting_behind p.setting p.past; past = [] }
+part_behind StillLive p = p
+
+-- the present part behind these answers
+abbrev pub part_of : Setting → List Answer → Part
+part_of s [] = record { setting = s; past = [] }
+part_of s (a ∷ answers) = part_behind a (part_of s answers)
+
+-- the part that an answer cuts off, if it does
+abbrev pub cut_by : Answer → Part → List Part
+cut_by (Replied e) p = []
+cut_by (WasCut entries) p = p ∷ []
+cut_by StillLive p = []
+
+-- the parts cut off, the newest first
+abbrev pub cut_off : Setting → List Answer → List Part
+cut_off s [] = []
+cut_off s (a ∷ answers) = cut_by a (part_of s answers) ++ cut_off s answers
+
+-- all parts, the present one first
+abbrev pub parts_of : Setting → List Answer → List Part
+parts_of s answers = part_of s answers ∷ cut_off s answers
+
+-- ---- legal answers
+
+-- the next line may be answered so: an event by a legal reply; a cut by the number of the part's entries where nobody is live,
+-- and else that a transaction is
+abbrev pub LegalAnswer : Part → Answer → Type 0
+LegalAnswer p (Replied e) = LegalReply p.setting p.past e.event e.reply
+LegalAnswer p (WasCut entries) = NobodyLive p.past × (entries ≡ length p.past)
+LegalAnswer p StillLive = ¬ NobodyLive p.past
+
+-- each answer is legal behind those before it
+abbrev pub LegalRun : Setting → List Answer → Type 0
+LegalRun s [] = ⊤
+LegalRun s (a ∷ answers) = LegalRun s answers × LegalAnswer (part_of s answers) a
