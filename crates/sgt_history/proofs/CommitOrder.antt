@@ -1,46 +1,43 @@
 -- Where conflicts agree with the commit order, so do paths of the serialization graph.
-use Rattle.std.proofs.Common.{◌<◌, ℕ, List, [], ◌∷◌, subst, refl, inl, inr, arith}
-use Rattle.std.proofs.lemmas.Bool.{cases_eq, cases_lt}
+use Rattle.std.proofs.Common.{◌<◌, ◌+◌, ℕ, zero, suc, List, [], ◌∷◌, arith}
 use Rattle.sgt_history.specs.declared.operation.Operation.{Operation}
 use Rattle.sgt_history.specs.declared.operation.Action.TheVariants.{Commit}
-use Rattle.sgt_history.specs.Histories.{Does}
-use Rattle.sgt_history.specs.Serializability.{IsEdge, IsPath, IsCommitOrdered, CommitOrderedAreSerializable}
-use Rattle.sgt_history.proofs.Places.{one_ender}
+use Rattle.sgt_history.specs.Histories.{Does, CommittedBefore}
+use Rattle.sgt_history.specs.Serializability.{Commits, IsEdge, IsPath, IsCommitOrdered, CommitOrderedAreSerializable}
 
--- an edge leads to who commits later
-edge_later : (h : List Operation) (t u c d : ℕ) → IsCommitOrdered h → IsEdge h t u → Does h c t Commit → Does h d u Commit → c < d
-edge_later h t u c d ordered edge first second = elim (cases_lt c d) [
-  | inl less ↦ less
-  | inr most ↦ elim (cases_eq d c) [
-    | inl same ↦ absurd (edge.differ (one_ender h c t u (inl (subst (λ i. Does h i u Commit) same second)) (inl first)))
-    | inr apart ↦ absurd (ordered edge.place edge.later record {
-      before = t;
-      after = u;
-      commit = c;
-      other = d;
-      differ = edge.differ;
-      earlier = edge.order;
-      conflict = edge.conflict;
-      commits = first;
-      commits_other = second;
-      inverted = omega (arith, most, apart);
-    })
-  ]
-]
+-- before a transaction commits, those with an edge to it have
+edge_earlier : (h : List Operation) (t u d : ℕ) → IsCommitOrdered h → IsEdge h t u → Does h d u Commit → ¬ ¬ CommittedBefore h t d
+edge_earlier h t u d ordered edge commits uncommitted = ordered edge.place edge.later record {
+  before = t;
+  after = u;
+  commit = d;
+  differ = edge.differ;
+  earlier = edge.order;
+  conflict = edge.conflict;
+  commits = edge.commits_first;
+  commits_after = commits;
+  inverted = uncommitted;
+}
 
--- a path leads to who commits later
-path_later : (h : List Operation) (t u c d : ℕ) (others : List ℕ) → IsCommitOrdered h → IsPath h t others u → Does h c t Commit
-    → Does h d u Commit → c < d
-path_later h t u c d [] ordered edge first second = edge_later h t u c d ordered edge first second
-path_later h t u c d (v ∷ others) ordered path first second =
-    let between = path.0.commits_second in
-    let near = edge_later h t v c between.0 ordered path.0 first between.1 in
-    let far = path_later h v u between.0 d others ordered path.1 between.1 second in
-    omega (arith, near, far)
+-- before a transaction commits, those with a path to it have
+path_earlier : (h : List Operation) (t u d : ℕ) (others : List ℕ) → IsCommitOrdered h → IsPath h t others u → Does h d u Commit
+    → ¬ ¬ CommittedBefore h t d
+path_earlier h t u d [] ordered edge commits uncommitted = edge_earlier h t u d ordered edge commits uncommitted
+path_earlier h t u d (v ∷ others) ordered path commits uncommitted = path_earlier h v u d others ordered path.1 commits
+    (λ between. edge_earlier h t v between.0 ordered path.0 between.2
+    (λ first. uncommitted (first.0, omega (arith, first.1, between.1), first.2)))
+
+-- one with a path to itself would have committed before its first commit
+no_commit : (h : List Operation) (t n d : ℕ) (others : List ℕ) → IsCommitOrdered h → IsPath h t others t → d < n → ¬ Does h d t Commit
+no_commit h t zero d others ordered path less = λ commits. omega (arith, less)
+no_commit h t (suc n) d others ordered path less = λ commits. path_earlier h t t d others ordered path commits
+    (λ first. no_commit h t n first.0 others ordered path (omega (arith, first.1, less)) first.2)
+
+-- who has a path to itself commits
+commits_of : (h : List Operation) (t u : ℕ) (others : List ℕ) → IsPath h t others u → Commits h t
+commits_of h t u [] edge = edge.commits_first
+commits_of h t u (v ∷ others) path = path.0.commits_first
 
 pub commit_ordered_serializable : CommitOrderedAreSerializable
-commit_ordered_serializable h ordered t [] edge = edge.differ refl
-commit_ordered_serializable h ordered t (v ∷ others) path =
-    let mine = path.0.commits_first in
-    let less = path_later h t t mine.0 mine.0 (v ∷ others) ordered path mine.1 mine.1 in
-    omega (arith, less)
+commit_ordered_serializable h ordered t others path =
+    let mine = commits_of h t t others path in no_commit h t (mine.0 + 1) mine.0 others ordered path (omega arith) mine.1

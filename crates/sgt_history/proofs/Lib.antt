@@ -2,6 +2,10 @@ pub mod Places
 pub mod Strictness
 pub mod Inclusions
 pub mod CommitOrder
+pub mod LatestUses
+pub mod Edges
+pub mod Projection
+pub mod Witnesses
 pub mod Sources
 pub mod DirtyReads
 pub mod Rigorousness

@@ -1,15 +1,20 @@
 -- What is kept of the operations before a place.
-use Rattle.std.specs.Prelude.{◌≡◌, ◌<◌, ◌≤◌, ◌↔◌, ◌⊎◌, ◌+◌, ℕ, List, Option, Some, None, IsSome}
+use Rattle.std.specs.Prelude.{◌≡◌, ◌<◌, ◌≤◌, ◌≢◌, ◌↔◌, ◌⊎◌, ◌+◌, ℕ, List, Option, Some, None, IsSome, if◌then◌else◌, nat_lt, length, slice_get, is_some}
 use Rattle.std.specs.BTreeMap.{get}
 use Rattle.std.specs.Ordering.{nat_cmp}
 use Rattle.sgt_history.specs.declared.operation.Operation.{Operation}
 use Rattle.sgt_history.specs.declared.avoiding.Sources.{Sources}
 use Rattle.sgt_history.specs.declared.recoverable.DirtyReads.{DirtyReads}
 use Rattle.sgt_history.specs.declared.rigorous.Accesses.{Accesses}
+use Rattle.sgt_history.specs.declared.commit_order.LatestUse.{LatestUse}
+use Rattle.sgt_history.specs.declared.graph.Edge.{Edge}
+use Rattle.sgt_history.specs.declared.graph.Graph.{Graph}
+use Rattle.sgt_history.specs.declared.commit_order.LatestUses.{LatestUses}
 use Rattle.sgt_history.specs.declared.operation.Action.{Action}
 use Rattle.sgt_history.specs.declared.operation.Action.TheVariants.{Read, Write, Commit, Abort}
-use Rattle.sgt_history.specs.Histories.{Does, AbortedBefore, CommittedBefore, EndedBefore}
+use Rattle.sgt_history.specs.Histories.{Does, Uses, AbortedBefore, CommittedBefore, EndedBefore}
 use Rattle.sgt_history.specs.Classes.{BreaksStrictness, BreaksAvoidance, BreaksRecoverability, BreaksRigorousness}
+use Rattle.sgt_history.specs.Serializability.{BreaksCommitOrder, Conflict}
 
 -- the last write of the item before place j, or none
 abbrev pub IsLastWrite : List Operation → ℕ → ℕ → Option ℕ → Type 0
@@ -133,3 +138,89 @@ AreFineAbove h j x t (Some i) = (i < j) × ((r : ℕ) × Does h i r (Read x))
 -- no operation before place j violates rigorousness
 abbrev pub IsRigorousBefore : List Operation → ℕ → Type 0
 IsRigorousBefore h place = (i j : ℕ) → j < place → ¬ BreaksRigorousness h i j
+
+-- where the transaction has first committed before place j, or none
+abbrev pub IsFirstCommit : List Operation → ℕ → ℕ → Option ℕ → Type 0
+IsFirstCommit h j t None = ¬ CommittedBefore h t j
+IsFirstCommit h j t (Some c) = (c < j) × Does h c t Commit × ¬ CommittedBefore h t c
+
+-- where each transaction has first committed before place j
+abbrev pub AreFirstCommits : List Operation → ℕ → (ℕ → Option ℕ) → Type 0
+AreFirstCommits h j commits = (t : ℕ) → IsFirstCommit h j t (commits t)
+
+-- Of those before place j that do the action and commit, the one that commits last, or none.
+abbrev pub IsLatestUse : List Operation → (ℕ → Option ℕ) → ℕ → Action → Option LatestUse → Type 0
+IsLatestUse h commits j a None = (k t : ℕ) → k < j → Does h k t a → commits t ≡ None
+IsLatestUse h commits j a (Some known) =
+    (known.place < j) × ((t : ℕ) × Does h known.place t a × (commits t ≡ Some known.commit))
+    × ((k t c : ℕ) → k < j → Does h k t a → commits t ≡ Some c → c ≤ known.commit)
+
+-- what is kept of the reads and the writes before place j of those that commit
+pub record AreLatestUses (h : List Operation) (commits : ℕ → Option ℕ) (j : ℕ) (reads writes : ℕ → Option LatestUse) : Type 0 where
+  pub reads_are : (x : ℕ) → IsLatestUse h commits j (Read x) (reads x)
+  pub writes_are : (x : ℕ) → IsLatestUse h commits j (Write x) (writes x)
+
+-- what the checker of the commit order keeps of the operations before place j
+pub record KnowsLatestUses (h : List Operation) (j : ℕ) (s : LatestUses) : Type 0 where
+  pub commits_are : AreFirstCommits h (length h) (get nat_cmp s.commits)
+  pub uses_are : AreLatestUses h (get nat_cmp s.commits) j (get nat_cmp s.reads) (get nat_cmp s.writes)
+
+-- the one of two uses that commits later
+abbrev pub later_use : Option LatestUse → LatestUse → LatestUse
+later_use None new = new
+later_use (Some known) new = if nat_lt known.commit new.commit then new else known
+
+-- the use that commits after the given commit, or none
+abbrev pub use_after : Option LatestUse → ℕ → Option ℕ
+use_after None commit = None
+use_after (Some known) commit = if nat_lt commit known.commit then Some known.place else None
+
+-- no operation before place j violates the commit order
+abbrev pub IsCommitOrderedBefore : List Operation → ℕ → Type 0
+IsCommitOrderedBefore h place = (i j : ℕ) → j < place → ¬ BreaksCommitOrder h i j
+
+-- two operations of a committed projection that make an edge
+pub record IsConflictBy (q : List Operation) (e : Edge) : Type 0 where
+  pub differ : e.from ≢ e.to
+  pub order : e.earlier < e.later
+  pub conflict : Conflict q e.earlier e.from e.later e.to
+
+-- one of the edges leads from t to u
+abbrev pub HasEdge : List Edge → ℕ → ℕ → Type 0
+HasEdge edges t u = (k : ℕ) × (e : Edge) × (slice_get edges k ≡ Some e) × (e.from ≡ t) × (e.to ≡ u)
+
+-- edges of a committed projection, each by two operations that conflict
+abbrev pub IsGraph : List Operation → Graph → Type 0
+IsGraph q g = (k : ℕ) (e : Edge) → slice_get g.edges.items k ≡ Some e → IsConflictBy q e
+
+-- two operations on an item, one of them a write, with no write of it between
+pub record IsNextConflict (q : List Operation) (i t j u x : ℕ) : Type 0 where
+  pub differ : t ≢ u
+  pub order : i < j
+  pub first : Uses q i t x
+  pub second : Uses q j u x
+  pub writes : Does q i t (Write x) ⊎ Does q j u (Write x)
+  pub next : ¬ IsOverwritten q i j x
+
+-- the edges hold all conflicts with no write between whose later operation is before the place
+abbrev pub HasConflicts : List Operation → List Edge → ℕ → Type 0
+HasConflicts q edges place = (i t j u x : ℕ) → j < place → IsNextConflict q i t j u x → HasEdge edges t u
+
+-- those whose later operation is a given one, and whose earlier one is a write
+abbrev pub HasWriteConflicts : List Operation → List Edge → ℕ → Type 0
+HasWriteConflicts q edges j = (i t u x : ℕ) → IsNextConflict q i t j u x → Does q i t (Write x) → HasEdge edges t u
+
+-- those whose later operation is a given one, and whose earlier one is a read
+abbrev pub HasReadConflicts : List Operation → List Edge → ℕ → Type 0
+HasReadConflicts q edges j = (i t u x : ℕ) → IsNextConflict q i t j u x → Does q i t (Read x) → HasEdge edges t u
+
+-- of the reads of the item before place j, each after the given place is overwritten or has its edge; at the given place is one
+abbrev pub AreConnectedAbove : List Operation → List Edge → ℕ → ℕ → ℕ → Option ℕ → Type 0
+AreConnectedAbove q edges j x u None =
+    (k r : ℕ) → k < j → Does q k r (Read x) → IsOverwritten q k j x ⊎ ((r ≡ u) ⊎ HasEdge edges r u)
+AreConnectedAbove q edges j x u (Some i) = (i < j) × ((r : ℕ) × Does q i r (Read x))
+    × ((k r : ℕ) → i < k → k < j → Does q k r (Read x) → IsOverwritten q k j x ⊎ ((r ≡ u) ⊎ HasEdge edges r u))
+
+-- an operation, or an abort in its place where its transaction does not commit
+abbrev pub projected : (ℕ → Option ℕ) → Operation → Operation
+projected commits op = if is_some (commits op.transaction) then op else record { transaction = op.transaction; action = Abort }

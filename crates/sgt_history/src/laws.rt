@@ -1,6 +1,6 @@
 //! Laws of the classes, of every history. A body has nothing to do: the law is its contract.
 ghost use Rattle.sgt_history.specs.Classes.{AvoidingAreRecoverable, RigorousAreStrict, StrictAvoidCascadingAborts};
-ghost use Rattle.sgt_history.specs.Serializability.{CommitOrderedAreSerializable};
+ghost use Rattle.sgt_history.specs.Serializability.{CommitOrderedAreSerializable, CyclesAreEnough, SerialOrdersAreEnough};
 
 /// A rigorous history is strict. Rigorous: strict, and no transaction overwrites what another has read that has not ended
 /// (Breitbart and others (1991)).
@@ -24,4 +24,16 @@ pub fn avoiding_are_recoverable()
 /// the serialization graph has no cycle (Bernstein, Hadzilacos and Goodman (1987), chapter 2).
 pub fn commit_ordered_are_serializable()
     ensures { CommitOrderedAreSerializable }
+{}
+
+/// A history is serializable whose committed transactions have an order in which each edge of its serialization graph leads on
+/// (Bernstein, Hadzilacos and Goodman (1987), chapter 2).
+pub fn serial_orders_are_enough()
+    ensures { SerialOrdersAreEnough }
+{}
+
+/// A history is not serializable that has edges which close a cycle, each by two operations that conflict (Bernstein, Hadzilacos
+/// and Goodman (1987), chapter 2).
+pub fn cycles_are_enough()
+    ensures { CyclesAreEnough }
 {}

@@ -15,6 +15,8 @@
 #![tactic(auto)]
 
 mod avoiding;
+mod commit_order;
+mod graph;
 mod laws;
 mod operation;
 mod recoverable;
@@ -22,9 +24,11 @@ mod rigorous;
 mod strict;
 
 pub use avoiding::avoidance_violation;
+pub use commit_order::commit_order_violation;
+pub use graph::{Edge, serialization_edges};
 pub use laws::{
-    avoiding_are_recoverable, commit_ordered_are_serializable, rigorous_are_strict,
-    strict_avoid_cascading_aborts,
+    avoiding_are_recoverable, commit_ordered_are_serializable, cycles_are_enough,
+    rigorous_are_strict, serial_orders_are_enough, strict_avoid_cascading_aborts,
 };
 pub use operation::{Action, Operation, Violation};
 pub use recoverable::recoverable_violation;

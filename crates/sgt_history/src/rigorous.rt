@@ -1,7 +1,8 @@
 //! Rigorousness.
-ghost use Rattle.std.specs.Prelude.{◌≡◌, ◌<◌, ◌+◌, ℕ, length, IfSome, IfOk, OnOk, IsNone};
+ghost use Rattle.std.specs.Prelude.{◌≡◌, ◌<◌, ◌+◌, ℕ, List, length, IfSome, IfOk, OnOk, IsNone};
 ghost use Rattle.std.specs.BTreeMap.{get};
 ghost use Rattle.std.specs.Ordering.{nat_cmp};
+ghost use Rattle.sgt_history.specs.declared.operation.Operation.{Operation};
 ghost use Rattle.sgt_history.specs.Classes.{BreaksStrictness, OverwritesReader, BreaksRigorousness, IsFirstViolation};
 ghost use Rattle.sgt_history.specs.Seen.{KnowsAccesses, AreReads, IsRigorousBefore};
 
@@ -25,11 +26,7 @@ pub fn rigorous_violation(
 ) -> Result<Option<Violation>, NoMemory>
     ensures { IfOk result (IsFirstViolation (BreaksRigorousness history.now)) }
 {
-    let mut seen = Accesses {
-        writes: Writes::new(alloc),
-        lasts: BTreeMap::new(alloc),
-        earlier: BTreeMap::new(alloc),
-    };
+    let mut seen = Accesses::new(alloc);
     for place in 0..history.len() {
         if let Some(earlier) = seen.unended(history, place) {
             return Ok(Some(Violation {
@@ -44,7 +41,7 @@ pub fn rigorous_violation(
 
 /// Who has used each item and who has ended, before a place.
 #[derive(Drop)]
-struct Accesses {
+pub struct Accesses {
     /// The last writes, and who has ended.
     writes: Writes,
     /// The place of an item's last read since its last write.
@@ -54,6 +51,38 @@ struct Accesses {
 }
 
 impl Accesses {
+    /// What is kept before the first operation.
+    pub fn new(alloc: Global) -> Self
+        ensures { (h : List Operation) → KnowsAccesses h 0 result }
+    {
+        Accesses {
+            writes: Writes::new(alloc),
+            lasts: BTreeMap::new(alloc),
+            earlier: BTreeMap::new(alloc),
+        }
+    }
+
+    /// The last write of the item.
+    pub fn last_write(&self, item: u32) -> Option<usize>
+        ensures { result ≡ get nat_cmp self.now.writes.writers item }
+    {
+        self.writes.last_write(item)
+    }
+
+    /// The last read of the item since its last write.
+    pub fn last_read(&self, item: u32) -> Option<usize>
+        ensures { result ≡ get nat_cmp self.now.lasts item }
+    {
+        self.lasts.get(&item).copied()
+    }
+
+    /// The next earlier one since the write before.
+    pub fn read_before(&self, read: usize) -> Option<usize>
+        ensures { result ≡ get nat_cmp self.now.earlier read }
+    {
+        self.earlier.get(&read).copied()
+    }
+
     /// The use by another transaction, which has not ended, that the operation conflicts with.
     fn unended(&self, history: &[Operation], place: usize) -> Option<usize>
         requires within { place < length history.now }
@@ -94,7 +123,7 @@ impl Accesses {
     }
 
     /// Notes the operation: its read, its write, or that its transaction has ended.
-    fn note(&mut self, history: &[Operation], place: usize) -> Result<(), NoMemory>
+    pub fn note(&mut self, history: &[Operation], place: usize) -> Result<(), NoMemory>
         requires within { place < length history.now }
         requires uses { KnowsAccesses history.now place self.old }
         ensures { OnOk result (KnowsAccesses history.now (place + 1) self.new) }

@@ -61,6 +61,13 @@ impl Writes {
         self.ended.contains_key(&transaction)
     }
 
+    /// The last write of the item.
+    pub fn last_write(&self, item: u32) -> Option<usize>
+        ensures { result ≡ get nat_cmp self.now.writers item }
+    {
+        self.writers.get(&item).copied()
+    }
+
     /// The last write of the item that the operation reads or writes, where another transaction wrote it that has not ended.
     pub fn unended(&self, history: &[Operation], place: usize) -> Option<usize>
         requires within { place < length history.now }

@@ -4,7 +4,7 @@ use Rattle.sgt_history.proofs.rigorous.rigorous_violation.Goals as goal
 
 pub loop-place-init : goal.loop-place-init
 loop-place-init c = record {
-  uses = record { last = c.new.ensures.last _; ends = c.new.ensures.ends _; reads = search rules };
+  uses = c.new-seen.ensures _;
   rigorous = λ i j less broken. omega (arith, less);
 }
 
