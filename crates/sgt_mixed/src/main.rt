@@ -23,20 +23,20 @@ use crate::digest::Digests;
 use crate::list::{CUSTOMERS, apply_all, limits, open, place_of};
 use crate::refusals::Refusals;
 use crate::runs::tell_runs;
-use sgt_access::PerKey;
+use sgt_access::{Accesses, PerKey};
 use sgt_engine::Engine;
-use sgt_graph::BitGraph;
+use sgt_graph::{BitGraph, Graph};
 use sgt_model::{Asks, Entry, Event, Key, NoMemory};
-use sgt_records::SlabRecords;
+use sgt_records::{Records, SlabRecords};
 use std::alloc::AllocGlobal;
 use std::io;
 use std::io::Print;
 
-/// The engine as the program `sgt` has it.
-type SgtEngine = Engine<SlabRecords, PerKey, BitGraph>;
-
 /// Quits those who are live, which takes no memory. Who falls before its turn is over then.
-fn quit_all(engine: &mut SgtEngine, refusals: &mut Refusals) {
+fn quit_all<R: Records, A: Accesses, G: Graph>(
+    engine: &mut Engine<R, A, G>,
+    refusals: &mut Refusals,
+) {
     let live = engine.sched().live();
     for t in live.as_slice() {
         refusals.note(engine.apply(Event::Quit(*t)).is_err());
@@ -53,7 +53,7 @@ fn tell_counts(rt: &impl Print, history: &[Entry]) -> io::Result<()> {
 }
 
 /// What the committed accounts hold in all.
-fn total(engine: &SgtEngine) -> i64 {
+fn total<R: Records, A: Accesses, G: Graph>(engine: &Engine<R, A, G>) -> i64 {
     let mut total = 0i64;
     for customer in CUSTOMERS {
         total = total
@@ -64,43 +64,55 @@ fn total(engine: &SgtEngine) -> i64 {
 }
 
 /// What a customer has committed in this table, the savings (1) or the checkings (2).
-fn balance(engine: &SgtEngine, table: u8, customer: i64) -> i64 {
+fn balance<R: Records, A: Accesses, G: Graph>(
+    engine: &Engine<R, A, G>,
+    table: u8,
+    customer: i64,
+) -> i64 {
     match Key::new(table, customer) {
         Some(key) => engine.committed(key).unwrap_or(0),
         None => 0,
     }
 }
 
-/// Runs the list on the engine of the program, and tells what became of it.
-fn tell_engine<R: AllocGlobal + Print>(
-    rt: &R,
-    asks: Asks,
+/// Applies the list to the engine, and tells what became of it.
+fn tell_events<R: Records, A: Accesses, G: Graph>(
+    rt: &(impl AllocGlobal + Print),
+    engine: &mut Engine<R, A, G>,
     refusals: &mut Refusals,
 ) -> io::Result<()> {
-    let alloc = rt.alloc();
-    let limits = limits(8, asks);
-    let Some(mut engine) = open::<SlabRecords, PerKey, BitGraph>(alloc, limits, refusals) else {
-        return println!(rt; "no memory");
-    };
-    if apply_all(&mut engine, refusals).is_err() {
+    if apply_all(engine, refusals).is_err() {
         println!(rt; "no memory")?;
     }
-    println!(rt; "asks at the {}", place_of(asks))?;
     tell_counts(rt, engine.history())?;
-    match Digests::of(alloc, &engine, refusals) {
+    match Digests::of(rt.alloc(), engine, refusals) {
         Ok(digests) => println!(rt; "digest {:016x}", digests.replies)?,
         Err(NoMemory) => println!(rt; "no memory")?,
     }
     println!(rt; "live at the end {}", engine.sched().live().len())?;
-    quit_all(&mut engine, refusals);
+    quit_all(engine, refusals);
     println!(rt; "live when all have quit {}", engine.sched().live().len())?;
-    println!(rt; "committed total {}", total(&engine))
+    println!(rt; "committed total {}", total(engine))
+}
+
+/// Runs the list on an engine over these bodies, and tells what became of it.
+fn tell_engine<R: Records, A: Accesses, G: Graph>(
+    rt: &(impl AllocGlobal + Print),
+    asks: Asks,
+    refusals: &mut Refusals,
+) -> io::Result<()> {
+    println!(rt; "asks at the {}", place_of(asks))?;
+    match open::<R, A, G>(rt.alloc(), limits(8, asks), refusals) {
+        Some(mut engine) => tell_events(rt, &mut engine, refusals),
+        None => println!(rt; "no memory"),
+    }
 }
 
 fn main(rt: HostRuntime) -> io::Result<()> {
     let mut refusals = Refusals::new();
-    tell_engine(&rt, Asks::AtStep, &mut refusals)?;
-    tell_engine(&rt, Asks::AtCommit, &mut refusals)?;
+    for asks in [Asks::AtStep, Asks::AtCommit] {
+        tell_engine::<SlabRecords, PerKey, BitGraph>(&rt, asks, &mut refusals)?;
+    }
     for live in [8, 32] {
         tell_runs(&rt, limits(live, Asks::AtStep), &mut refusals)?;
         tell_runs(&rt, limits(live, Asks::AtCommit), &mut refusals)?;
