@@ -1,25 +1,19 @@
+use crate::accounts::{ACCOUNTS, MOST_LIVE, customer};
 use crate::draws::Draws;
-use sgt_format::Opening;
-use sgt_model::{Args, Asks, Event, Key, Limits, NoMemory, Reply, Tid};
-use sgt_program::{SgtEngine, open_engine};
-use sgt_smallbank::{Account, opening};
+use sgt_access::Accesses;
+use sgt_engine::Engine;
+use sgt_graph::Graph;
+use sgt_model::{Args, Event, Key, NoMemory, Reply, Tid};
+use sgt_records::Records;
 use std::alloc::Global;
-
-/// How many transactions are live at once.
-const MOST_LIVE: u32 = 8;
 
 /// From so many entries on nothing is started, until the history is cut off.
 const MOST_ENTRIES: usize = 100_000;
 
-/// How many accounts there are, and what each customer has in each of the two.
-const ACCOUNTS: usize = 100;
-
-const BALANCE: i64 = 100_000;
-
 /// Those who send events to an engine.
 #[derive(Drop)]
-pub struct Clients {
-    engine: SgtEngine,
+pub struct Clients<R: Records, A: Accesses, G: Graph> {
+    engine: Engine<R, A, G>,
     draws: Draws,
     /// Whose procedure has just ended: it commits next.
     ended: Option<Tid>,
@@ -27,16 +21,16 @@ pub struct Clients {
     most_entries: usize,
 }
 
-impl Clients {
+impl<R: Records, A: Accesses, G: Graph> Clients<R, A, G> {
     /// Those of an engine that has answered nothing.
-    pub fn new(alloc: Global) -> Result<Self, NoMemory> {
-        Ok(Clients {
-            engine: open(alloc)?,
+    pub fn new(engine: Engine<R, A, G>) -> Self {
+        Clients {
+            engine,
             draws: Draws::new(),
             ended: None,
             cuts: 0,
             most_entries: 0,
-        })
+        }
     }
 
     /// Cuts the history off, where it is long and nothing is live.
@@ -137,36 +131,4 @@ impl Clients {
         }
         Event::Start { procedure, args }
     }
-}
-
-/// The customer of an account's name.
-fn customer(name: i64) -> i64 {
-    name.wrapping_add(1_000)
-}
-
-/// The engine with the accounts.
-fn open(alloc: Global) -> Result<SgtEngine, NoMemory> {
-    let mut accounts = Vec::with_capacity(alloc, ACCOUNTS)?;
-    for name in 0..ACCOUNTS as i64 {
-        accounts.push(Account {
-            name,
-            customer: customer(name),
-            saving: BALANCE,
-            checking: BALANCE,
-        })?;
-    }
-    let Ok(database) = opening(alloc, accounts.as_slice()) else {
-        return Err(NoMemory);
-    };
-    let limits = Limits {
-        live: MOST_LIVE,
-        begins: 4_000_000_000,
-        asks: Asks::AtStep,
-    };
-    let opening = Opening {
-        limits,
-        database,
-        procedures: Vec::new(alloc),
-    };
-    open_engine(alloc, opening)
 }

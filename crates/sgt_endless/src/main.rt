@@ -6,17 +6,26 @@
 //! 250,000 events stands in `stdout`.
 #![tactic(auto)]
 
+mod accounts;
 mod clients;
 mod draws;
 
+use accounts::open;
 use clients::Clients;
+use sgt_access::Accesses;
+use sgt_graph::Graph;
 use sgt_model::NoMemory;
+use sgt_records::Records;
 use std::alloc::Global;
 use std::io::Print;
 use std::{env, io};
 
 /// Sends a tenth of the events.
-fn send(alloc: Global, clients: Clients, events: u64) -> Result<Clients, NoMemory> {
+fn send<R: Records, A: Accesses, G: Graph>(
+    alloc: Global,
+    clients: Clients<R, A, G>,
+    events: u64,
+) -> Result<Clients<R, A, G>, NoMemory> {
     let mut clients = clients;
     for _ in 0..events {
         clients = clients.ready(alloc)?;
@@ -26,10 +35,13 @@ fn send(alloc: Global, clients: Clients, events: u64) -> Result<Clients, NoMemor
 }
 
 /// Sends all events, and tells at each tenth of the way how far it has come.
-fn run(rt: &impl Print, alloc: Global, events: u64) -> io::Result<()> {
-    let Ok(mut clients) = Clients::new(alloc) else {
-        return println!(rt; "no memory");
-    };
+fn run<R: Records, A: Accesses, G: Graph>(
+    rt: &impl Print,
+    alloc: Global,
+    clients: Clients<R, A, G>,
+    events: u64,
+) -> io::Result<()> {
+    let mut clients = clients;
     for tenth in 1..=10u64 {
         clients = match send(alloc, clients, events / 10) {
             Ok(clients) => clients,
@@ -51,11 +63,14 @@ fn main(rt: HostRuntime) -> io::Result<()> {
         return println!(rt; "no memory");
     };
     let word = words.nth(1);
-    match word
+    let Some(events) = word
         .as_ref()
         .and_then(|word| word.as_str().parse::<u64>().ok())
-    {
-        Some(events) => run(&rt, rt.alloc(), events),
-        None => println!(rt; "usage: sgt_endless EVENTS"),
+    else {
+        return println!(rt; "usage: sgt_endless EVENTS");
+    };
+    match open(rt.alloc()) {
+        Ok(engine) => run(&rt, rt.alloc(), Clients::new(engine), events),
+        Err(NoMemory) => println!(rt; "no memory"),
     }
 }

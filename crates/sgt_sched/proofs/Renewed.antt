@@ -18,9 +18,9 @@ use Rattle.sgt_sched.specs.SchedulerView.{SchedulerView, state_of, IsKept}
 conflicting : (a : ListedAccess) → is_conflicting a.by a.key Store a ≡ true
 conflicting a = and_from (nat_eq a.by a.by) _ (eq-eqb a.by a.by refl)
     (and_from (key_eq a.key a.key) _ (key_eq-refl a.key) (stored a.kind)) where
-  stored : (kind : Kind) → one_stores kind Store ≡ true
-  stored Look = refl
-  stored Store = refl
+      stored : (kind : Kind) → one_stores kind Store ≡ true
+      stored Look = refl
+      stored Store = refl
 
 -- lists that hold nothing of anybody are empty
 no_accesses : (list : List ListedAccess) → ((t : ℕ) (k : Key) (kind : Kind) → lists_conflicting list t k kind ≡ true → ⊥) → list ≡ []
