@@ -99,9 +99,10 @@ consumes-none None = tt
 consumes-none (Some xs) = refl
 
 -- before the first
-pub answered-none : (i : Intake) (rest held : Option (List ℕ)) (s : Setting) (past : List Entry) → past ≡ []
-    → IsAnsweredSo s (i.number + 1) (cut_left i rest) (bytes_left i rest) held i rest held [] (record { setting = s; past = past })
-answered-none i rest held s past none = record {
+pub answered-none : (i : Intake) (rest held : Option (List ℕ)) (gathered : List ℕ) (s : Setting) (past : List Entry) → gathered ≡ []
+    → past ≡ []
+    → IsAnsweredSo s (i.number + 1) (cut_left i rest) (bytes_left i rest) held i rest held gathered (record { setting = s; past = past })
+answered-none i rest held gathered s past empty none = record {
   answers = [];
   legal = tt;
   part = ap (λ (es : List Entry). record { setting = s; past = es }) (sym none);
@@ -114,7 +115,7 @@ answered-none i rest held s past none = record {
     are = (refl, refl);
     number = omega arith;
   };
-  written = ([], appends-none held, refl);
+  written = ([], appends-none held, sym empty);
 }
 
 module _ (s : Setting) (n : ℕ) (known : Option Cut) (from old : Option (List ℕ)) where

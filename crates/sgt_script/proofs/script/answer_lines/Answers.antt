@@ -11,8 +11,8 @@ use Rattle.sgt_script.proofs.script.answer_lines.Goals as goal
 
 pub loop-gathered-init : goal.loop-gathered-init
 loop-gathered-init g c = record {
-  so = answered-none c.args.lines.now (g.S.Source.rest c.args.source.now) (g.T.Sink.held c.args.sink.now) (setting_of c.args.engine)
-      c.args.engine.past c.requires.fresh;
+  so = answered-none c.args.lines.now (g.S.Source.rest c.args.source.now) (g.T.Sink.held c.args.sink.now) c.new-gathered.result.items
+      (setting_of c.args.engine) c.args.engine.past (search rules) c.requires.fresh;
   ended = λ going. going;
   counted = search rules;
   few = search rules;
