@@ -32,8 +32,8 @@ loop-gathered-preserved-in-Ok g c =
     (bytes_left c.args.lines.now (g.S.Source.rest c.args.source.now)) (g.T.Sink.held c.args.sink.now)
     c.loop-gathered.lines (g.S.Source.rest c.loop-gathered.source) (g.T.Sink.held c.loop-gathered.sink) (g.T.Sink.held c.flush_before_read.new.sink) c.loop-gathered.gathered.items c.flush_before_read.new.gathered.items (part_at c.loop-gathered.engine)
     c.loop-gathered.invariant.so c.in_ok-flush_before_read.ensures.bytes)
-          c.in-Ok-Some-Event.ensures.line c.in-Ok-Some-Event.ensures.at (c.in-Ok-Some-Event.ensures.taken tt) (c.in-Ok-Some-Event.ensures.unbroken tt)
-          (c.in-Ok-Some-Event.ensures.number tt) c.next_script_line.ensures.ended
+          (search rules) (search rules) (search rules) (search rules)
+          (search rules) c.next_script_line.ensures.ended
           (replied one.0 c.in-Ok-Some-Event.event c.loop-gathered.engine c.answer_event.new.engine _ _ c.answer_event.ensures.setting one.1 one.2 one.3
           c.answer_event.ensures.legal);
       ended = λ going. c.loop-gathered.invariant.ended (c.next_script_line.ensures.ended going);
@@ -54,8 +54,8 @@ loop-gathered-preserved g c =
     (bytes_left c.args.lines.now (g.S.Source.rest c.args.source.now)) (g.T.Sink.held c.args.sink.now)
     c.loop-gathered.lines (g.S.Source.rest c.loop-gathered.source) (g.T.Sink.held c.loop-gathered.sink) (g.T.Sink.held c.flush_before_read.new.sink) c.loop-gathered.gathered.items c.flush_before_read.new.gathered.items (part_at c.loop-gathered.engine)
     c.loop-gathered.invariant.so c.in_ok-flush_before_read.ensures.bytes)
-          c.in-Ok-Some-Cut.ensures.line c.in-Ok-Some-Cut.ensures.at (c.in-Ok-Some-Cut.ensures.taken tt) (c.in-Ok-Some-Cut.ensures.unbroken tt)
-          (c.in-Ok-Some-Cut.ensures.number tt) c.next_script_line.ensures.ended
+          (search rules) (search rules) (search rules) (search rules)
+          (search rules) c.next_script_line.ensures.ended
           c.in-Ok-answer_cut.ensures.answered;
       ended = λ going. c.loop-gathered.invariant.ended (c.next_script_line.ensures.ended going);
       counted = search rules;
