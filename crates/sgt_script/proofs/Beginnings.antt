@@ -205,6 +205,14 @@ module _ (s : Setting) (n : ℕ) (known : Option Cut) (from old : Option (List �
   some-stop i rest to b c held p r f told so (inr (failed, part)) is read =
       some-failed i rest to b c held p r so part (is ∙ ap (λ (g : Fault). Err g) failed)
 
+  -- where it stops as a growth was refused, which has left what is gathered as it was
+  pub some-refused : {A : Type 0} (i : Intake) (rest to b c : Option (List ℕ)) (held held' : List ℕ) (p : Part) (r : Result A Fault)
+      (told : Fault) → IsAnsweredSo s n known from old i rest b held p → held' ≡ held → WritesAt fault.NoMemory told b c held'
+      → r ≡ Err told → AnswersSome s n known from to old c (r ≢ Err fault.Writing) (r ≡ Err fault.Reading)
+  some-refused i rest to b c held held' p r told so kept written is =
+      some-stop i rest to b c held p r fault.NoMemory told so (subst (λ (l : List ℕ). WritesAt fault.NoMemory told b c l) kept written) is
+      (λ reading. absurd (cc reading))
+
   -- where these were all lines
   pub all-so : (i : Intake) (rest b c : Option (List ℕ)) (held : List ℕ) (p : Part) (end : End)
       → (so : IsAnsweredSo s n known from old i rest b held p) → NoLine (i.number + 1) (cut_left i rest) end → Appends b c held

@@ -5,7 +5,7 @@ use Rattle.sgt_stream.specs.declared.fault.Fault.TheVariants as fault
 use Rattle.sgt_engine.specs.EngineView.{setting_of}
 use Rattle.sgt_script.specs.Parts.{part_at}
 use Rattle.sgt_script.proofs.Parts.{replied}
-use Rattle.sgt_script.proofs.Beginnings.{all-so, answered-flushed, answered-next, answered-none, fault-stop, some-failed, some-stop, some-written}
+use Rattle.sgt_script.proofs.Beginnings.{all-so, answered-flushed, answered-next, answered-none, fault-stop, some-failed, some-refused, some-stop, some-written}
 use Rattle.sgt_script.proofs.WholeLines.{read-failed}
 use Rattle.sgt_script.proofs.script.answer_lines.Goals as goal
 
@@ -71,18 +71,87 @@ returns-in_err-flush_before_read-clause-some g c =
     c.loop-gathered.lines (g.S.Source.rest c.loop-gathered.source) (g.S.Source.rest c.loop-gathered.source) (g.T.Sink.held c.loop-gathered.sink) (g.T.Sink.held c.flush_before_read.new.sink) c.loop-gathered.gathered.items (part_at c.loop-gathered.engine) c.from_residual.result
     c.loop-gathered.invariant.so c.in_err-flush_before_read.ensures.part (search rules)
 
+pub returns-in-Err-answer_event-clause-some : goal.returns-in-Err-answer_event-clause-some
+returns-in-Err-answer_event-clause-some g c =
+    let so = answered-flushed (setting_of c.args.engine) (c.args.lines.now.number + 1) (cut_left c.args.lines.now (g.S.Source.rest c.args.source.now))
+        (bytes_left c.args.lines.now (g.S.Source.rest c.args.source.now)) (g.T.Sink.held c.args.sink.now) c.loop-gathered.lines
+        (g.S.Source.rest c.loop-gathered.source) (g.T.Sink.held c.loop-gathered.sink) (g.T.Sink.held c.flush_before_read.new.sink)
+        c.loop-gathered.gathered.items c.flush_before_read.new.gathered.items (part_at c.loop-gathered.engine) c.loop-gathered.invariant.so
+        c.in_ok-flush_before_read.ensures.bytes in
+    some-refused (setting_of c.args.engine) (c.args.lines.now.number + 1) (cut_left c.args.lines.now (g.S.Source.rest c.args.source.now))
+    (bytes_left c.args.lines.now (g.S.Source.rest c.args.source.now)) (g.T.Sink.held c.args.sink.now)
+    c.loop-gathered.lines (g.S.Source.rest c.loop-gathered.source) (g.S.Source.rest c.next_script_line.new.source) (g.T.Sink.held c.flush_before_read.new.sink) _ c.flush_before_read.new.gathered.items c.answer_event.new.replies.items (part_at c.loop-gathered.engine) _ _ so
+    c.in-Err-answer_event.ensures.kept c.stop.ensures.written refl
+
+pub returns-in-Err-answer_cut-clause-some : goal.returns-in-Err-answer_cut-clause-some
+returns-in-Err-answer_cut-clause-some g c =
+    let so = answered-flushed (setting_of c.args.engine) (c.args.lines.now.number + 1) (cut_left c.args.lines.now (g.S.Source.rest c.args.source.now))
+        (bytes_left c.args.lines.now (g.S.Source.rest c.args.source.now)) (g.T.Sink.held c.args.sink.now) c.loop-gathered.lines
+        (g.S.Source.rest c.loop-gathered.source) (g.T.Sink.held c.loop-gathered.sink) (g.T.Sink.held c.flush_before_read.new.sink)
+        c.loop-gathered.gathered.items c.flush_before_read.new.gathered.items (part_at c.loop-gathered.engine) c.loop-gathered.invariant.so
+        c.in_ok-flush_before_read.ensures.bytes in
+    some-refused (setting_of c.args.engine) (c.args.lines.now.number + 1) (cut_left c.args.lines.now (g.S.Source.rest c.args.source.now))
+    (bytes_left c.args.lines.now (g.S.Source.rest c.args.source.now)) (g.T.Sink.held c.args.sink.now)
+    c.loop-gathered.lines (g.S.Source.rest c.loop-gathered.source) (g.S.Source.rest c.next_script_line.new.source) (g.T.Sink.held c.flush_before_read.new.sink) _ c.flush_before_read.new.gathered.items c.answer_cut.new.replies.items (part_at c.loop-gathered.engine) _ _ so
+    c.in-Err-answer_cut.ensures.kept c.stop-in-Err-answer_cut.ensures.written refl
+
+pub returns-in_err-flush-in-Ok-None-clause-some : goal.returns-in_err-flush-in-Ok-None-clause-some
+returns-in_err-flush-in-Ok-None-clause-some g c =
+    let so = answered-flushed (setting_of c.args.engine) (c.args.lines.now.number + 1) (cut_left c.args.lines.now (g.S.Source.rest c.args.source.now))
+        (bytes_left c.args.lines.now (g.S.Source.rest c.args.source.now)) (g.T.Sink.held c.args.sink.now) c.loop-gathered.lines
+        (g.S.Source.rest c.loop-gathered.source) (g.T.Sink.held c.loop-gathered.sink) (g.T.Sink.held c.flush_before_read.new.sink)
+        c.loop-gathered.gathered.items c.flush_before_read.new.gathered.items (part_at c.loop-gathered.engine) c.loop-gathered.invariant.so
+        c.in_ok-flush_before_read.ensures.bytes in
+    some-failed (setting_of c.args.engine) (c.args.lines.now.number + 1) (cut_left c.args.lines.now (g.S.Source.rest c.args.source.now))
+    (bytes_left c.args.lines.now (g.S.Source.rest c.args.source.now)) (g.T.Sink.held c.args.sink.now)
+    c.loop-gathered.lines (g.S.Source.rest c.loop-gathered.source) (g.S.Source.rest c.next_script_line.new.source) (g.T.Sink.held c.flush_before_read.new.sink) _ c.flush_before_read.new.gathered.items (part_at c.loop-gathered.engine) _ so (search rules) (search rules)
+
+pub returns-in-Ok-None-clause-all : goal.returns-in-Ok-None-clause-all
+returns-in-Ok-None-clause-all g c =
+    let so = answered-flushed (setting_of c.args.engine) (c.args.lines.now.number + 1) (cut_left c.args.lines.now (g.S.Source.rest c.args.source.now))
+        (bytes_left c.args.lines.now (g.S.Source.rest c.args.source.now)) (g.T.Sink.held c.args.sink.now) c.loop-gathered.lines
+        (g.S.Source.rest c.loop-gathered.source) (g.T.Sink.held c.loop-gathered.sink) (g.T.Sink.held c.flush_before_read.new.sink)
+        c.loop-gathered.gathered.items c.flush_before_read.new.gathered.items (part_at c.loop-gathered.engine) c.loop-gathered.invariant.so
+        c.in_ok-flush_before_read.ensures.bytes in
+    all-so (setting_of c.args.engine) (c.args.lines.now.number + 1) (cut_left c.args.lines.now (g.S.Source.rest c.args.source.now))
+    (bytes_left c.args.lines.now (g.S.Source.rest c.args.source.now)) (g.T.Sink.held c.args.sink.now)
+    c.loop-gathered.lines (g.S.Source.rest c.loop-gathered.source) (g.T.Sink.held c.flush_before_read.new.sink) _ c.flush_before_read.new.gathered.items (part_at c.loop-gathered.engine) _ so (search rules) (search rules)
+
+pub returns-in-Ok-None-clause-some : goal.returns-in-Ok-None-clause-some
+returns-in-Ok-None-clause-some g c =
+    let so = answered-flushed (setting_of c.args.engine) (c.args.lines.now.number + 1) (cut_left c.args.lines.now (g.S.Source.rest c.args.source.now))
+        (bytes_left c.args.lines.now (g.S.Source.rest c.args.source.now)) (g.T.Sink.held c.args.sink.now) c.loop-gathered.lines
+        (g.S.Source.rest c.loop-gathered.source) (g.T.Sink.held c.loop-gathered.sink) (g.T.Sink.held c.flush_before_read.new.sink)
+        c.loop-gathered.gathered.items c.flush_before_read.new.gathered.items (part_at c.loop-gathered.engine) c.loop-gathered.invariant.so
+        c.in_ok-flush_before_read.ensures.bytes in
+    some-written (setting_of c.args.engine) (c.args.lines.now.number + 1) (cut_left c.args.lines.now (g.S.Source.rest c.args.source.now))
+    (bytes_left c.args.lines.now (g.S.Source.rest c.args.source.now)) (g.T.Sink.held c.args.sink.now)
+    c.loop-gathered.lines (g.S.Source.rest c.loop-gathered.source) (g.S.Source.rest c.next_script_line.new.source) (g.T.Sink.held c.flush_before_read.new.sink) _ c.flush_before_read.new.gathered.items (part_at c.loop-gathered.engine) _ _ so (search rules) (λ reading. absurd (cc reading))
+
 pub returns-in-Err-clause-some : goal.returns-in-Err-clause-some
 returns-in-Err-clause-some g c =
+    let so = answered-flushed (setting_of c.args.engine) (c.args.lines.now.number + 1) (cut_left c.args.lines.now (g.S.Source.rest c.args.source.now))
+        (bytes_left c.args.lines.now (g.S.Source.rest c.args.source.now)) (g.T.Sink.held c.args.sink.now) c.loop-gathered.lines
+        (g.S.Source.rest c.loop-gathered.source) (g.T.Sink.held c.loop-gathered.sink) (g.T.Sink.held c.flush_before_read.new.sink)
+        c.loop-gathered.gathered.items c.flush_before_read.new.gathered.items (part_at c.loop-gathered.engine) c.loop-gathered.invariant.so
+        c.in_ok-flush_before_read.ensures.bytes in
     some-stop (setting_of c.args.engine) (c.args.lines.now.number + 1) (cut_left c.args.lines.now (g.S.Source.rest c.args.source.now))
     (bytes_left c.args.lines.now (g.S.Source.rest c.args.source.now)) (g.T.Sink.held c.args.sink.now)
-    c.loop-gathered.lines (g.S.Source.rest c.loop-gathered.source) (g.S.Source.rest c.next_script_line.new.source) (g.T.Sink.held c.flush_before_read.new.sink) (g.T.Sink.held c.stop-in-Err.new.sink) c.flush_before_read.new.gathered.items (part_at c.loop-gathered.engine) (Err c.stop-in-Err.result) c.in-Err.fault c.stop-in-Err.result
-    (answered-flushed (setting_of c.args.engine) (c.args.lines.now.number + 1) (cut_left c.args.lines.now (g.S.Source.rest c.args.source.now))
-    (bytes_left c.args.lines.now (g.S.Source.rest c.args.source.now)) (g.T.Sink.held c.args.sink.now)
-    c.loop-gathered.lines (g.S.Source.rest c.loop-gathered.source) (g.T.Sink.held c.loop-gathered.sink) (g.T.Sink.held c.flush_before_read.new.sink) c.loop-gathered.gathered.items c.flush_before_read.new.gathered.items (part_at c.loop-gathered.engine)
-    c.loop-gathered.invariant.so c.in_ok-flush_before_read.ensures.bytes)
-    c.stop-in-Err.ensures.written refl
+    c.loop-gathered.lines (g.S.Source.rest c.loop-gathered.source) (g.S.Source.rest c.next_script_line.new.source) (g.T.Sink.held c.flush_before_read.new.sink) _ c.flush_before_read.new.gathered.items (part_at c.loop-gathered.engine) _ c.in-Err.fault c.stop-in-Err.result so c.stop-in-Err.ensures.written refl
     (λ reading.
     let none = c.next_script_line.ensures.unread (search rules) in
     read-failed (c.args.lines.now.number + 1) (c.loop-gathered.lines.number + 1)
-    (bytes_left c.args.lines.now (g.S.Source.rest c.args.source.now)) c.loop-gathered.lines c.next_script_line.new.lines (g.S.Source.rest c.loop-gathered.source) (g.S.Source.rest c.next_script_line.new.source) c.loop-gathered.invariant.so.answers
-    (c.loop-gathered.invariant.so.read (c.next_script_line.ensures.ended none.2)) none)
+    (bytes_left c.args.lines.now (g.S.Source.rest c.args.source.now)) c.loop-gathered.lines c.next_script_line.new.lines
+    (g.S.Source.rest c.loop-gathered.source) (g.S.Source.rest c.next_script_line.new.source) so.answers
+    (so.read (c.next_script_line.ensures.ended none.2)) none)
+
+pub returns-in-Err-clause-fault : goal.returns-in-Err-clause-fault
+returns-in-Err-clause-fault g c =
+    let so = answered-flushed (setting_of c.args.engine) (c.args.lines.now.number + 1) (cut_left c.args.lines.now (g.S.Source.rest c.args.source.now))
+        (bytes_left c.args.lines.now (g.S.Source.rest c.args.source.now)) (g.T.Sink.held c.args.sink.now) c.loop-gathered.lines
+        (g.S.Source.rest c.loop-gathered.source) (g.T.Sink.held c.loop-gathered.sink) (g.T.Sink.held c.flush_before_read.new.sink)
+        c.loop-gathered.gathered.items c.flush_before_read.new.gathered.items (part_at c.loop-gathered.engine) c.loop-gathered.invariant.so
+        c.in_ok-flush_before_read.ensures.bytes in
+    fault-stop (setting_of c.args.engine) (c.args.lines.now.number + 1) (cut_left c.args.lines.now (g.S.Source.rest c.args.source.now))
+    (bytes_left c.args.lines.now (g.S.Source.rest c.args.source.now)) (g.T.Sink.held c.args.sink.now)
+    c.loop-gathered.lines (g.S.Source.rest c.loop-gathered.source) (g.T.Sink.held c.flush_before_read.new.sink) _ c.flush_before_read.new.gathered.items (part_at c.loop-gathered.engine) c.in-Err.fault c.stop-in-Err.result so c.stop-in-Err.ensures.written (search rules)
