@@ -75,6 +75,15 @@ stop-other r r' same stop is = subst IsStop (same ∙ is) stop
 pub well-other : (r : End) → r ≡ Ok tt → r ≢ Err fault.Writing
 well-other r well is = absurd (cc (sym well ∙ is))
 
+-- one that ended at the fault of its lines ended at the same one
+pub same-fault : {A : Type 0} (r : Result A Fault) (end : End) (f g : Fault) → r ≡ Err f → end ≡ Err f → end ≡ Err g → r ≡ Err g
+same-fault r end f g was is ends = was ∙ ap (λ (h : Fault). Err h) (cc (sym is ∙ ends))
+
+-- and its lines did not fail to be written where it stopped
+pub stop-well : {A : Type 0} (r : Result A Fault) (end : End) (f : Fault) → r ≡ Err f → end ≡ Err f → IsStop end → r ≢ Err fault.Writing
+stop-well r end f was is stop writing =
+    let same : f ≡ fault.Writing = cc (sym was ∙ writing) in subst IsStop (is ∙ ap (λ (h : Fault). Err h) same) stop
+
 -- what holds of a fault holds where that fault came
 pub on-failed : {P : Type 0} (r : End) (f : Fault) → r ≡ Err f → OnErr r P → P
 on-failed {P} r f is holds = subst (λ (e : End). OnErr e P) is holds
