@@ -25,13 +25,13 @@ loop-gathered-preserved-in-Ok g c =
     let one = c.in-Ok.ensures.answered in
     record {
       so = answered-next (setting_of c.args.engine) (c.args.lines.now.number + 1) (cut_left c.args.lines.now (g.S.Source.rest c.args.source.now))
-    (bytes_left c.args.lines.now (g.S.Source.rest c.args.source.now)) (g.T.Sink.held c.args.sink.now)
+          (bytes_left c.args.lines.now (g.S.Source.rest c.args.source.now)) (g.T.Sink.held c.args.sink.now)
           c.loop-gathered.lines c.next_script_line.new.lines (g.S.Source.rest c.loop-gathered.source) (g.S.Source.rest c.next_script_line.new.source) (g.T.Sink.held c.flush_before_read.new.sink) c.flush_before_read.new.gathered.items
           c.answer_event.new.replies.items (part_at c.loop-gathered.engine) (part_at c.answer_event.new.engine) (script_line.Event c.in-Ok-Some-Event.event)
           (answered-flushed (setting_of c.args.engine) (c.args.lines.now.number + 1) (cut_left c.args.lines.now (g.S.Source.rest c.args.source.now))
-    (bytes_left c.args.lines.now (g.S.Source.rest c.args.source.now)) (g.T.Sink.held c.args.sink.now)
-    c.loop-gathered.lines (g.S.Source.rest c.loop-gathered.source) (g.T.Sink.held c.loop-gathered.sink) (g.T.Sink.held c.flush_before_read.new.sink) c.loop-gathered.gathered.items c.flush_before_read.new.gathered.items (part_at c.loop-gathered.engine)
-    c.loop-gathered.invariant.so c.in_ok-flush_before_read.ensures.bytes)
+          (bytes_left c.args.lines.now (g.S.Source.rest c.args.source.now)) (g.T.Sink.held c.args.sink.now)
+          c.loop-gathered.lines (g.S.Source.rest c.loop-gathered.source) (g.T.Sink.held c.loop-gathered.sink) (g.T.Sink.held c.flush_before_read.new.sink) c.loop-gathered.gathered.items c.flush_before_read.new.gathered.items (part_at c.loop-gathered.engine)
+          c.loop-gathered.invariant.so c.in_ok-flush_before_read.ensures.bytes)
           (search rules) (search rules) (search rules) (search rules)
           (search rules) c.next_script_line.ensures.ended
           (replied one.0 c.in-Ok-Some-Event.event c.loop-gathered.engine c.answer_event.new.engine _ _ c.answer_event.ensures.setting one.1 one.2 one.3
@@ -47,13 +47,13 @@ pub loop-gathered-preserved : goal.loop-gathered-preserved
 loop-gathered-preserved g c =
     record {
       so = answered-next (setting_of c.args.engine) (c.args.lines.now.number + 1) (cut_left c.args.lines.now (g.S.Source.rest c.args.source.now))
-    (bytes_left c.args.lines.now (g.S.Source.rest c.args.source.now)) (g.T.Sink.held c.args.sink.now)
+          (bytes_left c.args.lines.now (g.S.Source.rest c.args.source.now)) (g.T.Sink.held c.args.sink.now)
           c.loop-gathered.lines c.next_script_line.new.lines (g.S.Source.rest c.loop-gathered.source) (g.S.Source.rest c.next_script_line.new.source) (g.T.Sink.held c.flush_before_read.new.sink) c.flush_before_read.new.gathered.items
           c.answer_cut.new.replies.items (part_at c.loop-gathered.engine) (part_at c.in-Ok-answer_cut.next) script_line.Cut
           (answered-flushed (setting_of c.args.engine) (c.args.lines.now.number + 1) (cut_left c.args.lines.now (g.S.Source.rest c.args.source.now))
-    (bytes_left c.args.lines.now (g.S.Source.rest c.args.source.now)) (g.T.Sink.held c.args.sink.now)
-    c.loop-gathered.lines (g.S.Source.rest c.loop-gathered.source) (g.T.Sink.held c.loop-gathered.sink) (g.T.Sink.held c.flush_before_read.new.sink) c.loop-gathered.gathered.items c.flush_before_read.new.gathered.items (part_at c.loop-gathered.engine)
-    c.loop-gathered.invariant.so c.in_ok-flush_before_read.ensures.bytes)
+          (bytes_left c.args.lines.now (g.S.Source.rest c.args.source.now)) (g.T.Sink.held c.args.sink.now)
+          c.loop-gathered.lines (g.S.Source.rest c.loop-gathered.source) (g.T.Sink.held c.loop-gathered.sink) (g.T.Sink.held c.flush_before_read.new.sink) c.loop-gathered.gathered.items c.flush_before_read.new.gathered.items (part_at c.loop-gathered.engine)
+          c.loop-gathered.invariant.so c.in_ok-flush_before_read.ensures.bytes)
           (search rules) (search rules) (search rules) (search rules)
           (search rules) c.next_script_line.ensures.ended
           c.in-Ok-answer_cut.ensures.answered;
@@ -74,10 +74,10 @@ returns-in_err-flush_before_read-clause-some g c =
 pub returns-in-Err-answer_event-clause-some : goal.returns-in-Err-answer_event-clause-some
 returns-in-Err-answer_event-clause-some g c =
     let so = answered-flushed (setting_of c.args.engine) (c.args.lines.now.number + 1) (cut_left c.args.lines.now (g.S.Source.rest c.args.source.now))
-        (bytes_left c.args.lines.now (g.S.Source.rest c.args.source.now)) (g.T.Sink.held c.args.sink.now) c.loop-gathered.lines
-        (g.S.Source.rest c.loop-gathered.source) (g.T.Sink.held c.loop-gathered.sink) (g.T.Sink.held c.flush_before_read.new.sink)
-        c.loop-gathered.gathered.items c.flush_before_read.new.gathered.items (part_at c.loop-gathered.engine) c.loop-gathered.invariant.so
-        c.in_ok-flush_before_read.ensures.bytes in
+    (bytes_left c.args.lines.now (g.S.Source.rest c.args.source.now)) (g.T.Sink.held c.args.sink.now) c.loop-gathered.lines
+    (g.S.Source.rest c.loop-gathered.source) (g.T.Sink.held c.loop-gathered.sink) (g.T.Sink.held c.flush_before_read.new.sink)
+    c.loop-gathered.gathered.items c.flush_before_read.new.gathered.items (part_at c.loop-gathered.engine) c.loop-gathered.invariant.so
+    c.in_ok-flush_before_read.ensures.bytes in
     some-refused (setting_of c.args.engine) (c.args.lines.now.number + 1) (cut_left c.args.lines.now (g.S.Source.rest c.args.source.now))
     (bytes_left c.args.lines.now (g.S.Source.rest c.args.source.now)) (g.T.Sink.held c.args.sink.now)
     c.loop-gathered.lines (g.S.Source.rest c.loop-gathered.source) (g.S.Source.rest c.next_script_line.new.source) (g.T.Sink.held c.flush_before_read.new.sink) _ c.flush_before_read.new.gathered.items c.answer_event.new.replies.items (part_at c.loop-gathered.engine) _ _ so
@@ -86,10 +86,10 @@ returns-in-Err-answer_event-clause-some g c =
 pub returns-in-Err-answer_cut-clause-some : goal.returns-in-Err-answer_cut-clause-some
 returns-in-Err-answer_cut-clause-some g c =
     let so = answered-flushed (setting_of c.args.engine) (c.args.lines.now.number + 1) (cut_left c.args.lines.now (g.S.Source.rest c.args.source.now))
-        (bytes_left c.args.lines.now (g.S.Source.rest c.args.source.now)) (g.T.Sink.held c.args.sink.now) c.loop-gathered.lines
-        (g.S.Source.rest c.loop-gathered.source) (g.T.Sink.held c.loop-gathered.sink) (g.T.Sink.held c.flush_before_read.new.sink)
-        c.loop-gathered.gathered.items c.flush_before_read.new.gathered.items (part_at c.loop-gathered.engine) c.loop-gathered.invariant.so
-        c.in_ok-flush_before_read.ensures.bytes in
+    (bytes_left c.args.lines.now (g.S.Source.rest c.args.source.now)) (g.T.Sink.held c.args.sink.now) c.loop-gathered.lines
+    (g.S.Source.rest c.loop-gathered.source) (g.T.Sink.held c.loop-gathered.sink) (g.T.Sink.held c.flush_before_read.new.sink)
+    c.loop-gathered.gathered.items c.flush_before_read.new.gathered.items (part_at c.loop-gathered.engine) c.loop-gathered.invariant.so
+    c.in_ok-flush_before_read.ensures.bytes in
     some-refused (setting_of c.args.engine) (c.args.lines.now.number + 1) (cut_left c.args.lines.now (g.S.Source.rest c.args.source.now))
     (bytes_left c.args.lines.now (g.S.Source.rest c.args.source.now)) (g.T.Sink.held c.args.sink.now)
     c.loop-gathered.lines (g.S.Source.rest c.loop-gathered.source) (g.S.Source.rest c.next_script_line.new.source) (g.T.Sink.held c.flush_before_read.new.sink) _ c.flush_before_read.new.gathered.items c.answer_cut.new.replies.items (part_at c.loop-gathered.engine) _ _ so
@@ -98,10 +98,10 @@ returns-in-Err-answer_cut-clause-some g c =
 pub returns-in_err-flush-in-Ok-None-clause-some : goal.returns-in_err-flush-in-Ok-None-clause-some
 returns-in_err-flush-in-Ok-None-clause-some g c =
     let so = answered-flushed (setting_of c.args.engine) (c.args.lines.now.number + 1) (cut_left c.args.lines.now (g.S.Source.rest c.args.source.now))
-        (bytes_left c.args.lines.now (g.S.Source.rest c.args.source.now)) (g.T.Sink.held c.args.sink.now) c.loop-gathered.lines
-        (g.S.Source.rest c.loop-gathered.source) (g.T.Sink.held c.loop-gathered.sink) (g.T.Sink.held c.flush_before_read.new.sink)
-        c.loop-gathered.gathered.items c.flush_before_read.new.gathered.items (part_at c.loop-gathered.engine) c.loop-gathered.invariant.so
-        c.in_ok-flush_before_read.ensures.bytes in
+    (bytes_left c.args.lines.now (g.S.Source.rest c.args.source.now)) (g.T.Sink.held c.args.sink.now) c.loop-gathered.lines
+    (g.S.Source.rest c.loop-gathered.source) (g.T.Sink.held c.loop-gathered.sink) (g.T.Sink.held c.flush_before_read.new.sink)
+    c.loop-gathered.gathered.items c.flush_before_read.new.gathered.items (part_at c.loop-gathered.engine) c.loop-gathered.invariant.so
+    c.in_ok-flush_before_read.ensures.bytes in
     some-failed (setting_of c.args.engine) (c.args.lines.now.number + 1) (cut_left c.args.lines.now (g.S.Source.rest c.args.source.now))
     (bytes_left c.args.lines.now (g.S.Source.rest c.args.source.now)) (g.T.Sink.held c.args.sink.now)
     c.loop-gathered.lines (g.S.Source.rest c.loop-gathered.source) (g.S.Source.rest c.next_script_line.new.source) (g.T.Sink.held c.flush_before_read.new.sink) _ c.flush_before_read.new.gathered.items (part_at c.loop-gathered.engine) _ so (search rules) (search rules)
@@ -109,10 +109,10 @@ returns-in_err-flush-in-Ok-None-clause-some g c =
 pub returns-in-Ok-None-clause-all : goal.returns-in-Ok-None-clause-all
 returns-in-Ok-None-clause-all g c =
     let so = answered-flushed (setting_of c.args.engine) (c.args.lines.now.number + 1) (cut_left c.args.lines.now (g.S.Source.rest c.args.source.now))
-        (bytes_left c.args.lines.now (g.S.Source.rest c.args.source.now)) (g.T.Sink.held c.args.sink.now) c.loop-gathered.lines
-        (g.S.Source.rest c.loop-gathered.source) (g.T.Sink.held c.loop-gathered.sink) (g.T.Sink.held c.flush_before_read.new.sink)
-        c.loop-gathered.gathered.items c.flush_before_read.new.gathered.items (part_at c.loop-gathered.engine) c.loop-gathered.invariant.so
-        c.in_ok-flush_before_read.ensures.bytes in
+    (bytes_left c.args.lines.now (g.S.Source.rest c.args.source.now)) (g.T.Sink.held c.args.sink.now) c.loop-gathered.lines
+    (g.S.Source.rest c.loop-gathered.source) (g.T.Sink.held c.loop-gathered.sink) (g.T.Sink.held c.flush_before_read.new.sink)
+    c.loop-gathered.gathered.items c.flush_before_read.new.gathered.items (part_at c.loop-gathered.engine) c.loop-gathered.invariant.so
+    c.in_ok-flush_before_read.ensures.bytes in
     all-so (setting_of c.args.engine) (c.args.lines.now.number + 1) (cut_left c.args.lines.now (g.S.Source.rest c.args.source.now))
     (bytes_left c.args.lines.now (g.S.Source.rest c.args.source.now)) (g.T.Sink.held c.args.sink.now)
     c.loop-gathered.lines (g.S.Source.rest c.loop-gathered.source) (g.T.Sink.held c.flush_before_read.new.sink) _ c.flush_before_read.new.gathered.items (part_at c.loop-gathered.engine) _ so (search rules) (search rules)
@@ -120,10 +120,10 @@ returns-in-Ok-None-clause-all g c =
 pub returns-in-Ok-None-clause-some : goal.returns-in-Ok-None-clause-some
 returns-in-Ok-None-clause-some g c =
     let so = answered-flushed (setting_of c.args.engine) (c.args.lines.now.number + 1) (cut_left c.args.lines.now (g.S.Source.rest c.args.source.now))
-        (bytes_left c.args.lines.now (g.S.Source.rest c.args.source.now)) (g.T.Sink.held c.args.sink.now) c.loop-gathered.lines
-        (g.S.Source.rest c.loop-gathered.source) (g.T.Sink.held c.loop-gathered.sink) (g.T.Sink.held c.flush_before_read.new.sink)
-        c.loop-gathered.gathered.items c.flush_before_read.new.gathered.items (part_at c.loop-gathered.engine) c.loop-gathered.invariant.so
-        c.in_ok-flush_before_read.ensures.bytes in
+    (bytes_left c.args.lines.now (g.S.Source.rest c.args.source.now)) (g.T.Sink.held c.args.sink.now) c.loop-gathered.lines
+    (g.S.Source.rest c.loop-gathered.source) (g.T.Sink.held c.loop-gathered.sink) (g.T.Sink.held c.flush_before_read.new.sink)
+    c.loop-gathered.gathered.items c.flush_before_read.new.gathered.items (part_at c.loop-gathered.engine) c.loop-gathered.invariant.so
+    c.in_ok-flush_before_read.ensures.bytes in
     some-written (setting_of c.args.engine) (c.args.lines.now.number + 1) (cut_left c.args.lines.now (g.S.Source.rest c.args.source.now))
     (bytes_left c.args.lines.now (g.S.Source.rest c.args.source.now)) (g.T.Sink.held c.args.sink.now)
     c.loop-gathered.lines (g.S.Source.rest c.loop-gathered.source) (g.S.Source.rest c.next_script_line.new.source) (g.T.Sink.held c.flush_before_read.new.sink) _ c.flush_before_read.new.gathered.items (part_at c.loop-gathered.engine) _ _ so (search rules) (λ reading. absurd (cc reading))
@@ -131,10 +131,10 @@ returns-in-Ok-None-clause-some g c =
 pub returns-in-Err-clause-some : goal.returns-in-Err-clause-some
 returns-in-Err-clause-some g c =
     let so = answered-flushed (setting_of c.args.engine) (c.args.lines.now.number + 1) (cut_left c.args.lines.now (g.S.Source.rest c.args.source.now))
-        (bytes_left c.args.lines.now (g.S.Source.rest c.args.source.now)) (g.T.Sink.held c.args.sink.now) c.loop-gathered.lines
-        (g.S.Source.rest c.loop-gathered.source) (g.T.Sink.held c.loop-gathered.sink) (g.T.Sink.held c.flush_before_read.new.sink)
-        c.loop-gathered.gathered.items c.flush_before_read.new.gathered.items (part_at c.loop-gathered.engine) c.loop-gathered.invariant.so
-        c.in_ok-flush_before_read.ensures.bytes in
+    (bytes_left c.args.lines.now (g.S.Source.rest c.args.source.now)) (g.T.Sink.held c.args.sink.now) c.loop-gathered.lines
+    (g.S.Source.rest c.loop-gathered.source) (g.T.Sink.held c.loop-gathered.sink) (g.T.Sink.held c.flush_before_read.new.sink)
+    c.loop-gathered.gathered.items c.flush_before_read.new.gathered.items (part_at c.loop-gathered.engine) c.loop-gathered.invariant.so
+    c.in_ok-flush_before_read.ensures.bytes in
     some-stop (setting_of c.args.engine) (c.args.lines.now.number + 1) (cut_left c.args.lines.now (g.S.Source.rest c.args.source.now))
     (bytes_left c.args.lines.now (g.S.Source.rest c.args.source.now)) (g.T.Sink.held c.args.sink.now)
     c.loop-gathered.lines (g.S.Source.rest c.loop-gathered.source) (g.S.Source.rest c.next_script_line.new.source) (g.T.Sink.held c.flush_before_read.new.sink) _ c.flush_before_read.new.gathered.items (part_at c.loop-gathered.engine) _ c.in-Err.fault c.stop-in-Err.result so c.stop-in-Err.ensures.written refl
@@ -148,10 +148,10 @@ returns-in-Err-clause-some g c =
 pub returns-in-Err-clause-fault : goal.returns-in-Err-clause-fault
 returns-in-Err-clause-fault g c =
     let so = answered-flushed (setting_of c.args.engine) (c.args.lines.now.number + 1) (cut_left c.args.lines.now (g.S.Source.rest c.args.source.now))
-        (bytes_left c.args.lines.now (g.S.Source.rest c.args.source.now)) (g.T.Sink.held c.args.sink.now) c.loop-gathered.lines
-        (g.S.Source.rest c.loop-gathered.source) (g.T.Sink.held c.loop-gathered.sink) (g.T.Sink.held c.flush_before_read.new.sink)
-        c.loop-gathered.gathered.items c.flush_before_read.new.gathered.items (part_at c.loop-gathered.engine) c.loop-gathered.invariant.so
-        c.in_ok-flush_before_read.ensures.bytes in
+    (bytes_left c.args.lines.now (g.S.Source.rest c.args.source.now)) (g.T.Sink.held c.args.sink.now) c.loop-gathered.lines
+    (g.S.Source.rest c.loop-gathered.source) (g.T.Sink.held c.loop-gathered.sink) (g.T.Sink.held c.flush_before_read.new.sink)
+    c.loop-gathered.gathered.items c.flush_before_read.new.gathered.items (part_at c.loop-gathered.engine) c.loop-gathered.invariant.so
+    c.in_ok-flush_before_read.ensures.bytes in
     fault-stop (setting_of c.args.engine) (c.args.lines.now.number + 1) (cut_left c.args.lines.now (g.S.Source.rest c.args.source.now))
     (bytes_left c.args.lines.now (g.S.Source.rest c.args.source.now)) (g.T.Sink.held c.args.sink.now)
     c.loop-gathered.lines (g.S.Source.rest c.loop-gathered.source) (g.T.Sink.held c.flush_before_read.new.sink) _ c.flush_before_read.new.gathered.items (part_at c.loop-gathered.engine) c.in-Err.fault c.stop-in-Err.result so c.stop-in-Err.ensures.written (search rules)
