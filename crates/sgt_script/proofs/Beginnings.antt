@@ -67,14 +67,6 @@ part-of (Err e) a b bytes seen same failed (k, part) = record {
 
 -- what follows of how a run ended
 
--- one that stopped did not fail to write
-pub stop-other : (r r' : End) → r ≡ r' → IsStop r → r' ≢ Err fault.Writing
-stop-other r r' same stop is = subst IsStop (same ∙ is) stop
-
--- nor did one that ended well
-pub well-other : (r : End) → r ≡ Ok tt → r ≢ Err fault.Writing
-well-other r well is = absurd (cc (sym well ∙ is))
-
 -- one that ended at the fault of its lines ended at the same one
 pub same-fault : {A : Type 0} (r : Result A Fault) (end : End) (f g : Fault) → r ≡ Err f → end ≡ Err f → end ≡ Err g → r ≡ Err g
 same-fault r end f g was is ends = was ∙ ap (λ (h : Fault). Err h) (cc (sym is ∙ ends))

@@ -14,10 +14,11 @@ use sgt_smallbank::replay_is_bank;
 use sgt_stream::{Fault, Sink, Source};
 use std::alloc::Global;
 
-/// Runs a script on the program's engine: line 1 opens, each later line is an event and is answered, and the committed
-/// database comes last. Of the history of the events answered the headline holds: run one after another in commit order, the
-/// committed transactions' procedures give the answers in their `committed` lines, and leave the database that is written.
-/// Each of SmallBank's procedures among them did what the bank's arithmetic says, on what those committed before it left.
+/// Runs a script on the program's engine: line 1 opens, each later line is an event, or asks for the history to be cut off, and
+/// is answered, and the committed database comes last. Of each part between cuts the headline holds; and run one after another in
+/// commit order, the committed transactions' procedures of all parts give the answers in their `committed` lines, and leave the
+/// database that is written. Each of SmallBank's procedures among them did what the bank's arithmetic says, on what those
+/// committed before it left.
 ///
 /// It reads at most 16,777,217 bytes, one more than an input may have, however long its reader goes on.
 ///

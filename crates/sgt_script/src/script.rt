@@ -217,7 +217,7 @@ fn answer_lines<S: Source, T: Sink>(
 ///
 /// # Errors
 ///
-/// The fault of the first line that spells no event or is too long, or of the input: the replies to the lines before it are
+/// The fault of the first line that spells neither event nor cut or is too long, or of the input: the replies to the lines before it are
 /// written then. `Reading` where a read failed: the replies to the whole lines read are written then. `NoMemory` where a growth
 /// was refused: the replies to some first lines are. Neither writes the database. And `Writing` where a write failed: the
 /// beginning of what a whole run writes is written then.
@@ -266,7 +266,7 @@ pub(crate) fn run_opened<S: Source, T: Sink>(
     flush(sink, &mut text)
 }
 
-/// Runs a script: line 1 opens, each later line is an event and is answered, and the committed database comes last.
+/// Runs a script: line 1 opens, each later line is an event or a cut and is answered, and the committed database comes last.
 ///
 /// # Errors
 ///

@@ -1,4 +1,5 @@
-use Rattle.std.proofs.Common.{rules, ◌≡◌, ◌≢◌, ◌+◌, ap, refl, sym, ◌∙◌, Err}
+use Rattle.std.proofs.Common.{rules, ◌≡◌, ◌≢◌, ◌+◌, ◌++◌, ℕ, List, ap, refl, sym, ◌∙◌, Err}
+use Rattle.sgt_format.specs.DatabaseText.{database_text}
 use Rattle.sgt_stream.specs.Intake.{bytes_left, cut_left}
 use Rattle.sgt_stream.specs.declared.fault.Fault.TheVariants as fault
 use Rattle.sgt_engine.specs.EngineView.{setting_of}
@@ -19,7 +20,8 @@ returns-clause-output g c = λ exact.
     (part_at c.in_ok-engine.engine) c.flush.result c.in_ok-database.database c.append_database.new.text.items
     (g.T.Sink.held c.args.sink.now) (g.T.Sink.held c.answer_lines.new.sink) (g.T.Sink.held c.flush.new.sink)
     (ap (λ n. n + 1) c.requires.second) (exact-flush c.flush.result c.flush.ensures.err exact) c.in_ok-engine.ensures.all
-    c.in_ok-database.ensures.by_key c.in_ok-database.ensures.values (search rules) c.flush.ensures.bytes
+    c.in_ok-database.ensures.by_key c.in_ok-database.ensures.values
+    (c.in_ok-append_database.ensures.ok ∙ ap (λ (l : List ℕ). l ++ database_text c.in_ok-database.database) c.new-text.ensures.items) c.flush.ensures.bytes
 
 pub returns-in_err-engine-clause-stops : goal.returns-in_err-engine-clause-stops
 returns-in_err-engine-clause-stops g c = λ stop.
@@ -63,5 +65,6 @@ returns-clause-part g c = λ failed.
     (part_at c.in_ok-engine.engine) c.in_ok-database.database c.append_database.new.text.items
     (g.T.Sink.held c.args.sink.now) (g.T.Sink.held c.answer_lines.new.sink) (g.T.Sink.held c.flush.new.sink)
     (ap (λ n. n + 1) c.requires.second) c.in_ok-engine.ensures.all
-    c.in_ok-database.ensures.by_key c.in_ok-database.ensures.values (search rules)
+    c.in_ok-database.ensures.by_key c.in_ok-database.ensures.values
+    (c.in_ok-append_database.ensures.ok ∙ ap (λ (l : List ℕ). l ++ database_text c.in_ok-database.database) c.new-text.ensures.items)
     (on-failed c.flush.result _ failed c.flush.ensures.part)
