@@ -4,9 +4,9 @@ use Rattle.std.specs.Prelude.{cond, Option, None, Some, IfSome, reverse}
 use Rattle.std.specs.List.{All, count_by}
 use Rattle.std.proofs.lemmas.List.Sums.{sum_by-cons}
 use Rattle.std.specs.declared.convert.Infallible.{Infallible}
-use Rattle.sgt_workers.specs.declared.outcome.Outcome.{Outcome}
-use Rattle.sgt_workers.specs.declared.outcome.Outcome.TheVariants as outcome
-use Rattle.sgt_workers.specs.Reports.{is_left, is_untaken}
+use Rattle.sgt_audit.specs.declared.outcome.Outcome.{Outcome}
+use Rattle.sgt_audit.specs.declared.outcome.Outcome.TheVariants as outcome
+use Rattle.sgt_audit.specs.AllOutcomes.{is_left, is_untaken}
 use Rattle.sgt_model.specs.declared.entry.Entry.{Entry}
 use Rattle.sgt_model.specs.Databases.{Row}
 use Rattle.sgt_format.specs.Openings.{Opens}

@@ -15,10 +15,10 @@ use Rattle.sgt_model.specs.Settings.{Setting}
 use Rattle.sgt_model.specs.Replay.{RunResult, GaveAnswers, AskedCode, told_call_in, told_calls, told_in, told, IsSerializable}
 use Rattle.sgt_format.specs.DatabaseText.{database_text}
 use Rattle.sgt_dispatch.specs.declared.job.Job.{Job}
-use Rattle.sgt_workers.specs.declared.outcome.Outcome.{Outcome}
-use Rattle.sgt_workers.specs.declared.outcome.Outcome.TheVariants as outcome
+use Rattle.sgt_audit.specs.declared.outcome.Outcome.{Outcome}
+use Rattle.sgt_audit.specs.declared.outcome.Outcome.TheVariants as outcome
 use Rattle.sgt_model.specs.Questions.{is_commit}
-use Rattle.sgt_workers.specs.Outcomes.{OutcomeStands}
+use Rattle.sgt_audit.specs.Outcomes.{OutcomeStands}
 use Rattle.sgt_bank.specs.OutcomeText.{commit_words, ask_words, words_at, outcome_words, outcome_line}
 use Rattle.sgt_bank.specs.Reports.{outcome_lines, report_text}
 use Rattle.sgt_bank.specs.SerialText.{told_before, result_words, result_at, is_refused, serial_ask, serial_words, serial_lines, serial_text}

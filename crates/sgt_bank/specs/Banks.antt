@@ -15,9 +15,9 @@ use Rattle.sgt_smallbank.specs.Replays.{CommitsAreBank}
 use Rattle.sgt_format.specs.declared.opening.Opening.{Opening}
 use Rattle.sgt_program.specs.Openings.{opened_setting}
 use Rattle.sgt_dispatch.specs.declared.job.Job.{Job}
-use Rattle.sgt_workers.specs.declared.outcome.Outcome.{Outcome}
-use Rattle.sgt_workers.specs.declared.outcome.Outcome.TheVariants as outcome
-use Rattle.sgt_workers.specs.Reports.{OutcomesStand}
+use Rattle.sgt_audit.specs.declared.outcome.Outcome.{Outcome}
+use Rattle.sgt_audit.specs.declared.outcome.Outcome.TheVariants as outcome
+use Rattle.sgt_audit.specs.AllOutcomes.{OutcomesStand}
 use Rattle.sgt_bank.specs.Inputs.{InputAsks}
 use Rattle.sgt_bank.specs.Reports.{report_text}
 use Rattle.sgt_bank.specs.SerialText.{serial_text}

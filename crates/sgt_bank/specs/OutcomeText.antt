@@ -7,8 +7,8 @@ use Rattle.sgt_model.specs.declared.reply.Cause.{Cause}
 use Rattle.sgt_model.specs.declared.reply.Cause.TheVariants as cause
 use Rattle.sgt_model.specs.declared.entry.Entry.{Entry}
 use Rattle.sgt_format.specs.ReplyText.{committed_text}
-use Rattle.sgt_workers.specs.declared.outcome.Outcome.{Outcome}
-use Rattle.sgt_workers.specs.declared.outcome.Outcome.TheVariants as outcome
+use Rattle.sgt_audit.specs.declared.outcome.Outcome.{Outcome}
+use Rattle.sgt_audit.specs.declared.outcome.Outcome.TheVariants as outcome
 
 -- a commit, with its answers
 abbrev pub commit_words : Reply → List ℕ

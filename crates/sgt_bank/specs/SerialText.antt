@@ -8,8 +8,8 @@ use Rattle.sgt_model.specs.Settings.{Setting}
 use Rattle.sgt_model.specs.Replay.{RunResult, GaveAnswers, AskedCode, told_calls, folded}
 use Rattle.sgt_format.specs.DatabaseText.{database_text}
 use Rattle.sgt_format.specs.ReplyText.{committed_text}
-use Rattle.sgt_workers.specs.declared.outcome.Outcome.{Outcome}
-use Rattle.sgt_workers.specs.declared.outcome.Outcome.TheVariants as outcome
+use Rattle.sgt_audit.specs.declared.outcome.Outcome.{Outcome}
+use Rattle.sgt_audit.specs.declared.outcome.Outcome.TheVariants as outcome
 use Rattle.sgt_bank.specs.OutcomeText.{asked_text, ask_words, outcome_words, outcome_line}
 
 -- what the serial run gives each committed and each refused transaction, the first reply first

@@ -11,9 +11,12 @@
 mod row;
 mod run;
 
-use row::{events, one_more};
+use row::{events, one_more, open};
 use run::{Order, Run};
+use sgt_access::Accesses;
+use sgt_graph::Graph;
 use sgt_model::{Event, NoMemory};
+use sgt_records::Records;
 use std::alloc::Global;
 use std::io::Print;
 use std::{env, io};
@@ -40,16 +43,14 @@ fn plan_of(word: &str) -> Option<Plan> {
     }
 }
 
-/// The run that has answered nothing, and the events for it.
-fn begin(alloc: Global) -> Result<(Run, Vec<Event>), NoMemory> {
-    let run = Run::new(alloc)?;
-    let events = events(alloc)?;
-    Ok((run, events))
-}
-
 /// Applies the events. Where one is refused memory, all who are live are quit, if this is the plan; else the event is made once
 /// more.
-fn apply_all(rt: &impl Print, run: &mut Run, events: &[Event], plan: Plan) -> io::Result<()> {
+fn apply_all<R: Records, A: Accesses, G: Graph>(
+    rt: &impl Print,
+    run: &mut Run<R, A, G>,
+    events: &[Event],
+    plan: Plan,
+) -> io::Result<()> {
     for event in events {
         if run.apply(rt, event)? {
             continue;
@@ -63,7 +64,11 @@ fn apply_all(rt: &impl Print, run: &mut Run, events: &[Event], plan: Plan) -> io
 }
 
 /// Cuts the history off; once more where that was refused memory.
-fn cut(rt: &impl Print, alloc: Global, run: Run) -> io::Result<(Run, bool)> {
+fn cut<R: Records, A: Accesses, G: Graph>(
+    rt: &impl Print,
+    alloc: Global,
+    run: Run<R, A, G>,
+) -> io::Result<(Run<R, A, G>, bool)> {
     match run.cut(rt, alloc)? {
         (run, true) => Ok((run, true)),
         (run, false) => run.cut(rt, alloc),
@@ -71,7 +76,11 @@ fn cut(rt: &impl Print, alloc: Global, run: Run) -> io::Result<(Run, bool)> {
 }
 
 /// Cuts, starts one more transaction, is told that it is live, quits it, and cuts again.
-fn cut_and_go_on(rt: &impl Print, alloc: Global, run: Run) -> io::Result<Run> {
+fn cut_and_go_on<R: Records, A: Accesses, G: Graph>(
+    rt: &impl Print,
+    alloc: Global,
+    run: Run<R, A, G>,
+) -> io::Result<Run<R, A, G>> {
     let (mut run, is_cut) = cut(rt, alloc, run)?;
     if !is_cut {
         return Ok(run);
@@ -83,6 +92,21 @@ fn cut_and_go_on(rt: &impl Print, alloc: Global, run: Run) -> io::Result<Run> {
     Ok(run)
 }
 
+/// A run of the plan, from its first event to its end.
+fn carry_out<R: Records, A: Accesses, G: Graph>(
+    rt: &impl Print,
+    alloc: Global,
+    mut run: Run<R, A, G>,
+    events: &[Event],
+    plan: Plan,
+) -> io::Result<()> {
+    apply_all(rt, &mut run, events, plan)?;
+    if let Plan::Cut = plan {
+        run = cut_and_go_on(rt, alloc, run)?;
+    }
+    run.tell_end(rt)
+}
+
 fn main(rt: HostRuntime) -> io::Result<()> {
     let Ok(mut words) = env::args(&rt) else {
         return println!(rt; "no memory");
@@ -91,12 +115,10 @@ fn main(rt: HostRuntime) -> io::Result<()> {
     let Some(plan) = word.as_ref().and_then(|word| plan_of(word.as_str())) else {
         return println!(rt; "usage: sgt_growths again|oldest|newest|cut");
     };
-    let Ok((mut run, events)) = begin(rt.alloc()) else {
+    let alloc = rt.alloc();
+    let made = open(alloc).and_then(|engine| Run::new(alloc, engine));
+    let (Ok(made), Ok(events)) = (made, events(alloc)) else {
         return println!(rt; "no memory");
     };
-    apply_all(&rt, &mut run, events.as_slice(), plan)?;
-    if let Plan::Cut = plan {
-        run = cut_and_go_on(&rt, rt.alloc(), run)?;
-    }
-    run.tell_end(&rt)
+    carry_out(&rt, alloc, made, events.as_slice(), plan)
 }

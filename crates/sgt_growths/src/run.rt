@@ -1,8 +1,9 @@
-use crate::row::open;
-use sgt_engine::CutError;
+use sgt_access::Accesses;
+use sgt_engine::{CutError, Engine};
 use sgt_format::append_reply;
+use sgt_graph::Graph;
 use sgt_model::{Entry, Event, Key, MOST_LIVE, NoMemory, Reply, Tid, Tids};
-use sgt_program::SgtEngine;
+use sgt_records::Records;
 use std::alloc::Global;
 use std::io;
 use std::io::{ErrorKind, Print, Write};
@@ -23,11 +24,11 @@ pub enum Order {
     Newest,
 }
 
-/// A run of events on the row's engine. All that it keeps for itself is taken when it is made: from then on it asks for
+/// A run of events on an engine. All that it keeps for itself is taken when it is made: from then on it asks for
 /// memory only where the engine does.
 #[derive(Drop)]
-pub struct Run {
-    engine: SgtEngine,
+pub struct Run<R: Records, A: Accesses, G: Graph> {
+    engine: Engine<R, A, G>,
     /// The events that were answered, with the replies that came.
     answered: Vec<Entry>,
     line: Vec<u8>,
@@ -40,13 +41,13 @@ struct Seen {
     live: Tids,
 }
 
-impl Run {
-    /// A run that has answered nothing.
-    pub fn new(alloc: Global) -> Result<Self, NoMemory> {
+impl<R: Records, A: Accesses, G: Graph> Run<R, A, G> {
+    /// A run on an engine that has answered nothing.
+    pub fn new(alloc: Global, engine: Engine<R, A, G>) -> Result<Self, NoMemory> {
         Ok(Run {
             answered: Vec::with_capacity(alloc, MOST_ENTRIES)?,
             line: Vec::with_capacity(alloc, LONGEST_REPLY)?,
-            engine: open(alloc)?,
+            engine,
         })
     }
 

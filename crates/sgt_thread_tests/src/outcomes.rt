@@ -3,9 +3,9 @@
 use crate::engine::{
     BALANCE, DEPOSIT_CHECKING, ListEngine, TRANSACT_SAVING, WRITE_CHECK, engine_after, start,
 };
+use sgt_audit::{Outcome, audit};
 use sgt_dispatch::Job;
 use sgt_model::{Args, Event, NoMemory, Tid};
-use sgt_workers::{Outcome, audit};
 use std::alloc::Global;
 
 /// A procedure with its arguments.

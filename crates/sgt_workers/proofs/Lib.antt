@@ -1,8 +1,2 @@
-pub mod Histories
-pub mod Numbers
-pub mod LiveCount
-pub mod Rows
-pub mod Named
 pub mod Loops
 pub mod Pasts
-pub mod Crossing

@@ -1,7 +1,7 @@
 //! The calls that a worker makes for a job.
 use crate::gate::{Gate, Pass};
-use crate::outcome::Outcome;
 use sgt_access::Accesses;
+use sgt_audit::Outcome;
 use sgt_dispatch::Job;
 use sgt_graph::Graph;
 use sgt_model::{Cause, Event, Fate, NoMemory, Reply, Tid};

@@ -4,9 +4,9 @@ ghost use Rattle.sgt_workers.specs.Crews.{IsRunError, KeepsTakers};
 
 use crate::errors::PoolError;
 use crate::gate::Gate;
-use crate::outcome::Outcome;
 use crate::worker::{Ended, SameFeed, Worker, work};
 use sgt_access::Accesses;
+use sgt_audit::Outcome;
 use sgt_dispatch::{Job, Putter, Taker};
 use sgt_graph::Graph;
 use sgt_records::Records;

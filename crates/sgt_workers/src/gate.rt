@@ -1,4 +1,4 @@
-use crate::outcome::Outcome;
+use sgt_audit::Outcome;
 
 /// What a gate answers.
 pub enum Pass<N> {

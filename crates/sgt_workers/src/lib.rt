@@ -1,10 +1,9 @@
-//! Workers that run jobs as transactions of one engine, and the test of what they report.
+//! Workers that run jobs as transactions of one engine.
 //!
 //! A job is one call of a procedure. [`run`] has up to 16 threads take jobs from a feed and make their calls to one engine,
-//! with one hold of its lock for each call. A [`Gate`] is asked before each call. What became of a job is an [`Outcome`], which names
-//! entries of the engine's history or transactions in it. What each outcome says of the history stands in
-//! `specs/Outcomes.antt`. [`audit`] looks whether the outcomes of a report say so: each of its job, none of what another
-//! names, and none too few; `run` hands out no report of which that is not so.
+//! with one hold of its lock for each call. A [`Gate`] is asked before each call. What became of a job is an [`Outcome`],
+//! which names entries of the engine's history or transactions in it; `run` hands out no report whose outcomes say what is
+//! not so.
 //!
 //! It knows nothing of procedures, accesses and conflicts: that the history is legal is the engine's promise. Nothing says
 //! that a run comes to its end, nor which worker takes which job.
@@ -38,29 +37,19 @@
 //! ```
 #![tactic(auto)]
 
-mod attempts;
 mod bank;
 mod caller;
-mod counts;
 mod crew;
 mod errors;
-mod events;
 mod gate;
-mod live_count;
-mod lives;
-mod names;
-mod outcome;
 mod report;
-mod reports;
 mod runs;
-mod stands;
 mod worker;
 
 pub use bank::{Bank, MOST_TRIES, MOST_WORKERS};
 pub use errors::PoolError;
 pub use gate::{Gate, Pass};
-pub use outcome::Outcome;
 pub use report::Report;
-pub use reports::audit;
 pub use runs::run;
+pub use sgt_audit::Outcome;
 pub use sgt_dispatch::MOST_JOBS;

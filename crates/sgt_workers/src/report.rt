@@ -4,9 +4,8 @@ ghost use Rattle.sgt_workers.specs.Crews.{IsRunError};
 ghost use Rattle.sgt_workers.specs.Reports.{IsReportOf};
 
 use crate::errors::PoolError;
-use crate::outcome::Outcome;
-use crate::reports::audit;
 use sgt_access::Accesses;
+use sgt_audit::{Outcome, audit};
 use sgt_dispatch::Job;
 use sgt_engine::{Engine, Past};
 use sgt_graph::Graph;

@@ -3,8 +3,8 @@ ghost use Rattle.std.specs.Prelude.{◌≡◌};
 
 use crate::caller::Caller;
 use crate::gate::Gate;
-use crate::outcome::Outcome;
 use sgt_access::Accesses;
+use sgt_audit::Outcome;
 use sgt_dispatch::{Stub, Take, Taker};
 use sgt_graph::Graph;
 use sgt_records::Records;

@@ -4,7 +4,7 @@ use Rattle.sgt_dispatch.specs.Ends.{TakerState}
 use Rattle.sgt_session.proofs.Crossing.{shared_sync}
 use Rattle.sgt_workers.specs.declared.worker.SameFeed.{SameFeed}
 use Rattle.sgt_workers.proofs.worker.Worker.TheSendSync as worker
-use Rattle.sgt_workers.proofs.Crossing.{outcomes_sync}
+use Rattle.sgt_audit.proofs.Crossing.{outcomes_sync}
 use Rattle.sgt_workers.proofs.Loops.{one_by_one}
 use Rattle.sgt_workers.proofs.crew.start_all.Goals as goal
 

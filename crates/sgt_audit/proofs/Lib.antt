@@ -1,0 +1,6 @@
+pub mod Histories
+pub mod Numbers
+pub mod LiveCount
+pub mod Rows
+pub mod Named
+pub mod Crossing

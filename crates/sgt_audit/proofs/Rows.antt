@@ -1,0 +1,171 @@
+-- The table of transactions after one entry more.
+use Rattle.std.proofs.Common.{◌≡◌, ◌≢◌, ℕ, zero, suc, ◌+◌, ◌<◌, ◌≤◌, ℤ, false, cond, ◌⊎◌, nat_eq, List, [], ◌∷◌, ◌++◌, length, length-append, Option, Some, None, refl, sym, ap, ap₂, subst, inl, inr, ◌∙◌, arith, slice_get}
+use Rattle.std.proofs.lemmas.Bool.{true≢false, eq-eqb, ne_eqb}
+use Rattle.std.proofs.lemmas.Option.{none-some, same_Some, slice_get_cases, slice_get_past}
+use Rattle.std.specs.Option.{is_some, option_map, option_or, unwrap_or}
+use Rattle.sgt_model.specs.declared.event.Event.TheVariants.{Start}
+use Rattle.sgt_model.specs.declared.reply.Reply.{Reply}
+use Rattle.sgt_model.specs.declared.reply.Reply.TheVariants as reply
+use Rattle.sgt_model.specs.declared.reply.Fate.{Fate}
+use Rattle.sgt_model.specs.declared.entry.Entry.{Entry}
+use Rattle.sgt_model.specs.Fates.{is_start, starts, ending_in, fate_of}
+use Rattle.sgt_model.specs.Progress.{call_in, call_of}
+use Rattle.sgt_model.specs.Settings.{Setting}
+use Rattle.sgt_model.specs.Legality.{Legal, LegalReply}
+use Rattle.sgt_model.proofs.Effects.{no_start-no_call, effect}
+use Rattle.sgt_model.proofs.Facts.{end-live, live-started, unstarted-no_fate}
+use Rattle.sgt_model.proofs.Room.{starts_or_not}
+use Rattle.sgt_audit.specs.declared.lives.Life.{Life}
+use Rattle.sgt_audit.specs.Spans.{starts_as, started_at, ended_at}
+use Rattle.sgt_audit.specs.Outcomes.{has_failed}
+use Rattle.sgt_audit.specs.Lives.{IsLife, AreLives, life_after, with_started}
+
+starts_not : (r : Reply) (t : ℕ) → is_start r ≡ false → starts_as r t ≡ false
+starts_not (reply.Started u) t e = absurd (true≢false e)
+starts_not _ t e = refl
+
+-- the row that a row of the longer table was
+was_row : (f : Life → Life) (o : Option Life) (life : Life) → option_map f o ≡ Some life → (old : Life) × (o ≡ Some old) × (life ≡ f old)
+was_row f None life e = absurd (none-some life e)
+was_row f (Some old) life e = (old, refl, sym (same_Some (f old) life e))
+
+no_row : (f : Life → Life) (o : Option Life) → option_map f o ≡ None → o ≡ None
+no_row f None e = refl
+no_row f (Some old) e = absurd (none-some (f old) (sym e))
+
+-- an entry that starts none, and ends some or none
+pub lives_ended : (s : Setting) (past : List Entry) (e : Entry) (lives after : List Life) → LegalReply s past e.event e.reply
+    → is_start e.reply ≡ false → AreLives past lives
+    → ((t : ℕ) → slice_get after t ≡ option_map (life_after (length past) (ending_in e.event e.reply t)) (slice_get lives t))
+    → length after ≡ length lives → AreLives (e ∷ past) after
+lives_ended s past e lives after legal none are rows count = record {
+  counted = count ∙ (are.counted ∙ sym (ap (λ b. cond b (starts past + 1) (starts past)) none));
+  each = λ t life at.
+      let was = was_row (life_after (length past) (ending_in e.event e.reply t)) (slice_get lives t) life (sym (rows t) ∙ at) in
+      subst (IsLife (e ∷ past) t) (sym was.2) (row t was.0 (are.each t was.0 was.1));
+  none = λ t at.
+      let out : slice_get lives t ≡ None = no_row (life_after (length past) (ending_in e.event e.reply t)) (slice_get lives t)
+      (sym (rows t) ∙ at) in
+      let old = are.none t out in
+      record { started = not_started t ∙ old.started; ended = not_ended t out (ending_in e.event e.reply t) refl ∙ old.ended };
+}
+  where
+    not_started : (t : ℕ) → started_at (e ∷ past) t ≡ started_at past t
+    not_started t = ap (λ b. cond b (Some (length past)) (started_at past t)) (starts_not e.reply t none)
+
+    same_call : (t : ℕ) → call_of (e ∷ past) t ≡ call_of past t
+    same_call t = ap (λ o. unwrap_or o (call_of past t)) (no_start-no_call e.event e.reply none t)
+
+    not_ended : (t : ℕ) → slice_get lives t ≡ None → (o : Option Fate) → ending_in e.event e.reply t ≡ o
+        → cond (is_some (ending_in e.event e.reply t)) (Some (length past)) (ended_at past t) ≡ ended_at past t
+    not_ended t out None is = ap (λ o. cond (is_some o) (Some (length past)) (ended_at past t)) is
+    not_ended t out (Some f) is = absurd (within t out (live-started past t (end-live s past e.event e.reply legal t f is)))
+      where
+        within : (t : ℕ) → slice_get lives t ≡ None → t < starts past → ⊥
+        within t out less = elim (slice_get_cases lives t).1 [
+          | inl w ↦ none-some w.0 (sym out ∙ w.2)
+          | inr w ↦ let n = are.counted in let m = w.0 in absurd (omega arith)
+        ]
+
+    row : (t : ℕ) (old : Life) → IsLife past t old → IsLife (e ∷ past) t (life_after (length past) (ending_in e.event e.reply t) old)
+    row t old is = go (ending_in e.event e.reply t) refl
+      where
+        go : (o : Option Fate) → ending_in e.event e.reply t ≡ o → IsLife (e ∷ past) t (life_after (length past) o old)
+        go None q = record {
+          call = same_call t ∙ is.call;
+          started = not_started t ∙ is.started;
+          ended = ap (λ o. cond (is_some o) (Some (length past)) (ended_at past t)) q ∙ is.ended;
+          failed = ap (λ o. has_failed (option_or o (fate_of past t))) q ∙ is.failed;
+        }
+        go (Some f) q = record {
+          call = same_call t ∙ is.call;
+          started = not_started t ∙ is.started;
+          ended = ap (λ o. cond (is_some o) (Some (length past)) (ended_at past t)) q;
+          failed = ap (λ o. has_failed (option_or o (fate_of past t))) q;
+        }
+
+-- what stands in a list with one more at the end
+pushed : (lives : List Life) (new : Life) (t : ℕ) (life : Life) → slice_get (lives ++ new ∷ []) t ≡ Some life
+    → ((t < length lives) × (slice_get lives t ≡ Some life)) ⊎ ((t ≡ length lives) × (life ≡ new))
+pushed [] new zero life at = inr (refl, sym (same_Some new life at))
+pushed [] new (suc t) life at = absurd (none-some life at)
+pushed (x ∷ lives) new zero life at = inl (omega arith, at)
+pushed (x ∷ lives) new (suc t) life at = elim (pushed lives new t life at) [
+  | inl w ↦ inl (let less = w.0 in omega arith, w.1)
+  | inr w ↦ inr (let same = w.0 in omega arith, w.1)
+]
+
+-- an entry that starts one
+pub lives_started : (s : Setting) (past : List Entry) (e : Entry) (lives : List Life) → Legal s past → (p : ℕ) (args : List ℤ)
+    → e.event ≡ Start p args → e.reply ≡ reply.Started (starts past) → AreLives past lives → AreLives (e ∷ past)
+    (lives ++ record { procedure = p; args = args; started = length past; ended = None; failed = false } ∷ [])
+lives_started s past e lives legal p args event_is reply_is are = record {
+  counted = length-append lives (new ∷ []) ∙ (ap (λ n. n + 1) are.counted ∙ sym more);
+  each = λ t life at. elim (pushed lives new t life at) [
+    | inl w ↦ earlier t life (are.each t life w.1) (let less = w.0 in let n = are.counted in omega arith)
+    | inr w ↦ subst (IsLife (e ∷ past) t) (sym w.1) (subst (λ u. IsLife (e ∷ past) u new) (sym (w.0 ∙ are.counted)) own)
+  ];
+  none = λ t at.
+      let out : length lives + 1 ≤ t = beyond t at in
+      let old = are.none t (slice_get_past lives t (omega arith)) in
+      record { started = not_started t (let n = are.counted in omega arith) ∙ old.started; ended = not_ended t ∙ old.ended };
+}
+  where
+    new : Life
+    new = record { procedure = p; args = args; started = length past; ended = None; failed = false }
+
+    more : starts (e ∷ past) ≡ starts past + 1
+    more = ap (λ b. cond b (starts past + 1) (starts past)) (ap is_start reply_is)
+
+    beyond : (t : ℕ) → slice_get (lives ++ new ∷ []) t ≡ None → length lives + 1 ≤ t
+    beyond t at = elim (slice_get_cases (lives ++ new ∷ []) t).1 [
+      | inl w ↦ absurd (none-some w.0 (sym at ∙ w.2))
+      | inr w ↦ let n = length-append lives (new ∷ []) in let m = w.0 in omega arith
+    ]
+
+    no_end : (t : ℕ) → ending_in e.event e.reply t ≡ None
+    no_end t = ap (λ r. ending_in e.event r t) reply_is
+
+    not_ended : (t : ℕ) → ended_at (e ∷ past) t ≡ ended_at past t
+    not_ended t = ap (λ o. cond (is_some o) (Some (length past)) (ended_at past t)) (no_end t)
+
+    same_fate : (t : ℕ) → fate_of (e ∷ past) t ≡ fate_of past t
+    same_fate t = ap (λ o. option_or o (fate_of past t)) (no_end t)
+
+    not_started : (t : ℕ) → starts past ≢ t → started_at (e ∷ past) t ≡ started_at past t
+    not_started t other = ap (λ r. cond (starts_as r t) (Some (length past)) (started_at past t)) reply_is
+        ∙ ap (λ b. cond b (Some (length past)) (started_at past t)) (ne_eqb (starts past) t other)
+
+    call_is : (t : ℕ) → call_of (e ∷ past) t ≡ unwrap_or
+        (cond (nat_eq (starts past) t) (Some (record { procedure = p; args = args })) None) (call_of past t)
+    call_is t = ap₂ (λ v r. unwrap_or (call_in v r t) (call_of past t)) event_is reply_is
+
+    earlier : (t : ℕ) (life : Life) → IsLife past t life → t < starts past → IsLife (e ∷ past) t life
+    earlier t life is less = record {
+      call = call_is t ∙ (ap (λ b. unwrap_or (cond b (Some (record { procedure = p; args = args })) None) (call_of past t))
+          (ne_eqb (starts past) t (λ same. absurd (omega arith))) ∙ is.call);
+      started = not_started t (λ same. absurd (omega arith)) ∙ is.started;
+      ended = not_ended t ∙ is.ended;
+      failed = ap has_failed (same_fate t) ∙ is.failed;
+    }
+
+    own : IsLife (e ∷ past) (starts past) new
+    own = record {
+      call = call_is (starts past) ∙ ap (λ b. unwrap_or (cond b (Some (record { procedure = p; args = args })) None)
+          (call_of past (starts past))) (eq-eqb (starts past) (starts past) refl);
+      started = ap (λ r. cond (starts_as r (starts past)) (Some (length past)) (started_at past (starts past))) reply_is
+          ∙ ap (λ b. cond b (Some (length past)) (started_at past (starts past))) (eq-eqb (starts past) (starts past) refl);
+      ended = not_ended (starts past)
+          ∙ (are.none (starts past) (slice_get_past lives (starts past) (let n = are.counted in omega arith))).ended;
+      failed = ap has_failed (same_fate (starts past) ∙ unstarted-no_fate s past legal (starts past) (omega arith));
+    }
+
+-- an entry that is answered Started
+pub lives_started_by : (s : Setting) (past : List Entry) (e : Entry) (lives : List Life) (t : ℕ) → Legal s past
+    → LegalReply s past e.event e.reply → e.reply ≡ reply.Started t → AreLives past lives → AreLives (e ∷ past)
+    (with_started (length past) e.event lives)
+lives_started_by s past e lives t legal reply_legal is are = elim (starts_or_not (effect s past e.event e.reply reply_legal)) [
+  | inl b ↦ subst (λ v. AreLives (e ∷ past) (with_started (length past) v lives)) (sym b.event_is)
+      (lives_started s past e lives legal b.procedure b.args b.event_is b.reply_is are)
+  | inr not_one ↦ absurd (true≢false (sym (ap is_start is) ∙ not_one))
+]

@@ -1,0 +1,54 @@
+use Rattle.std.proofs.Common.{◌≡◌, ◌↔◌, ℕ, ◌<◌, IsTrue, sym, subst, ◌∙◌, reverse, length, arith}
+use Rattle.std.specs.List.{All, AllZip, flat_map}
+use Rattle.sgt_model.specs.Fates.{starts}
+use Rattle.sgt_model.specs.Walks.{Distinct}
+use Rattle.sgt_audit.specs.Lives.{AreLives}
+use Rattle.sgt_audit.specs.Outcomes.{OutcomeStands}
+use Rattle.sgt_audit.specs.AllOutcomes.{entries_of, transactions_of, CountsAgree, FewLive, AllEnded}
+use Rattle.sgt_audit.proofs.Named.{all_started, all_there}
+use Rattle.sgt_audit.proofs.all_outcomes.audit.Goals as goal
+
+pub none_twice-requires : goal.none_twice-requires
+none_twice-requires g c =
+    let h = c.args.history.now in
+    let stand : IsTrue c.all_stand.result ↔ AllZip (OutcomeStands h c.args.tries) c.args.jobs.now c.args.outcomes.now =
+    c.all_stand.ensures in
+    let all = all_started h c.args.tries c.args.jobs.now c.args.outcomes.now (stand.0 c.if-not-all_stand.false) in
+    let named : c.deref-2.result.now ≡ flat_map (transactions_of h) c.args.outcomes.now = c.deref-2.ensures.value
+    ∙ c.in_ok-transactions.ensures in
+    let are : AreLives (reverse h) c.in_ok-lives.lives.items = c.in_ok-lives.ensures in
+    let count : starts (reverse h) ≡ c.len.result = omega (arith, are.counted, c.in_ok-lives.lives.ok.0, c.len.ensures) in
+    subst (All (λ t. t < c.len.result)) (sym named)
+    (subst (λ (n : ℕ). All (λ t. t < n) (flat_map (transactions_of h) c.args.outcomes.now)) count all)
+
+pub none_twice-requires-2 : goal.none_twice-requires-2
+none_twice-requires-2 g c =
+    let h = c.args.history.now in
+    let stand : IsTrue c.all_stand.result ↔ AllZip (OutcomeStands h c.args.tries) c.args.jobs.now c.args.outcomes.now =
+    c.all_stand.ensures in
+    let all = all_there h c.args.tries c.args.jobs.now c.args.outcomes.now (stand.0 c.if-not-all_stand.false) in
+    let named : c.deref-3.result.now ≡ flat_map entries_of c.args.outcomes.now = c.deref-3.ensures.value ∙ c.in_ok-entries.ensures in
+    subst (All (λ n. n < length h)) (sym named) all
+
+pub returns : goal.returns
+returns g c =
+    let h = c.args.history.now in
+    let stand : IsTrue c.all_stand.result ↔ AllZip (OutcomeStands h c.args.tries) c.args.jobs.now c.args.outcomes.now =
+    c.all_stand.ensures in
+    let transactions : IsTrue c.in_ok-none_twice.field-0 ↔ Distinct c.deref-2.result.now = c.in_ok-none_twice.ensures in
+    let entries : IsTrue c.in_ok-none_twice-2.field-0 ↔ Distinct c.deref-3.result.now = c.in_ok-none_twice-2.ensures in
+    let named : c.deref-2.result.now ≡ flat_map (transactions_of h) c.args.outcomes.now = c.deref-2.ensures.value
+    ∙ c.in_ok-transactions.ensures in
+    let named_too : c.deref-3.result.now ≡ flat_map entries_of c.args.outcomes.now = c.deref-3.ensures.value ∙ c.in_ok-entries.ensures in
+    let counts : IsTrue c.counts_agree.result ↔ CountsAgree h c.args.outcomes.now c.args.workers = c.counts_agree.ensures in
+    let lives : IsTrue c.live_counts_stand.result ↔ (FewLive h c.args.workers × AllEnded h) = c.live_counts_stand.ensures in (
+      (λ t. record {
+        each = stand.0 c.if-not-all_stand.false;
+        transactions_once = subst Distinct named (transactions.0 c.if-not-branch.false);
+        entries_once = subst Distinct named_too (entries.0 c.if-not-branch-2.false);
+        counts = counts.0 c.if-not-counts_agree.false;
+        few_live = (lives.0 t).0;
+        all_ended = (lives.0 t).1;
+      }),
+      λ o. lives.1 (o.few_live, o.all_ended),
+    )

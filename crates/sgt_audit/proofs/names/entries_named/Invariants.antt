@@ -1,0 +1,7 @@
+use Rattle.std.proofs.Common.{◌≡◌, take}
+use Rattle.std.specs.List.{flat_map}
+use Rattle.sgt_audit.specs.AllOutcomes.{entries_of}
+use Rattle.sgt_audit.proofs.names.entries_named.Given as goal
+
+abbrev pub invariant-loop-outcome : goal.invariant-loop-outcome
+invariant-loop-outcome g l = l.named.items ≡ flat_map entries_of (take l.outcome-index l.outcomes)

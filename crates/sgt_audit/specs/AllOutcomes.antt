@@ -1,0 +1,86 @@
+-- What the outcomes of all jobs say together.
+use Rattle.std.specs.Prelude.{◌≡◌, ℕ, ◌+◌, ◌≤◌, ◌<◌, Bool, true, false, List, [], ◌∷◌, length, reverse, take, slice_get}
+use Rattle.std.specs.List.{AllZip, count_by, flat_map}
+use Rattle.std.specs.Option.{option_and_then, option_to_list}
+use Rattle.sgt_model.specs.declared.entry.Entry.{Entry}
+use Rattle.sgt_model.specs.Walks.{Distinct}
+use Rattle.sgt_model.specs.Fates.{live, live_ones}
+use Rattle.sgt_dispatch.specs.declared.job.Job.{Job}
+use Rattle.sgt_audit.specs.declared.outcome.Outcome.{Outcome}
+use Rattle.sgt_audit.specs.declared.outcome.Outcome.TheVariants as outcome
+use Rattle.sgt_model.specs.Questions.{named_by, is_commit, is_quit}
+use Rattle.sgt_audit.specs.Outcomes.{OutcomeStands}
+
+-- what is named
+
+-- the entry that an outcome names, if it does
+abbrev pub entries_of : {N : Type 0} → Outcome N → List ℕ
+entries_of (outcome.Done n) = n ∷ []
+entries_of (outcome.Asked n) = n ∷ []
+entries_of (outcome.Gave attempts) = []
+entries_of (outcome.Refused n) = n ∷ []
+entries_of (outcome.Left note) = []
+entries_of outcome.Untaken = []
+entries_of outcome.NoMemory = []
+
+-- the transaction that entry n names, if it names one
+abbrev pub transaction_at : List Entry → ℕ → List ℕ
+transaction_at history n = option_to_list (option_and_then (λ (e : Entry). named_by e.event) (slice_get history n))
+
+-- the transactions that an outcome names
+abbrev pub transactions_of : {N : Type 0} → List Entry → Outcome N → List ℕ
+transactions_of history (outcome.Done n) = transaction_at history n
+transactions_of history (outcome.Asked n) = transaction_at history n
+transactions_of history (outcome.Gave attempts) = attempts.items
+transactions_of history (outcome.Refused n) = []
+transactions_of history (outcome.Left note) = []
+transactions_of history outcome.Untaken = []
+transactions_of history outcome.NoMemory = []
+
+-- whether a job was committed
+abbrev pub is_done : {N : Type 0} → Outcome N → Bool
+is_done (outcome.Done n) = true
+is_done _ = false
+
+-- whether its worker left in its midst
+abbrev pub is_left : {N : Type 0} → Outcome N → Bool
+is_left (outcome.Left note) = true
+is_left _ = false
+
+-- whether nobody took it
+abbrev pub is_untaken : {N : Type 0} → Outcome N → Bool
+is_untaken outcome.Untaken = true
+is_untaken _ = false
+
+-- whether it ended for want of memory
+abbrev pub is_no_memory : {N : Type 0} → Outcome N → Bool
+is_no_memory outcome.NoMemory = true
+is_no_memory _ = false
+
+-- all of them
+
+-- what outcomes are counted for: each commit is told; a quit was asked for by the gate or for want of memory; no more are left
+-- than there are workers; and nobody fails to take a job but where all workers have left
+pub record CountsAgree {N : Type 0} (history : List Entry) (outcomes : List (Outcome N)) (workers : ℕ) : Type 0 where
+  pub commits : count_by (λ (e : Entry). is_commit e.reply) history ≡ count_by is_done outcomes
+  pub quits : count_by (λ (e : Entry). is_quit e.reply) history ≤ count_by is_left outcomes + count_by is_no_memory outcomes
+  pub left : count_by is_left outcomes ≤ workers
+  pub untaken : 0 < count_by is_untaken outcomes → count_by is_left outcomes ≡ workers
+
+-- after no entry are more transactions live
+abbrev pub FewLive : List Entry → ℕ → Type 0
+FewLive history workers = (n : ℕ) → length (live_ones (reverse (take n history))) ≤ workers
+
+-- after the last entry no transaction is live: each that was started has ended
+abbrev pub AllEnded : List Entry → Type 0
+AllEnded history = (t : ℕ) → live (reverse history) t ≡ false
+
+-- one outcome for each job, which says of the history and the job what is so; no transaction and no entry is named twice, by
+-- one outcome or by two; the counts agree; never are more transactions live than there are workers, and at the end none is
+pub record OutcomesStand {N : Type 0} (history : List Entry) (jobs : List Job) (outcomes : List (Outcome N)) (workers tries : ℕ) : Type 0 where
+  pub each : AllZip (OutcomeStands history tries) jobs outcomes
+  pub transactions_once : Distinct (flat_map (transactions_of history) outcomes)
+  pub entries_once : Distinct (flat_map entries_of outcomes)
+  pub counts : CountsAgree history outcomes workers
+  pub few_live : FewLive history workers
+  pub all_ended : AllEnded history

@@ -1,0 +1,45 @@
+-- What a history says of each transaction, as one table by its number.
+use Rattle.std.specs.Prelude.{◌≡◌, ℕ, Bool, false, List, [], ◌∷◌, ◌++◌, length, Option, Some, None, slice_get}
+use Rattle.sgt_model.specs.declared.event.Event.{Event}
+use Rattle.sgt_model.specs.declared.event.Event.TheVariants.{Start, Step, Commit, Quit}
+use Rattle.sgt_model.specs.declared.entry.Entry.{Entry}
+use Rattle.sgt_model.specs.declared.reply.Fate.{Fate}
+use Rattle.sgt_model.specs.Fates.{starts, fate_of}
+use Rattle.sgt_model.specs.Progress.{call_of}
+use Rattle.sgt_audit.specs.declared.lives.Life.{Life}
+use Rattle.sgt_audit.specs.Spans.{started_at, ended_at}
+use Rattle.sgt_audit.specs.Outcomes.{has_failed}
+
+-- the row says what the history says of t
+pub record IsLife (past : List Entry) (t : ℕ) (life : Life) : Type 0 where
+  pub call : call_of past t ≡ record { procedure = life.procedure; args = life.args }
+  pub started : started_at past t ≡ Some life.started
+  pub ended : ended_at past t ≡ life.ended
+  pub failed : has_failed (fate_of past t) ≡ life.failed
+
+-- the history says nothing of t
+pub record NoLife (past : List Entry) (t : ℕ) : Type 0 where
+  pub started : started_at past t ≡ None
+  pub ended : ended_at past t ≡ None
+
+-- a row for each transaction that was started
+pub record AreLives (past : List Entry) (lives : List Life) : Type 0 where
+  pub counted : length lives ≡ starts past
+  pub each : (t : ℕ) (life : Life) → slice_get lives t ≡ Some life → IsLife past t life
+  pub none : (t : ℕ) → slice_get lives t ≡ None → NoLife past t
+
+-- the row of one that this entry ended
+abbrev pub ended_life : ℕ → Bool → Life → Life
+ended_life number failed life = record life { ended = Some number; failed = failed }
+
+-- the row after an entry that ended its transaction in this way, if it did
+abbrev pub life_after : ℕ → Option Fate → Life → Life
+life_after number None life = life
+life_after number (Some f) life = ended_life number (has_failed (Some f)) life
+
+-- the rows after an event that was answered Started
+abbrev pub with_started : ℕ → Event → List Life → List Life
+with_started number (Start p args) lives = lives ++ record { procedure = p; args = args; started = number; ended = None; failed = false } ∷ []
+with_started number (Step t) lives = lives
+with_started number (Commit t) lives = lives
+with_started number (Quit t) lives = lives

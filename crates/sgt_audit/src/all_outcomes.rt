@@ -1,0 +1,48 @@
+ghost use Rattle.std.specs.Prelude.{◌≡◌, ◌↔◌, IsTrue, IfOk, reverse};
+ghost use Rattle.sgt_model.specs.Settings.{Setting};
+ghost use Rattle.sgt_model.specs.Legality.{Legal};
+ghost use Rattle.sgt_audit.specs.AllOutcomes.{OutcomesStand};
+
+use crate::counts::counts_agree;
+use crate::live_count::live_counts_stand;
+use crate::lives::lives_of;
+use crate::names::{entries_named, none_twice, transactions_named};
+use crate::outcome::Outcome;
+use crate::stands::all_stand;
+use sgt_dispatch::Job;
+use sgt_model::{Entry, NoMemory};
+use std::alloc::Global;
+
+/// Whether the outcomes of the jobs say of a legal history what is so: `OutcomesStand`. It goes a few times through the
+/// history, the jobs and the transactions that are named, and never searches one for the sake of another.
+///
+/// `NoMemory` where a growth was refused.
+pub fn audit<N>(
+    alloc: Global,
+    history: &[Entry],
+    jobs: &[Job],
+    outcomes: &[Outcome<N>],
+    workers: u32,
+    tries: u32,
+) -> Result<bool, NoMemory>
+    requires { (s : Setting) × Legal s (reverse history.now) }
+    ensures { IfOk result (λ stands.
+        IsTrue stands ↔ OutcomesStand history.now jobs.now outcomes.now workers tries) }
+{
+    let lives = lives_of(alloc, history)?;
+    if !all_stand(history, &lives, jobs, outcomes, tries) {
+        return Ok(false);
+    }
+    let transactions = transactions_named(alloc, history, outcomes)?;
+    if !none_twice(alloc, &transactions, lives.len())? {
+        return Ok(false);
+    }
+    let entries = entries_named(alloc, outcomes)?;
+    if !none_twice(alloc, &entries, history.len())? {
+        return Ok(false);
+    }
+    if !counts_agree(history, outcomes, workers) {
+        return Ok(false);
+    }
+    Ok(live_counts_stand(history, workers))
+}

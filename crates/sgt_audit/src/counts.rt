@@ -1,0 +1,81 @@
+//! What outcomes are counted for.
+ghost use Rattle.std.specs.Prelude.{◌≡◌, ◌↔◌, IsTrue};
+ghost use Rattle.std.specs.List.{count_by};
+ghost use Rattle.sgt_model.specs.declared.entry.Entry.{Entry as E};
+ghost use Rattle.sgt_model.specs.Questions.{is_commit, is_quit};
+ghost use Rattle.sgt_audit.specs.AllOutcomes.{is_done, is_left, is_untaken, is_no_memory, CountsAgree};
+
+use crate::outcome::Outcome;
+use sgt_model::Entry;
+
+/// How many outcomes of a kind there are.
+#[derive(Clone, Copy)]
+struct Kinds {
+    done: usize,
+    left: usize,
+    untaken: usize,
+    no_memory: usize,
+}
+
+/// Whether commits, quits and workers that left are as many as the outcomes say.
+pub fn counts_agree<N>(history: &[Entry], outcomes: &[Outcome<N>], workers: u32) -> bool
+    ensures { IsTrue result ↔ CountsAgree history.now outcomes.now workers }
+{
+    let kinds = kinds_of(outcomes);
+    let workers = workers as usize;
+    commits_in(history) == kinds.done
+        && quits_in(history).saturating_sub(kinds.left) <= kinds.no_memory
+        && kinds.left <= workers
+        && (kinds.untaken == 0 || kinds.left == workers)
+}
+
+/// How many entries commit.
+fn commits_in(history: &[Entry]) -> usize
+    ensures { result ≡ count_by (λ (e : E). is_commit e.reply) history.now }
+{
+    let mut count = 0;
+    for entry in history {
+        if entry.reply.is_commit() {
+            count += 1;
+        }
+    }
+    count
+}
+
+/// How many entries abort because the caller quit.
+fn quits_in(history: &[Entry]) -> usize
+    ensures { result ≡ count_by (λ (e : E). is_quit e.reply) history.now }
+{
+    let mut count = 0;
+    for entry in history {
+        if entry.reply.is_quit() {
+            count += 1;
+        }
+    }
+    count
+}
+
+/// How many outcomes there are of each kind that is counted.
+fn kinds_of<N>(outcomes: &[Outcome<N>]) -> Kinds
+    ensures done { result.done ≡ count_by is_done outcomes.now }
+    ensures left { result.left ≡ count_by is_left outcomes.now }
+    ensures untaken { result.untaken ≡ count_by is_untaken outcomes.now }
+    ensures no_memory { result.no_memory ≡ count_by is_no_memory outcomes.now }
+{
+    let mut kinds = Kinds {
+        done: 0,
+        left: 0,
+        untaken: 0,
+        no_memory: 0,
+    };
+    for outcome in outcomes {
+        match outcome {
+            Outcome::Done(_) => kinds.done += 1,
+            Outcome::Left(_) => kinds.left += 1,
+            Outcome::Untaken => kinds.untaken += 1,
+            Outcome::NoMemory => kinds.no_memory += 1,
+            Outcome::Asked(_) | Outcome::Gave(_) | Outcome::Refused(_) => (),
+        }
+    }
+    kinds
+}

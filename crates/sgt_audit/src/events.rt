@@ -1,0 +1,33 @@
+//! Of which job an event is.
+ghost use Rattle.std.specs.Prelude.{◌≡◌, ◌↔◌, ℕ, IsTrue, Some, List};
+ghost use Rattle.sgt_model.specs.declared.entry.Entry.{Entry as E};
+ghost use Rattle.sgt_model.specs.Progress.{call_at};
+ghost use Rattle.sgt_model.specs.Questions.{named_by};
+ghost use Rattle.sgt_audit.specs.Lives.{AreLives};
+ghost use Rattle.sgt_audit.specs.Outcomes.{call_for, IsOf};
+
+use crate::attempts::{is_call, is_of};
+use crate::lives::Life;
+use sgt_dispatch::Job;
+use sgt_model::Event;
+
+/// Whether the event is a start of the job.
+pub fn asks_for(event: &Event, job: &Job) -> bool
+    ensures { IsTrue result ↔ (call_at event.now ≡ Some (call_for job.now)) }
+{
+    match event {
+        Event::Start { procedure, args } => is_call(*procedure, args, job),
+        _ => false,
+    }
+}
+
+/// Whether the event names a transaction of the job.
+pub fn names_one_of(event: &Event, lives: &[Life], job: &Job) -> bool
+    ensures { (past : List E) → AreLives past lives.now
+        → (IsTrue result ↔ ((t : ℕ) × (named_by event.now ≡ Some t) × IsOf past job.now t)) }
+{
+    match event.named() {
+        Some(t) => is_of(lives, job, t),
+        None => false,
+    }
+}

@@ -1,0 +1,37 @@
+//! How many transactions are live.
+ghost use Rattle.std.specs.Prelude.{◌≡◌, ◌↔◌, ℕ, ◌+◌, ◌<◌, ◌≤◌, ◌^◌, IsTrue, length, reverse};
+ghost use Rattle.sgt_model.specs.Settings.{Setting};
+ghost use Rattle.sgt_model.specs.Legality.{Legal};
+ghost use Rattle.sgt_audit.specs.LiveCount.{count_started, count_ended};
+ghost use Rattle.sgt_audit.specs.AllOutcomes.{FewLive, AllEnded};
+
+use sgt_model::{Entry, Reply};
+
+/// Whether after no entry more transactions are live than there are workers, and at the end none is.
+pub fn live_counts_stand(history: &[Entry], workers: u32) -> bool
+    requires { (s : Setting) × Legal s (reverse history.now) }
+    ensures { IsTrue result ↔ (FewLive history.now workers × AllEnded history.now) }
+{
+    let mut live = 0;
+    for entry in history {
+        live = live_after(live, &entry.reply);
+        if live > workers as usize {
+            return false;
+        }
+    }
+    live == 0
+}
+
+/// How many are live after a reply.
+fn live_after(live: usize, reply: &Reply) -> usize
+    requires few { live < 2 ^ 32 }
+    requires enough { count_ended reply.now ≤ live }
+    ensures { result + count_ended reply.now ≡ live + count_started reply.now }
+{
+    match reply {
+        Reply::Started(_) => live + 1,
+        Reply::Committed(_) => live - 1,
+        Reply::Aborted { fell, .. } | Reply::Refused { fell, .. } => live - 1 - fell.len(),
+        _ => live,
+    }
+}

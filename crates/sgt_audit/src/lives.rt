@@ -1,0 +1,135 @@
+//! What a history says of each transaction.
+ghost use Rattle.std.specs.Prelude.{◌≡◌, ℕ, ◌<◌, Bool, true, cond, nat_eq, List, ◌∷◌, IfOk, OnOk, length, reverse, slice_get, vec_len};
+ghost use Rattle.std.specs.List.{list_any};
+ghost use Rattle.std.specs.Option.{option_map};
+ghost use Rattle.sgt_model.specs.declared.entry.Entry.{Entry as E};
+ghost use Rattle.sgt_model.specs.Fates.{concerns, ending_in};
+ghost use Rattle.sgt_model.specs.Settings.{Setting};
+ghost use Rattle.sgt_model.specs.Legality.{Legal, LegalReply};
+ghost use Rattle.sgt_audit.specs.Lives.{AreLives, ended_life, life_after, with_started};
+
+use sgt_model::{Args, Cause, Entry, Event, NoMemory, Reply, Tid};
+use std::alloc::Global;
+
+/// What a history says of one transaction.
+#[derive(Debug, Drop)]
+pub struct Life {
+    /// Its procedure and arguments.
+    pub procedure: u16,
+    pub args: Args,
+    /// The entry that started it.
+    pub started: usize,
+    /// The entry that ended it, if one did.
+    pub ended: Option<usize>,
+    /// Whether it was aborted by a cycle, or fell.
+    pub failed: bool,
+}
+
+/// A row for each transaction, by its number. It goes once through the history.
+///
+/// `NoMemory` where a growth was refused.
+pub fn lives_of(alloc: Global, history: &[Entry]) -> Result<Vec<Life>, NoMemory>
+    requires { (s : Setting) × Legal s (reverse history.now) }
+    ensures { IfOk result (λ lives. AreLives (reverse history.now) lives.items) }
+{
+    let mut lives = Vec::new(alloc);
+    for number in 0..history.len() {
+        add_entry(&mut lives, number, &history[number])?;
+    }
+    Ok(lives)
+}
+
+/// Adds what an entry says, whose number is this.
+fn add_entry(lives: &mut Vec<Life>, number: usize, entry: &Entry) -> Result<(), NoMemory>
+    ensures { (s : Setting) (past : List E) → LegalReply s past entry.now.event entry.now.reply
+        → Legal s past → length past ≡ number → AreLives past lives.old.items
+        → OnOk result (AreLives (entry.now ∷ past) lives.new.items) }
+{
+    match &entry.reply {
+        Reply::Started(_) => add_started(lives, number, &entry.event),
+        _ => {
+            end_those(lives, number, entry);
+            Ok(())
+        }
+    }
+}
+
+/// Adds the row of the transaction that this event started.
+fn add_started(lives: &mut Vec<Life>, number: usize, event: &Event) -> Result<(), NoMemory>
+    ensures { OnOk result (lives.new.items ≡ with_started number event.now lives.old.items) }
+{
+    if let Event::Start { procedure, args } = event {
+        lives.push(Life {
+            procedure: *procedure,
+            args: args.copied(),
+            started: number,
+            ended: None,
+            failed: false,
+        })?;
+    }
+    Ok(())
+}
+
+/// Ends the rows of those that this entry ended.
+fn end_those(lives: &mut Vec<Life>, number: usize, entry: &Entry)
+    ensures rows { (t : ℕ) → slice_get lives.new.items t
+        ≡ option_map (life_after number (ending_in entry.now.event entry.now.reply t)) (slice_get lives.old.items t) }
+    ensures count { vec_len lives.new ≡ vec_len lives.old }
+{
+    match &entry.reply {
+        Reply::Committed(_) => end_subject(lives, number, &entry.event, false),
+        Reply::Aborted { cause, fell } => {
+            end_fallen(lives, number, fell.as_slice());
+            end_subject(
+                lives,
+                number,
+                &entry.event,
+                matches!(cause, Cause::Cycle(_)),
+            );
+        }
+        Reply::Refused { fell, .. } => {
+            end_fallen(lives, number, fell.as_slice());
+            end_subject(lives, number, &entry.event, false);
+        }
+        _ => (),
+    }
+}
+
+/// Ends the rows of those that fell with this entry.
+fn end_fallen(lives: &mut Vec<Life>, number: usize, fell: &[Tid])
+    ensures rows { (t : ℕ) → slice_get lives.new.items t
+        ≡ option_map (λ life. cond (list_any (λ u. nat_eq u t) fell.now) (ended_life number true life) life)
+        (slice_get lives.old.items t) }
+    ensures count { vec_len lives.new ≡ vec_len lives.old }
+{
+    for t in fell {
+        end_one(lives, number, *t, true);
+    }
+}
+
+/// Ends the row of the transaction that the event names.
+fn end_subject(lives: &mut Vec<Life>, number: usize, event: &Event, failed: bool)
+    ensures rows { (t : ℕ) → slice_get lives.new.items t
+        ≡ option_map (λ life. cond (concerns event.now t) (ended_life number failed life) life)
+        (slice_get lives.old.items t) }
+    ensures count { vec_len lives.new ≡ vec_len lives.old }
+{
+    match event {
+        Event::Start { .. } => (),
+        Event::Step(t) | Event::Commit(t) | Event::Quit(t) => end_one(lives, number, *t, failed),
+    }
+}
+
+/// Ends the row of a transaction.
+fn end_one(lives: &mut Vec<Life>, number: usize, ended: Tid, failed: bool)
+    ensures rows { (t : ℕ) → slice_get lives.new.items t
+        ≡ option_map (λ life. cond (nat_eq ended t) (ended_life number failed life) life)
+        (slice_get lives.old.items t) }
+    ensures count { vec_len lives.new ≡ vec_len lives.old }
+{
+    let at = ended.0 as usize;
+    if at < lives.len() {
+        lives[at].ended = Some(number);
+        lives[at].failed = failed;
+    }
+}

@@ -1,0 +1,86 @@
+//! What outcomes name, and that nothing is named twice.
+ghost use Rattle.std.specs.Prelude.{◌≡◌, ◌↔◌, ◌++◌, ℕ, ◌<◌, IsTrue, IfOk, OnOk, List};
+ghost use Rattle.std.specs.List.{All, flat_map};
+ghost use Rattle.sgt_model.specs.Walks.{Distinct};
+ghost use Rattle.sgt_audit.specs.AllOutcomes.{entries_of, transaction_at, transactions_of};
+
+use crate::outcome::Outcome;
+use sgt_model::{Entry, NoMemory, Tid};
+use std::alloc::Global;
+
+/// The entries that the outcomes name, in their order.
+///
+/// `NoMemory` where a growth was refused.
+pub fn entries_named<N>(alloc: Global, outcomes: &[Outcome<N>]) -> Result<Vec<u64>, NoMemory>
+    ensures { IfOk result (λ named. named.items ≡ flat_map entries_of outcomes.now) }
+{
+    let mut named = Vec::new(alloc);
+    for outcome in outcomes {
+        match outcome {
+            Outcome::Done(n) | Outcome::Asked(n) | Outcome::Refused(n) => named.push(*n)?,
+            Outcome::Gave(_) | Outcome::Left(_) | Outcome::Untaken | Outcome::NoMemory => (),
+        }
+    }
+    Ok(named)
+}
+
+/// The transactions that the outcomes name, in their order.
+///
+/// `NoMemory` where a growth was refused.
+pub fn transactions_named<N>(
+    alloc: Global,
+    history: &[Entry],
+    outcomes: &[Outcome<N>],
+) -> Result<Vec<u64>, NoMemory>
+    ensures { IfOk result (λ named. named.items ≡ flat_map (transactions_of history.now) outcomes.now) }
+{
+    let mut named = Vec::new(alloc);
+    for outcome in outcomes {
+        match outcome {
+            Outcome::Done(n) | Outcome::Asked(n) => add_named_at(&mut named, history, *n)?,
+            Outcome::Gave(attempts) => add_all(&mut named, attempts.as_slice())?,
+            Outcome::Refused(_) | Outcome::Left(_) | Outcome::Untaken | Outcome::NoMemory => (),
+        }
+    }
+    Ok(named)
+}
+
+/// Adds the transaction that entry n names, if it names one.
+fn add_named_at(named: &mut Vec<u64>, history: &[Entry], n: u64) -> Result<(), NoMemory>
+    ensures { OnOk result (named.new.items ≡ named.old.items ++ transaction_at history.now n) }
+{
+    if let Some(entry) = history.get(n as usize) {
+        if let Some(t) = entry.event.named() {
+            named.push(u64::from(t.0))?;
+        }
+    }
+    Ok(())
+}
+
+/// Adds these transactions.
+fn add_all(named: &mut Vec<u64>, tids: &[Tid]) -> Result<(), NoMemory>
+    ensures { OnOk result (named.new.items ≡ named.old.items ++ tids.now) }
+{
+    for t in tids {
+        named.push(u64::from(t.0))?;
+    }
+    Ok(())
+}
+
+/// Whether no number comes twice. It marks each in a table with an item for each number that there may be.
+///
+/// `NoMemory` where that table was refused.
+pub fn none_twice(alloc: Global, numbers: &[u64], bound: usize) -> Result<bool, NoMemory>
+    requires { All (λ n. n < bound) numbers.now }
+    ensures { IfOk result (λ once. IsTrue once ↔ Distinct numbers.now) }
+{
+    let mut seen = Vec::from_elem(alloc, false, bound)?;
+    for n in numbers {
+        let at = *n as usize;
+        if seen[at] {
+            return Ok(false);
+        }
+        seen[at] = true;
+    }
+    Ok(true)
+}

@@ -1,0 +1,81 @@
+//! Whether each outcome says of the history and its job what is so.
+ghost use Rattle.std.specs.Prelude.{◌≡◌, ◌↔◌, ℕ, IsTrue, Option, length, reverse};
+ghost use Rattle.std.specs.List.{AllZip};
+ghost use Rattle.sgt_audit.specs.Lives.{AreLives};
+ghost use Rattle.sgt_model.specs.Questions.{is_commit, is_ask};
+ghost use Rattle.sgt_audit.specs.Outcomes.{Ends, StartIsRefused, OutcomeStands};
+
+use crate::attempts::gave_up;
+use crate::events::{asks_for, names_one_of};
+use crate::lives::Life;
+use crate::outcome::Outcome;
+use sgt_dispatch::Job;
+use sgt_model::Entry;
+
+/// Whether there is one outcome for each job, and each says what is so.
+pub fn all_stand<N>(
+    history: &[Entry],
+    lives: &[Life],
+    jobs: &[Job],
+    outcomes: &[Outcome<N>],
+    tries: u32,
+) -> bool
+    requires { AreLives (reverse history.now) lives.now }
+    ensures { IsTrue result ↔ AllZip (OutcomeStands history.now tries) jobs.now outcomes.now }
+{
+    if jobs.len() != outcomes.len() {
+        return false;
+    }
+    for i in 0..jobs.len() {
+        if !stands(history, lives, &jobs[i], &outcomes[i], tries) {
+            return false;
+        }
+    }
+    true
+}
+
+/// Whether an outcome says what is so.
+fn stands<N>(history: &[Entry], lives: &[Life], job: &Job, outcome: &Outcome<N>, tries: u32) -> bool
+    requires { AreLives (reverse history.now) lives.now }
+    ensures { IsTrue result ↔ OutcomeStands history.now tries job.now outcome.now }
+{
+    match outcome {
+        Outcome::Done(n) => is_committed(history, lives, job, *n),
+        Outcome::Asked(n) => is_asked(history, lives, job, *n),
+        Outcome::Gave(attempts) => gave_up(lives, tries, job, attempts.as_slice()),
+        Outcome::Refused(n) => is_refused(history, job, *n),
+        Outcome::Left(_) | Outcome::Untaken | Outcome::NoMemory => true,
+    }
+}
+
+/// Whether entry n committed a transaction of the job.
+fn is_committed(history: &[Entry], lives: &[Life], job: &Job, n: u64) -> bool
+    requires { AreLives (reverse history.now) lives.now }
+    ensures { IsTrue result ↔ Ends is_commit history.now job.now n }
+{
+    match history.get(n as usize) {
+        Some(entry) => entry.reply.is_commit() && names_one_of(&entry.event, lives, job),
+        None => false,
+    }
+}
+
+/// Whether entry n aborted a transaction of the job that asked a code, at the step or at the commit.
+fn is_asked(history: &[Entry], lives: &[Life], job: &Job, n: u64) -> bool
+    requires { AreLives (reverse history.now) lives.now }
+    ensures { IsTrue result ↔ Ends is_ask history.now job.now n }
+{
+    match history.get(n as usize) {
+        Some(entry) => entry.reply.is_ask() && names_one_of(&entry.event, lives, job),
+        None => false,
+    }
+}
+
+/// Whether entry n refused a start with the job's procedure and arguments.
+fn is_refused(history: &[Entry], job: &Job, n: u64) -> bool
+    ensures { IsTrue result ↔ StartIsRefused history.now job.now n }
+{
+    match history.get(n as usize) {
+        Some(entry) => entry.reply.refuses_start() && asks_for(&entry.event, job),
+        None => false,
+    }
+}

@@ -1,7 +1,0 @@
-use Rattle.std.proofs.Common.{◌≡◌, take}
-use Rattle.std.specs.List.{flat_map}
-use Rattle.sgt_workers.specs.Reports.{entries_of}
-use Rattle.sgt_workers.proofs.names.entries_named.Given as goal
-
-abbrev pub invariant-loop-outcome : goal.invariant-loop-outcome
-invariant-loop-outcome g l = l.named.items ≡ flat_map entries_of (take l.outcome-index l.outcomes)

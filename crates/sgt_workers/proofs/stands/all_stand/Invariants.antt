@@ -1,8 +1,0 @@
-use Rattle.std.proofs.Common.{◌↔◌, drop}
-use Rattle.std.specs.List.{AllZip}
-use Rattle.sgt_workers.specs.Outcomes.{OutcomeStands}
-use Rattle.sgt_workers.proofs.stands.all_stand.Given as goal
-
-abbrev pub invariant-loop-i : goal.invariant-loop-i
-invariant-loop-i g l = AllZip (OutcomeStands l.history l.tries) (drop l.i l.jobs) (drop l.i l.outcomes) ↔ AllZip
-    (OutcomeStands l.history l.tries) l.jobs l.outcomes
