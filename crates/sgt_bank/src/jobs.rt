@@ -7,6 +7,7 @@ ghost use Rattle.sgt_stream.specs.Spelled.{spelled, end_of};
 ghost use Rattle.sgt_bank.specs.Jobs.{job_at, numbered};
 ghost use Rattle.sgt_bank.specs.Taking.{Asks, EndsWith};
 
+use json::Scratch;
 use sgt_dispatch::Job;
 use sgt_format::{JobCall, read_job};
 use sgt_stream::{Fault, Lines, Source, at_line};
@@ -16,6 +17,7 @@ use std::alloc::Global;
 /// The call that the next line asks for, if there is a line.
 fn next_call<S: Source>(
     alloc: Global,
+    scratch: &mut Scratch,
     lines: &mut Lines,
     source: &mut S,
 ) -> Result<Option<JobCall>, Fault>
@@ -39,7 +41,7 @@ fn next_call<S: Source>(
     if !lines.next_line(source)? {
         return Ok(None);
     }
-    let call = at_line(lines.number(), read_job(alloc, lines.line()))?;
+    let call = at_line(lines.number(), read_job(alloc, scratch, lines.line()))?;
     Ok(Some(call))
 }
 
@@ -70,8 +72,9 @@ pub(crate) fn read_jobs<S: Source>(
     ensures failed { result ≡ Err Fault.Reading →
         S.failures source.new ≡ S.failures source.old + 1 }
 {
+    let mut scratch = Scratch::new(alloc);
     let mut jobs = Vec::new(alloc);
-    while let Some(call) = next_call(alloc, lines, source)? {
+    while let Some(call) = next_call(alloc, &mut scratch, lines, source)? {
         if jobs.len() == MOST_JOBS {
             return Err(Fault::TooManyJobs);
         }

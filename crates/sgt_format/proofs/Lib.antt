@@ -3,3 +3,5 @@ pub mod Pieces
 pub mod Views
 pub mod Shapes
 pub mod ReadProcedures
+pub mod Numerals
+pub mod LineTokens

@@ -8,3 +8,4 @@ pub mod ScriptLines
 pub mod JobLines
 pub mod Procedures
 pub mod Openings
+pub mod LineTokens

@@ -5,7 +5,9 @@ ghost use Rattle.sgt_format.specs.EventLines.{tid, procedure, arguments, of_tran
 ghost use Rattle.sgt_format.specs.declared.errors.LineError.TheVariants.{NoMemory};
 
 use crate::errors::LineError;
+use crate::line_tokens::quick_event;
 use crate::tree::{items, read_tree};
+use json::Scratch;
 use serde_json::Value;
 use sgt_model::{Args, Event, Tid};
 use std::alloc::Global;
@@ -14,10 +16,14 @@ use std::alloc::Global;
 /// `["quit", t]`.
 ///
 /// A line that is no JSON is `NotJson`, a line of any other form `BadLine`. An argument may be any whole number of 64 bits.
-pub fn read_event(alloc: Global, line: &[u8]) -> Result<Event, LineError>
+/// The scratch is the reader's memory, to be kept from line to line.
+pub fn read_event(alloc: Global, scratch: &mut Scratch, line: &[u8]) -> Result<Event, LineError>
     ensures event { IfOk result (λ event. event_of line.now ≡ Ok event) }
     ensures error { IfErr result (λ error. error ≢ NoMemory → event_of line.now ≡ Err error) }
 {
+    if let Some(event) = quick_event(line, scratch)? {
+        return Ok(event);
+    }
     let tree = read_tree(alloc, line)?.ok_or(LineError::NotJson)?;
     event_in(&tree).ok_or(LineError::BadLine)
 }
@@ -38,7 +44,7 @@ pub(crate) fn event_from(trees: &[Value]) -> Option<Event>
     }
 }
 
-fn of_transaction(word: &str, t: Tid) -> Option<Event>
+pub(crate) fn of_transaction(word: &str, t: Tid) -> Option<Event>
     ensures { result ≡ of_transaction word.now t }
 {
     match word {
@@ -49,7 +55,7 @@ fn of_transaction(word: &str, t: Tid) -> Option<Event>
     }
 }
 
-fn of_procedure(word: &str, procedure: u16, args: Args) -> Option<Event>
+pub(crate) fn of_procedure(word: &str, procedure: u16, args: Args) -> Option<Event>
     ensures { result ≡ of_procedure word.now procedure args }
 {
     match word {

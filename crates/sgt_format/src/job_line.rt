@@ -6,7 +6,9 @@ ghost use Rattle.sgt_format.specs.declared.errors.LineError.TheVariants.{NoMemor
 use crate::call::JobCall;
 use crate::errors::LineError;
 use crate::event_line::{arguments, procedure};
+use crate::line_tokens::quick_job;
 use crate::tree::{items, read_tree};
+use json::Scratch;
 use serde_json::Value;
 use sgt_model::Args;
 use std::alloc::Global;
@@ -14,10 +16,14 @@ use std::alloc::Global;
 /// The job that a line asks for, without its end: `["job", procedure, [arg, ..]]`.
 ///
 /// A line that is no JSON is `NotJson`, a line of any other form `BadLine`. An argument may be any whole number of 64 bits.
-pub fn read_job(alloc: Global, line: &[u8]) -> Result<JobCall, LineError>
+/// The scratch is the reader's memory, to be kept from line to line.
+pub fn read_job(alloc: Global, scratch: &mut Scratch, line: &[u8]) -> Result<JobCall, LineError>
     ensures job { IfOk result (λ job. job_of line.now ≡ Ok job) }
     ensures error { IfErr result (λ error. error ≢ NoMemory → job_of line.now ≡ Err error) }
 {
+    if let Some(call) = quick_job(line, scratch)? {
+        return Ok(call);
+    }
     let tree = read_tree(alloc, line)?.ok_or(LineError::NotJson)?;
     job_in(&tree).ok_or(LineError::BadLine)
 }
@@ -31,7 +37,7 @@ fn job_in(tree: &Value) -> Option<JobCall>
     }
 }
 
-fn job_call(word: &str, procedure: u16, args: Args) -> Option<JobCall>
+pub(crate) fn job_call(word: &str, procedure: u16, args: Args) -> Option<JobCall>
     ensures { result ≡ job_call word.now procedure args }
 {
     match word {

@@ -8,7 +8,8 @@
 //!
 //! ```
 //! let opening = read_opening(alloc, 1, b"{\"limits\":[1,10],\"accounts\":[[1,101,500,1000]],\"procedures\":[]}")?;
-//! let event = read_event(alloc, b"[\"start\",0,[1]]")?;
+//! let mut scratch = Scratch::new(alloc); // of the crate `json`, kept from line to line
+//! let event = read_event(alloc, &mut scratch, b"[\"start\",0,[1]]")?;
 //! append_reply(&mut lines, &Reply::Started(Tid(0)))?; // adds "started 0\n"
 //! append_database(&mut lines, &opening.database)?; // adds "0/1 101\n1/101 500\n2/101 1000\n"
 //! ```
@@ -21,6 +22,7 @@ mod decimal_text;
 mod errors;
 mod event_line;
 mod job_line;
+mod line_tokens;
 mod opening;
 mod procedures;
 mod reply_text;

@@ -5,7 +5,9 @@ ghost use Rattle.sgt_format.specs.declared.errors.LineError.TheVariants.{NoMemor
 
 use crate::errors::LineError;
 use crate::event_line::event_from;
+use crate::line_tokens::quick_event;
 use crate::tree::{items, read_tree};
+use json::Scratch;
 use serde_json::Value;
 use sgt_model::Event;
 use std::alloc::Global;
@@ -22,10 +24,19 @@ pub enum ScriptLine {
 /// What a line of a script asks for, without its end: an event as [`crate::read_event`] reads it, or `["cut"]`.
 ///
 /// A line that is no JSON is `NotJson`, a line of any other form `BadLine`. An argument may be any whole number of 64 bits.
-pub fn read_script_line(alloc: Global, line: &[u8]) -> Result<ScriptLine, LineError>
+/// The scratch is the reader's memory, to be kept from line to line.
+#[tactic(auto, using(crate::proofs::LineTokens::asked_event))]
+pub fn read_script_line(
+    alloc: Global,
+    scratch: &mut Scratch,
+    line: &[u8],
+) -> Result<ScriptLine, LineError>
     ensures line { IfOk result (λ asked. script_line_of line.now ≡ Ok asked) }
     ensures error { IfErr result (λ error. error ≢ NoMemory → script_line_of line.now ≡ Err error) }
 {
+    if let Some(event) = quick_event(line, scratch)? {
+        return Ok(ScriptLine::Event(event));
+    }
     let tree = read_tree(alloc, line)?.ok_or(LineError::NotJson)?;
     script_line_in(&tree).ok_or(LineError::BadLine)
 }

@@ -12,6 +12,7 @@ ghost use Rattle.sgt_script.specs.Scripts.{Execution, RunOutput, Script, script_
 ghost use Rattle.sgt_script.specs.Answering.{AnswersAll, AnswersLine, AnswersRead, AnswersScriptRead, AnswersSome, BeginWith, NoLine, NoLineCame};
 ghost use Rattle.sgt_script.specs.Beginnings.{AppendsPart, Begins, IsStop, LineRuns, ScriptRuns, WritesAt};
 
+use json::Scratch;
 use sgt_engine::CutError;
 use sgt_format::{
     ScriptLine, append_cut, append_database, append_reply, append_still_live, read_script_line,
@@ -24,6 +25,7 @@ use std::alloc::Global;
 /// What the next line asks for, if there is one.
 fn next_script_line<S: Source>(
     alloc: Global,
+    scratch: &mut Scratch,
     lines: &mut Lines,
     source: &mut S,
 ) -> Result<Option<ScriptLine>, Fault>
@@ -57,7 +59,10 @@ fn next_script_line<S: Source>(
     if !lines.next_line(source)? {
         return Ok(None);
     }
-    let asked = at_line(lines.number(), read_script_line(alloc, lines.line()))?;
+    let asked = at_line(
+        lines.number(),
+        read_script_line(alloc, scratch, lines.line()),
+    )?;
     Ok(Some(asked))
 }
 
@@ -188,10 +193,11 @@ fn answer_lines<S: Source, T: Sink>(
     ensures write_failed { result ≡ Err Fault.Writing →
         T.failures sink.new ≡ T.failures sink.old + 1 }
 {
+    let mut scratch = Scratch::new(alloc);
     let mut gathered = Vec::new(alloc);
     loop {
         flush_before_read(lines, sink, &mut gathered)?;
-        match next_script_line(alloc, lines, source) {
+        match next_script_line(alloc, &mut scratch, lines, source) {
             Ok(Some(ScriptLine::Event(event))) => match answer_event(
                 &mut engine,
                 event,

@@ -1,6 +1,7 @@
 //! The engine over the simple bodies of its layers: the replies to a list of events, the database behind them, and limits that
 //! are refused.
 
+use json::Scratch;
 use serde_json::Value;
 use sgt_access::OneList;
 use sgt_engine::{Engine, Ran, run_list};
@@ -31,8 +32,9 @@ fn procedures(a: Global) -> Result<Vec<Checked>, Fail> {
 /// An engine of one live transaction, behind the events of these lines.
 fn ran(a: Global, lines: &str) -> Result<SimpleRan, Fail> {
     let mut events = Vec::new(a);
+    let mut scratch = Scratch::new(a);
     for line in lines.lines() {
-        events.push(read_event(a, line.as_bytes())?)?;
+        events.push(read_event(a, &mut scratch, line.as_bytes())?)?;
     }
     let limits = Limits {
         live: 1,

@@ -1,6 +1,7 @@
 //! Lines that are read and written: events, jobs, a reply, SmallBank's procedures, and openings that are refused.
 
 use crate::runs::run;
+use json::Scratch;
 use sgt_format::{JobCall, LineError, read_event, read_job, reply_line};
 use sgt_model::{Args, Event, Reply, Tid};
 use sgt_proc::Checked;
@@ -11,15 +12,18 @@ use std::test::Fail;
 #[test]
 fn events_are_read(rt: HostRuntime) {
     let a = rt.alloc();
-    let step = Event::Step(Tid(4_294_967_295));
-    assert!(rt; read_event(a, b"[\"step\",4294967295]") == Ok(step));
-    assert!(rt; read_event(a, b"[\"comm\\u0069t\",0]") == Ok(Event::Commit(Tid(0))));
-    assert!(rt; read_event(a, b"[\"quit\",7]") == Ok(Event::Quit(Tid(7))));
+    let mut scratch = Scratch::new(a);
+    let step = read_event(a, &mut scratch, b"[\"step\",4294967295]");
+    assert!(rt; step == Ok(Event::Step(Tid(4_294_967_295))));
+    let commit = read_event(a, &mut scratch, b"[\"comm\\u0069t\",0]");
+    assert!(rt; commit == Ok(Event::Commit(Tid(0))));
+    let quit = read_event(a, &mut scratch, b"[\"quit\",7]");
+    assert!(rt; quit == Ok(Event::Quit(Tid(7))));
 }
 
 /// Why a line gives no event.
 fn refusal(alloc: Global, line: &[u8]) -> Option<LineError> {
-    read_event(alloc, line).err()
+    read_event(alloc, &mut Scratch::new(alloc), line).err()
 }
 
 #[test]
@@ -29,6 +33,11 @@ fn lines_of_no_event_are_refused(rt: HostRuntime) {
 ["start",65536,[]]
 ["step",4294967296]
 ["step",0,0]
+["step",-0]
+["step",1e0]
+["start",0,[1],2]
+["start",0,[[1]]]
+[["step",0]]
 ["job",0,[]]"#;
     for line in table.lines() {
         assert!(rt;
@@ -52,14 +61,19 @@ fn a_start_is_read(rt: HostRuntime) {
     let args = Args::from_slice(&[1, -1_000_000_000_000_000]).expect(&rt, "few arguments");
     let procedure = 65535;
     let line = b"[\"start\", 65535, [1,-1000000000000000]]\r";
-    assert!(rt; read_event(rt.alloc(), line) == Ok(Event::Start { procedure, args }));
+    let event = read_event(rt.alloc(), &mut Scratch::new(rt.alloc()), line);
+    assert!(rt; event == Ok(Event::Start { procedure, args }));
 }
 
 #[test]
 fn a_job_is_read(rt: HostRuntime) {
     let args = Args::from_slice(&[101, -3]).expect(&rt, "few arguments");
     let procedure = 5;
-    let job = read_job(rt.alloc(), b"[\"job\",5,[101,-3]]");
+    let job = read_job(
+        rt.alloc(),
+        &mut Scratch::new(rt.alloc()),
+        b"[\"job\",5,[101,-3]]",
+    );
     assert!(rt; job == Ok(JobCall { procedure, args }));
 }
 
