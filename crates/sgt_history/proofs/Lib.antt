@@ -9,3 +9,4 @@ pub mod Witnesses
 pub mod Sources
 pub mod DirtyReads
 pub mod Rigorousness
+pub mod EdgeChains

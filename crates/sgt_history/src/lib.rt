@@ -15,12 +15,15 @@
 #![tactic(auto)]
 
 mod avoiding;
+mod chains;
 mod commit_order;
+mod cycles;
 mod graph;
 mod laws;
 mod operation;
 mod recoverable;
 mod rigorous;
+mod serial;
 mod strict;
 
 pub use avoiding::avoidance_violation;
@@ -33,4 +36,5 @@ pub use laws::{
 pub use operation::{Action, Operation, Violation};
 pub use recoverable::recoverable_violation;
 pub use rigorous::rigorous_violation;
+pub use serial::{Serializability, serial_order_or_cycle};
 pub use strict::strict_violation;
