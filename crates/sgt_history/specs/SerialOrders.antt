@@ -25,4 +25,4 @@ IsShown h (Cycle edges) = IsCycle h edges.items
 -- it is a serial order that is shown
 abbrev pub IsSerial : Serializability → Type 0
 IsSerial (Serial order) = Unit {0}
-IsSerial (Cycle edges) = Empty {0}
+IsSerial (Cycle edges) = ⊥
