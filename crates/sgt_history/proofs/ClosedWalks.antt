@@ -21,7 +21,7 @@ pub record GoesBack (es walk : List Edge) (first left : ℕ → Option ℕ) (t :
   pub chosen : IsSome (first t)
 
 -- nothing stands in the empty list
-nothing_there : {X : Type 0} (i : ℕ) (x : X) → slice_get [] i ≡ Some x → ⊥
+pub nothing_there : {X : Type 0} (i : ℕ) (x : X) → slice_get [] i ≡ Some x → ⊥
 nothing_there i x at = grind (arith, common_steps, at)
 
 -- before the first step
