@@ -10,3 +10,4 @@ pub mod Sources
 pub mod DirtyReads
 pub mod Rigorousness
 pub mod EdgeChains
+pub mod Waiting
