@@ -71,3 +71,8 @@ not_after_last end es j t k e (Some i) last less at mine = elim (cases_lt i k) [
   | inl after ↦ absurd (last.2 k e after less at mine)
   | inr most ↦ omega (arith, most)
 ]
+
+-- the last edge is lower than the place
+pub edge_lower : (end : End) (es : List Edge) (i t : ℕ) (o : Option ℕ) → IsLastEdge end es i t o → height o < height (Some i)
+edge_lower end es i t None last = omega arith
+edge_lower end es i t (Some n) last = omega (arith, last.0)

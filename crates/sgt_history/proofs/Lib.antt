@@ -12,3 +12,4 @@ pub mod Rigorousness
 pub mod EdgeChains
 pub mod ClosedWalks
 pub mod Orderings
+pub mod Waiting
