@@ -167,13 +167,14 @@ place_of (u ∷ order) t = cond (nat_eq u t) 0 (suc (place_of order t))
 -- there it stands
 place_there : (order : List ℕ) (i t : ℕ) → slice_get order i ≡ Some t → slice_get order (place_of order t) ≡ Some t
 place_there [] i t at = absurd (nothing_there i t at)
-place_there (u ∷ order) i t at = go (nat_eq u t) refl i at
+place_there (u ∷ order) i t at = go (nat_eq u t) refl i at (λ n there. place_there order n t there)
   where
     go : (b : Bool) → nat_eq u t ≡ b → (n : ℕ) → slice_get (u ∷ order) n ≡ Some t
+        → ((m : ℕ) → slice_get order m ≡ Some t → slice_get order (place_of order t) ≡ Some t)
         → slice_get (u ∷ order) (cond b 0 (suc (place_of order t))) ≡ Some t
-    go true is n there = ap Some (eqb-true u t is)
-    go false is zero there = absurd (grind (arith, common_steps, is, there))
-    go false is (suc n) there = place_there order n t there
+    go true is n there further = ap Some (eqb-true u t is)
+    go false is zero there further = absurd (grind (arith, common_steps, is, there))
+    go false is (suc n) there further = further n there
 
 -- when none is left the order is a serial one
 pub all_ordered : (h : List Operation) (es : List Edge) (order : List ℕ) (left : ℕ → Option ℕ) → ReachAll h es
