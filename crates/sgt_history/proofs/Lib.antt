@@ -11,3 +11,4 @@ pub mod DirtyReads
 pub mod Rigorousness
 pub mod EdgeChains
 pub mod Waiting
+pub mod Taking
