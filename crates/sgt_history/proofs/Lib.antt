@@ -11,4 +11,5 @@ pub mod DirtyReads
 pub mod Rigorousness
 pub mod EdgeChains
 pub mod Waiting
+pub mod FirstWaits
 pub mod Taking
