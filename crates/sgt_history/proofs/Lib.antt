@@ -13,3 +13,5 @@ pub mod EdgeChains
 pub mod ClosedWalks
 pub mod Orderings
 pub mod Waiting
+pub mod FirstWaits
+pub mod Taking

@@ -8,16 +8,25 @@ use Rattle.sgt_history.specs.declared.graph.Edge.{Edge}
 use Rattle.sgt_history.specs.declared.chains.End.TheVariants.{From}
 use Rattle.sgt_history.specs.declared.serial.Waits.{Waits}
 use Rattle.sgt_history.specs.Seen.{height}
-use Rattle.sgt_history.specs.Sorting.{IsLastEdge, IsTopEdge, KnowsWaits, AllReady, IsReady, AllWaitBut, WaitsForLeft}
+use Rattle.sgt_history.specs.Sorting.{IsLastEdge, IsTopEdge, KnowsWaits, IsReady, AllWait, AllWaitBut, WaitsForLeft}
 use Rattle.sgt_history.proofs.EdgeChains.{same_at, not_after_last}
 
--- each that waits for none stays ready, and the one that is looked at is
-pub all_ready_still : (w w' : Waits) (t : ℕ) → w'.left ≡ w.left
-    → ((u : ℕ) → u ≢ t → get nat_cmp w'.incoming.tops u ≡ get nat_cmp w.incoming.tops u)
-    → ((c u : ℕ) → get nat_cmp w.ready c ≡ Some u → get nat_cmp w'.ready c ≡ Some u) → AllReady w → IsReady w' t → AllReady w'
-all_ready_still w w' t left tops ready before here u = elim (cases_eq u t) [
+-- one that waits for none stays ready, after another is looked at
+pub ready_still : (w w' : Waits) (t u : ℕ) → w'.left ≡ w.left
+    → ((v : ℕ) → v ≢ t → get nat_cmp w'.incoming.tops v ≡ get nat_cmp w.incoming.tops v)
+    → ((c v : ℕ) → get nat_cmp w.ready c ≡ Some v → get nat_cmp w'.ready c ≡ Some v) → IsReady w u → IsReady w' t → IsReady w' u
+ready_still w w' t u left tops ready before here = elim (cases_eq u t) [
   | inl same ↦ subst (λ v. IsReady w' v) (sym same) here
-  | inr apart ↦ λ c is none. ready c u (before u c (ap (λ m. get nat_cmp m u) (sym left) ∙ is) (sym (tops u apart) ∙ none))
+  | inr apart ↦ λ c is none. ready c u (before c (ap (λ m. get nat_cmp m u) (sym left) ∙ is) (sym (tops u apart) ∙ none))
+]
+
+-- each that waits waits for one that is left, after another is looked at
+pub wait_still : (w w' : Waits) (t : ℕ) → w'.edges ≡ w.edges → w'.left ≡ w.left
+    → ((u : ℕ) → u ≢ t → get nat_cmp w'.incoming.tops u ≡ get nat_cmp w.incoming.tops u) → AllWait w → WaitsForLeft w' t → AllWait w'
+wait_still w w' t edges left tops before here u = elim (cases_eq u t) [
+  | inl same ↦ subst (λ v. WaitsForLeft w' v) (sym same) here
+  | inr apart ↦ λ k e top at. subst (λ m. IsSome (get nat_cmp m e.from)) (sym left)
+      (before u k e (sym (tops u apart) ∙ top) (subst (λ v. slice_get v.items k ≡ Some e) edges at))
 ]
 
 -- the edge by which one waits leads to it

@@ -8,7 +8,7 @@ use Rattle.sgt_history.specs.declared.chains.End.TheVariants.{From}
 use Rattle.sgt_history.specs.Seen.{height}
 use Rattle.sgt_history.specs.Sorting.{IsLastEdge, AllWaitBut}
 use Rattle.sgt_history.proofs.EdgeChains.{same_at, edge_lower}
-use Rattle.sgt_history.proofs.Waiting.{all_ready_still, wait_below}
+use Rattle.sgt_history.proofs.Waiting.{ready_still, wait_below}
 use Rattle.sgt_history.proofs.serial.Waits.release.Goals as goal
 
 -- the edge that is passed
@@ -42,8 +42,8 @@ last c =
 pub loop-next-preserved : goal.loop-next-preserved
 loop-next-preserved c = record {
   waits = c.in_ok-update.ensures.waits;
-  ready = all_ready_still c.loop-next.self c.update.new.self c.index.result.now.to c.in_ok-update.ensures.left
-      c.in_ok-update.ensures.others c.in_ok-update.ensures.others_ready c.loop-next.invariant.ready c.in_ok-update.ensures.ready;
+  ready = λ u. ready_still c.loop-next.self c.update.new.self c.index.result.now.to u c.in_ok-update.ensures.left
+      c.in_ok-update.ensures.others c.in_ok-update.ensures.others_ready (c.loop-next.invariant.ready u) c.in_ok-update.ensures.ready;
   wait = wait_below c.loop-next.self c.update.new.self c.args.transaction c.in-Some.edge c.index.result.now c.edge_before-next.result
       c.in_ok-update.ensures.edges c.in_ok-update.ensures.left c.in_ok-update.ensures.others c.loop-next.invariant.waits (at c)
       (subst (λ o. AllWaitBut c.loop-next.self c.args.transaction (height o)) c.in-Some.is c.loop-next.invariant.wait)
