@@ -51,12 +51,7 @@ impl Chains {
         };
         for place in 0..edges.len() {
             let transaction = end.of(edges[place]);
-            put_on_top(
-                &mut chains.tops,
-                &mut chains.below,
-                transaction,
-                place,
-            )?;
+            put_on_top(&mut chains.tops, &mut chains.below, transaction, place)?;
         }
         Ok(chains)
     }

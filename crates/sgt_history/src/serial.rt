@@ -35,7 +35,10 @@ pub enum Serializability {
 /// Bernstein, Hadzilacos and Goodman (1987), chapter 2: serialization graph, of the committed projection.
 ///
 /// It costs what `serialization_edges` costs, and for each of those edges and each commit some ten look-ups in a map.
-pub fn serial_order_or_cycle(alloc: Global, history: &[Operation]) -> Result<Serializability, NoMemory>
+pub fn serial_order_or_cycle(
+    alloc: Global,
+    history: &[Operation],
+) -> Result<Serializability, NoMemory>
     ensures shown { IfOk result (IsShown history.now) }
     ensures exact { IfOk result (λ shown. IsSerial shown ↔ IsSerializable history.now) }
 {
@@ -202,11 +205,6 @@ impl Waits {
         requires start { IsSome (get nat_cmp self.old.left start) }
         ensures { IfOk result (λ cycle. (h : List Operation) → ((k : ℕ) (e : Edge) → slice_get self.old.edges.items k ≡ Some e → IsEdgeBy h e) → IsCycle h cycle.items) }
     {
-        cycle_back(
-            alloc,
-            self.edges.as_slice(),
-            &mut self.incoming,
-            start,
-        )
+        cycle_back(alloc, self.edges.as_slice(), &mut self.incoming, start)
     }
 }

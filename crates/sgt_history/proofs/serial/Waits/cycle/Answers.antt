@@ -13,12 +13,12 @@ cycle_back-requires-clause-back c =
     let es = c.args.self.now.edges.items in
     let same : es ≡ c.as_slice.result.now = search rules in
     subst (λ l. LeadBack l (get nat_cmp c.args.self.now.incoming.tops)) same (λ u k is.
-        let top : IsTopEdge es (get nat_cmp c.args.self.now.left) u (Some k) =
-        subst (λ o. IsTopEdge es (get nat_cmp c.args.self.now.left) u o) is (c.requires.waits.tops_are u) in
-        (top.0.0, top.0.1, top.0.2, c.requires.all_wait _ (c.requires.wait u k top.0.0 is top.0.1)))
+    let top : IsTopEdge es (get nat_cmp c.args.self.now.left) u (Some k) =
+    subst (λ o. IsTopEdge es (get nat_cmp c.args.self.now.left) u o) is (c.requires.waits.tops_are u) in
+    (top.0.0, top.0.1, top.0.2, c.requires.all_wait _ (c.requires.wait u k top.0.0 is top.0.1)))
 
 pub returns : goal.returns
 returns c =
     let same : c.as_slice.result.now ≡ c.args.self.now.edges.items = search rules in
     subst (λ l. IfOk c.cycle_back.result (λ cycle. (h : List Operation)
-        → ((k : ℕ) (e : Edge) → slice_get l k ≡ Some e → IsEdgeBy h e) → IsCycle h cycle.items)) same c.cycle_back.ensures
+    → ((k : ℕ) (e : Edge) → slice_get l k ≡ Some e → IsEdgeBy h e) → IsCycle h cycle.items)) same c.cycle_back.ensures

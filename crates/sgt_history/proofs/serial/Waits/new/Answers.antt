@@ -12,19 +12,19 @@ use Rattle.sgt_history.proofs.serial.Waits.new.Goals as goal
 
 pub loop-place-init : goal.loop-place-init
 loop-place-init c =
-  let tops = get nat_cmp c.in_ok-incoming.incoming.tops in
-  let below = get nat_cmp c.in_ok-incoming.incoming.below in
-  let outs = get nat_cmp c.in_ok-outgoing.outgoing.tops in
-  let further = get nat_cmp c.in_ok-outgoing.outgoing.below in record {
-  waits = first_waits c.args.history.now c.args.edges.items (get nat_cmp c.args.commits) tops below outs further (get nat_cmp c.new.result)
-      c.requires.commits c.requires.edges
-      (subst (λ es. AreChains To es (length es) tops below) c.as_slice.ensures.value c.in_ok-incoming.ensures)
-      (subst (λ es. AreChains From es (length es) outs further) c.as_slice-2.ensures.value c.in_ok-outgoing.ensures) (search rules);
-  ready = λ u d is less. absurd (omega (arith, less));
-  wait = λ u k e top at. first_wait c.args.history.now (get nat_cmp c.args.commits) e c.requires.commits (c.requires.edges k e at);
-  edges_are = search rules;
-  left_are = search rules;
-}
+    let tops = get nat_cmp c.in_ok-incoming.incoming.tops in
+    let below = get nat_cmp c.in_ok-incoming.incoming.below in
+    let outs = get nat_cmp c.in_ok-outgoing.outgoing.tops in
+    let further = get nat_cmp c.in_ok-outgoing.outgoing.below in record {
+      waits = first_waits c.args.history.now c.args.edges.items (get nat_cmp c.args.commits) tops below outs further (get nat_cmp c.new.result)
+          c.requires.commits c.requires.edges
+          (subst (λ es. AreChains To es (length es) tops below) c.as_slice.ensures.value c.in_ok-incoming.ensures)
+          (subst (λ es. AreChains From es (length es) outs further) c.as_slice-2.ensures.value c.in_ok-outgoing.ensures) (search rules);
+      ready = λ u d is less. absurd (omega (arith, less));
+      wait = λ u k e top at. first_wait c.args.history.now (get nat_cmp c.args.commits) e c.requires.commits (c.requires.edges k e at);
+      edges_are = search rules;
+      left_are = search rules;
+    }
 
 pub loop-place-preserved : goal.loop-place-preserved
 loop-place-preserved c = elim c.if-eq.branch [
