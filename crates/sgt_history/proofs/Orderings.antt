@@ -1,5 +1,5 @@
 -- The committed transactions in an order that grows, and why it is a serial one when none is left.
-use Rattle.std.proofs.Common.{◌≡◌, ◌≢◌, ◌<◌, ◌≤◌, ◌+◌, ◌⊎◌, ◌↔◌, ℕ, zero, suc, Bool, true, false, cond, nat_eq, List, [], ◌∷◌, ◌++◌, Option, Some, None, IsSome, refl, sym, ap, ◌∙◌, subst, inl, inr, arith}
+use Rattle.std.proofs.Common.{◌≡◌, ◌≢◌, ◌<◌, ◌≤◌, ◌+◌, ℕ, zero, suc, Bool, true, false, cond, nat_eq, List, [], ◌∷◌, ◌++◌, Option, Some, None, refl, sym, ap, ◌∙◌, subst, inl, inr, arith}
 use Rattle.std.specs.Prelude.{length, slice_get}
 use Rattle.std.proofs.lemmas.Bool.{cases_eq, cases_lt, eqb-true}
 use Rattle.std.proofs.lemmas.Grind.{common_steps}
@@ -12,7 +12,7 @@ use Rattle.sgt_history.specs.Serializability.{Commits, IsEdge, IsEdgeBy, IsSeria
 use Rattle.sgt_history.specs.SerialOrders.{MayComeAt, TakesFirst}
 use Rattle.sgt_history.specs.Seen.{IsFirstCommit, AreFirstCommits}
 use Rattle.sgt_history.specs.Sorting.{IsFree, IsFirstFree}
-use Rattle.sgt_history.proofs.Edges.{pushed, kept_pushed, at_end, longer}
+use Rattle.sgt_history.proofs.Edges.{pushed, kept_pushed, at_end}
 use Rattle.sgt_history.proofs.ClosedWalks.{nothing_there}
 
 -- what is kept of the order so far, and of those that are left, with where they commit
@@ -166,6 +166,7 @@ place_of (u ∷ order) t = cond (nat_eq u t) 0 (suc (place_of order t))
 
 -- there it stands
 place_there : (order : List ℕ) (i t : ℕ) → slice_get order i ≡ Some t → slice_get order (place_of order t) ≡ Some t
+unfolding place_of
 place_there [] i t at = absurd (nothing_there i t at)
 place_there (u ∷ order) i t at = go (nat_eq u t) refl i at (λ n there. place_there order n t there)
   where
