@@ -24,21 +24,6 @@ pub record GoesBack (es walk : List Edge) (first left : ℕ → Option ℕ) (t :
 pub nothing_there : {X : Type 0} (i : ℕ) (x : X) → slice_get [] i ≡ Some x → ⊥
 nothing_there i x at = grind (arith, common_steps, at)
 
--- before the first step
-pub stands_still : (es : List Edge) (first : ℕ → Option ℕ) (t : ℕ) → IsSome (first t) → GoesBack es [] first first t
-stands_still es first t some = record {
-  among = λ i e at. absurd (nothing_there i e at);
-  walk_back = record {
-    follow = λ i e f at next. absurd (nothing_there i e at);
-    ends = λ i e at is. absurd (nothing_there i e at);
-    once = λ i j e f at other same. absurd (nothing_there i e at);
-  };
-  same = λ u k is. is;
-  gone = λ u is none. absurd (grind (arith, common_steps, is, none));
-  passed = λ i e at. absurd (nothing_there i e at);
-  chosen = some;
-}
-
 -- one edge further back
 pub goes_back : (es walk : List Edge) (first left left' : ℕ → Option ℕ) (t k : ℕ) (e : Edge) → LeadBack es first
     → GoesBack es walk first left t → left t ≡ Some k → slice_get es k ≡ Some e → left' t ≡ None
@@ -134,14 +119,6 @@ pub record Closes (walk cycle : List Edge) (t passed : ℕ) : Type 0 where
   pub turned : (i k : ℕ) (e : Edge) → slice_get cycle i ≡ Some e → i + k + 1 ≡ length walk → slice_get walk k ≡ Some e
   pub elsewhere : (k : ℕ) (e : Edge) → slice_get walk k ≡ Some e → length walk ≤ k + passed → e.to ≢ t
 
--- before the first one
-pub closes_none : (walk : List Edge) (t : ℕ) → Closes walk [] t 0
-closes_none walk t = record {
-  count = refl;
-  turned = λ i k e at is. absurd (nothing_there i e at);
-  elsewhere = λ k e at most. absurd (omega (arith, most, slice_get_within walk k e at));
-}
-
 -- the turned walk has one more
 turned_more : (walk cycle : List Edge) (t p k : ℕ) (new : Edge) → Closes walk cycle t p → p + k + 1 ≡ length walk
     → slice_get walk k ≡ Some new → (i n : ℕ) (e : Edge) → slice_get (cycle ++ new ∷ []) i ≡ Some e → i + n + 1 ≡ length walk
@@ -165,11 +142,6 @@ closes_more walk cycle t p k new closes is at apart = record {
     | inr other ↦ closes.elsewhere n e there (omega (arith, most, other, is))
   ];
 }
-
--- not all lead elsewhere
-pub closes_before_all : (walk cycle : List Edge) (t p : ℕ) → Closes walk cycle t p → Passes walk t → length walk ≤ p → ⊥
-closes_before_all walk cycle t p closes met all =
-    closes.elsewhere met.0 met.1 met.2 (omega (arith, all)) met.3
 
 -- one more, which leads to t, closes the cycle
 pub closes_cycle : (walk cycle : List Edge) (t p k : ℕ) (new : Edge) → IsWalkBack walk t → Closes walk cycle t p
@@ -207,7 +179,7 @@ closes_cycle walk cycle t p k new back closes is at meets h are = record {
     closing e f first last =
         let place : length (cycle ++ new ∷ []) - 1 ≡ length cycle = omega (arith, longer cycle new) in
         let one : new ≡ f = same_at (cycle ++ new ∷ []) (length cycle) new f (at_end cycle new)
-            (subst (λ n. slice_get (cycle ++ new ∷ []) n ≡ Some f) place last) in
+        (subst (λ n. slice_get (cycle ++ new ∷ []) n ≡ Some f) place last) in
         ap (λ (g : Edge). g.to) (sym one) ∙ meets ∙ sym (begins e first)
 
     -- the edges of the turned walk without the last
@@ -227,9 +199,12 @@ closes_cycle walk cycle t p k new back closes is at meets h are = record {
         → (d : Edge) × (slice_get cycle (i - 1) ≡ Some d) × (d.to ≡ e.from)
     before i e at some =
         let d = there cycle (i - 1) (omega (arith, within i e at, some, closes.count)) in
-        let place : i ≡ i - 1 + 1 = omega (arith, some) in
-        (d.0, d.1, follow (i - 1) d.0 e (kept_pushed cycle new d.0 (i - 1) d.1)
-        (subst (λ n. slice_get (cycle ++ new ∷ []) n ≡ Some e) place at))
+        let place : i ≡ i - 1 + 1 = omega (arith, some) in (
+          d.0,
+          d.1,
+          follow (i - 1) d.0 e (kept_pushed cycle new d.0 (i - 1) d.1)
+              (subst (λ n. slice_get (cycle ++ new ∷ []) n ≡ Some e) place at),
+        )
 
     -- the first and another do not begin at one transaction
     apart : (i j : ℕ) (e f : Edge) → slice_get (cycle ++ new ∷ []) i ≡ Some e → slice_get (cycle ++ new ∷ []) j ≡ Some f → i ≡ 0
@@ -253,8 +228,8 @@ closes_cycle walk cycle t p k new back closes is at meets h are = record {
             let less : i - 1 < p = omega (arith, slice_get_within cycle (i - 1) c.0 c.1, closes.count) in
             let less' : j - 1 < p = omega (arith, slice_get_within cycle (j - 1) d.0 d.1, closes.count) in
             let one = back.once (length walk - 1 - (i - 1)) (length walk - 1 - (j - 1)) c.0 d.0
-                (closes.turned (i - 1) _ c.0 c.1 (omega (arith, less, is)))
-                (closes.turned (j - 1) _ d.0 d.1 (omega (arith, less', is))) (c.2 ∙ same ∙ sym d.2) in
+            (closes.turned (i - 1) _ c.0 c.1 (omega (arith, less, is)))
+            (closes.turned (j - 1) _ d.0 d.1 (omega (arith, less', is))) (c.2 ∙ same ∙ sym d.2) in
             omega (arith, one, less, less', is, some, others)
       ]
     ]

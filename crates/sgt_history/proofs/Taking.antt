@@ -72,10 +72,13 @@ first_free w t c waits ready wait is least = record {
   commit = c;
   commits = (waits.ready_are c t is).0;
   free = subst (λ o. IsTopEdge w.edges.items (get nat_cmp w.left) t o) (waits.ready_are c t is).1 (waits.tops_are t);
-  first = λ u d left free. le_from_not_gt c d (least d (subst (λ o. IsSome o) (sym (ready u d left (none u (get nat_cmp w.incoming.tops u) refl free))) refl));
+  first = λ u d left free.
+      let waits_for_none = none u (get nat_cmp w.incoming.tops u) refl free in
+      le_from_not_gt c d (least d (subst (λ o. IsSome o) (sym (ready u d left waits_for_none)) refl));
 }
   where
-    none : (u : ℕ) (o : Option ℕ) → get nat_cmp w.incoming.tops u ≡ o → IsFree w.edges.items (get nat_cmp w.left) u → get nat_cmp w.incoming.tops u ≡ None
+    none : (u : ℕ) (o : Option ℕ) → get nat_cmp w.incoming.tops u ≡ o → IsFree w.edges.items (get nat_cmp w.left) u
+        → get nat_cmp w.incoming.tops u ≡ None
     none u None top free = top
     none u (Some k) top free =
         let here = subst (λ o. IsTopEdge w.edges.items (get nat_cmp w.left) u o) top (waits.tops_are u) in

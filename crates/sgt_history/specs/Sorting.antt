@@ -2,10 +2,12 @@
 use Rattle.std.specs.Prelude.{◌≡◌, ◌≢◌, ◌<◌, ◌≤◌, ◌⊎◌, ◌+◌, ℕ, List, Option, Some, None, IsSome, length, slice_get}
 use Rattle.std.specs.BTreeMap.{get}
 use Rattle.std.specs.Ordering.{nat_cmp}
+use Rattle.sgt_history.specs.declared.operation.Operation.{Operation}
 use Rattle.sgt_history.specs.declared.graph.Edge.{Edge}
 use Rattle.sgt_history.specs.declared.chains.End.{End}
 use Rattle.sgt_history.specs.declared.chains.End.TheVariants.{From, To}
 use Rattle.sgt_history.specs.declared.serial.Waits.{Waits}
+use Rattle.sgt_history.specs.Serializability.{IsCycle, IsEdgeBy}
 
 -- the transaction at an end of an edge
 abbrev pub end_of : End → Edge → ℕ
@@ -61,10 +63,18 @@ WaitsForLeft w u = (k : ℕ) (e : Edge) → get nat_cmp w.incoming.tops u ≡ So
 abbrev pub AllWait : Waits → Type 0
 AllWait w = (u : ℕ) → WaitsForLeft w u
 
--- or by an edge before place m for t
+-- each that is left waits
+abbrev pub AllLeftWait : Waits → Type 0
+AllLeftWait w = (u : ℕ) → IsSome (get nat_cmp w.left u) → IsSome (get nat_cmp w.incoming.tops u)
+
+-- each waits, if at all, for one that is left, or for t by an edge before place m
 abbrev pub AllWaitBut : Waits → ℕ → ℕ → Type 0
 AllWaitBut w t m = (u k : ℕ) (e : Edge) → get nat_cmp w.incoming.tops u ≡ Some k → slice_get w.edges.items k ≡ Some e
     → IsSome (get nat_cmp w.left e.from) ⊎ ((e.from ≡ t) × (k < m))
+
+-- the same of all but t
+abbrev pub AreSameBut : ℕ → (ℕ → Option ℕ) → (ℕ → Option ℕ) → Type 0
+AreSameBut t old new = (u : ℕ) → u ≢ t → new u ≡ old u
 
 -- no edge leads to u from one that is left
 abbrev pub IsFree : List Edge → (ℕ → Option ℕ) → ℕ → Type 0
@@ -94,3 +104,7 @@ pub record IsWalkBack (walk : List Edge) (t : ℕ) : Type 0 where
   pub follow : (i : ℕ) (e f : Edge) → slice_get walk i ≡ Some e → slice_get walk (i + 1) ≡ Some f → e.from ≡ f.to
   pub ends : (i : ℕ) (e : Edge) → slice_get walk i ≡ Some e → length walk ≡ i + 1 → e.from ≡ t
   pub once : (i j : ℕ) (e f : Edge) → slice_get walk i ≡ Some e → slice_get walk j ≡ Some f → e.to ≡ f.to → i ≡ j
+
+-- a cycle of each history of whose serialization graph the edges are
+abbrev pub IsCycleOf : List Edge → List Edge → Type 0
+IsCycleOf es cycle = (h : List Operation) → ((k : ℕ) (e : Edge) → slice_get es k ≡ Some e → IsEdgeBy h e) → IsCycle h cycle

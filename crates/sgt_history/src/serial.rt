@@ -1,13 +1,12 @@
 //! Whether a history is serializable, with a serial order or a cycle that shows it.
-ghost use Rattle.std.specs.Prelude.{◌≡◌, ◌≢◌, ◌<◌, ◌↔◌, ℕ, List, Some, None, slice_get, length, IsSome, IfSome, IfOk, OnOk, IsNone};
+ghost use Rattle.std.specs.Prelude.{◌≡◌, ◌<◌, ◌↔◌, ℕ, List, Some, None, slice_get, length, IsSome, IfSome, IfOk, OnOk, IsNone};
 ghost use Rattle.std.specs.BTreeMap.{get, btree_map_len};
 ghost use Rattle.std.specs.Ordering.{nat_cmp};
-ghost use Rattle.sgt_history.specs.declared.operation.Operation.{Operation};
 ghost use Rattle.sgt_history.specs.declared.graph.Edge.{Edge};
-ghost use Rattle.sgt_history.specs.Serializability.{IsCycle, IsEdgeBy, IsSerializable};
+ghost use Rattle.sgt_history.specs.Serializability.{IsEdgeBy, IsSerializable};
 ghost use Rattle.sgt_history.specs.Seen.{AreFirstCommits};
 ghost use Rattle.sgt_history.specs.SerialOrders.{IsShown, IsSerial};
-ghost use Rattle.sgt_history.specs.Sorting.{KnowsWaits, AllReady, AllWait, AllWaitBut, IsReady, WaitsForLeft, IsTopEdge, IsFirstFree};
+ghost use Rattle.sgt_history.specs.Sorting.{KnowsWaits, AllReady, AllWait, AllWaitBut, AllLeftWait, IsReady, WaitsForLeft, IsTopEdge, IsFirstFree, AreSameBut, IsCycleOf};
 
 use crate::chains::{Chains, End};
 use crate::commit_order::first_commits;
@@ -116,10 +115,10 @@ impl Waits {
         ensures edges { OnOk result (self.new.edges ≡ self.old.edges) }
         ensures first { IfOk result (λ taken. IfSome taken (IsFirstFree self.old.edges.items (get nat_cmp self.old.left))) }
         ensures taken { IfOk result (λ taken. IfSome taken (λ t. get nat_cmp self.new.left t ≡ None)) }
-        ensures others { IfOk result (λ taken. IfSome taken (λ t. (u : ℕ) → u ≢ t → get nat_cmp self.new.left u ≡ get nat_cmp self.old.left u)) }
+        ensures others { IfOk result (λ taken. IfSome taken (λ t. AreSameBut t (get nat_cmp self.old.left) (get nat_cmp self.new.left))) }
         ensures fewer { IfOk result (λ taken. IfSome taken (λ _. btree_map_len self.new.left < btree_map_len self.old.left)) }
         ensures none { IfOk result (λ taken. IsNone taken → self.new.left ≡ self.old.left) }
-        ensures all_wait { IfOk result (λ taken. IsNone taken → (u : ℕ) → IsSome (get nat_cmp self.new.left u) → IsSome (get nat_cmp self.new.incoming.tops u)) }
+        ensures all_wait { IfOk result (λ taken. IsNone taken → AllLeftWait self.new) }
     {
         let Some((_, transaction)) = self.ready.pop_first() else {
             return Ok(None);
@@ -155,7 +154,7 @@ impl Waits {
         ensures waits { OnOk result (KnowsWaits self.new) }
         ensures edges { OnOk result (self.new.edges ≡ self.old.edges) }
         ensures left { OnOk result (self.new.left ≡ self.old.left) }
-        ensures others { OnOk result ((u : ℕ) → u ≢ transaction → get nat_cmp self.new.incoming.tops u ≡ get nat_cmp self.old.incoming.tops u) }
+        ensures others { OnOk result (AreSameBut transaction (get nat_cmp self.old.incoming.tops) (get nat_cmp self.new.incoming.tops)) }
         ensures others_ready { OnOk result ((c u : ℕ) → get nat_cmp self.old.ready c ≡ Some u → get nat_cmp self.new.ready c ≡ Some u) }
         ensures ready { OnOk result (IsReady self.new transaction) }
         ensures wait { OnOk result (WaitsForLeft self.new transaction) }
@@ -201,9 +200,9 @@ impl Waits {
     fn cycle(&mut self, alloc: Global, start: u32) -> Result<Vec<Edge>, NoMemory>
         requires waits { KnowsWaits self.old }
         requires wait { AllWait self.old }
-        requires all_wait { (u : ℕ) → IsSome (get nat_cmp self.old.left u) → IsSome (get nat_cmp self.old.incoming.tops u) }
+        requires all_wait { AllLeftWait self.old }
         requires start { IsSome (get nat_cmp self.old.left start) }
-        ensures { IfOk result (λ cycle. (h : List Operation) → ((k : ℕ) (e : Edge) → slice_get self.old.edges.items k ≡ Some e → IsEdgeBy h e) → IsCycle h cycle.items) }
+        ensures { IfOk result (λ cycle. IsCycleOf self.old.edges.items cycle.items) }
     {
         cycle_back(alloc, self.edges.as_slice(), &mut self.incoming, start)
     }

@@ -16,7 +16,8 @@ loop-place-init c =
     let below = get nat_cmp c.in_ok-incoming.incoming.below in
     let outs = get nat_cmp c.in_ok-outgoing.outgoing.tops in
     let further = get nat_cmp c.in_ok-outgoing.outgoing.below in record {
-      waits = first_waits c.args.history.now c.args.edges.items (get nat_cmp c.args.commits) tops below outs further (get nat_cmp c.new.result)
+      waits = first_waits c.args.history.now c.args.edges.items (get nat_cmp c.args.commits) tops below outs further
+          (get nat_cmp c.new.result)
           c.requires.commits c.requires.edges
           (subst (λ es. AreChains To es (length es) tops below) c.as_slice.ensures.value c.in_ok-incoming.ensures)
           (subst (λ es. AreChains From es (length es) outs further) c.as_slice-2.ensures.value c.in_ok-outgoing.ensures) (search rules);

@@ -31,5 +31,5 @@ release-requires-clause-wait c u k e top at = elim (cases_eq e.from c.in-Some.tr
 ]
 
 pub returns-clause-first : goal.returns-clause-first
-returns-clause-first c = first_free c.args.self.now c.in-Some.transaction c.in-Some.field-0-0 c.requires.waits c.requires.ready c.requires.wait
-    (search rules) c.in-Some.ensures.least
+returns-clause-first c = first_free c.args.self.now c.in-Some.transaction c.in-Some.field-0-0 c.requires.waits c.requires.ready
+    c.requires.wait (search rules) c.in-Some.ensures.least
