@@ -42,6 +42,7 @@ pub record AreWaits (es : List Edge) (left tops below outs further ready : ℕ �
   pub further_are : (k : ℕ) (e : Edge) → slice_get es k ≡ Some e → IsLastEdge From es k e.from (further k)
   pub ready_are : (c u : ℕ) → ready c ≡ Some u → (left u ≡ Some c) × (tops u ≡ None)
 
+-- what is kept, of its maps
 abbrev pub KnowsWaits : Waits → Type 0
 KnowsWaits w = AreWaits w.edges.items (get nat_cmp w.left) (get nat_cmp w.incoming.tops) (get nat_cmp w.incoming.below)
     (get nat_cmp w.outgoing.tops) (get nat_cmp w.outgoing.below) (get nat_cmp w.ready)
@@ -53,6 +54,10 @@ IsReady w u = (c : ℕ) → get nat_cmp w.left u ≡ Some c → get nat_cmp w.in
 -- each that is left and waits for none is among those
 abbrev pub AllReady : Waits → Type 0
 AllReady w = (u : ℕ) → IsReady w u
+
+-- the edge leads from one that is left
+abbrev pub LeadsFromLeft : Waits → ℕ → Type 0
+LeadsFromLeft w k = (e : Edge) → slice_get w.edges.items k ≡ Some e → IsSome (get nat_cmp w.left e.from)
 
 -- the transaction waits, if at all, for one that is left
 abbrev pub WaitsForLeft : Waits → ℕ → Type 0

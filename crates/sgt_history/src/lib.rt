@@ -11,6 +11,7 @@
 //!     Operation { transaction: 1, action: Action::Commit },
 //! ];
 //! let violation = strict_violation(alloc, &history)?;     // Some(Violation { earlier: 0, later: 1 })
+//! let shown = serial_order_or_cycle(alloc, &history)?;    // Serial: 1 alone, since 2 does not commit
 //! ```
 #![tactic(auto)]
 

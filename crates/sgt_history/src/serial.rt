@@ -6,7 +6,7 @@ ghost use Rattle.sgt_history.specs.declared.graph.Edge.{Edge};
 ghost use Rattle.sgt_history.specs.Serializability.{IsEdgeBy, IsSerializable};
 ghost use Rattle.sgt_history.specs.Seen.{AreFirstCommits};
 ghost use Rattle.sgt_history.specs.SerialOrders.{IsShown, IsSerial};
-ghost use Rattle.sgt_history.specs.Sorting.{KnowsWaits, AllReady, AllWait, AllWaitBut, AllLeftWait, IsReady, WaitsForLeft, IsTopEdge, IsFirstFree, AreSameBut, IsCycleOf};
+ghost use Rattle.sgt_history.specs.Sorting.{KnowsWaits, AllReady, AllWait, AllWaitBut, AllLeftWait, IsReady, WaitsForLeft, LeadsFromLeft, IsTopEdge, IsFirstFree, AreSameBut, IsCycleOf};
 
 use crate::chains::{Chains, End};
 use crate::commit_order::first_commits;
@@ -33,7 +33,7 @@ pub enum Serializability {
 ///
 /// Bernstein, Hadzilacos and Goodman (1987), chapter 2: serialization graph, of the committed projection.
 ///
-/// It costs what `serialization_edges` costs, and for each of those edges and each commit some ten look-ups in a map.
+/// It costs what `serialization_edges` costs, and for each of those edges and each commit fifteen look-ups in a map at most.
 pub fn serial_order_or_cycle(
     alloc: Global,
     history: &[Operation],
@@ -174,7 +174,7 @@ impl Waits {
     fn awaited(&self, transaction: u32) -> Option<usize>
         requires { KnowsWaits self.now }
         ensures top { IsTopEdge self.now.edges.items (get nat_cmp self.now.left) transaction result }
-        ensures left { IfSome result (λ k. (e : Edge) → slice_get self.now.edges.items k ≡ Some e → IsSome (get nat_cmp self.now.left e.from)) }
+        ensures left { IfSome result (LeadsFromLeft self.now) }
         ensures stays { get nat_cmp self.now.incoming.tops transaction ≡ None → result ≡ None }
     {
         let mut top = self.incoming.last_edge(transaction);

@@ -17,7 +17,7 @@ pub release-requires-clause-waits : goal.release-requires-clause-waits
 release-requires-clause-waits c = waits_without c.args.self.now.edges.items (get nat_cmp c.args.self.now.left)
     (get nat_cmp c.args.self.now.incoming.tops) (get nat_cmp c.args.self.now.incoming.below) (get nat_cmp c.args.self.now.outgoing.tops)
     (get nat_cmp c.args.self.now.outgoing.below) (get nat_cmp c.args.self.now.ready) (get nat_cmp c.remove.new.self)
-    (get nat_cmp c.pop_first.new.self) c.in-Some.transaction c.in-Some.field-0-0 c.requires.waits (search rules)
+    _ c.in-Some.transaction c.in-Some.field-0-0 c.requires.waits (search rules)
     (grind (arith, common_steps, c.remove.ensures.updates)) (λ u apart. grind (arith, common_steps, apart, c.remove.ensures.updates))
     (grind (arith, common_steps, c.in-Some.ensures.updates)) (λ d apart. grind (arith, common_steps, apart, c.in-Some.ensures.updates))
 
