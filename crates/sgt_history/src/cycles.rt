@@ -5,7 +5,7 @@ ghost use Rattle.std.specs.Ordering.{nat_cmp};
 ghost use Rattle.sgt_history.specs.declared.operation.Operation.{Operation};
 ghost use Rattle.sgt_history.specs.declared.graph.Edge.{Edge};
 ghost use Rattle.sgt_history.specs.Serializability.{IsCycle, IsEdgeBy};
-ghost use Rattle.sgt_history.specs.Sorting.{LeadBack, IsWalkBack, Passes, AreAmong};
+ghost use Rattle.sgt_history.specs.Sorting.{LeadBack, IsWalkBack, Passes, AreAmong, IsCycleOf};
 
 use crate::chains::Chains;
 use crate::graph::Edge;
@@ -24,7 +24,7 @@ pub fn cycle_back(
 ) -> Result<Vec<Edge>, NoMemory>
     requires back { LeadBack edges.now (get nat_cmp incoming.old.tops) }
     requires start { IsSome (get nat_cmp incoming.old.tops start) }
-    ensures { IfOk result (λ cycle. (h : List Operation) → ((k : ℕ) (e : Edge) → slice_get edges.now k ≡ Some e → IsEdgeBy h e) → IsCycle h cycle.items) }
+    ensures { IfOk result (λ cycle. IsCycleOf edges.now cycle.items) }
 {
     let (walk, met) = walk_back(alloc, edges, incoming, start)?;
     closed_walk(alloc, walk.as_slice(), met)
@@ -57,7 +57,7 @@ fn walk_back(
 fn closed_walk(alloc: Global, walk: &[Edge], met: u32) -> Result<Vec<Edge>, NoMemory>
     requires walk { IsWalkBack walk.now met }
     requires met { Passes walk.now met }
-    ensures { IfOk result (λ cycle. (h : List Operation) → ((k : ℕ) (e : Edge) → slice_get walk.now k ≡ Some e → IsEdgeBy h e) → IsCycle h cycle.items) }
+    ensures { IfOk result (λ cycle. IsCycleOf walk.now cycle.items) }
 {
     let mut cycle = Vec::new(alloc);
     for passed in 0..walk.len() {
