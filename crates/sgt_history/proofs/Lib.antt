@@ -9,3 +9,9 @@ pub mod Witnesses
 pub mod Sources
 pub mod DirtyReads
 pub mod Rigorousness
+pub mod EdgeChains
+pub mod ClosedWalks
+pub mod Orderings
+pub mod Waiting
+pub mod FirstWaits
+pub mod Taking

@@ -137,7 +137,11 @@ impl Sources {
 }
 
 /// Sets the top of an item.
-fn set_top(tops: &mut BTreeMap<u32, usize>, item: u32, top: Option<usize>) -> Result<(), NoMemory>
+pub fn set_top(
+    tops: &mut BTreeMap<u32, usize>,
+    item: u32,
+    top: Option<usize>,
+) -> Result<(), NoMemory>
     ensures at { OnOk result (get nat_cmp tops.new item ≡ top) }
     ensures others { OnOk result ((x : ℕ) → x ≢ item → get nat_cmp tops.new x ≡ get nat_cmp tops.old x) }
 {

@@ -11,16 +11,20 @@
 //!     Operation { transaction: 1, action: Action::Commit },
 //! ];
 //! let violation = strict_violation(alloc, &history)?;     // Some(Violation { earlier: 0, later: 1 })
+//! let shown = serial_order_or_cycle(alloc, &history)?;    // Serial: 1 alone, since 2 does not commit
 //! ```
 #![tactic(auto)]
 
 mod avoiding;
+mod chains;
 mod commit_order;
+mod cycles;
 mod graph;
 mod laws;
 mod operation;
 mod recoverable;
 mod rigorous;
+mod serial;
 mod strict;
 
 pub use avoiding::avoidance_violation;
@@ -33,4 +37,5 @@ pub use laws::{
 pub use operation::{Action, Operation, Violation};
 pub use recoverable::recoverable_violation;
 pub use rigorous::rigorous_violation;
+pub use serial::{Serializability, serial_order_or_cycle};
 pub use strict::strict_violation;

@@ -1,0 +1,91 @@
+//! Edges by their ends.
+ghost use Rattle.std.specs.Prelude.{◌≡◌, ◌≢◌, ◌<◌, ℕ, None, length, IfOk, OnOk, IfSome};
+ghost use Rattle.std.specs.BTreeMap.{get, btree_map_len};
+ghost use Rattle.std.specs.Ordering.{nat_cmp};
+ghost use Rattle.sgt_history.specs.Sorting.{end_of, AreChains};
+
+use crate::avoiding::{put_on_top, set_top};
+use crate::graph::Edge;
+use sgt_model::NoMemory;
+use std::alloc::Global;
+use std::collections::BTreeMap;
+
+/// An end of an edge.
+#[derive(Clone, Copy, Debug, PartialEq, Eq)]
+pub enum End {
+    /// The transaction that it leads from.
+    From,
+    /// The transaction that it leads to.
+    To,
+}
+
+impl End {
+    /// The transaction at this end of the edge.
+    fn of(&self, edge: Edge) -> u32
+        ensures { result ≡ end_of self.now edge }
+    {
+        match self {
+            End::From => edge.from,
+            End::To => edge.to,
+        }
+    }
+}
+
+/// Edges by the transaction at one of their ends, of each from the last to the first. An edge is its place in a list.
+#[derive(Drop)]
+pub struct Chains {
+    /// The edge that a transaction's begin with.
+    tops: BTreeMap<u32, usize>,
+    /// For an edge the next earlier one at the same transaction.
+    below: BTreeMap<usize, usize>,
+}
+
+impl Chains {
+    /// All edges, by one of their ends.
+    pub fn by_end(alloc: Global, edges: &[Edge], end: End) -> Result<Self, NoMemory>
+        ensures { IfOk result (λ c. AreChains end edges.now (length edges.now) (get nat_cmp c.tops) (get nat_cmp c.below)) }
+    {
+        let mut chains = Chains {
+            tops: BTreeMap::new(alloc),
+            below: BTreeMap::new(alloc),
+        };
+        for place in 0..edges.len() {
+            let transaction = end.of(edges[place]);
+            put_on_top(&mut chains.tops, &mut chains.below, transaction, place)?;
+        }
+        Ok(chains)
+    }
+
+    /// The edge that the transaction's begin with.
+    pub fn last_edge(&self, transaction: u32) -> Option<usize>
+        ensures { result ≡ get nat_cmp self.now.tops transaction }
+    {
+        self.tops.get(&transaction).copied()
+    }
+
+    /// The next earlier edge at the same transaction.
+    pub fn edge_before(&self, edge: usize) -> Option<usize>
+        ensures { result ≡ get nat_cmp self.now.below edge }
+    {
+        self.below.get(&edge).copied()
+    }
+
+    /// Lets the transaction's begin with the edge.
+    pub fn begin_with(&mut self, transaction: u32, edge: Option<usize>) -> Result<(), NoMemory>
+        ensures at { OnOk result (get nat_cmp self.new.tops transaction ≡ edge) }
+        ensures others { OnOk result ((u : ℕ) → u ≢ transaction → get nat_cmp self.new.tops u ≡ get nat_cmp self.old.tops u) }
+        ensures below { OnOk result (self.new.below ≡ self.old.below) }
+    {
+        set_top(&mut self.tops, transaction, edge)
+    }
+
+    /// Takes out the transaction's edges, and tells with which they began.
+    pub fn take(&mut self, transaction: u32) -> Option<usize>
+        ensures edge { result ≡ get nat_cmp self.old.tops transaction }
+        ensures at { get nat_cmp self.new.tops transaction ≡ None }
+        ensures others { (u : ℕ) → u ≢ transaction → get nat_cmp self.new.tops u ≡ get nat_cmp self.old.tops u }
+        ensures fewer { IfSome result (λ _. btree_map_len self.new.tops < btree_map_len self.old.tops) }
+    {
+        self.tops.remove(&transaction)
+    }
+}

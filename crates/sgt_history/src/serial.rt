@@ -1,0 +1,209 @@
+//! Whether a history is serializable, with a serial order or a cycle that shows it.
+ghost use Rattle.std.specs.Prelude.{◌≡◌, ◌<◌, ◌↔◌, ℕ, List, Some, None, slice_get, length, IsSome, IfSome, IfOk, OnOk, IsNone};
+ghost use Rattle.std.specs.BTreeMap.{get, btree_map_len};
+ghost use Rattle.std.specs.Ordering.{nat_cmp};
+ghost use Rattle.sgt_history.specs.declared.graph.Edge.{Edge};
+ghost use Rattle.sgt_history.specs.Serializability.{IsEdgeBy, IsSerializable};
+ghost use Rattle.sgt_history.specs.Seen.{AreFirstCommits};
+ghost use Rattle.sgt_history.specs.SerialOrders.{IsShown, IsSerial};
+ghost use Rattle.sgt_history.specs.Sorting.{KnowsWaits, AllReady, AllWait, AllWaitBut, AllLeftWait, IsReady, WaitsForLeft, LeadsFromLeft, IsTopEdge, IsFirstFree, AreSameBut, IsCycleOf};
+
+use crate::chains::{Chains, End};
+use crate::commit_order::first_commits;
+use crate::cycles::cycle_back;
+use crate::graph::{Edge, serialization_edges};
+use crate::operation::{Action, Operation};
+use sgt_model::NoMemory;
+use std::alloc::Global;
+use std::collections::BTreeMap;
+
+/// Whether a history is serializable, and what shows it.
+///
+/// Bernstein, Hadzilacos and Goodman (1987), chapter 2: serializability theorem.
+#[derive(Debug, Drop, PartialEq, Eq)]
+pub enum Serializability {
+    /// It is: a serial order of the committed transactions. Of those that may come next it is always the one that committed
+    /// first, so it is the commit order where that serves.
+    Serial(Vec<u32>),
+    /// It is not: a cycle of the serialization graph that names no transaction twice.
+    Cycle(Vec<Edge>),
+}
+
+/// Whether the history is serializable, with a serial order of its committed transactions or a cycle of its serialization graph.
+///
+/// Bernstein, Hadzilacos and Goodman (1987), chapter 2: serialization graph, of the committed projection.
+///
+/// It costs what `serialization_edges` costs, and for each of those edges and each commit fifteen look-ups in a map at most.
+pub fn serial_order_or_cycle(
+    alloc: Global,
+    history: &[Operation],
+) -> Result<Serializability, NoMemory>
+    ensures shown { IfOk result (IsShown history.now) }
+    ensures exact { IfOk result (λ shown. IsSerial shown ↔ IsSerializable history.now) }
+{
+    let edges = serialization_edges(alloc, history)?;
+    let commits = first_commits(alloc, history)?;
+    let mut waits = Waits::new(alloc, history, edges, commits)?;
+    let mut order = Vec::new(alloc);
+    while let Some(transaction) = waits.take_first()? {
+        order.push(transaction)?;
+    }
+    match waits.first_left() {
+        Some(transaction) => Ok(Serializability::Cycle(waits.cycle(alloc, transaction)?)),
+        None => Ok(Serializability::Serial(order)),
+    }
+}
+
+/// The committed transactions that have no place in the order yet, and what they wait for.
+#[derive(Drop)]
+pub struct Waits {
+    /// Edges of the serialization graph.
+    edges: Vec<Edge>,
+    /// Where those commit that have no place yet.
+    left: BTreeMap<u32, usize>,
+    /// The edges by the transaction that they lead to. Of one that has no place yet it begins with the last that leads from
+    /// another such, for which it waits.
+    incoming: Chains,
+    /// The edges by the transaction that they lead from.
+    outgoing: Chains,
+    /// Those that wait for none, by where they commit.
+    ready: BTreeMap<usize, u32>,
+}
+
+impl Waits {
+    /// What they wait for before any has a place.
+    fn new(
+        alloc: Global,
+        history: &[Operation],
+        edges: Vec<Edge>,
+        commits: BTreeMap<u32, usize>,
+    ) -> Result<Self, NoMemory>
+        requires commits { AreFirstCommits history.now (length history.now) (get nat_cmp commits) }
+        requires edges { (k : ℕ) (e : Edge) → slice_get edges.items k ≡ Some e → IsEdgeBy history.now e }
+        ensures waits { IfOk result KnowsWaits }
+        ensures ready { IfOk result AllReady }
+        ensures wait { IfOk result AllWait }
+        ensures edges { IfOk result (λ w. w.edges ≡ edges) }
+        ensures left { IfOk result (λ w. w.left ≡ commits) }
+    {
+        let incoming = Chains::by_end(alloc, edges.as_slice(), End::To)?;
+        let outgoing = Chains::by_end(alloc, edges.as_slice(), End::From)?;
+        let mut waits = Waits {
+            edges,
+            left: commits,
+            incoming,
+            outgoing,
+            ready: BTreeMap::new(alloc),
+        };
+        for place in 0..history.len() {
+            let operation = history[place];
+            if operation.action == Action::Commit {
+                waits.update(operation.transaction)?;
+            }
+        }
+        Ok(waits)
+    }
+
+    /// Takes out the one that committed first of those that wait for none.
+    fn take_first(&mut self) -> Result<Option<u32>, NoMemory>
+        requires waits { KnowsWaits self.old }
+        requires ready { AllReady self.old }
+        requires wait { AllWait self.old }
+        ensures waits { OnOk result (KnowsWaits self.new) }
+        ensures ready { OnOk result (AllReady self.new) }
+        ensures wait { OnOk result (AllWait self.new) }
+        ensures edges { OnOk result (self.new.edges ≡ self.old.edges) }
+        ensures first { IfOk result (λ taken. IfSome taken (IsFirstFree self.old.edges.items (get nat_cmp self.old.left))) }
+        ensures taken { IfOk result (λ taken. IfSome taken (λ t. get nat_cmp self.new.left t ≡ None)) }
+        ensures others { IfOk result (λ taken. IfSome taken (λ t. AreSameBut t (get nat_cmp self.old.left) (get nat_cmp self.new.left))) }
+        ensures fewer { IfOk result (λ taken. IfSome taken (λ _. btree_map_len self.new.left < btree_map_len self.old.left)) }
+        ensures none { IfOk result (λ taken. IsNone taken → self.new.left ≡ self.old.left) }
+        ensures all_wait { IfOk result (λ taken. IsNone taken → AllLeftWait self.new) }
+    {
+        let Some((_, transaction)) = self.ready.pop_first() else {
+            return Ok(None);
+        };
+        self.left.remove(&transaction);
+        self.release(transaction)?;
+        Ok(Some(transaction))
+    }
+
+    /// Lets those wait for another that have waited for the transaction.
+    fn release(&mut self, transaction: u32) -> Result<(), NoMemory>
+        requires waits { KnowsWaits self.old }
+        requires ready { AllReady self.old }
+        requires wait { AllWaitBut self.old transaction (length self.old.edges.items) }
+        ensures waits { OnOk result (KnowsWaits self.new) }
+        ensures ready { OnOk result (AllReady self.new) }
+        ensures wait { OnOk result (AllWait self.new) }
+        ensures edges { OnOk result (self.new.edges ≡ self.old.edges) }
+        ensures left { OnOk result (self.new.left ≡ self.old.left) }
+    {
+        let mut next = self.outgoing.last_edge(transaction);
+        while let Some(edge) = next {
+            let to = self.edges[edge].to;
+            self.update(to)?;
+            next = self.outgoing.edge_before(edge);
+        }
+        Ok(())
+    }
+
+    /// Finds for what the transaction waits now, if it has no place.
+    fn update(&mut self, transaction: u32) -> Result<(), NoMemory>
+        requires { KnowsWaits self.old }
+        ensures waits { OnOk result (KnowsWaits self.new) }
+        ensures edges { OnOk result (self.new.edges ≡ self.old.edges) }
+        ensures left { OnOk result (self.new.left ≡ self.old.left) }
+        ensures others { OnOk result (AreSameBut transaction (get nat_cmp self.old.incoming.tops) (get nat_cmp self.new.incoming.tops)) }
+        ensures others_ready { OnOk result ((c u : ℕ) → get nat_cmp self.old.ready c ≡ Some u → get nat_cmp self.new.ready c ≡ Some u) }
+        ensures ready { OnOk result (IsReady self.new transaction) }
+        ensures wait { OnOk result (WaitsForLeft self.new transaction) }
+    {
+        let Some(commit) = self.left.get(&transaction).copied() else {
+            return Ok(());
+        };
+        let top = self.awaited(transaction);
+        self.incoming.begin_with(transaction, top)?;
+        if top.is_none() {
+            self.ready.insert(commit, transaction)?;
+        }
+        Ok(())
+    }
+
+    /// The last edge to the transaction from one that has no place yet.
+    fn awaited(&self, transaction: u32) -> Option<usize>
+        requires { KnowsWaits self.now }
+        ensures top { IsTopEdge self.now.edges.items (get nat_cmp self.now.left) transaction result }
+        ensures left { IfSome result (LeadsFromLeft self.now) }
+        ensures stays { get nat_cmp self.now.incoming.tops transaction ≡ None → result ≡ None }
+    {
+        let mut top = self.incoming.last_edge(transaction);
+        while let Some(edge) = top {
+            if self.left.contains_key(&self.edges[edge].from) {
+                return top;
+            }
+            top = self.incoming.edge_before(edge);
+        }
+        None
+    }
+
+    /// One that has no place yet.
+    fn first_left(&self) -> Option<u32>
+        ensures some { IfSome result (λ t. IsSome (get nat_cmp self.now.left t)) }
+        ensures none { IsNone result → (t : ℕ) → get nat_cmp self.now.left t ≡ None }
+    {
+        let (transaction, _) = self.left.first_key_value()?;
+        Some(*transaction)
+    }
+
+    /// A cycle, where all that have no place wait for another. It is looked for from the given one on.
+    fn cycle(&mut self, alloc: Global, start: u32) -> Result<Vec<Edge>, NoMemory>
+        requires waits { KnowsWaits self.old }
+        requires wait { AllWait self.old }
+        requires all_wait { AllLeftWait self.old }
+        requires start { IsSome (get nat_cmp self.old.left start) }
+        ensures { IfOk result (λ cycle. IsCycleOf self.old.edges.items cycle.items) }
+    {
+        cycle_back(alloc, self.edges.as_slice(), &mut self.incoming, start)
+    }
+}
