@@ -1,0 +1,4 @@
+pub mod Places
+pub mod Entries
+pub mod Histories
+pub mod SerialOrder
