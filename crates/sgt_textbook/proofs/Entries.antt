@@ -1,5 +1,5 @@
 -- What an entry's operations say of its access and of whom it ends.
-use Rattle.std.proofs.Common.{◌≡◌, ◌+◌, ℕ, ℤ, zero, suc, Bool, true, false, cond, ◌⊎◌, List, [], ◌∷◌, ◌++◌, Option, Some, None, nat_eq, refl, sym, ap, subst, inl, inr, ◌∙◌}
+use Rattle.std.proofs.Common.{◌≡◌, ℕ, ℤ, zero, suc, Bool, true, false, cond, ◌⊎◌, List, [], ◌∷◌, ◌++◌, Option, Some, None, nat_eq, refl, sym, ap, subst, inl, inr, ◌∙◌}
 use Rattle.std.specs.Prelude.{slice_get}
 use Rattle.std.specs.List.{list_any}
 use Rattle.std.proofs.lemmas.Bool.{eq-eqb, eqb-true, or_left, or_right}
@@ -59,8 +59,10 @@ Told number event r j t action.Abort = Undone event r t
 -- what holds of each entry and its operations
 pub record Tells (number : Key → ℕ) (event : Event) (r : Reply) : Type 0 where
   pub told : (j t : ℕ) (a : Action) → slice_get (operations_in number event r) j ≡ Some (does t a) → Told number event r j t a
-  pub access_there : (a : Access) → access_in event r ≡ Some a → slice_get (operations_in number event r) 0 ≡ Some (access_as number a)
-  pub abort_there : (t : ℕ) → Undone event r t → (j : ℕ) × (slice_get (operations_in number event r) j ≡ Some (does t action.Abort))
+  pub access_there : (a : Access) → access_in event r ≡ Some a
+      → slice_get (operations_in number event r) 0 ≡ Some (access_as number a)
+  pub abort_there : (t : ℕ) → Undone event r t
+      → (j : ℕ) × (slice_get (operations_in number event r) j ≡ Some (does t action.Abort))
   pub commit_there : (t : ℕ) → ending_in event r t ≡ Some fate.Committed → slice_get (committed_in event r) 0 ≡ Some t
   pub commit_does : (j t : ℕ) → slice_get (committed_in event r) j ≡ Some t
       → (j ≡ 0) × (slice_get (operations_in number event r) j ≡ Some (does t action.Commit))
@@ -72,7 +74,8 @@ each_at a [] j t at = absurd (cc)
 each_at a (u ∷ l) zero t at = ap (λ v. Some (does v a)) (some_is u t at)
 each_at a (u ∷ l) (suc j) t at = each_at a l j t at
 
-each_is : (a : Action) (l : List ℕ) (j t : ℕ) (b : Action) → slice_get (each_does a l) j ≡ Some (does t b) → (a ≡ b) × (slice_get l j ≡ Some t)
+each_is : (a : Action) (l : List ℕ) (j t : ℕ) (b : Action) → slice_get (each_does a l) j ≡ Some (does t b)
+    → (a ≡ b) × (slice_get l j ≡ Some t)
 each_is a [] j t b at = absurd (cc)
 each_is a (u ∷ l) zero t b at = let same = some_is (does u a) (does t b) at in
     (ap (λ (o : Operation). o.action) same, ap (λ (o : Operation). Some o.transaction) same)
@@ -218,7 +221,8 @@ record IsUndoing (event : Event) (r : Reply) (why : Cause) (fell : List ℕ) : T
   no_commit : committed_in event r ≡ []
 
 undoes : (number : Key → ℕ) (event : Event) (r : Reply) (why : Cause) (fell : List ℕ) → IsUndoing event r why fell
-    → ((j t : ℕ) (a : Action) → slice_get (operations_in number event r) j ≡ Some (does t a) → (action.Abort ≡ a) × (slice_get (named event ++ fell) j ≡ Some t))
+    → ((j t : ℕ) (a : Action) → slice_get (operations_in number event r) j ≡ Some (does t a)
+    → (action.Abort ≡ a) × (slice_get (named event ++ fell) j ≡ Some t))
     → ((j t : ℕ) → slice_get (named event ++ fell) j ≡ Some t → slice_get (operations_in number event r) j ≡ Some (does t action.Abort))
     → Tells number event r
 undoes number event r why fell undoing is_abort abort_at = record {
@@ -239,7 +243,8 @@ pub tells : (number : Key → ℕ) (event : Event) (r : Reply) → Tells number 
 tells number event (reply.Looked k v) = looked number event k v
 tells number event (reply.Wrote k v) = wrote number event k v
 tells number event (reply.Committed answers) = commits number event answers
-tells number event (reply.Aborted why fell) = undoes number event _ why fell (record { ends = λ _. refl; no_access = refl; no_commit = refl })
+tells number event (reply.Aborted why fell) = undoes number event _ why fell
+    (record { ends = λ _. refl; no_access = refl; no_commit = refl })
     (λ j t a at. each_is action.Abort (named event ++ fell) j t a at) (λ j t at. each_at action.Abort (named event ++ fell) j t at)
 tells number event (reply.Refused code fell) = undoes number event _ (cause.Asked code) fell
     (record { ends = λ _. refl; no_access = refl; no_commit = refl })

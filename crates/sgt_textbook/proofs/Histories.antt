@@ -1,5 +1,5 @@
 -- What the operations of the textbook's history say of the entries.
-use Rattle.std.proofs.Common.{◌≡◌, ◌≢◌, ◌<◌, ◌≤◌, ◌+◌, ℕ, Bool, true, false, not, cond, ◌⊎◌, List, [], ◌∷◌, ◌++◌, length, Option, Some, None, nat_eq, refl, sym, ap, ap₂, subst, inl, inr, ◌∙◌, arith}
+use Rattle.std.proofs.Common.{◌≡◌, ◌≢◌, ◌<◌, ◌≤◌, ◌+◌, ℕ, Bool, true, false, not, cond, ◌⊎◌, List, [], ◌∷◌, length, Option, Some, None, refl, sym, ap, ap₂, subst, inl, inr, ◌∙◌, arith}
 use Rattle.std.specs.Prelude.{slice_get}
 use Rattle.std.specs.Option.{option_or}
 use Rattle.std.proofs.lemmas.Option.{slice_get_within}
@@ -12,10 +12,10 @@ use Rattle.sgt_model.specs.declared.kind.Kind.{Kind}
 use Rattle.sgt_model.specs.declared.kind.Kind.TheVariants.{Look, Store}
 use Rattle.sgt_model.specs.Contents.{Key, key_eq}
 use Rattle.sgt_model.specs.Accesses.{Access, is_store, access_of}
-use Rattle.sgt_model.specs.Fates.{ending_in, fate_of, has_committed, has_aborted, aborted, committed}
+use Rattle.sgt_model.specs.Fates.{fate_of, has_committed, has_aborted, aborted, committed}
 use Rattle.sgt_model.specs.Values.{stores, newest_store}
 use Rattle.sgt_model.specs.ReadFrom.{IsBy, LooksFrom, ReadFrom}
-use Rattle.sgt_model.specs.Pairs.{one_stores, conflicts, has_conflicting, FollowsIn, Precedes, Pair}
+use Rattle.sgt_model.specs.Pairs.{one_stores, conflicts, has_conflicting, FollowsIn, Precedes}
 use Rattle.sgt_model.specs.Settings.{Setting}
 use Rattle.sgt_model.specs.Legality.{Legal}
 use Rattle.sgt_model.specs.CommitOrder.{CommitsBefore}
@@ -26,12 +26,12 @@ use Rattle.sgt_history.specs.declared.operation.Operation.{Operation}
 use Rattle.sgt_history.specs.declared.operation.Action.{Action}
 use Rattle.sgt_history.specs.declared.operation.Action.TheVariants as action
 use Rattle.sgt_history.specs.Histories.{Does, Uses, CommittedBefore, AbortedBefore}
-use Rattle.sgt_history.specs.Classes.{ReadsFrom, BreaksRecoverability}
-use Rattle.sgt_history.specs.Serializability.{Conflict, BreaksCommitOrder}
+use Rattle.sgt_history.specs.Classes.{ReadsFrom}
+use Rattle.sgt_history.specs.Serializability.{Conflict}
 use Rattle.sgt_textbook.specs.Textbook.{IsNumbering, operations_of, textbook}
 use Rattle.sgt_textbook.specs.Laws.{AreCommitOrdered, AreRecoverable}
 use Rattle.sgt_textbook.proofs.Places.{InFirst, InSecond, split_at, in_first, in_second, still}
-use Rattle.sgt_textbook.proofs.Entries.{does, action_on, access_as, IsAccess, Undone, Told, Tells, tells}
+use Rattle.sgt_textbook.proofs.Entries.{does, action_on, IsAccess, Told, tells}
 
 -- of ends
 
@@ -50,9 +50,10 @@ pub committed_commits : (number : Key → ℕ) (past : List Entry) (t : ℕ) →
     → (i : ℕ) × Does (textbook number past) i t action.Commit
 committed_commits number [] t c = absurd (cc)
 committed_commits number (e ∷ past) t c = elim (commit-case e past t c) [
-  | inl now ↦ let told = tells number e.event e.reply in
-      let p = in_second (textbook number past) (operations_of number e) 0 _ (told.commit_does 0 t (told.commit_there t now)).1 in (p.0, p.2)
-  | inr before ↦ let p = committed_commits number past t before.1 in (p.0, in_first (textbook number past) (operations_of number e) p.0 _ p.1)
+  | inl now ↦ let told = tells number e.event e.reply in let there = told.commit_does 0 t (told.commit_there t now) in
+      let p = in_second (textbook number past) (operations_of number e) 0 _ there.1 in (p.0, p.2)
+  | inr before ↦ let p = committed_commits number past t before.1 in
+      (p.0, in_first (textbook number past) (operations_of number e) p.0 _ p.1)
 ]
 
 -- who aborts in it is aborted
@@ -85,8 +86,10 @@ commits_in_turn in_line number s (e ∷ past) h t u c b at = go (λ b old. commi
     first : committed past t ≡ true → length (textbook number past) ≤ c → CommittedBefore (textbook number (e ∷ past)) t c
     first before late = let p = committed_commits number past t before in let within = slice_get_within _ p.0 _ p.1 in
         (p.0, omega (arith, within, late), in_first (textbook number past) (operations_of number e) p.0 _ p.1)
+
     go : (CommitsBefore past t u → Does (textbook number past) c u action.Commit → CommittedBefore (textbook number past) t c)
-        → InFirst (textbook number past) c (does u action.Commit) ⊎ InSecond (textbook number past) (operations_of number e) c (does u action.Commit)
+        → InFirst (textbook number past) c (does u action.Commit)
+        ⊎ InSecond (textbook number past) (operations_of number e) c (does u action.Commit)
         → CommitsBefore (e ∷ past) t u → CommittedBefore (textbook number (e ∷ past)) t c
     go rest (inl old) (inl b) = absurd (live-not_committed past u (end-live s past e.event e.reply h.1 u fate.Committed b.0)
         (commit_committed number s past h.0 c u old.1))
@@ -105,7 +108,8 @@ told_access number event r j t Store x told = told
 -- an operation on an item is an access of its key
 pub does_access : (number : Key → ℕ) (e : Entry) (j t : ℕ) (kind : Kind) (x : ℕ)
     → slice_get (operations_of number e) j ≡ Some (does t (action_on kind x)) → IsAccess number e.event e.reply j t kind x
-does_access number e j t kind x at = told_access number e.event e.reply j t kind x ((tells number e.event e.reply).told j t (action_on kind x) at)
+does_access number e j t kind x at =
+    told_access number e.event e.reply j t kind x ((tells number e.event e.reply).told j t (action_on kind x) at)
 
 same_key : (number : Key → ℕ) → IsNumbering number → (j k : Key) → number j ≡ number k → key_eq j k ≡ true
 same_key number injective j k same = subst (λ l. key_eq j l ≡ true) (injective j k same) (key_eq-refl j)
@@ -138,12 +142,16 @@ uses_in_turn number injective (e ∷ past) i j t u x was kind stores earlier fir
     ]
   where
     now : (m : ℕ) → j ≡ length (textbook number past) + m → IsAccess number e.event e.reply m u kind x
-        → InFirst (textbook number past) i (does t (action_on was x)) ⊎ InSecond (textbook number past) (operations_of number e) i (does t (action_on was x))
+        → InFirst (textbook number past) i (does t (action_on was x))
+        ⊎ InSecond (textbook number past) (operations_of number e) i (does t (action_on was x))
         → FollowsIn past (access_of e) t u
     now m place a (inr new) = absurd (let f = a.first in let p = new.1 in omega (arith, earlier, place, f, p))
-    now m place a (inl old) = subst (λ o. FollowsIn past o t u) (sym a.is) (a.by, used_before number injective past i t was a.access.kind
-        a.access.key (ap (λ w. one_stores was w) a.kind_is ∙ stores)
-        (subst (λ y. Does (textbook number past) i t (action_on was y)) (sym a.item) old.1))
+    now m place a (inl old) = subst (λ o. FollowsIn past o t u) (sym a.is) (
+      a.by,
+      used_before number injective past i t was a.access.kind
+          a.access.key (ap (λ w. one_stores was w) a.kind_is ∙ stores)
+          (subst (λ y. Does (textbook number past) i t (action_on was y)) (sym a.item) old.1),
+    )
 
 pub conflict_precedes : (number : Key → ℕ) → IsNumbering number → (past : List Entry) (i j t u : ℕ) → i < j
     → Conflict (textbook number past) i t j u → Precedes past t u
@@ -199,11 +207,13 @@ newest_is number injective (e ∷ past) counts k i w at counted last =
     now a = subst (λ o. IsBy (option_or o (newest_store counts k past)) w)
         (sym (ap (stores counts k) a.is ∙ ap (λ b. cond b (Some a.access) None)
         (and_from _ _ (ap is_store a.kind_is) (and_from _ _ (same_key number injective _ _ a.item) (ap counts a.by ∙ counted))))) a.by
+
     uncounted : (a : Access) → Stored counts k (access_of e) a → i < length (textbook number past) → counts a.by ≡ false
     uncounted a stored within = let p = in_second (textbook number past) (operations_of number e) 0 _
         ((tells number e.event e.reply).access_there a stored.is) in
         last p.0 a.by (omega (arith, within, p.1)) (p.2 ∙ ap₂ (λ (kind : Kind) (key : Key). Some (does a.by (action_on kind (number key))))
         (store_kind a.kind stored.stores) (key_eq-true a.key k stored.same_key))
+
     before : IsBy (newest_store counts k past) w → i < length (textbook number past) → (o : Option Access)
         → stores counts k (access_of e) ≡ o → IsBy (option_or o (newest_store counts k past)) w
     before rest within None is = rest
@@ -222,10 +232,13 @@ reads_from number injective s (e ∷ past) h i k x w r apart reads =
   where
     was : List Operation
     was = textbook number past
+
     back : (j t : ℕ) (a : Action) → j < length was → Does (textbook number (e ∷ past)) j t a → Does was j t a
     back j t a within at = still was (operations_of number e) j _ within at
+
     there : (j t : ℕ) (a : Action) → Does was j t a → Does (textbook number (e ∷ past)) j t a
     there j t a at = in_first was (operations_of number e) j _ at
+
     earlier : k < length was → Does was k r (action.Read x) → ReadsFrom was i k x w r
     earlier within at = record {
       earlier = reads.earlier;
@@ -235,27 +248,35 @@ reads_from number injective s (e ∷ past) h i k x w r apart reads =
       last = λ m t above below write. let a = reads.last m t above below (there m t (action.Write x) write) in
           (a.0, a.1, back a.0 t action.Abort (omega (arith, within, a.1)) a.2);
     }
+
     aborted_before : (t : ℕ) → k ≡ length was → AbortedBefore (textbook number (e ∷ past)) t k → aborted past t ≡ true
     aborted_before t place a =
         abort_aborted number s past h.0 a.0 t (back a.0 t action.Abort (let l = a.1 in omega (arith, l, place)) a.2)
+
     stands : k ≡ length was → (b : Bool) → aborted past w ≡ b → not (aborted past w) ≡ true
     stands place false is = ap not is
     stands place true is = let a = aborted_aborts number past w is in let within = slice_get_within was a.0 _ a.1 in
         absurd (reads.standing (a.0, omega (arith, within, place), there a.0 w action.Abort a.1))
+
     now : (m : ℕ) → k ≡ length was + m → IsAccess number e.event e.reply m r Look x → LooksFrom past (access_of e) r w
     now m behind a = let place : k ≡ length was = (let f = a.first in omega (arith, behind, f)) in
-        subst (λ o. LooksFrom past o r w) (sym a.is) (a.kind_is, a.by, newest_is number injective past (λ v. not (aborted past v))
-        a.access.key i w
-        (subst (λ y. Does was i w (action.Write y)) (sym a.item)
-        (back i w (action.Write x) (let e = reads.earlier in omega (arith, e, place)) reads.written))
-        (stands place (aborted past w) refl)
-        (λ m t later write. let within = slice_get_within was m _ write in
-        ap not (aborted_before t place (reads.last m t later (omega (arith, within, place))
-        (there m t (action.Write x) (subst (λ y. Does was m t (action.Write y)) a.item write))))))
+        subst (λ o. LooksFrom past o r w) (sym a.is) (
+          a.kind_is,
+          a.by,
+          newest_is number injective past (λ v. not (aborted past v))
+              a.access.key i w
+              (subst (λ y. Does was i w (action.Write y)) (sym a.item)
+              (back i w (action.Write x) (let e = reads.earlier in omega (arith, e, place)) reads.written))
+              (stands place (aborted past w) refl)
+              (λ m t later write. let within = slice_get_within was m _ write in
+              ap not (aborted_before t place (reads.last m t later (omega (arith, within, place))
+              (there m t (action.Write x) (subst (λ y. Does was m t (action.Write y)) a.item write))))),
+        )
 
 pub recoverable : CommitsAlwaysInOrder → CommitsAlwaysInLine → AreRecoverable
 recoverable in_order in_line number injective s past h k j broken = broken.uncommitted
     (commits_in_turn in_line number s past h broken.writer broken.reader j
     ((in_order s past h).sources broken.reader broken.writer (commit_committed number s past h j broken.reader broken.commits)
-    (reads_from number injective s past h broken.write k broken.item broken.writer broken.reader (λ same. broken.differ (sym same)) broken.reads))
+    (reads_from number injective s past h broken.write k broken.item broken.writer broken.reader
+    (λ same. broken.differ (sym same)) broken.reads))
     broken.commits)

@@ -2,3 +2,5 @@ pub mod Places
 pub mod Entries
 pub mod Histories
 pub mod SerialOrder
+pub mod Numbering
+pub mod Examples

@@ -1,6 +1,6 @@
 //! Laws of the textbook's history of every legal one. A body calls the laws that it rests on, and does nothing else: the law is
 //! its contract.
-ghost use Rattle.sgt_textbook.specs.Laws.{AreCommitOrdered, AreRecoverable, AreSerializable, CommitOrdersAreSerial};
+ghost use Rattle.sgt_textbook.specs.Laws.{AreCommitOrdered, AreRecoverable, AreSerializable, CommitOrdersAreSerial, KeysCanBeNumbered, SomeCascade};
 
 use sgt_history::commit_ordered_are_serializable;
 use sgt_model::{commits_in_line, commits_in_order};
@@ -40,3 +40,14 @@ pub fn commit_orders_are_serial()
     commits_in_line();
     commits_in_order();
 }
+
+/// There is a numbering of all keys, so each legal history has one in the textbook's notation.
+pub fn keys_can_be_numbered()
+    ensures { KeysCanBeNumbered }
+{}
+
+/// A legal history need not avoid cascading aborts, and so need not be strict: a transaction may read what another has written
+/// that has not ended (Bernstein, Hadzilacos and Goodman (1987), chapter 2).
+pub fn some_histories_cascade()
+    ensures { SomeCascade }
+{}
