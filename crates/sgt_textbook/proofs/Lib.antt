@@ -1,0 +1,6 @@
+pub mod Places
+pub mod Entries
+pub mod Histories
+pub mod SerialOrder
+pub mod Numbering
+pub mod Examples

@@ -1,0 +1,5 @@
+use Rattle.sgt_textbook.proofs.Histories.{recoverable}
+use Rattle.sgt_textbook.proofs.laws.legal_are_recoverable.Goals as goal
+
+pub returns : goal.returns
+returns c = recoverable c.commits_in_order.ensures c.commits_in_line.ensures

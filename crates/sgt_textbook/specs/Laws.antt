@@ -1,0 +1,41 @@
+-- What the textbook's classes say of every legal history, whatever numbers its keys get.
+use Rattle.std.specs.Prelude.{ℕ, List}
+use Rattle.sgt_model.specs.declared.entry.Entry.{Entry}
+use Rattle.sgt_model.specs.Contents.{Key}
+use Rattle.sgt_model.specs.Settings.{Setting}
+use Rattle.sgt_model.specs.Legality.{Legal}
+use Rattle.sgt_model.specs.Laws.{InEach}
+use Rattle.sgt_history.specs.declared.operation.Operation.{Operation}
+use Rattle.sgt_history.specs.Classes.{AvoidsCascadingAborts, IsRecoverable}
+use Rattle.sgt_history.specs.Serializability.{IsCommitOrdered, IsSerializable, IsSerialOrder}
+use Rattle.sgt_textbook.specs.Textbook.{IsNumbering, textbook, commit_order}
+
+-- what holds of the textbook's history of every legal one, for each numbering of its keys
+abbrev pub OfEachTextbook : (List Operation → Type 0) → Type 0
+OfEachTextbook P = (number : Key → ℕ) → IsNumbering number → InEach (λ s past. P (textbook number past))
+
+-- it is commit ordered: where operations of two committed transactions conflict, that of the earlier one commits first
+abbrev pub AreCommitOrdered : Type 0
+AreCommitOrdered = OfEachTextbook IsCommitOrdered
+
+-- it is serializable: its serialization graph has no cycle
+abbrev pub AreSerializable : Type 0
+AreSerializable = OfEachTextbook IsSerializable
+
+-- it is recoverable: no transaction commits before one that it has read from
+abbrev pub AreRecoverable : Type 0
+AreRecoverable = OfEachTextbook IsRecoverable
+
+-- its committed transactions in the order of their commits are a serial order of it
+abbrev pub CommitOrdersAreSerial : Type 0
+CommitOrdersAreSerial =
+    (number : Key → ℕ) → IsNumbering number → InEach (λ s past. IsSerialOrder (textbook number past) (commit_order past))
+
+-- there is a numbering of all keys
+abbrev pub KeysCanBeNumbered : Type 0
+KeysCanBeNumbered = (number : Key → ℕ) × IsNumbering number
+
+-- the textbook's history of some legal one does not avoid cascading aborts, and so is not strict
+abbrev pub SomeCascade : Type 0
+SomeCascade =
+    (s : Setting) × (past : List Entry) × Legal s past × ((number : Key → ℕ) → ¬ AvoidsCascadingAborts (textbook number past))

@@ -1,0 +1,53 @@
+//! Laws of the textbook's history of every legal one. A body calls the laws that it rests on, and does nothing else: the law is
+//! its contract.
+ghost use Rattle.sgt_textbook.specs.Laws.{AreCommitOrdered, AreRecoverable, AreSerializable, CommitOrdersAreSerial, KeysCanBeNumbered, SomeCascade};
+
+use sgt_history::commit_ordered_are_serializable;
+use sgt_model::{commits_in_line, commits_in_order};
+
+/// The textbook's history of a legal one is commit ordered: where operations of two committed transactions conflict, the
+/// transaction of the earlier one commits first (Durner and Neumann, ICDE 2019).
+pub fn legal_are_commit_ordered()
+    ensures { AreCommitOrdered }
+{
+    commits_in_line();
+    commits_in_order();
+}
+
+/// The textbook's history of a legal one is serializable: its serialization graph has no cycle (Bernstein, Hadzilacos and
+/// Goodman (1987), chapter 2).
+pub fn legal_are_serializable()
+    ensures { AreSerializable }
+{
+    legal_are_commit_ordered();
+    commit_ordered_are_serializable();
+}
+
+/// The textbook's history of a legal one is recoverable: no transaction commits before one that it has read from (Bernstein,
+/// Hadzilacos and Goodman (1987), chapter 2).
+pub fn legal_are_recoverable()
+    ensures { AreRecoverable }
+{
+    commits_in_line();
+    commits_in_order();
+}
+
+/// The committed transactions of a legal history, in the order of their commits, are a serial order of the textbook's history
+/// of it: each of them once, and each edge of the serialization graph leads on.
+pub fn commit_orders_are_serial()
+    ensures { CommitOrdersAreSerial }
+{
+    commits_in_line();
+    commits_in_order();
+}
+
+/// There is a numbering of all keys, so each legal history has one in the textbook's notation.
+pub fn keys_can_be_numbered()
+    ensures { KeysCanBeNumbered }
+{}
+
+/// A legal history need not avoid cascading aborts, and so need not be strict: a transaction may read what another has written
+/// that has not ended (Bernstein, Hadzilacos and Goodman (1987), chapter 2).
+pub fn some_histories_cascade()
+    ensures { SomeCascade }
+{}
