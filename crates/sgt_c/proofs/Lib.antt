@@ -1,0 +1,2 @@
+pub mod Pointed
+pub mod OfGlobal
