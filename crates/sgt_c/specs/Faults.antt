@@ -12,6 +12,6 @@ IsFaultTold s NotJson = s.kind ≡ 16
 IsFaultTold s BadLine = s.kind ≡ 17
 IsFaultTold s BadLimits = s.kind ≡ 18
 IsFaultTold s (BadOpening fault) = (s.kind ≡ 19) × (s.number ≡ number_of fault)
-IsFaultTold s (ProcShape procedure place) = (s.kind ≡ 20) × (s.procedure ≡ procedure) × (take s.depth s.place ≡ place)
+IsFaultTold s (ProcShape procedure place) = (s.kind ≡ 20) × (s.procedure ≡ procedure) × (take s.depth s.place ≡ take 128 place)
 IsFaultTold s (ProcFlaw procedure flaw) = (s.kind ≡ 21) × (s.procedure ≡ procedure) × (s.number ≡ number flaw)
 IsFaultTold s NoMemory = s.kind ≡ 1

@@ -1,4 +1,4 @@
-ghost use Rattle.std.specs.Prelude.{◌≡◌, take};
+ghost use Rattle.std.specs.Prelude.{◌≡◌, ◌≤◌, length, take};
 ghost use Rattle.sgt_c.specs.Faults.{IsFaultTold};
 
 use crate::status;
@@ -49,11 +49,23 @@ pub fn tell_fault(told: &mut Fault, error: &OpeningError) -> u32
     told.kind
 }
 
-/// Writes the positions of a place, and answers how many there are.
+/// Writes the positions of a place, and answers how many there are: 128, which is as many as a place keeps, or fewer.
 fn write_place(to: &mut [u64; 128], place: &Place) -> u32
-    ensures { take result to.new ≡ place.now }
+    ensures { take result to.new ≡ take 128 place.now }
 {
-    let positions = place.as_slice();
-    to[..positions.len()].copy_from_slice(positions);
-    positions.len() as u32
+    let positions = first_128(place.as_slice());
+    let count = positions.len();
+    to[..count].copy_from_slice(positions);
+    count as u32
+}
+
+fn first_128(positions: &[u64]) -> &[u64]
+    ensures first { result.now ≡ take 128 positions.now }
+    ensures few { length result.now ≤ 128 }
+{
+    if positions.len() <= 128 {
+        positions
+    } else {
+        &positions[..128]
+    }
 }

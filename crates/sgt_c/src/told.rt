@@ -136,9 +136,9 @@ fn tell_cause(told: &mut Told, cause: &Cause)
 fn write_answers(to: &mut [i64; 8], answers: &Answers) -> u32
     ensures { take result to.new ≡ answers.now }
 {
-    let answers = answers.as_slice();
-    to[..answers.len()].copy_from_slice(answers);
-    answers.len() as u32
+    let count = answers.len();
+    to[..count].copy_from_slice(answers.as_slice());
+    count as u32
 }
 
 fn write_tids(to: &mut [u32; 32], tids: &Tids) -> u32
