@@ -1,6 +1,5 @@
 -- A struct of a pointer and an allocator's handle, as the machine has it: a box, what is left of one, and a slot.
 use mathlib.Core.Path.{◌≡◌, refl, ◌∙◌}
-use mathlib.Core.Bool.{◌&&◌, true}
 use mathlib.Core.List.{List, [], ◌∷◌, ◌++◌}
 use lib.Dec.{T, lit<}
 use seplogic.Ra.Ura.{Ura}

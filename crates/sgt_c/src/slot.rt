@@ -24,6 +24,9 @@ impl Model for Slot {
     ghost also_owns = { λ s. slot_owns s.alloc s.at s.held };
 }
 
+/// It may go to another thread, as the engine that it holds may.
+unsafe impl Send for Slot {}
+
 impl Slot {
     /// A slot that holds nothing.
     pub fn empty(alloc: Global) -> Slot

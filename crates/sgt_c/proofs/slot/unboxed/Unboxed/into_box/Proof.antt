@@ -17,7 +17,7 @@ use types.Run.{stop, fld, no_more, and_then, of_opd, returns, enter, first, bloc
 use types.ByLocal.{alloc_all, pass_all, free_all, look_at, get, get_in, sets, lands_last, env}
 use denote.Exit.{no}
 use denote.Param.{bounded, layout, param}
-use denote.RawPtr.{rawptr_vals, ptr_val}
+use denote.RawPtr.{ptr_val}
 use denote.Signature.{Slot, plain}
 use denote.Steps.{heard, nothing, only}
 use denote.Triple.Call.{calls_at_last}
@@ -27,7 +27,6 @@ use denote.Triple.Table.{framed}
 use denote.Triple.Walked.{says, Stays, stay_dropped, walk_of, ends_at}
 use Rattle.std.proofs.VecSteps.Shapes.{after}
 use Rattle.std.specs.Box.{box_allocator}
-use Rattle.std.specs.Box.Ownership.{box_owns}
 use Rattle.std.specs.contracts.boxed.Box as boxed
 use Rattle.std.specs.contracts.boxed.Box.from_raw as closes
 use Rattle.std.proofs.boxed.Box.from_raw.Met.{met}

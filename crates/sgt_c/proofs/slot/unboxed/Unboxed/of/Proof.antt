@@ -28,7 +28,7 @@ use Rattle.std.specs.Box.Ownership.{box_owns}
 use Rattle.std.specs.contracts.boxed.Box as boxed
 use Rattle.std.specs.contracts.boxed.Box.into_raw_with_allocator as opens
 use Rattle.std.proofs.boxed.Box.into_raw_with_allocator.Met.{met}
-use Rattle.std.proofs.alloc.Calls.{Al, token, Goes-blank}
+use Rattle.std.proofs.alloc.Calls.{Al, Goes-blank}
 use Rattle.std.proofs.raw_atomic.Walks.{proved_at}
 use Rattle.sgt_c.proofs.Pointed.{laid, ptr_fits, laid_fits, fields_out, fields_in}
 use Rattle.sgt_c.specs.contracts.slot.unboxed.Unboxed as unboxed
