@@ -1,0 +1,46 @@
+/* A bank's story: a deposit, and a balance that reads what it stored before it is committed. */
+#include <inttypes.h>
+#include <stdio.h>
+#include <string.h>
+
+#include "sgt.h"
+
+static const char opening[] = "{\"limits\":[8,100],\"accounts\":[[1,101,500,1000]],\"procedures\":[]}";
+
+static void show(const sgt_reply *reply)
+{
+    switch (reply->kind) {
+    case SGT_STARTED: printf("started %" PRIu32 "\n", reply->tid); break;
+    case SGT_LOOKED: printf("read %" PRIu32 "/%" PRId64 " %" PRId64 "\n", reply->table, reply->number, reply->value); break;
+    case SGT_WROTE: printf("wrote %" PRIu32 "/%" PRId64 " %" PRId64 "\n", reply->table, reply->number, reply->value); break;
+    case SGT_WAITS: printf("waits %" PRIu32 "\n", reply->tid); break;
+    case SGT_COMMITTED: printf("committed %" PRId64 "\n", reply->answer[0]); break;
+    default: printf("kind %" PRIu32 "\n", reply->kind);
+    }
+}
+
+int main(void)
+{
+    sgt_engine engine = {0};
+    sgt_fault fault = {0};
+    sgt_reply reply = {0};
+    const int64_t account_and_amount[] = {1, 100};
+    int64_t value = 0;
+    uint64_t entries = 0;
+    if (sgt_open(&engine, (const uint8_t *)opening, strlen(opening), &fault) != SGT_OK) return 1;
+    for (uint32_t tid = 0; tid < 2; tid++) { /* procedure 1 is a deposit; procedure 0, with the account alone, a balance */
+        if (sgt_start(&engine, tid == 0 ? 1 : 0, account_and_amount, tid == 0 ? 2 : 1, &reply) != SGT_OK) return 1;
+        show(&reply);
+        for (int step = 0; step < 3; step++) {
+            if (sgt_step(&engine, tid, &reply) != SGT_OK) return 1;
+            show(&reply);
+        }
+    }
+    sgt_commit(&engine, 1, &reply), show(&reply); /* it read from the deposit, so it has to wait */
+    sgt_commit(&engine, 0, &reply), show(&reply);
+    sgt_commit(&engine, 1, &reply), show(&reply);
+    if (sgt_get(&engine, 2, 101, &value) == SGT_OK) printf("2/101 %" PRId64 "\n", value);
+    if (sgt_entries(&engine, &entries) == SGT_OK) printf("%" PRIu64 " entries\n", entries);
+    sgt_close(&engine);
+    return 0;
+}

@@ -1,0 +1,75 @@
+/*
+ * Each allocation is refused in turn, once. The call then answers SGT_NO_MEMORY and has changed nothing, and made again it goes
+ * on. Built with -Wl,--wrap=malloc,--wrap=realloc.
+ */
+#include <inttypes.h>
+#include <stdio.h>
+#include <stdlib.h>
+#include <string.h>
+
+#include "sgt.h"
+
+static const char opening[] = "{\"limits\":[8,100],\"accounts\":[[1,101,500,1000],[2,102,5,6]],\"procedures\":[]}";
+static long asked, refuse;
+
+void *__real_malloc(size_t size);
+void *__real_realloc(void *old, size_t size);
+void *__wrap_malloc(size_t size) { return ++asked == refuse ? 0 : __real_malloc(size); }
+void *__wrap_realloc(void *old, size_t size) { return ++asked == refuse ? 0 : __real_realloc(old, size); }
+
+static uint32_t event(sgt_engine *engine, int number, sgt_reply *reply)
+{
+    const int64_t args[] = {1, 100};
+    uint32_t tid = (uint32_t)number / 5;
+    if (number % 5 == 0) return sgt_start(engine, 1, args, 2, reply);
+    if (number % 5 < 4) return sgt_step(engine, tid, reply);
+    return sgt_commit(engine, tid, reply);
+}
+
+/* Two deposits, one behind the other; how many calls were refused memory, or -1 where one did not keep its word. */
+static int run(void)
+{
+    sgt_engine engine = {0};
+    sgt_fault fault = {0};
+    sgt_reply reply = {0}, before;
+    uint64_t had = 0, has = 0;
+    int64_t value = 0;
+    uint32_t status;
+    int refused = 0;
+    while ((status = sgt_open(&engine, (const uint8_t *)opening, strlen(opening), &fault)) == SGT_NO_MEMORY) {
+        if (engine.is_open || engine.at) return -1;
+        refused++;
+    }
+    if (status != SGT_OK) return -1;
+    for (int number = 0; number < 10; number++) {
+        do {
+            before = reply;
+            if (sgt_entries(&engine, &had) != SGT_OK) return -1;
+            status = event(&engine, number, &reply);
+            if (sgt_entries(&engine, &has) != SGT_OK || has != had + (status == SGT_OK)) return -1;
+            if (status != SGT_OK && memcmp(&before, &reply, sizeof reply) != 0) return -1;
+            refused += status == SGT_NO_MEMORY;
+        } while (status == SGT_NO_MEMORY);
+        if (status != SGT_OK) return -1;
+    }
+    if (sgt_get(&engine, 2, 101, &value) != SGT_OK || value != 1200) return -1;
+    sgt_close(&engine);
+    return engine.is_open || engine.at ? -1 : refused;
+}
+
+int main(void)
+{
+    int refused = 0;
+    for (refuse = 1;; refuse++) {
+        asked = 0;
+        int came = run();
+        if (came < 0) {
+            printf("allocation %ld: a call did not keep its word\n", refuse);
+            return 1;
+        }
+        if (asked < refuse) break;
+        refused += came;
+    }
+    printf("%d of %ld allocations were told as refused\n", refused, refuse - 1);
+    return refused == refuse - 1 ? 0 : 1;
+}

@@ -1,0 +1,35 @@
+// A bank's story: a deposit, and a balance that reads what it stored before it is committed.
+#include <iostream>
+
+#include "sgt.hpp"
+
+static void show(const sgt_reply &reply)
+{
+    switch (reply.kind) {
+    case SGT_STARTED: std::cout << "started " << reply.tid << '\n'; break;
+    case SGT_LOOKED: std::cout << "read " << reply.table << '/' << reply.number << ' ' << reply.value << '\n'; break;
+    case SGT_WROTE: std::cout << "wrote " << reply.table << '/' << reply.number << ' ' << reply.value << '\n'; break;
+    case SGT_WAITS: std::cout << "waits " << reply.tid << '\n'; break;
+    case SGT_COMMITTED: std::cout << "committed " << reply.answer[0] << '\n'; break;
+    default: std::cout << "kind " << reply.kind << '\n';
+    }
+}
+
+int main()
+{
+    sgt::Engine engine(R"({"limits":[8,100],"accounts":[[1,101,500,1000]],"procedures":[]})");
+    show(engine.start(1, {1, 100}));
+    for (int step = 0; step < 3; step++) show(engine.step(0));
+    show(engine.start(0, {1}));
+    for (int step = 0; step < 3; step++) show(engine.step(1));
+    show(engine.commit(1)); // it read from the deposit, so it has to wait
+    show(engine.commit(0));
+    show(engine.commit(1));
+    std::cout << "2/101 " << engine.get(2, 101).value() << '\n' << engine.entries() << " entries\n";
+    try {
+        sgt::Engine refused(R"({"limits":[99,1],"accounts":[],"procedures":[]})");
+    } catch (const sgt::Refused &why) {
+        return std::string(why.what()) == "bad limits" ? 0 : 1;
+    }
+    return 1;
+}

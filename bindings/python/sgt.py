@@ -1,0 +1,258 @@
+"""sgt for Python, by ctypes: an in-memory transaction engine that schedules by serialization graph testing.
+
+    with Engine(limits=(8, 100), accounts=[(1, 101, 500, 1000)]) as engine:
+        tid = engine.start(1, 1, 100).tid             # SmallBank's deposit: account 1, 100 cents
+        while engine.step(tid).kind is not Kind.ENDED:
+            pass
+        print(engine.commit(tid).answers)             # (1100,)
+
+What calls do stands in sgt.h, beside this file's folder. The library is looked for where SGT_LIBRARY says, then in bindings/out,
+then where the system has libraries. An engine is used by one thread at a time: put one lock around each call.
+"""
+
+from __future__ import annotations
+
+import ctypes
+import ctypes.util
+import enum
+import json
+import os
+import pathlib
+from typing import NamedTuple, Optional, Sequence
+
+
+class Kind(enum.IntEnum):
+    """What an event was answered: see `enum sgt_kind` in sgt.h."""
+
+    STARTED = 1
+    NO_PROCEDURE = 2
+    BAD_ARGS = 3
+    SPENT = 4
+    FULL = 5
+    UNKNOWN = 6
+    OVER = 7
+    LOOKED = 8
+    WROTE = 9
+    ENDED = 10
+    NOT_ENDED = 11
+    WAITS = 12
+    COMMITTED = 13
+    ABORTED = 14
+    REFUSED = 15
+
+
+class Cause(enum.IntEnum):
+    """How a transaction ended: see `enum sgt_cause` in sgt.h."""
+
+    COMMIT = 0
+    CYCLE = 1
+    CODE = 2
+    QUIT = 3
+    FALL = 4
+
+
+class Reply(NamedTuple):
+    """A reply. `kind` says which other fields count; those that do not are none, or empty."""
+
+    kind: Kind
+    tid: Optional[int] = None
+    table: Optional[int] = None
+    number: Optional[int] = None
+    value: Optional[int] = None
+    answers: tuple[int, ...] = ()
+    cause: Optional[Cause] = None
+    code: Optional[int] = None
+    walk: tuple[int, ...] = ()
+    fell: tuple[int, ...] = ()
+
+
+class OpeningRefused(ValueError):
+    """The opening has a fault, whose text this is. `status` is its kind, from 16 on, as `enum sgt_status` has it."""
+
+    def __init__(self, status: int, text: str) -> None:
+        super().__init__(text)
+        self.status = status
+
+
+class _Engine(ctypes.Structure):
+    _fields_ = [("is_open", ctypes.c_bool), ("at", ctypes.c_void_p)]
+
+
+class _Fault(ctypes.Structure):
+    _fields_ = [
+        ("kind", ctypes.c_uint32),
+        ("number", ctypes.c_uint32),
+        ("procedure", ctypes.c_uint64),
+        ("depth", ctypes.c_uint32),
+        ("spare", ctypes.c_uint32),
+        ("place", ctypes.c_uint64 * 128),
+    ]
+
+
+class _Reply(ctypes.Structure):
+    _fields_ = [
+        *((name, ctypes.c_uint32) for name in ("kind", "cause", "tid", "code", "table", "found")),
+        *((name, ctypes.c_int64) for name in ("number", "value")),
+        *((name, ctypes.c_uint32) for name in ("answers", "walked", "fallen", "spare")),
+        ("answer", ctypes.c_int64 * 8),
+        ("walk", ctypes.c_uint32 * 32),
+        ("fell", ctypes.c_uint32 * 32),
+    ]
+
+
+def _load() -> ctypes.CDLL:
+    beside = pathlib.Path(__file__).resolve().parent.parent / "out" / "libsgt.so"
+    path = os.environ.get("SGT_LIBRARY") or (str(beside) if beside.exists() else ctypes.util.find_library("sgt"))
+    if not path:
+        raise ImportError("sgt: no libsgt.so: set SGT_LIBRARY, or make it by bindings/build")
+    library = ctypes.CDLL(path)
+    engine, reply = ctypes.POINTER(_Engine), ctypes.POINTER(_Reply)
+    values, event = ctypes.POINTER(ctypes.c_int64), [engine, ctypes.c_uint32, reply]
+    takes = {
+        "sgt_open": [engine, ctypes.c_char_p, ctypes.c_size_t, ctypes.POINTER(_Fault)],
+        "sgt_start": [engine, ctypes.c_uint16, values, ctypes.c_size_t, reply],
+        "sgt_step": event,
+        "sgt_commit": event,
+        "sgt_quit": event,
+        "sgt_get": [engine, ctypes.c_uint8, ctypes.c_int64, values],
+        "sgt_entries": [engine, ctypes.POINTER(ctypes.c_uint64)],
+        "sgt_close": [engine],
+    }
+    for name, types in takes.items():
+        function = getattr(library, name)
+        function.argtypes = types
+        function.restype = None if name == "sgt_close" else ctypes.c_uint32
+    return library
+
+
+_LIBRARY = _load()
+_OK, _NO_MEMORY, _CLOSED, _NONE, _BAD_CALL, _FIRST_FAULT = 0, 1, 2, 4, 5, 16
+_ARGS = [ctypes.c_int64 * max(1, count) for count in range(5)]
+
+
+def _text(fault: _Fault) -> str:
+    number, procedure = fault.number, fault.procedure
+    place = " ".join(map(str, fault.place[: fault.depth])) or "top"
+    texts = {
+        16: "not JSON",
+        17: "bad line",
+        18: "bad limits",
+        19: f"bad opening {number}",
+        20: f"procedure {procedure} shape {place}",
+        21: f"procedure {procedure} flaw {number}",
+    }
+    return texts[fault.kind]
+
+
+def _ended(told: _Reply, kind: Kind) -> Reply:
+    """A reply that tells an end: its cause, and what is of it."""
+    cause = Cause(told.cause)
+    return Reply(
+        kind,
+        tid=told.tid if cause is Cause.FALL else None,
+        cause=cause,
+        code=told.code if cause is Cause.CODE else None,
+        walk=tuple(told.walk[: told.walked]) if cause is Cause.CYCLE else (),
+        fell=tuple(told.fell[: told.fallen]) if kind is Kind.ABORTED else (),
+    )
+
+
+def _reply(told: _Reply) -> Reply:
+    kind = Kind(told.kind)
+    if kind is Kind.LOOKED:
+        return Reply(kind, table=told.table, number=told.number, value=told.value if told.found else None)
+    if kind is Kind.WROTE:
+        return Reply(kind, table=told.table, number=told.number, value=told.value)
+    if kind in (Kind.STARTED, Kind.WAITS):
+        return Reply(kind, tid=told.tid)
+    if kind is Kind.COMMITTED:
+        return Reply(kind, answers=tuple(told.answer[: told.answers]))
+    if kind is Kind.REFUSED:
+        return Reply(kind, code=told.code, fell=tuple(told.fell[: told.fallen]))
+    if kind in (Kind.ABORTED, Kind.OVER):
+        return _ended(told, kind)
+    return Reply(kind)
+
+
+def _check(status: int) -> None:
+    if status == _OK:
+        return
+    if status == _NO_MEMORY:
+        raise MemoryError("sgt: no memory, and nothing has changed")
+    if status == _CLOSED:
+        raise ValueError("sgt: the engine is closed")
+    raise ValueError("sgt: a number is out of its range")
+
+
+class Engine:
+    """An engine. It is closed at the end of a `with` block, by `close`, or when it is let go."""
+
+    def __init__(self, limits: Sequence[int], accounts: Sequence[Sequence[int]] = (), procedures: Sequence[object] = ()) -> None:
+        """Opens an engine: limits (live, begins) or (live, begins, asks), accounts (name, customer, saving, checking).
+
+        OpeningRefused with the fault's text; MemoryError.
+        """
+        self._engine = _Engine()
+        opening = {"limits": list(limits), "accounts": [list(a) for a in accounts], "procedures": list(procedures)}
+        line = json.dumps(opening).encode()
+        fault = _Fault()
+        status = _LIBRARY.sgt_open(self._engine, line, len(line), fault)
+        if status >= _FIRST_FAULT:
+            raise OpeningRefused(status, _text(fault))
+        _check(status)
+        self._told = _Reply()
+
+    def start(self, procedure: int, *args: int) -> Reply:
+        """Starts a transaction of the procedure with at most 4 arguments."""
+        if len(args) >= len(_ARGS):
+            raise ValueError("sgt: a procedure takes at most 4 arguments")
+        told = self._told
+        _check(_LIBRARY.sgt_start(self._engine, procedure, _ARGS[len(args)](*args), len(args), told))
+        return _reply(told)
+
+    def step(self, tid: int) -> Reply:
+        """Lets the transaction make its next access."""
+        _check(_LIBRARY.sgt_step(self._engine, tid, self._told))
+        return _reply(self._told)
+
+    def commit(self, tid: int) -> Reply:
+        """Commits the transaction, unless it has to wait."""
+        _check(_LIBRARY.sgt_commit(self._engine, tid, self._told))
+        return _reply(self._told)
+
+    def quit(self, tid: int) -> Reply:
+        """Quits the transaction: it is aborted."""
+        _check(_LIBRARY.sgt_quit(self._engine, tid, self._told))
+        return _reply(self._told)
+
+    def get(self, table: int, number: int) -> Optional[int]:
+        """The committed value of a record, or None where there is no such record."""
+        if not 0 <= table < 256:
+            raise ValueError("sgt: a number is out of its range")
+        value = ctypes.c_int64()
+        status = _LIBRARY.sgt_get(self._engine, table, number, value)
+        if status == _NONE:
+            return None
+        _check(status)
+        return value.value
+
+    def __len__(self) -> int:
+        """How many entries the history has."""
+        count = ctypes.c_uint64()
+        _check(_LIBRARY.sgt_entries(self._engine, count))
+        return count.value
+
+    def close(self) -> None:
+        """Closes the engine. Later calls raise ValueError."""
+        _LIBRARY.sgt_close(self._engine)
+
+    def __enter__(self) -> Engine:
+        return self
+
+    def __exit__(self, *_: object) -> None:
+        self.close()
+
+    def __del__(self) -> None:
+        engine = getattr(self, "_engine", None)
+        if engine is not None and engine.is_open:
+            self.close()

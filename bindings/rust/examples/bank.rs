@@ -1,0 +1,37 @@
+//! A bank's story: a deposit, and a balance that reads what it stored before it is committed.
+use sgt::{Engine, Error, Fault, Reply};
+
+fn show(reply: Reply) {
+    match reply {
+        Reply::Started(tid) => println!("started {tid}"),
+        Reply::Looked { table, number, value: Some(value) } => println!("read {table}/{number} {value}"),
+        Reply::Wrote { table, number, value } => println!("wrote {table}/{number} {value}"),
+        Reply::Waits(tid) => println!("waits {tid}"),
+        Reply::Committed(answers) => println!("committed {}", answers[0]),
+        other => println!("{other:?}"),
+    }
+}
+
+fn main() -> Result<(), Error> {
+    let mut engine = Engine::open(r#"{"limits":[8,100],"accounts":[[1,101,500,1000]],"procedures":[]}"#)?;
+    show(engine.start(1, &[1, 100])?);
+    for _ in 0..3 {
+        show(engine.step(0)?);
+    }
+    show(engine.start(0, &[1])?);
+    for _ in 0..3 {
+        show(engine.step(1)?);
+    }
+    show(engine.commit(1)?); // it read from the deposit, so it has to wait
+    show(engine.commit(0)?);
+    show(engine.commit(1)?);
+    println!("2/101 {}", engine.get(2, 101)?.unwrap_or(0));
+    println!("{} entries", engine.entries());
+    let refused = Engine::open(r#"{"limits":[99,1],"accounts":[],"procedures":[]}"#);
+    assert_eq!(refused.err(), Some(Error::Opening(Fault::BadLimits)));
+    let engine = std::sync::Mutex::new(engine);
+    std::thread::scope(|scope| {
+        scope.spawn(|| assert_eq!(engine.lock().unwrap().get(2, 101), Ok(Some(1100))));
+    });
+    Ok(())
+}

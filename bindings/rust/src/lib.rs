@@ -1,0 +1,276 @@
+//! sgt for Rust: an in-memory transaction engine that schedules by serialization graph testing. It is proved; this crate calls
+//! its library for C, and what calls do stands in `sgt.h`.
+//!
+//! ```no_run
+//! let mut engine = sgt::Engine::open(r#"{"limits":[8,100],"accounts":[[1,101,500,1000]],"procedures":[]}"#)?;
+//! engine.start(1, &[1, 100])?; // Started(0): SmallBank's deposit
+//! while engine.step(0)? != sgt::Reply::Ended {}
+//! engine.commit(0)?; // Committed([1100])
+//! # Ok::<(), sgt::Error>(())
+//! ```
+
+use std::fmt;
+
+/// Why a transaction was aborted.
+#[derive(Clone, Debug, PartialEq, Eq)]
+pub enum Cause {
+    /// Its step would close this cycle of conflicts, which begins with the transaction itself.
+    Cycle(Vec<u32>),
+    /// Its procedure asked this code.
+    Asked(u32),
+    /// Its caller quit it.
+    Quit,
+}
+
+/// How a transaction ended.
+#[derive(Clone, Debug, PartialEq, Eq)]
+pub enum Fate {
+    Committed,
+    Aborted(Cause),
+    /// It had read from an aborted one; the number is that of the one whose abort began it.
+    Fell(u32),
+}
+
+/// What an event was answered.
+#[derive(Clone, Debug, PartialEq, Eq)]
+pub enum Reply {
+    Started(u32),
+    NoProcedure,
+    BadArgs,
+    Spent,
+    Full,
+    Unknown,
+    Over(Fate),
+    Looked { table: u8, number: i64, value: Option<i64> },
+    Wrote { table: u8, number: i64, value: i64 },
+    Ended,
+    NotEnded,
+    /// The commit has to wait for this transaction, and is asked again later.
+    Waits(u32),
+    Committed(Vec<i64>),
+    Aborted { cause: Cause, fell: Vec<u32> },
+    Refused { code: u32, fell: Vec<u32> },
+}
+
+/// Why an opening was refused.
+#[derive(Clone, Debug, PartialEq, Eq)]
+pub enum Fault {
+    NotJson,
+    BadLine,
+    BadLimits,
+    /// An account has this fault: 1 a name twice, 2 a customer twice, 3 a number out of range.
+    BadOpening(u32),
+    /// The procedure of this number spells none, and its first misfit is at this place.
+    ProcShape(u64, Vec<u64>),
+    /// The procedure of this number has this flaw, from 1 to 10.
+    ProcFlaw(u64, u32),
+}
+
+/// Why a call was not carried out. Nothing has changed.
+#[derive(Clone, Debug, PartialEq, Eq)]
+pub enum Error {
+    /// The system gave no memory.
+    NoMemory,
+    /// Over four arguments, a table over 7, or a record number of over fifteen digits.
+    BadCall,
+    /// The opening has a fault.
+    Opening(Fault),
+}
+
+impl fmt::Display for Error {
+    fn fmt(&self, f: &mut fmt::Formatter<'_>) -> fmt::Result {
+        match self {
+            Error::NoMemory => write!(f, "no memory"),
+            Error::BadCall => write!(f, "a number is out of its range"),
+            Error::Opening(Fault::NotJson) => write!(f, "not JSON"),
+            Error::Opening(Fault::BadLine) => write!(f, "bad line"),
+            Error::Opening(Fault::BadLimits) => write!(f, "bad limits"),
+            Error::Opening(Fault::BadOpening(number)) => write!(f, "bad opening {number}"),
+            Error::Opening(Fault::ProcFlaw(procedure, flaw)) => write!(f, "procedure {procedure} flaw {flaw}"),
+            Error::Opening(Fault::ProcShape(procedure, place)) => {
+                write!(f, "procedure {procedure} shape")?;
+                place.iter().try_for_each(|position| write!(f, " {position}"))?;
+                if place.is_empty() { write!(f, " top") } else { Ok(()) }
+            }
+        }
+    }
+}
+
+impl std::error::Error for Error {}
+
+mod c {
+    #[repr(C)]
+    pub struct Engine {
+        pub is_open: bool,
+        pub at: *mut u8,
+    }
+
+    #[repr(C)]
+    pub struct Fault {
+        pub kind: u32,
+        pub number: u32,
+        pub procedure: u64,
+        pub depth: u32,
+        pub spare: u32,
+        pub place: [u64; 128],
+    }
+
+    #[repr(C)]
+    #[derive(Default)]
+    pub struct Reply {
+        pub kind: u32,
+        pub cause: u32,
+        pub tid: u32,
+        pub code: u32,
+        pub table: u32,
+        pub found: u32,
+        pub number: i64,
+        pub value: i64,
+        pub answers: u32,
+        pub walked: u32,
+        pub fallen: u32,
+        pub spare: u32,
+        pub answer: [i64; 8],
+        pub walk: [u32; 32],
+        pub fell: [u32; 32],
+    }
+
+    pub type Event = unsafe extern "C" fn(*mut Engine, u32, *mut Reply) -> u32;
+
+    extern "C" {
+        pub fn sgt_open(engine: *mut Engine, opening: *const u8, length: usize, fault: *mut Fault) -> u32;
+        pub fn sgt_close(engine: *mut Engine);
+        pub fn sgt_start(engine: *mut Engine, procedure: u16, args: *const i64, count: usize, reply: *mut Reply) -> u32;
+        pub fn sgt_step(engine: *mut Engine, tid: u32, reply: *mut Reply) -> u32;
+        pub fn sgt_commit(engine: *mut Engine, tid: u32, reply: *mut Reply) -> u32;
+        pub fn sgt_quit(engine: *mut Engine, tid: u32, reply: *mut Reply) -> u32;
+        pub fn sgt_get(engine: *mut Engine, table: u8, number: i64, value: *mut i64) -> u32;
+        pub fn sgt_entries(engine: *mut Engine, count: *mut u64) -> u32;
+    }
+}
+
+/// An engine, which closes itself. Threads share one behind a `Mutex`.
+pub struct Engine {
+    inner: c::Engine,
+}
+
+// The library proves it of what the handle holds.
+unsafe impl Send for Engine {}
+
+impl Engine {
+    /// Opens an engine by an opening's JSON text.
+    pub fn open(opening: &str) -> Result<Engine, Error> {
+        let mut engine = Engine { inner: c::Engine { is_open: false, at: std::ptr::null_mut() } };
+        let mut fault = c::Fault { kind: 0, number: 0, procedure: 0, depth: 0, spare: 0, place: [0; 128] };
+        // The pointers are of live values of their own, and stay so for the call; so it is of each call below.
+        match unsafe { c::sgt_open(&mut engine.inner, opening.as_ptr(), opening.len(), &mut fault) } {
+            0 => Ok(engine),
+            1 => Err(Error::NoMemory),
+            _ => Err(Error::Opening(fault_of(&fault))),
+        }
+    }
+
+    /// Starts a transaction of a procedure, with at most four arguments.
+    pub fn start(&mut self, procedure: u16, args: &[i64]) -> Result<Reply, Error> {
+        let mut reply = c::Reply::default();
+        let status = unsafe { c::sgt_start(&mut self.inner, procedure, args.as_ptr(), args.len(), &mut reply) };
+        told(status, &reply)
+    }
+
+    /// Lets a transaction make its next access.
+    pub fn step(&mut self, tid: u32) -> Result<Reply, Error> {
+        self.ask(c::sgt_step, tid)
+    }
+
+    /// Commits a transaction, unless it has to wait.
+    pub fn commit(&mut self, tid: u32) -> Result<Reply, Error> {
+        self.ask(c::sgt_commit, tid)
+    }
+
+    /// Quits a transaction: it is aborted.
+    pub fn quit(&mut self, tid: u32) -> Result<Reply, Error> {
+        self.ask(c::sgt_quit, tid)
+    }
+
+    /// The committed value of a record, or none where there is no such record.
+    pub fn get(&mut self, table: u8, number: i64) -> Result<Option<i64>, Error> {
+        let mut value = 0;
+        match unsafe { c::sgt_get(&mut self.inner, table, number, &mut value) } {
+            0 => Ok(Some(value)),
+            4 => Ok(None),
+            _ => Err(Error::BadCall),
+        }
+    }
+
+    /// How many entries the history has.
+    pub fn entries(&mut self) -> u64 {
+        let mut count = 0;
+        unsafe { c::sgt_entries(&mut self.inner, &mut count) };
+        count
+    }
+
+    fn ask(&mut self, event: c::Event, tid: u32) -> Result<Reply, Error> {
+        let mut reply = c::Reply::default();
+        let status = unsafe { event(&mut self.inner, tid, &mut reply) };
+        told(status, &reply)
+    }
+}
+
+impl Drop for Engine {
+    fn drop(&mut self) {
+        unsafe { c::sgt_close(&mut self.inner) }
+    }
+}
+
+fn fault_of(fault: &c::Fault) -> Fault {
+    match fault.kind {
+        16 => Fault::NotJson,
+        17 => Fault::BadLine,
+        18 => Fault::BadLimits,
+        19 => Fault::BadOpening(fault.number),
+        20 => Fault::ProcShape(fault.procedure, fault.place[..fault.depth as usize].to_vec()),
+        _ => Fault::ProcFlaw(fault.procedure, fault.number),
+    }
+}
+
+fn told(status: u32, reply: &c::Reply) -> Result<Reply, Error> {
+    match status {
+        0 => Ok(reply_of(reply)),
+        1 => Err(Error::NoMemory),
+        _ => Err(Error::BadCall),
+    }
+}
+
+fn cause_of(reply: &c::Reply) -> Cause {
+    match reply.cause {
+        1 => Cause::Cycle(reply.walk[..reply.walked as usize].to_vec()),
+        2 => Cause::Asked(reply.code),
+        _ => Cause::Quit,
+    }
+}
+
+fn reply_of(reply: &c::Reply) -> Reply {
+    let (table, number, value) = (reply.table as u8, reply.number, reply.value);
+    let fell = || reply.fell[..reply.fallen as usize].to_vec();
+    match reply.kind {
+        1 => Reply::Started(reply.tid),
+        2 => Reply::NoProcedure,
+        3 => Reply::BadArgs,
+        4 => Reply::Spent,
+        5 => Reply::Full,
+        6 => Reply::Unknown,
+        7 => Reply::Over(match reply.cause {
+            0 => Fate::Committed,
+            4 => Fate::Fell(reply.tid),
+            _ => Fate::Aborted(cause_of(reply)),
+        }),
+        8 => Reply::Looked { table, number, value: (reply.found == 1).then_some(value) },
+        9 => Reply::Wrote { table, number, value },
+        10 => Reply::Ended,
+        11 => Reply::NotEnded,
+        12 => Reply::Waits(reply.tid),
+        13 => Reply::Committed(reply.answer[..reply.answers as usize].to_vec()),
+        14 => Reply::Aborted { cause: cause_of(reply), fell: fell() },
+        _ => Reply::Refused { code: reply.code, fell: fell() },
+    }
+}

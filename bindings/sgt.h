@@ -1,0 +1,171 @@
+/*
+ * sgt: an in-memory transaction engine that schedules by serialization graph testing. This header is its manual for C.
+ *
+ * The library is proved: running the committed transactions one after another in commit order gives each of them the answers
+ * that it was told, and ends in the committed database. See docs/LIBRARY.md for a first program, and docs/DEFINITIONS.md for the
+ * words used here.
+ *
+ * A caller keeps an engine in an sgt_engine. Transactions are started, make one access at each step, and are committed or quit;
+ * each of these events is answered by one reply, and both are kept in the history. Every call answers a status; SGT_OK is 0.
+ * What the engine says to an event (that all is full, that a commit has to wait, that a transaction is aborted) is a reply,
+ * and no status.
+ *
+ * WHAT THE CALLER OWES. Nothing checks it, and what is proved holds as long as it is kept.
+ *
+ *   - An sgt_engine is all zero bytes before its first sgt_open: `sgt_engine engine = {0};`. From then on only the library
+ *     writes it, and nobody copies it: a copy would be a second owner of the same engine. It may be moved by memcpy while no
+ *     call runs, where the old bytes are never used again.
+ *   - An sgt_reply and an sgt_fault are filled with anything, but filled: `sgt_reply reply = {0};`.
+ *   - Pointers are not null, are aligned, point to as much as the call says, and no two of one call overlap. Where a count is
+ *     0 the pointer may not be null either: pass the address of anything.
+ *   - One call at a time to one engine. Another thread calls behind a lock that the thread before it released, or was joined.
+ *     Different engines know nothing of each other, and need no common lock.
+ *   - No call from a signal handler, nor in a forked child of a process with threads.
+ *   - malloc, realloc and free are of one allocator, which aligns to 16 bytes.
+ *
+ * WHO OWNS WHAT. The caller owns all memory that it passes, and the library keeps no pointer to it. The library hands out
+ * none: what it takes for an engine it takes by malloc, and sgt_close gives all of it back.
+ *
+ * NUMBERS. Values, arguments and record numbers lie from -999999999999999 to 999999999999999. Tables are numbered from 0 to 7,
+ * and procedures from 0: SmallBank's five come first (0 balance, 1 deposit, 2 transact savings, 3 amalgamate, 4 write check),
+ * and those of the opening behind them, from 5 on.
+ */
+#ifndef SGT_H
+#define SGT_H
+
+#include <stdbool.h>
+#include <stddef.h>
+#include <stdint.h>
+
+#ifdef __cplusplus
+extern "C" {
+#endif
+
+/* An engine, or none: it is closed where all bytes are zero. Its fields are the library's. */
+typedef struct sgt_engine {
+    bool is_open;
+    void *at;
+} sgt_engine;
+
+/* What a call answers. From 16 on it is a fault of an opening, and stands in sgt_fault.kind too. */
+enum sgt_status {
+    SGT_OK = 0,
+    SGT_NO_MEMORY = 1,   /* malloc or realloc gave nothing; nothing has changed, and the call may be made again */
+    SGT_CLOSED = 2,      /* the engine is closed */
+    SGT_OPEN = 3,        /* the engine is open already */
+    SGT_NONE = 4,        /* there is no such record */
+    SGT_BAD_CALL = 5,    /* a number that was passed is out of its range */
+    SGT_NOT_JSON = 16,   /* the opening is no JSON */
+    SGT_BAD_LINE = 17,   /* the opening is JSON, and has not the shape of one */
+    SGT_BAD_LIMITS = 18, /* a limit is out of its range */
+    SGT_BAD_OPENING = 19, /* an account has the fault `number`: 1 a name twice, 2 a customer twice, 3 a number out of range */
+    SGT_PROC_SHAPE = 20, /* the procedure `procedure` spells none: its first misfit is at `place` */
+    SGT_PROC_FLAW = 21   /* the procedure `procedure` has the flaw `number`, from 1 to 10: see docs/FORMATS.md */
+};
+
+/* Why an opening was refused. `kind` is the status, and says which other fields count. */
+typedef struct sgt_fault {
+    uint32_t kind;
+    uint32_t number;     /* of SGT_BAD_OPENING and SGT_PROC_FLAW */
+    uint64_t procedure;  /* of SGT_PROC_SHAPE and SGT_PROC_FLAW */
+    uint32_t depth;      /* of SGT_PROC_SHAPE: how many positions `place` has. None: the whole procedure */
+    uint32_t spare;
+    uint64_t place[128]; /* positions in the procedure's lists, from the outermost in, counted from 0 */
+} sgt_fault;
+
+/* What an event was answered. */
+enum sgt_kind {
+    SGT_STARTED = 1,       /* the transaction `tid` was started */
+    SGT_NO_PROCEDURE = 2,  /* no procedure has that number */
+    SGT_BAD_ARGS = 3,      /* the arguments are not as many as the procedure takes, or one of them is no value */
+    SGT_SPENT = 4,         /* as many transactions were started as the limits allow */
+    SGT_FULL = 5,          /* as many transactions are live as the limits allow */
+    SGT_UNKNOWN = 6,       /* no transaction of that number was started */
+    SGT_OVER = 7,          /* the transaction has ended before; `cause` says how */
+    SGT_LOOKED = 8,        /* the step looked at the record `table`, `number`: `found` is 1, and `value` is it, or `found` is 0 */
+    SGT_WROTE = 9,         /* the step stored `value` in the record `table`, `number` */
+    SGT_ENDED = 10,        /* the procedure is at its end, and nothing was done: the transaction may be committed */
+    SGT_NOT_ENDED = 11,    /* the procedure is not at its end: the transaction can't be committed yet */
+    SGT_WAITS = 12,        /* the commit has to wait for the transaction `tid`, and is asked again later */
+    SGT_COMMITTED = 13,    /* the transaction is committed; its answers are the first `answers` of `answer` */
+    SGT_ABORTED = 14,      /* the transaction is aborted, as `cause` says, and with it the first `fallen` of `fell` */
+    SGT_REFUSED = 15       /* its procedure asks `code`: the transaction is aborted at its commit, and with it those of `fell` */
+};
+
+/* How a transaction ended: in SGT_ABORTED one of the first three. */
+enum sgt_cause {
+    SGT_BY_COMMIT = 0,
+    SGT_BY_CYCLE = 1,  /* its step would close a cycle of conflicts: the first `walked` of `walk`, the transaction itself first */
+    SGT_BY_CODE = 2,   /* its procedure asked `code` */
+    SGT_BY_QUIT = 3,   /* its caller quit it */
+    SGT_BY_FALL = 4    /* it had read from an aborted one; `tid` is the one whose abort began it */
+};
+
+/* `kind` says which other fields count. */
+typedef struct sgt_reply {
+    uint32_t kind;
+    uint32_t cause;
+    uint32_t tid;
+    uint32_t code;
+    uint32_t table;
+    uint32_t found;
+    int64_t number;
+    int64_t value;
+    uint32_t answers;
+    uint32_t walked;
+    uint32_t fallen;
+    uint32_t spare;
+    int64_t answer[8];
+    uint32_t walk[32];
+    uint32_t fell[32];
+} sgt_reply;
+
+/*
+ * Opens an engine. `opening` is `length` bytes of JSON as the first line of a script has them, without its end: limits, accounts
+ * and procedures, as docs/FORMATS.md says. `{"limits":[8,1000],"accounts":[[1,101,500,1000]],"procedures":[]}` allows 8 live
+ * transactions and 1000 in all, and opens one account: name 1, customer 101, saving 500, checking 1000, in cents.
+ *
+ * SGT_OPEN where the engine is open, tested first; SGT_NO_MEMORY; from SGT_NOT_JSON on the first fault of the opening, which is
+ * written into `fault`. But for SGT_OK the engine stays as it was.
+ */
+uint32_t sgt_open(sgt_engine *engine, const uint8_t *opening, size_t length, sgt_fault *fault);
+
+/* Closes an engine, and gives back all that it took. One that is closed stays so. */
+void sgt_close(sgt_engine *engine);
+
+/*
+ * The four events. But for SGT_OK neither the engine nor the reply has changed; with SGT_OK the reply is told, and the history
+ * has one entry more. Transactions are named by the `tid` that their start was answered, any event may come at any time, and
+ * what an event costs does not grow with the history.
+ *
+ * SGT_CLOSED; SGT_NO_MEMORY, but never for an event that ends a live transaction: that takes no memory.
+ */
+
+/* Starts a transaction of a procedure, with `count` arguments, at most 4: SGT_BAD_CALL where there are more, tested first. */
+uint32_t sgt_start(sgt_engine *engine, uint16_t procedure, const int64_t *args, size_t count, sgt_reply *reply);
+
+/* Lets a transaction make its next access. */
+uint32_t sgt_step(sgt_engine *engine, uint32_t tid, sgt_reply *reply);
+
+/* Commits a transaction. */
+uint32_t sgt_commit(sgt_engine *engine, uint32_t tid, sgt_reply *reply);
+
+/* Quits a transaction: it is aborted. */
+uint32_t sgt_quit(sgt_engine *engine, uint32_t tid, sgt_reply *reply);
+
+/*
+ * The committed value of a record: the last one that a committed transaction stored, else the opening's.
+ *
+ * SGT_BAD_CALL where the table is over 7 or the number out of range, tested first; SGT_CLOSED; SGT_NONE where there is no such
+ * record. But for SGT_OK the value stays as it was.
+ */
+uint32_t sgt_get(sgt_engine *engine, uint8_t table, int64_t number, int64_t *value);
+
+/* How many entries the history has: one for each event that was answered. SGT_CLOSED. */
+uint32_t sgt_entries(sgt_engine *engine, uint64_t *count);
+
+#ifdef __cplusplus
+}
+#endif
+
+#endif

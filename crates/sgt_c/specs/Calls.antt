@@ -1,0 +1,43 @@
+-- What a call does to the engine behind a handle.
+use Rattle.std.specs.Prelude.{◌≡◌, ℕ, true, Option, Some, None, IfSome}
+use Rattle.sgt_model.specs.declared.event.Event.{Event}
+use Rattle.sgt_model.specs.declared.event.Event.TheVariants.{Quit}
+use Rattle.sgt_model.specs.declared.reply.Reply.{Reply}
+use Rattle.sgt_model.specs.Aborts.{AbortsHaveCause}
+use Rattle.sgt_model.specs.CommitOrder.{CommitsInOrder}
+use Rattle.sgt_model.specs.Fates.{live}
+use Rattle.sgt_model.specs.Legality.{Legal, LegalReply}
+use Rattle.sgt_model.specs.Pairs.{Pair}
+use Rattle.sgt_model.specs.Questions.{is_ending}
+use Rattle.sgt_model.specs.Replay.{IsSerializable}
+use Rattle.sgt_model.specs.Walks.{Acyclic}
+use Rattle.sgt_engine.specs.EngineView.{EngineView, setting_of, with_entry}
+use Rattle.sgt_c.specs.declared.held.Held.{Held}
+use Rattle.sgt_c.specs.declared.told.Told.{Told}
+use Rattle.sgt_c.specs.Told.{IsTold}
+
+-- the history is legal, and each part of the headline holds of it
+abbrev pub Headline : EngineView → Type 0
+Headline e = Legal (setting_of e) e.past
+    × IsSerializable (setting_of e) e.past
+    × Acyclic (Pair e.past)
+    × AbortsHaveCause (setting_of e) e.past
+    × CommitsInOrder e.past
+
+-- the event was answered by this reply, which is legal and told, and both are one entry more
+abbrev pub AnsweredBy : Event → EngineView → Option Held → Told → Reply → Type 0
+AnsweredBy event e new told r = (new ≡ Some (record { engine = with_entry event r e }))
+    × LegalReply (setting_of e) e.past event r × IsTold told r × Headline (with_entry event r e)
+
+-- the same of some reply
+abbrev pub Answered : Event → Option Held → Option Held → Told → Type 0
+Answered event None new told = ⊥
+Answered event (Some h) new told = (r : Reply) × AnsweredBy event h.engine new told r
+
+-- an event by which a live transaction ends succeeds
+abbrev pub EndsSucceed : Event → Option Held → ℕ → Type 0
+EndsSucceed event held status = IfSome held (λ h. (r : Reply) → LegalReply (setting_of h.engine) h.engine.past event r → is_ending r ≡ true → status ≡ 0)
+
+-- a quit of a live transaction succeeds
+abbrev pub QuitsSucceed : Event → Option Held → ℕ → Type 0
+QuitsSucceed event held status = IfSome held (λ h. (t : ℕ) → event ≡ Quit t → live h.engine.past t ≡ true → status ≡ 0)

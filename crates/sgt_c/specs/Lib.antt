@@ -1,0 +1,5 @@
+pub mod Owned
+pub mod Told
+pub mod Faults
+pub mod Calls
+pub mod Openings

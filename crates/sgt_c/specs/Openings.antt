@@ -1,0 +1,17 @@
+-- What an opening makes.
+use Rattle.std.specs.Prelude.{◌≡◌, ℕ, List, []}
+use Rattle.sgt_engine.specs.EngineView.{EngineView, setting_of}
+use Rattle.sgt_format.specs.declared.errors.OpeningError.{OpeningError}
+use Rattle.sgt_format.specs.declared.opening.Opening.{Opening}
+use Rattle.sgt_format.specs.Openings.{Opens, Refuses}
+use Rattle.sgt_program.specs.Openings.{opened_setting}
+use Rattle.sgt_c.specs.declared.fault.Fault.{Fault}
+use Rattle.sgt_c.specs.Faults.{IsFaultTold}
+
+-- the engine starts from what the bytes spell, with an empty history
+abbrev pub OpenedAs : List ℕ → EngineView → Type 0
+OpenedAs bytes e = (o : Opening) × Opens 1 bytes o × (setting_of e ≡ opened_setting o) × (e.past ≡ [])
+
+-- the bytes spell no opening, for the reason that is told
+abbrev pub RefusedAs : List ℕ → Fault → Type 0
+RefusedAs bytes told = (e : OpeningError) × Refuses 1 bytes e × IsFaultTold told e

@@ -1,0 +1,126 @@
+//! Events, and what they are answered.
+ghost use Rattle.std.specs.Prelude.{◌≡◌, ◌≢◌, ◌≤◌, ◌<◌, ◌↔◌, ℕ, true, Some, None, OnOk, OnErr, length};
+ghost use Rattle.std.specs.Result.{IsOk};
+ghost use Rattle.sgt_model.specs.declared.reply.Reply.{Reply as Answer};
+ghost use Rattle.sgt_model.specs.Fates.{live};
+ghost use Rattle.sgt_model.specs.Legality.{LegalReply};
+ghost use Rattle.sgt_model.specs.Questions.{is_ending};
+ghost use Rattle.sgt_engine.specs.EngineView.{setting_of};
+ghost use Rattle.sgt_model.specs.declared.event.Event.TheVariants.{Start, Step, Commit, Quit};
+ghost use Rattle.sgt_c.specs.Calls.{Answered, EndsSucceed, QuitsSucceed};
+
+use crate::handle::Handle;
+use crate::held::Held;
+use crate::status;
+use crate::told::{Told, tell};
+use sgt_model::{Args, Event, NoMemory, Tid};
+use std::alloc::Global;
+
+/// Starts a transaction that runs the procedure of this number with these arguments.
+///
+/// `NO_MEMORY`; `CLOSED`; `BAD_CALL` where there are over 4 arguments, tested first.
+#[unsafe(no_mangle)]
+pub extern "C" fn sgt_start(
+    alloc: Global,
+    engine: &mut Handle,
+    procedure: u16,
+    args: &[i64],
+    told: &mut Told,
+) -> u32
+    ensures ok { result ≡ 0 → Answered (Start procedure args.now) engine.old.slot.held engine.new.slot.held told.new }
+    ensures unchanged { result ≢ 0 → engine.new.slot.held ≡ engine.old.slot.held }
+    ensures untold { result ≢ 0 → told.new ≡ told.old }
+    ensures bad_call { (result ≡ 5) ↔ (4 < length args.now) }
+    ensures closed { (result ≡ 2) ↔ ((length args.now ≤ 4) × (engine.old.slot.held ≡ None)) }
+    ensures statuses { result ≢ 5 → result ≤ 2 }
+{
+    match Args::from_slice(args) {
+        Some(args) => ask(alloc, engine, Event::Start { procedure, args }, told),
+        None => status::BAD_CALL,
+    }
+}
+
+/// Lets the transaction make its next access.
+///
+/// `NO_MEMORY`; `CLOSED`.
+#[unsafe(no_mangle)]
+pub extern "C" fn sgt_step(alloc: Global, engine: &mut Handle, t: u32, told: &mut Told) -> u32
+    ensures ok { result ≡ 0 → Answered (Step t) engine.old.slot.held engine.new.slot.held told.new }
+    ensures unchanged { result ≢ 0 → engine.new.slot.held ≡ engine.old.slot.held }
+    ensures untold { result ≢ 0 → told.new ≡ told.old }
+    ensures closed { (result ≡ 2) ↔ (engine.old.slot.held ≡ None) }
+    ensures ends { EndsSucceed (Step t) engine.old.slot.held result }
+    ensures statuses { result ≤ 2 }
+{
+    ask(alloc, engine, Event::Step(Tid(t)), told)
+}
+
+/// Commits the transaction.
+///
+/// `NO_MEMORY`; `CLOSED`.
+#[unsafe(no_mangle)]
+pub extern "C" fn sgt_commit(alloc: Global, engine: &mut Handle, t: u32, told: &mut Told) -> u32
+    ensures ok { result ≡ 0 → Answered (Commit t) engine.old.slot.held engine.new.slot.held told.new }
+    ensures unchanged { result ≢ 0 → engine.new.slot.held ≡ engine.old.slot.held }
+    ensures untold { result ≢ 0 → told.new ≡ told.old }
+    ensures closed { (result ≡ 2) ↔ (engine.old.slot.held ≡ None) }
+    ensures ends { EndsSucceed (Commit t) engine.old.slot.held result }
+    ensures statuses { result ≤ 2 }
+{
+    ask(alloc, engine, Event::Commit(Tid(t)), told)
+}
+
+/// Quits the transaction: it is aborted. Where it is live, this succeeds.
+///
+/// `NO_MEMORY`; `CLOSED`.
+#[unsafe(no_mangle)]
+pub extern "C" fn sgt_quit(alloc: Global, engine: &mut Handle, t: u32, told: &mut Told) -> u32
+    ensures ok { result ≡ 0 → Answered (Quit t) engine.old.slot.held engine.new.slot.held told.new }
+    ensures unchanged { result ≢ 0 → engine.new.slot.held ≡ engine.old.slot.held }
+    ensures untold { result ≢ 0 → told.new ≡ told.old }
+    ensures closed { (result ≡ 2) ↔ (engine.old.slot.held ≡ None) }
+    ensures quits { QuitsSucceed (Quit t) engine.old.slot.held result }
+    ensures statuses { result ≤ 2 }
+{
+    ask(alloc, engine, Event::Quit(Tid(t)), told)
+}
+
+/// Takes an event, answers it, and tells the reply.
+fn ask(alloc: Global, engine: &mut Handle, event: Event, told: &mut Told) -> u32
+    ensures ok { result ≡ 0 → Answered event engine.old.slot.held engine.new.slot.held told.new }
+    ensures unchanged { result ≢ 0 → engine.new.slot.held ≡ engine.old.slot.held }
+    ensures untold { result ≢ 0 → told.new ≡ told.old }
+    ensures closed { (result ≡ 2) ↔ (engine.old.slot.held ≡ None) }
+    ensures ends { EndsSucceed event engine.old.slot.held result }
+    ensures quits { QuitsSucceed event engine.old.slot.held result }
+    ensures statuses { result ≤ 2 }
+{
+    match engine.take(alloc) {
+        Some(mut held) => {
+            let answered = answer(&mut held, event, told);
+            engine.put(held);
+            match answered {
+                Ok(()) => status::OK,
+                Err(NoMemory) => status::NO_MEMORY,
+            }
+        }
+        None => status::CLOSED,
+    }
+}
+
+/// Takes an event, answers it, and tells the reply.
+fn answer(held: &mut Held, event: Event, told: &mut Told) -> Result<(), NoMemory>
+    ensures ok { OnOk result (Answered event (Some held.old) (Some held.new) told.new) }
+    ensures unchanged { OnErr result ((held.new ≡ held.old) × (told.new ≡ told.old)) }
+    ensures ends { (r : Answer) → LegalReply (setting_of held.old.engine) held.old.engine.past event r
+        → is_ending r ≡ true
+        → IsOk result }
+    ensures quits { (t : ℕ) → event ≡ Quit t → live held.old.engine.past t ≡ true → IsOk result }
+{
+    held.engine.answer(event)?;
+    match held.engine.history().last() {
+        Some(entry) => tell(told, &entry.reply),
+        None => unreachable!(),
+    }
+    Ok(())
+}

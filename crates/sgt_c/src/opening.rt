@@ -1,0 +1,61 @@
+//! Opening and closing a handle.
+ghost use Rattle.std.specs.Prelude.{◌≡◌, ◌≢◌, ◌≤◌, ◌↔◌, None, IsSome, IfSome, IfOk, IfErr};
+ghost use Rattle.sgt_format.specs.Openings.{Refuses};
+ghost use Rattle.sgt_c.specs.Openings.{OpenedAs, RefusedAs};
+
+use crate::fault::{Fault, tell_fault};
+use crate::handle::Handle;
+use crate::held::Held;
+use crate::status;
+use sgt_format::{OpeningError, read_opening};
+use sgt_program::open_engine;
+use std::alloc::Global;
+
+/// Opens an engine in a closed handle, of an opening's bytes as the first line of a script has them, without its end.
+///
+/// `NO_MEMORY`; `OPEN` where the handle is open, tested first; from 16 on a fault of the opening, which is told.
+#[unsafe(no_mangle)]
+pub extern "C" fn sgt_open(
+    alloc: Global,
+    engine: &mut Handle,
+    opening: &[u8],
+    fault: &mut Fault,
+) -> u32
+    ensures opened { result ≡ 0 → IfSome engine.new.slot.held (λ h. OpenedAs opening.now h.engine) }
+    ensures is_open { result ≡ 0 → IsSome engine.new.slot.held }
+    ensures open { (result ≡ 3) ↔ IsSome engine.old.slot.held }
+    ensures refused { 16 ≤ result → (result ≡ fault.new.kind) × RefusedAs opening.now fault.new }
+    ensures unchanged { result ≢ 0 → engine.new.slot.held ≡ engine.old.slot.held }
+{
+    if engine.is_open {
+        return status::OPEN;
+    }
+    match make(alloc, opening) {
+        Ok(held) => match Box::new(alloc, held) {
+            Ok(held) => {
+                engine.put(held);
+                status::OK
+            }
+            Err(_) => status::NO_MEMORY,
+        },
+        Err(error) => tell_fault(fault, &error),
+    }
+}
+
+/// The engine of the opening that these bytes spell.
+fn make(alloc: Global, opening: &[u8]) -> Result<Held, OpeningError>
+    ensures opened { IfOk result (λ h. OpenedAs opening.now h.engine) }
+    ensures refused { IfErr result (Refuses 1 opening.now) }
+{
+    let opening = read_opening(alloc, 1, opening)?;
+    let engine = open_engine(alloc, opening)?;
+    Ok(Held { engine })
+}
+
+/// Closes the handle, and frees all that the engine held. A closed one stays closed.
+#[unsafe(no_mangle)]
+pub extern "C" fn sgt_close(alloc: Global, engine: &mut Handle)
+    ensures { engine.new.slot.held ≡ None }
+{
+    drop(engine.take(alloc));
+}

@@ -1,0 +1,72 @@
+//! What is committed.
+ghost use Rattle.std.specs.Prelude.{◌≡◌, ◌≢◌, ◌≤◌, ◌↔◌, Some, None, IsSome, IfSome, length};
+ghost use Rattle.sgt_model.specs.Databases.{contents_of};
+ghost use Rattle.sgt_model.specs.Numbers.{IsValue};
+ghost use Rattle.sgt_model.specs.Replay.{folded};
+ghost use Rattle.sgt_model.specs.Values.{settled};
+ghost use Rattle.sgt_engine.specs.EngineView.{setting_of};
+
+use crate::handle::Handle;
+use crate::status;
+use sgt_model::Key;
+use std::alloc::Global;
+
+/// The committed value of a record: the last one that a committed transaction stored, else the opening's.
+///
+/// `BAD_CALL` where the table is over 7 or the number is no value, tested first; `CLOSED`; `NONE` where there is no such record.
+#[unsafe(no_mangle)]
+pub extern "C" fn sgt_get(
+    alloc: Global,
+    engine: &mut Handle,
+    table: u8,
+    number: i64,
+    value: &mut i64,
+) -> u32
+    ensures found { result ≡ 0 → IfSome engine.old.slot.held (λ h.
+        settled (contents_of h.engine.opening) h.engine.past (table, number) ≡ Some value.new) }
+    ensures replayed { result ≡ 0 → IfSome engine.old.slot.held (λ h.
+        (folded (setting_of h.engine) h.engine.past).last (table, number) ≡ Some value.new) }
+    ensures none { result ≡ 4 → IfSome engine.old.slot.held (λ h.
+        settled (contents_of h.engine.opening) h.engine.past (table, number) ≡ None) }
+    ensures open { result ≢ 2 → result ≢ 5 → IsSome engine.old.slot.held }
+    ensures bad_call { (result ≡ 5) ↔ (¬ ((table ≤ 7) × IsValue number)) }
+    ensures closed { result ≡ 2 → engine.old.slot.held ≡ None }
+    ensures statuses { result ≢ 1 }
+    ensures kept { result ≢ 0 → value.new ≡ value.old }
+    ensures same { engine.new.slot.held ≡ engine.old.slot.held }
+{
+    let Some(key) = Key::new(table, number) else {
+        return status::BAD_CALL;
+    };
+    let Some(held) = engine.take(alloc) else {
+        return status::CLOSED;
+    };
+    let found = held.engine.committed(key);
+    engine.put(held);
+    match found {
+        Some(found) => {
+            *value = found;
+            status::OK
+        }
+        None => status::NONE,
+    }
+}
+
+/// How many events were answered since the opening.
+///
+/// `CLOSED`.
+#[unsafe(no_mangle)]
+pub extern "C" fn sgt_entries(alloc: Global, engine: &mut Handle, count: &mut u64) -> u32
+    ensures count { result ≡ 0 → IfSome engine.old.slot.held (λ h. count.new ≡ length h.engine.past) }
+    ensures closed { (result ≡ 2) ↔ (engine.old.slot.held ≡ None) }
+    ensures statuses { result ≢ 0 → result ≡ 2 }
+    ensures kept { result ≢ 0 → count.new ≡ count.old }
+    ensures same { engine.new.slot.held ≡ engine.old.slot.held }
+{
+    let Some(held) = engine.take(alloc) else {
+        return status::CLOSED;
+    };
+    *count = held.engine.history().len() as u64;
+    engine.put(held);
+    status::OK
+}

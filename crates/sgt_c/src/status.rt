@@ -1,0 +1,37 @@
+//! What a call answers: a status. Those from 16 on are faults of an opening.
+
+/// The call was carried out.
+pub const OK: u32 = 0;
+
+/// A growth was refused, and nothing has changed.
+pub const NO_MEMORY: u32 = 1;
+
+/// The handle is closed.
+pub const CLOSED: u32 = 2;
+
+/// The handle is open already.
+pub const OPEN: u32 = 3;
+
+/// There is no such record.
+pub const NONE: u32 = 4;
+
+/// A number that was passed is out of its range.
+pub const BAD_CALL: u32 = 5;
+
+/// The opening is no JSON.
+pub const NOT_JSON: u32 = 16;
+
+/// The opening is JSON of another shape.
+pub const BAD_LINE: u32 = 17;
+
+/// A limit is out of its range.
+pub const BAD_LIMITS: u32 = 18;
+
+/// An account has a fault.
+pub const BAD_OPENING: u32 = 19;
+
+/// A procedure spells none.
+pub const PROC_SHAPE: u32 = 20;
+
+/// A procedure has a flaw.
+pub const PROC_FLAW: u32 = 21;
