@@ -130,7 +130,8 @@ pub plain_commit : (line rest : List ℕ) (t : ℕ) → line ≡ codes "[\"commi
     → t < 1_000_000_000 → event_of line ≡ Ok (Commit t)
 unfolding print_from escape_byte all_ascii
 plain_commit line rest t begins ends small =
-    by_word (codes "commit") (codes "[\"commit\",") line rest t (Commit t) (ascii_from (codes "[\"commit\",") refl) begins ends small refl refl
+    by_word (codes "commit") (codes "[\"commit\",") line rest t (Commit t) (ascii_from (codes "[\"commit\",") refl)
+    begins ends small refl refl
 
 pub plain_quit : (line rest : List ℕ) (t : ℕ) → line ≡ codes "[\"quit\"," ++ rest → rest ≡ decimal t ++ 93 ∷ []
     → t < 1_000_000_000 → event_of line ≡ Ok (Quit t)
