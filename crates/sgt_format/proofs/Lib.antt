@@ -5,3 +5,4 @@ pub mod Shapes
 pub mod ReadProcedures
 pub mod Numerals
 pub mod LineTokens
+pub mod PlainLines

@@ -24,7 +24,7 @@ use Rattle.sgt_format.proofs.Views.{tree_of_read}
 use Rattle.sgt_format.proofs.Numerals.{one_number_more}
 
 -- a word and a number
-transaction : (w s : List ℕ) (n : ℤ) → whole_number s ≡ Some n
+pub transaction : (w s : List ℕ) (n : ℤ) → whole_number s ≡ Some n
     → event_at (begin_array ∷ string w ∷ number s ∷ end_array ∷ []) ≡ option_and_then (of_transaction w) (natural_of 32 n)
 unfolding value items
 transaction w s n is = by_number (number_of s) refl

@@ -24,6 +24,7 @@ mod event_line;
 mod job_line;
 mod line_tokens;
 mod opening;
+mod plain_line;
 mod procedures;
 mod reply_text;
 mod script_line;

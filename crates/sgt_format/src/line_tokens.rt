@@ -10,15 +10,20 @@ ghost use Rattle.sgt_format.specs.LineTokens.{whole_number, whole_numbers, event
 use crate::call::JobCall;
 use crate::event_line::{of_procedure, of_transaction};
 use crate::job_line::job_call;
+use crate::plain_line::plain_event;
 use fast_float::Numeral;
 use json::{Reader, Scratch, Token};
 use sgt_model::{Args, Event, NoMemory, Tid};
 
-/// The event of a line, read token after token, without a tree of it. Where this finds none, the line's tree decides.
+/// The event of a line, read token after token where it is not written plainly, without a tree of it. Where this finds none, the
+/// line's tree decides.
 #[tactic(auto, using(crate::proofs::LineTokens::event_found))]
 pub(crate) fn quick_event(line: &[u8], scratch: &mut Scratch) -> Result<Option<Event>, NoMemory>
     ensures { IfOk result (λ found. IfSome found (λ event. event_of line.now ≡ Ok event)) }
 {
+    if let Some(event) = plain_event(line) {
+        return Ok(Some(event));
+    }
     let Ok(text) = str::from_utf8(line) else {
         return Ok(None);
     };
