@@ -1,30 +1,16 @@
-ghost use Rattle.std.specs.Prelude.{◌≡◌, ◌++◌, take, OnOk, OnErr, vec_len};
+ghost use Rattle.std.specs.Prelude.{◌≡◌, ◌++◌, OnOk, OnErr};
 ghost use Rattle.sgt_format.specs.CutText.{cut_text, still_live_text};
 
-use crate::decimal_text::append_numbered;
+use crate::decimal_text::append_number_line;
 use sgt_model::NoMemory;
-use std::alloc::AllocError;
 
 /// Adds the line that tells how many entries were cut off, with its end. It takes no memory but the text's growth.
 pub fn append_cut(lines: &mut Vec<u8>, entries: usize) -> Result<(), NoMemory>
     ensures ok { OnOk result (lines.new.items ≡ lines.old.items ++ cut_text entries) }
     ensures err { OnErr result (lines.new.items ≡ lines.old.items) }
 {
-    let before = lines.len();
-    if append_cut_line(lines, entries).is_err() {
-        lines.truncate(before);
-        return Err(NoMemory);
-    }
+    append_number_line(lines, b"cut ", entries as u64)?;
     Ok(())
-}
-
-/// On an error the lines still begin with what they held.
-fn append_cut_line(lines: &mut Vec<u8>, entries: usize) -> Result<(), AllocError>
-    ensures ok { OnOk result (lines.new.items ≡ lines.old.items ++ cut_text entries) }
-    ensures err { OnErr result (take (vec_len lines.old) lines.new.items ≡ lines.old.items) }
-{
-    append_numbered(lines, b"cut ", entries)?;
-    lines.extend_from_slice(b"\n")
 }
 
 /// Adds the line that tells that nothing was cut off, since a transaction is live, with its end. It takes no memory but the

@@ -1,7 +1,7 @@
 ghost use Rattle.std.specs.Prelude.{◌≡◌, ◌++◌, take, OnOk, OnErr, vec_len};
 ghost use Rattle.sgt_format.specs.DatabaseText.{row_text, database_text};
 
-use crate::decimal_text::append_record;
+use crate::decimal_text::{LONGEST_LINE, write_byte, write_record};
 use sgt_model::{Database, Key, NoMemory};
 use std::alloc::AllocError;
 
@@ -31,11 +31,12 @@ fn append_rows(text: &mut Vec<u8>, rows: &[(Key, i64)]) -> Result<(), AllocError
     Ok(())
 }
 
-/// On an error the text still begins with what it held.
 fn append_row(text: &mut Vec<u8>, key: &Key, value: i64) -> Result<(), AllocError>
     ensures ok { OnOk result (text.new.items ≡ text.old.items ++ row_text (key.now, value)) }
-    ensures err { OnErr result (take (vec_len text.old) text.new.items ≡ text.old.items) }
+    ensures err { OnErr result (text.new.items ≡ text.old.items) }
 {
-    append_record(text, key, value)?;
-    text.extend_from_slice(b"\n")
+    let mut line = [0; LONGEST_LINE];
+    let start = write_byte(b'\n', &mut line, LONGEST_LINE);
+    let start = write_record(key, value, &mut line, start);
+    text.extend_from_slice(&line[start..])
 }

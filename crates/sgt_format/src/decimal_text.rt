@@ -6,8 +6,8 @@ use itoa::{Buffer, Integer, write_digits};
 use sgt_model::{Answers, Key, Tids};
 use std::alloc::AllocError;
 
-/// At least as many bytes as a key and a value can have.
-const LONGEST_RECORD: usize = 64;
+/// At least as many bytes as a line of words, a key and a value can have, with its end.
+pub(crate) const LONGEST_LINE: usize = 64;
 
 /// Adds a number in decimal.
 pub fn append_number<I: Integer>(line: &mut Vec<u8>, number: I) -> Result<(), AllocError>
@@ -30,33 +30,49 @@ pub fn append_numbered<I: Integer>(
     append_number(line, number)
 }
 
-/// Adds a key. On an error the line still begins with what it held.
-pub(crate) fn append_key(line: &mut Vec<u8>, key: &Key) -> Result<(), AllocError>
-    ensures ok { OnOk result (line.new.items ≡ line.old.items ++ key_text key.now) }
-    ensures err { OnErr result (take (vec_len line.old) line.new.items ≡ line.old.items) }
+/// Adds a line of words and a number behind them, with its end.
+#[inline]
+pub(crate) fn append_number_line(
+    lines: &mut Vec<u8>,
+    words: &[u8],
+    number: u64,
+) -> Result<(), AllocError>
+    requires { length words.now ≤ 20 }
+    ensures ok { OnOk result
+        (lines.new.items ≡ lines.old.items ++ words.now ++ decimal number ++ codes "\n") }
+    ensures err { OnErr result (lines.new.items ≡ lines.old.items) }
 {
-    append_number(line, key.table())?;
-    line.extend_from_slice(b"/")?;
-    append_number(line, key.id())
+    let mut line = [0; LONGEST_LINE];
+    let start = write_byte(b'\n', &mut line, LONGEST_LINE);
+    let start = write_digits(number, &mut line, start);
+    let start = write_words(words, &mut line, start);
+    lines.extend_from_slice(&line[start..])
 }
 
-/// Adds a key and a value, which are written from the last byte to the first and then added at once. On an error the line
-/// still begins with what it held.
-pub(crate) fn append_record(line: &mut Vec<u8>, key: &Key, value: i64) -> Result<(), AllocError>
-    ensures ok { OnOk result (line.new.items ≡ line.old.items ++ record_text key.now value) }
-    ensures err { OnErr result (take (vec_len line.old) line.new.items ≡ line.old.items) }
+/// Writes a key and a value so that they end at `end`, and tells where they start.
+pub(crate) fn write_record(key: &Key, value: i64, text: &mut [u8], end: usize) -> usize
+    requires { (43 ≤ end) × (end ≤ length text.old) }
+    ensures start { (result ≤ end) × (end ≤ result + 43) }
+    ensures written { drop result text.new ≡ record_text key.now value ++ drop end text.old }
 {
-    let mut text = [0; LONGEST_RECORD];
-    let start = write_signed(value, &mut text, LONGEST_RECORD);
-    let start = write_byte(b' ', &mut text, start);
-    let start = write_signed(key.id(), &mut text, start);
-    let start = write_byte(b'/', &mut text, start);
-    let start = write_digits(u64::from(key.table()), &mut text, start);
-    line.extend_from_slice(&text[start..])
+    let start = write_signed(value, text, end);
+    let start = write_byte(b' ', text, start);
+    write_key(key, text, start)
+}
+
+/// Writes a key so that it ends at `end`, and tells where it starts.
+pub(crate) fn write_key(key: &Key, text: &mut [u8], end: usize) -> usize
+    requires { (22 ≤ end) × (end ≤ length text.old) }
+    ensures start { (result ≤ end) × (end ≤ result + 22) }
+    ensures written { drop result text.new ≡ key_text key.now ++ drop end text.old }
+{
+    let start = write_signed(key.id(), text, end);
+    let start = write_byte(b'/', text, start);
+    write_digits(u64::from(key.table()), text, start)
 }
 
 /// Writes a number in decimal so that it ends at `end`, and tells where it starts.
-fn write_signed(number: i64, text: &mut [u8], end: usize) -> usize
+pub(crate) fn write_signed(number: i64, text: &mut [u8], end: usize) -> usize
     requires { (20 ≤ end) × (end ≤ length text.old) }
     ensures start { (result ≤ end) × (end ≤ result + 20) }
     ensures written { drop result text.new ≡ signed_decimal number ++ drop end text.old }
@@ -68,8 +84,20 @@ fn write_signed(number: i64, text: &mut [u8], end: usize) -> usize
     start
 }
 
+/// Writes words so that they end at `end`, and tells where they start.
+#[inline]
+pub(crate) fn write_words(words: &[u8], text: &mut [u8], end: usize) -> usize
+    requires { (length words.now ≤ end) × (end ≤ length text.old) }
+    ensures start { result + length words.now ≡ end }
+    ensures written { drop result text.new ≡ words.now ++ drop end text.old }
+{
+    let start = end - words.len();
+    text[start..end].copy_from_slice(words);
+    start
+}
+
 /// Writes a byte before `end`, and tells where it is.
-fn write_byte(byte: u8, text: &mut [u8], end: usize) -> usize
+pub(crate) fn write_byte(byte: u8, text: &mut [u8], end: usize) -> usize
     requires { (0 < end) × (end ≤ length text.old) }
     ensures start { result + 1 ≡ end }
     ensures written { drop result text.new ≡ byte ∷ drop end text.old }

@@ -1,9 +1,11 @@
 ghost use Rattle.std.specs.Prelude.{◌≡◌, ◌++◌, take, IfOk, OnOk, OnErr, vec_len, codes};
+ghost use Rattle.std.specs.Fmt.{signed_decimal};
 ghost use Rattle.sgt_format.specs.Decimals.{record_text};
 ghost use Rattle.sgt_format.specs.ReplyText.{cause_text, over_text, looked_text, committed_text, fell_text, aborted_text, refused_text, reply_text, text};
 
 use crate::decimal_text::{
-    append_answers, append_key, append_numbered, append_record, append_tids, append_tids_or_none,
+    LONGEST_LINE, append_answers, append_number_line, append_numbered, append_tids,
+    append_tids_or_none, write_byte, write_key, write_record, write_signed, write_words,
 };
 use sgt_model::{Answers, Cause, Fate, Key, NoMemory, Reply, Tids};
 use std::alloc::{AllocError, Global};
@@ -35,104 +37,133 @@ fn append_line(lines: &mut Vec<u8>, reply: &Reply) -> Result<(), AllocError>
     ensures ok { OnOk result (lines.new.items ≡ lines.old.items ++ text reply.now) }
     ensures err { OnErr result (take (vec_len lines.old) lines.new.items ≡ lines.old.items) }
 {
-    append_words(lines, reply)?;
+    match reply {
+        Reply::Started(t) => append_number_line(lines, b"started ", u64::from(t.0)),
+        Reply::NoProcedure => lines.extend_from_slice(b"no procedure\n"),
+        Reply::BadArgs => lines.extend_from_slice(b"bad args\n"),
+        Reply::Spent => lines.extend_from_slice(b"spent\n"),
+        Reply::Full => lines.extend_from_slice(b"full\n"),
+        Reply::Unknown => lines.extend_from_slice(b"unknown\n"),
+        Reply::Over(fate) => append_over(lines, fate),
+        Reply::Looked { key, value } => append_looked(lines, key, *value),
+        Reply::Wrote { key, value } => append_wrote(lines, key, *value),
+        Reply::Ended => lines.extend_from_slice(b"ended\n"),
+        Reply::NotEnded => lines.extend_from_slice(b"not ended\n"),
+        Reply::Waits(first) => append_number_line(lines, b"waits ", u64::from(first.0)),
+        Reply::Committed(answers) => append_committed(lines, answers),
+        Reply::Aborted { cause, fell } => append_aborted(lines, cause, fell),
+        Reply::Refused { code, fell } => append_refused(lines, *code, fell),
+    }
+}
+
+/// On an error the lines still begin with what they held.
+fn append_over(lines: &mut Vec<u8>, fate: &Fate) -> Result<(), AllocError>
+    ensures ok { OnOk result (lines.new.items ≡ lines.old.items ++ over_text fate.now ++ codes "\n") }
+    ensures err { OnErr result (take (vec_len lines.old) lines.new.items ≡ lines.old.items) }
+{
+    match fate {
+        Fate::Committed => lines.extend_from_slice(b"over committed\n"),
+        Fate::Aborted(cause) => {
+            lines.extend_from_slice(b"over aborted ")?;
+            append_cause(lines, cause)?;
+            lines.extend_from_slice(b"\n")
+        }
+        Fate::Fell(first) => append_number_line(lines, b"over fell ", u64::from(first.0)),
+    }
+}
+
+fn append_looked(lines: &mut Vec<u8>, key: &Key, value: Option<i64>) -> Result<(), AllocError>
+    ensures ok { OnOk result
+        (lines.new.items ≡ lines.old.items ++ looked_text key.now value ++ codes "\n") }
+    ensures err { OnErr result (lines.new.items ≡ lines.old.items) }
+{
+    let mut line = [0; LONGEST_LINE];
+    let start = match value {
+        Some(value) => {
+            let end = write_byte(b'\n', &mut line, LONGEST_LINE);
+            write_record(key, value, &mut line, end)
+        }
+        None => {
+            let end = write_words(b" none\n", &mut line, LONGEST_LINE);
+            write_key(key, &mut line, end)
+        }
+    };
+    let start = write_words(b"read ", &mut line, start);
+    lines.extend_from_slice(&line[start..])
+}
+
+fn append_wrote(lines: &mut Vec<u8>, key: &Key, value: i64) -> Result<(), AllocError>
+    ensures ok { OnOk result
+        (lines.new.items ≡ lines.old.items ++ codes "wrote " ++ record_text key.now value ++ codes "\n") }
+    ensures err { OnErr result (lines.new.items ≡ lines.old.items) }
+{
+    let mut line = [0; LONGEST_LINE];
+    let start = write_byte(b'\n', &mut line, LONGEST_LINE);
+    let start = write_record(key, value, &mut line, start);
+    let start = write_words(b"wrote ", &mut line, start);
+    lines.extend_from_slice(&line[start..])
+}
+
+/// On an error the lines still begin with what they held.
+fn append_committed(lines: &mut Vec<u8>, answers: &Answers) -> Result<(), AllocError>
+    ensures ok { OnOk result
+        (lines.new.items ≡ lines.old.items ++ committed_text answers.now ++ codes "\n") }
+    ensures err { OnErr result (take (vec_len lines.old) lines.new.items ≡ lines.old.items) }
+{
+    if let [answer] = answers.as_slice() {
+        return append_answered(lines, *answer);
+    }
+    lines.extend_from_slice(b"committed")?;
+    append_answers(lines, answers)?;
     lines.extend_from_slice(b"\n")
 }
 
-/// Adds the words of a reply. On an error the line still begins with what it held.
-fn append_words(line: &mut Vec<u8>, reply: &Reply) -> Result<(), AllocError>
-    ensures ok { OnOk result (line.new.items ≡ line.old.items ++ reply_text reply.now) }
-    ensures err { OnErr result (take (vec_len line.old) line.new.items ≡ line.old.items) }
-{
-    match reply {
-        Reply::Started(t) => append_numbered(line, b"started ", t.0),
-        Reply::NoProcedure => line.extend_from_slice(b"no procedure"),
-        Reply::BadArgs => line.extend_from_slice(b"bad args"),
-        Reply::Spent => line.extend_from_slice(b"spent"),
-        Reply::Full => line.extend_from_slice(b"full"),
-        Reply::Unknown => line.extend_from_slice(b"unknown"),
-        Reply::Over(fate) => append_over(line, fate),
-        Reply::Looked { key, value } => append_looked(line, key, *value),
-        Reply::Wrote { key, value } => append_wrote(line, key, *value),
-        Reply::Ended => line.extend_from_slice(b"ended"),
-        Reply::NotEnded => line.extend_from_slice(b"not ended"),
-        Reply::Waits(first) => append_numbered(line, b"waits ", first.0),
-        Reply::Committed(answers) => append_committed(line, answers),
-        Reply::Aborted { cause, fell } => append_aborted(line, cause, fell),
-        Reply::Refused { code, fell } => append_refused(line, *code, fell),
-    }
-}
-
-fn append_over(line: &mut Vec<u8>, fate: &Fate) -> Result<(), AllocError>
-    ensures ok { OnOk result (line.new.items ≡ line.old.items ++ over_text fate.now) }
-    ensures err { OnErr result (take (vec_len line.old) line.new.items ≡ line.old.items) }
-{
-    match fate {
-        Fate::Committed => line.extend_from_slice(b"over committed"),
-        Fate::Aborted(cause) => {
-            line.extend_from_slice(b"over aborted ")?;
-            append_cause(line, cause)
-        }
-        Fate::Fell(first) => append_numbered(line, b"over fell ", first.0),
-    }
-}
-
-fn append_looked(line: &mut Vec<u8>, key: &Key, value: Option<i64>) -> Result<(), AllocError>
-    ensures ok { OnOk result (line.new.items ≡ line.old.items ++ looked_text key.now value) }
-    ensures err { OnErr result (take (vec_len line.old) line.new.items ≡ line.old.items) }
-{
-    line.extend_from_slice(b"read ")?;
-    match value {
-        Some(value) => append_record(line, key, value),
-        None => {
-            append_key(line, key)?;
-            line.extend_from_slice(b" none")
-        }
-    }
-}
-
-fn append_wrote(line: &mut Vec<u8>, key: &Key, value: i64) -> Result<(), AllocError>
+/// Adds the line of a transaction that is committed with one answer.
+fn append_answered(lines: &mut Vec<u8>, answer: i64) -> Result<(), AllocError>
     ensures ok { OnOk result
-        (line.new.items ≡ line.old.items ++ codes "wrote " ++ record_text key.now value) }
-    ensures err { OnErr result (take (vec_len line.old) line.new.items ≡ line.old.items) }
+        (lines.new.items ≡ lines.old.items ++ codes "committed " ++ signed_decimal answer ++ codes "\n") }
+    ensures err { OnErr result (lines.new.items ≡ lines.old.items) }
 {
-    line.extend_from_slice(b"wrote ")?;
-    append_record(line, key, value)
+    let mut line = [0; LONGEST_LINE];
+    let start = write_byte(b'\n', &mut line, LONGEST_LINE);
+    let start = write_signed(answer, &mut line, start);
+    let start = write_words(b"committed ", &mut line, start);
+    lines.extend_from_slice(&line[start..])
 }
 
-fn append_committed(line: &mut Vec<u8>, answers: &Answers) -> Result<(), AllocError>
-    ensures ok { OnOk result (line.new.items ≡ line.old.items ++ committed_text answers.now) }
-    ensures err { OnErr result (take (vec_len line.old) line.new.items ≡ line.old.items) }
+/// On an error the lines still begin with what they held.
+#[tactic(auto, using(crate::proofs::Begins::still_begins))]
+fn append_aborted(lines: &mut Vec<u8>, cause: &Cause, fell: &Tids) -> Result<(), AllocError>
+    ensures ok { OnOk result
+        (lines.new.items ≡ lines.old.items ++ aborted_text cause.now fell.now ++ codes "\n") }
+    ensures err { OnErr result (take (vec_len lines.old) lines.new.items ≡ lines.old.items) }
 {
-    line.extend_from_slice(b"committed")?;
-    append_answers(line, answers)
+    lines.extend_from_slice(b"aborted ")?;
+    append_cause(lines, cause)?;
+    append_fell(lines, fell)
 }
 
-fn append_aborted(line: &mut Vec<u8>, cause: &Cause, fell: &Tids) -> Result<(), AllocError>
-    ensures ok { OnOk result (line.new.items ≡ line.old.items ++ aborted_text cause.now fell.now) }
-    ensures err { OnErr result (take (vec_len line.old) line.new.items ≡ line.old.items) }
+/// On an error the lines still begin with what they held.
+fn append_refused(lines: &mut Vec<u8>, code: u16, fell: &Tids) -> Result<(), AllocError>
+    ensures ok { OnOk result
+        (lines.new.items ≡ lines.old.items ++ refused_text code fell.now ++ codes "\n") }
+    ensures err { OnErr result (take (vec_len lines.old) lines.new.items ≡ lines.old.items) }
 {
-    line.extend_from_slice(b"aborted ")?;
-    append_cause(line, cause)?;
-    append_fell(line, fell)
+    append_numbered(lines, b"refused ", code)?;
+    append_fell(lines, fell)
 }
 
-fn append_refused(line: &mut Vec<u8>, code: u16, fell: &Tids) -> Result<(), AllocError>
-    ensures ok { OnOk result (line.new.items ≡ line.old.items ++ refused_text code fell.now) }
-    ensures err { OnErr result (take (vec_len line.old) line.new.items ≡ line.old.items) }
+/// Adds which fell, and the end of the line. On an error the lines still begin with what they held.
+fn append_fell(lines: &mut Vec<u8>, fell: &Tids) -> Result<(), AllocError>
+    ensures ok { OnOk result (lines.new.items ≡ lines.old.items ++ fell_text fell.now ++ codes "\n") }
+    ensures err { OnErr result (take (vec_len lines.old) lines.new.items ≡ lines.old.items) }
 {
-    append_numbered(line, b"refused ", code)?;
-    append_fell(line, fell)
+    lines.extend_from_slice(b" fell")?;
+    append_tids_or_none(lines, fell)?;
+    lines.extend_from_slice(b"\n")
 }
 
-fn append_fell(line: &mut Vec<u8>, fell: &Tids) -> Result<(), AllocError>
-    ensures ok { OnOk result (line.new.items ≡ line.old.items ++ fell_text fell.now) }
-    ensures err { OnErr result (take (vec_len line.old) line.new.items ≡ line.old.items) }
-{
-    line.extend_from_slice(b" fell")?;
-    append_tids_or_none(line, fell)
-}
-
+/// Adds why a transaction was aborted. On an error the line still begins with what it held.
 fn append_cause(line: &mut Vec<u8>, cause: &Cause) -> Result<(), AllocError>
     ensures ok { OnOk result (line.new.items ≡ line.old.items ++ cause_text cause.now) }
     ensures err { OnErr result (take (vec_len line.old) line.new.items ≡ line.old.items) }
