@@ -4,3 +4,4 @@ pub mod Histories
 pub mod SerialOrder
 pub mod Numbering
 pub mod Examples
+pub mod Edges

@@ -20,6 +20,6 @@
 mod laws;
 
 pub use laws::{
-    commit_orders_are_serial, keys_can_be_numbered, legal_are_commit_ordered,
+    commit_orders_are_serial, edges_are_pairs, keys_can_be_numbered, legal_are_commit_ordered,
     legal_are_recoverable, legal_are_serializable, some_histories_cascade,
 };
