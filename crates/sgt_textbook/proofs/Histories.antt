@@ -185,9 +185,15 @@ commit_ordered in_order in_line number injective s past h i j broken = broken.in
 
 -- of reads
 
-store_kind : (kind : Kind) → is_store kind ≡ true → kind ≡ Store
+pub store_kind : (kind : Kind) → is_store kind ≡ true → kind ≡ Store
 store_kind Look h = absurd (cc)
 store_kind Store h = refl
+
+-- a write by one that counts is a store
+pub stored_here : (number : Key → ℕ) → IsNumbering number → (e : Entry) (counts : ℕ → Bool) (k : Key) {j w : ℕ}
+    (a : IsAccess number e.event e.reply j w Store (number k)) → counts w ≡ true → stores counts k (access_of e) ≡ Some a.access
+stored_here number injective e counts k a counted = ap (stores counts k) a.is ∙ ap (λ b. cond b (Some a.access) None)
+    (and_from _ _ (ap is_store a.kind_is) (and_from _ _ (same_key number injective _ _ a.item) (ap counts a.by ∙ counted)))
 
 -- the last write of an item by one that counts, where each later one is by none that does, is its newest store
 newest_is : (number : Key → ℕ) → IsNumbering number → (past : List Entry) (counts : ℕ → Bool) (k : Key) (i w : ℕ)
@@ -205,8 +211,7 @@ newest_is number injective (e ∷ past) counts k i w at counted last =
   where
     now : {j : ℕ} → IsAccess number e.event e.reply j w Store (number k) → IsBy (newest_store counts k (e ∷ past)) w
     now a = subst (λ o. IsBy (option_or o (newest_store counts k past)) w)
-        (sym (ap (stores counts k) a.is ∙ ap (λ b. cond b (Some a.access) None)
-        (and_from _ _ (ap is_store a.kind_is) (and_from _ _ (same_key number injective _ _ a.item) (ap counts a.by ∙ counted))))) a.by
+        (sym (stored_here number injective e counts k a counted)) a.by
 
     uncounted : (a : Access) → Stored counts k (access_of e) a → i < length (textbook number past) → counts a.by ≡ false
     uncounted a stored within = let p = in_second (textbook number past) (operations_of number e) 0 _
@@ -221,7 +226,7 @@ newest_is number injective (e ∷ past) counts k i w at counted last =
         absurd (both_ways _ (uncounted a stored within) stored.is_counted)
 
 -- who reads from another in the textbook's history has read from it
-reads_from : (number : Key → ℕ) → IsNumbering number → (s : Setting) (past : List Entry) → Legal s past → (i k x w r : ℕ) → r ≢ w
+pub reads_from : (number : Key → ℕ) → IsNumbering number → (s : Setting) (past : List Entry) → Legal s past → (i k x w r : ℕ) → r ≢ w
     → ReadsFrom (textbook number past) i k x w r → ReadFrom past r w
 reads_from number injective s [] h i k x w r apart reads = absurd (cc reads.read)
 reads_from number injective s (e ∷ past) h i k x w r apart reads =

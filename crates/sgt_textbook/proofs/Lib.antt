@@ -5,3 +5,4 @@ pub mod SerialOrder
 pub mod Numbering
 pub mod Examples
 pub mod Edges
+pub mod ReadingFrom
