@@ -10,6 +10,8 @@ use Rattle.sgt_model.proofs.Facts.{some_is}
 use Rattle.sgt_model.proofs.Computed.{made_by}
 use Rattle.sgt_model.proofs.ExampleSettings.{small_bank_tell, entry}
 use Rattle.sgt_model.proofs.ExamplesReads.{dirty_read_waits, quit_takes_reader, read_past_aborted}
+use Rattle.sgt_model.proofs.ExamplesReplay.{two_deposits}
+use Rattle.sgt_model.proofs.ExamplesRefusals.{refusal_takes_reader}
 use Rattle.sgt_history.specs.declared.operation.Operation.{Operation}
 use Rattle.sgt_history.specs.declared.operation.Action.{Action}
 use Rattle.sgt_history.specs.declared.operation.Action.TheVariants as action
@@ -43,8 +45,33 @@ read_past_aborted-textbook : (number : Key → ℕ) → textbook number read_pas
 read_past_aborted-textbook number = refl
 
 -- who reads what is not committed commits behind its source
+dirty_read_waits-textbook : (number : Key → ℕ) → textbook number dirty_read_waits ≡
+    does 0 (action.Read (number (0, pos 1)))
+    ∷ does 0 (action.Read (number (2, pos 101)))
+    ∷ does 0 (action.Write (number (2, pos 101)))
+    ∷ does 1 (action.Read (number (0, pos 1)))
+    ∷ does 1 (action.Read (number (1, pos 101)))
+    ∷ does 1 (action.Read (number (2, pos 101)))
+    ∷ does 0 action.Commit
+    ∷ does 1 action.Commit
+    ∷ []
+dirty_read_waits-textbook number = refl
+
 dirty_read_waits-order : commit_order dirty_read_waits ≡ 0 ∷ 1 ∷ []
 dirty_read_waits-order = refl
+
+-- one that is quit in between does not stand in the order of commits
+two_deposits-order : commit_order two_deposits ≡ 0 ∷ 2 ∷ []
+two_deposits-order = refl
+
+-- a refusal is an abort, and takes its reader along
+refusal_takes_reader-textbook : (number : Key → ℕ) → textbook number refusal_takes_reader ≡
+    does 0 (action.Write (number (3, pos 7)))
+    ∷ does 1 (action.Read (number (3, pos 7)))
+    ∷ does 0 action.Abort
+    ∷ does 1 action.Abort
+    ∷ []
+refusal_takes_reader-textbook number = refl
 
 -- one looks at what another has stored, and neither has ended
 abbrev dirty_read : List Entry

@@ -1,13 +1,16 @@
 -- What the textbook's classes say of every legal history, whatever numbers its keys get.
-use Rattle.std.specs.Prelude.{ℕ, List}
+use Rattle.std.specs.Prelude.{◌≡◌, ◌≢◌, ◌↔◌, true, ℕ, List}
 use Rattle.sgt_model.specs.declared.entry.Entry.{Entry}
 use Rattle.sgt_model.specs.Contents.{Key}
+use Rattle.sgt_model.specs.Fates.{committed}
+use Rattle.sgt_model.specs.ReadFrom.{ReadFrom}
+use Rattle.sgt_model.specs.Pairs.{Pair}
 use Rattle.sgt_model.specs.Settings.{Setting}
 use Rattle.sgt_model.specs.Legality.{Legal}
 use Rattle.sgt_model.specs.Laws.{InEach}
 use Rattle.sgt_history.specs.declared.operation.Operation.{Operation}
-use Rattle.sgt_history.specs.Classes.{AvoidsCascadingAborts, IsRecoverable}
-use Rattle.sgt_history.specs.Serializability.{IsCommitOrdered, IsSerializable, IsSerialOrder}
+use Rattle.sgt_history.specs.Classes.{ReadsFrom, AvoidsCascadingAborts, IsRecoverable}
+use Rattle.sgt_history.specs.Serializability.{IsEdge, IsCommitOrdered, IsSerializable, IsSerialOrder}
 use Rattle.sgt_textbook.specs.Textbook.{IsNumbering, textbook, commit_order}
 
 -- what holds of the textbook's history of every legal one, for each numbering of its keys
@@ -25,6 +28,20 @@ AreSerializable = OfEachTextbook IsSerializable
 -- it is recoverable: no transaction commits before one that it has read from
 abbrev pub AreRecoverable : Type 0
 AreRecoverable = OfEachTextbook IsRecoverable
+
+-- its serialization graph is that of the conflict pairs of committed transactions
+abbrev pub EdgesArePairs : Type 0
+EdgesArePairs = (number : Key → ℕ) → IsNumbering number → InEach (λ s past. (t u : ℕ) →
+    IsEdge (textbook number past) t u ↔ ((committed past t ≡ true) × (committed past u ≡ true) × Pair past t u))
+
+-- at some place r reads from w
+abbrev pub ReadsSomewhere : List Operation → ℕ → ℕ → Type 0
+ReadsSomewhere h w r = (i : ℕ) × (k : ℕ) × (x : ℕ) × ReadsFrom h i k x w r
+
+-- one reads from another in it exactly where it has read from that one
+abbrev pub ReadsAgree : Type 0
+ReadsAgree = (number : Key → ℕ) → IsNumbering number → InEach (λ s past. (w r : ℕ) → w ≢ r →
+    ReadsSomewhere (textbook number past) w r ↔ ReadFrom past r w)
 
 -- its committed transactions in the order of their commits are a serial order of it
 abbrev pub CommitOrdersAreSerial : Type 0

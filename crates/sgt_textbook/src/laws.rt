@@ -1,6 +1,6 @@
 //! Laws of the textbook's history of every legal one. A body calls the laws that it rests on, and does nothing else: the law is
 //! its contract.
-ghost use Rattle.sgt_textbook.specs.Laws.{AreCommitOrdered, AreRecoverable, AreSerializable, CommitOrdersAreSerial, KeysCanBeNumbered, SomeCascade};
+ghost use Rattle.sgt_textbook.specs.Laws.{AreCommitOrdered, AreRecoverable, AreSerializable, CommitOrdersAreSerial, EdgesArePairs, KeysCanBeNumbered, ReadsAgree, SomeCascade};
 
 use sgt_history::commit_ordered_are_serializable;
 use sgt_model::{commits_in_line, commits_in_order};
@@ -31,6 +31,18 @@ pub fn legal_are_recoverable()
     commits_in_line();
     commits_in_order();
 }
+
+/// The serialization graph of the textbook's history of a legal one is that of the conflict pairs: an edge leads from one
+/// transaction to another exactly where both are committed and are such a pair.
+pub fn edges_are_pairs()
+    ensures { EdgesArePairs }
+{}
+
+/// One transaction reads from another in the textbook's history of a legal one exactly where it has read from it: the newest
+/// store, past those of aborted transactions, that a look of it found.
+pub fn reads_agree()
+    ensures { ReadsAgree }
+{}
 
 /// The committed transactions of a legal history, in the order of their commits, are a serial order of the textbook's history
 /// of it: each of them once, and each edge of the serialization graph leads on.

@@ -5,7 +5,9 @@
 //! (1987), chapter 2, it is a list of operations: reads, writes, commits and aborts, one abort for each that falls, as
 //! `specs/Textbook.antt` says. Keys are numbers there, given in any way that gives no two keys the same. By the definitions of
 //! `sgt_history` that list is commit ordered, serializable and recoverable, and its committed transactions in the order of
-//! their commits are a serial order of it. It need not avoid cascading aborts, and so need not be strict.
+//! their commits are a serial order of it. The edges of its serialization graph are the conflict pairs of committed
+//! transactions, and who reads from whom in it is who has read from whom by `ReadFrom`. It need not avoid cascading aborts, and
+//! so need not be strict.
 //!
 //! Nothing here makes such a list, or runs at all: each function is a law, which its contract says and any caller may use. The
 //! crate knows no engine and no scheduler. It adds nothing to what `sgt_model` proves of legal histories; it says the same in
@@ -20,6 +22,6 @@
 mod laws;
 
 pub use laws::{
-    commit_orders_are_serial, keys_can_be_numbered, legal_are_commit_ordered,
-    legal_are_recoverable, legal_are_serializable, some_histories_cascade,
+    commit_orders_are_serial, edges_are_pairs, keys_can_be_numbered, legal_are_commit_ordered,
+    legal_are_recoverable, legal_are_serializable, reads_agree, some_histories_cascade,
 };

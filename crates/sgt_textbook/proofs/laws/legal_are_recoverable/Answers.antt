@@ -1,4 +1,4 @@
-use Rattle.sgt_textbook.proofs.Histories.{recoverable}
+use Rattle.sgt_textbook.proofs.ReadingFrom.{recoverable}
 use Rattle.sgt_textbook.proofs.laws.legal_are_recoverable.Goals as goal
 
 pub returns : goal.returns
