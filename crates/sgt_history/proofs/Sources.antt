@@ -258,16 +258,10 @@ read_item : (h : List Operation) (p t r x y : ℕ) → Does h p t (Read x) → D
 read_item h p t r x y one other = let same = same_action h p t r (Read x) (Read y) one other in cc
 
 -- a read reads from the last standing write of its item
-pub reads_top : (h : List Operation) (p t x i : ℕ) → Does h p t (Read x) → IsTopWrite h p x (Some i)
-    → ((u : ℕ) → Does h i u (Write x) → ¬ AbortedBefore h u p) → (y w r : ℕ) → Does h i w (Write y) → Does h p r (Read y) → ReadsFrom h i p y w r
-reads_top h p t x i does top standing y w r written read = subst (λ z. Does h i w (Write z) → Does h p r (Read z) → ReadsFrom h i p z w r)
-    (read_item h p t r x y does read) (λ written read. record {
-      earlier = top.0;
-      written = written;
-      read = read;
-      standing = standing w written;
-      last = top.2;
-    }) written read
+reads_top : (h : List Operation) (p t x i : ℕ) → Does h p t (Read x) → IsTopWrite h p x (Some i)
+    → ((u : ℕ) → Does h i u (Write x) → ¬ AbortedBefore h u p) → (y : ℕ) × (w : ℕ) × (r : ℕ) × ReadsFrom h i p y w r
+reads_top h p t x i does (earlier, (w, written), last) standing =
+    (x, w, t, record { earlier = earlier; written = written; read = does; standing = standing w written; last = last })
 
 -- it reads from none where no write of its item stands
 pub reads_none : (h : List Operation) (p t x : ℕ) → Does h p t (Read x) → IsTopWrite h p x None → (i y w r : ℕ) → ¬ ReadsFrom h i p y w r
@@ -281,7 +275,7 @@ no_read_reads h p t a does other i y w r reads = other y (same_action h p t r a 
 -- the same of a place that may be none
 pub some_source : (h : List Operation) (p t x : ℕ) (o : Option ℕ) → Does h p t (Read x) → IsTopWrite h p x o
     → IfSome o (λ i. (u : ℕ) → Does h i u (Write x) → ¬ AbortedBefore h u p)
-    → IfSome o (λ i. (y w r : ℕ) → Does h i w (Write y) → Does h p r (Read y) → ReadsFrom h i p y w r)
+    → IfSome o (λ i. (y : ℕ) × (w : ℕ) × (r : ℕ) × ReadsFrom h i p y w r)
 some_source h p t x None does top standing = tt
 some_source h p t x (Some i) does top standing = reads_top h p t x i does top standing
 

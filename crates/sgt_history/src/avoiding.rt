@@ -3,7 +3,7 @@ ghost use Rattle.std.specs.Prelude.{◌≡◌, ◌≢◌, ◌<◌, ◌+◌, ℕ,
 ghost use Rattle.std.specs.BTreeMap.{get};
 ghost use Rattle.std.specs.Ordering.{nat_cmp};
 ghost use Rattle.sgt_history.specs.declared.operation.Operation.{Operation};
-ghost use Rattle.sgt_history.specs.declared.operation.Action.TheVariants.{Read, Write};
+ghost use Rattle.sgt_history.specs.declared.operation.Action.TheVariants.{Write};
 ghost use Rattle.sgt_history.specs.Histories.{Does, AbortedBefore};
 ghost use Rattle.sgt_history.specs.Classes.{ReadsFrom, BreaksAvoidance, IsFirstViolation};
 ghost use Rattle.sgt_history.specs.Seen.{KnowsSources, AvoidsBefore, IsTopWrite};
@@ -51,8 +51,7 @@ pub fn read_source(
     place: usize,
 ) -> Result<Option<usize>, NoMemory>
     requires { place < length history.now }
-    ensures some { IfOk result (λ source. IfSome source (λ i. (x w r : ℕ) → Does history.now i w (Write x)
-        → Does history.now place r (Read x) → ReadsFrom history.now i place x w r)) }
+    ensures some { IfOk result (λ source. IfSome source (λ i. (x : ℕ) × (w : ℕ) × (r : ℕ) × ReadsFrom history.now i place x w r)) }
     ensures none { IfOk result (λ source. IsNone source → (i x w r : ℕ) → ¬ ReadsFrom history.now i place x w r) }
 {
     let mut seen = Sources::new(alloc);
