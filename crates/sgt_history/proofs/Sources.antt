@@ -1,13 +1,13 @@
 -- From which write an operation reads, one operation further.
 use Rattle.std.proofs.Common.{◌≡◌, ◌≢◌, ◌<◌, ◌+◌, ◌⊎◌, ℕ, List, Option, Some, None, IsSome, refl, sym, ap, ◌∙◌, subst, inl, inr, arith}
-use Rattle.std.specs.Prelude.{slice_get, length, ◌≤◌}
+use Rattle.std.specs.Prelude.{slice_get, length, ◌≤◌, IfSome, IsNone}
 use Rattle.std.proofs.lemmas.Bool.{cases_eq, cases_lt}
 use Rattle.std.proofs.lemmas.Grind.{common_steps}
 use Rattle.sgt_history.specs.declared.operation.Operation.{Operation}
 use Rattle.sgt_history.specs.declared.operation.Action.{Action}
 use Rattle.sgt_history.specs.declared.operation.Action.TheVariants.{Read, Write, Commit, Abort}
 use Rattle.sgt_history.specs.Histories.{Does, AbortedBefore, CommittedBefore}
-use Rattle.sgt_history.specs.Classes.{BreaksAvoidance, AvoidsCascadingAborts}
+use Rattle.sgt_history.specs.Classes.{ReadsFrom, BreaksAvoidance, AvoidsCascadingAborts}
 use Rattle.sgt_history.specs.Seen.{IsTopWrite, AreBelow, AreDone, AreSources, AvoidsBefore, height}
 use Rattle.std.proofs.lemmas.Option.{slice_get_within}
 use Rattle.sgt_history.proofs.Places.{does_same, before_next}
@@ -253,3 +253,33 @@ writer_is h i t x w at does = ap (λ (o : Operation). o.transaction) (does_same 
 pub height_below : (h : List Operation) (i x : ℕ) (o : Option ℕ) → IsTopWrite h i x o → height o < height (Some i)
 height_below h i x None top = omega arith
 height_below h i x (Some n) top = omega (arith, top.0)
+
+read_item : (h : List Operation) (p t r x y : ℕ) → Does h p t (Read x) → Does h p r (Read y) → x ≡ y
+read_item h p t r x y one other = let same = same_action h p t r (Read x) (Read y) one other in cc
+
+-- a read reads from the last standing write of its item
+reads_top : (h : List Operation) (p t x i : ℕ) → Does h p t (Read x) → IsTopWrite h p x (Some i)
+    → ((u : ℕ) → Does h i u (Write x) → ¬ AbortedBefore h u p) → (y : ℕ) × (w : ℕ) × (r : ℕ) × ReadsFrom h i p y w r
+reads_top h p t x i does (earlier, (w, written), last) standing =
+    (x, w, t, record { earlier = earlier; written = written; read = does; standing = standing w written; last = last })
+
+-- it reads from none where no write of its item stands
+pub reads_none : (h : List Operation) (p t x : ℕ) → Does h p t (Read x) → IsTopWrite h p x None → (i y w r : ℕ) → ¬ ReadsFrom h i p y w r
+reads_none h p t x does top i y w r reads = reads.standing (top i w reads.earlier
+    (subst (λ z. Does h i w (Write z)) (sym (read_item h p t r x y does reads.read)) reads.written))
+
+-- what is no read reads from none
+pub no_read_reads : (h : List Operation) (p t : ℕ) (a : Action) → Does h p t a → ((x : ℕ) → a ≢ Read x) → (i y w r : ℕ) → ¬ ReadsFrom h i p y w r
+no_read_reads h p t a does other i y w r reads = other y (same_action h p t r a (Read y) does reads.read)
+
+-- the same of a place that may be none
+pub some_source : (h : List Operation) (p t x : ℕ) (o : Option ℕ) → Does h p t (Read x) → IsTopWrite h p x o
+    → IfSome o (λ i. (u : ℕ) → Does h i u (Write x) → ¬ AbortedBefore h u p)
+    → IfSome o (λ i. (y : ℕ) × (w : ℕ) × (r : ℕ) × ReadsFrom h i p y w r)
+some_source h p t x None does top standing = tt
+some_source h p t x (Some i) does top standing = reads_top h p t x i does top standing
+
+pub no_source : (h : List Operation) (p t x : ℕ) (o : Option ℕ) → Does h p t (Read x) → IsTopWrite h p x o
+    → IsNone o → (i y w r : ℕ) → ¬ ReadsFrom h i p y w r
+no_source h p t x None does top none = reads_none h p t x does top
+no_source h p t x (Some i) does top none = absurd (cc)

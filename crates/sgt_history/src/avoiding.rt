@@ -5,7 +5,7 @@ ghost use Rattle.std.specs.Ordering.{nat_cmp};
 ghost use Rattle.sgt_history.specs.declared.operation.Operation.{Operation};
 ghost use Rattle.sgt_history.specs.declared.operation.Action.TheVariants.{Write};
 ghost use Rattle.sgt_history.specs.Histories.{Does, AbortedBefore};
-ghost use Rattle.sgt_history.specs.Classes.{BreaksAvoidance, IsFirstViolation};
+ghost use Rattle.sgt_history.specs.Classes.{ReadsFrom, BreaksAvoidance, IsFirstViolation};
 ghost use Rattle.sgt_history.specs.Seen.{KnowsSources, AvoidsBefore, IsTopWrite};
 
 use crate::operation::{Action, Operation, Violation};
@@ -39,6 +39,29 @@ pub fn avoidance_violation(
         seen.note(history, place)?;
     }
     Ok(None)
+}
+
+/// The write that the read at the place reads from: the last one of its item before it whose transaction has not aborted by
+/// then. `None` where there is none, and where nothing is read at the place.
+///
+/// An operation before the place costs a look-up in a map at most.
+pub fn read_source(
+    alloc: Global,
+    history: &[Operation],
+    place: usize,
+) -> Result<Option<usize>, NoMemory>
+    requires { place < length history.now }
+    ensures some { IfOk result (λ source. IfSome source (λ i. (x : ℕ) × (w : ℕ) × (r : ℕ) × ReadsFrom history.now i place x w r)) }
+    ensures none { IfOk result (λ source. IsNone source → (i x w r : ℕ) → ¬ ReadsFrom history.now i place x w r) }
+{
+    let mut seen = Sources::new(alloc);
+    for earlier in 0..place {
+        seen.note(history, earlier)?;
+    }
+    let Action::Read(item) = history[place].action else {
+        return Ok(None);
+    };
+    Ok(seen.standing(history, place, item))
 }
 
 /// What is kept of the operations before a place, to tell from which write the next one reads.

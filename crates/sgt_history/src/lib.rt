@@ -27,7 +27,7 @@ mod rigorous;
 mod serial;
 mod strict;
 
-pub use avoiding::avoidance_violation;
+pub use avoiding::{avoidance_violation, read_source};
 pub use commit_order::commit_order_violation;
 pub use graph::{Edge, serialization_edges};
 pub use laws::{

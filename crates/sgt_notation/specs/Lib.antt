@@ -1,0 +1,4 @@
+pub mod Words
+pub mod Spellings
+pub mod Readings
+pub mod Numbering

@@ -1,0 +1,49 @@
+-- What is kept while a text is read: the numbers of its items, and who has ended.
+use Rattle.std.specs.Prelude.{◌≡◌, ◌↔◌, ℕ, Bool, true, false, List, [], ◌∷◌, ◌++◌, Option, Some, IsSome, map, length, slice_get}
+use Rattle.std.specs.BTreeMap.{get, get_by}
+use Rattle.std.specs.Cmp.Lexicographic.{slice_cmp}
+use Rattle.std.specs.Ordering.{nat_cmp}
+use Rattle.sgt_history.specs.declared.operation.Operation.{Operation}
+use Rattle.sgt_history.specs.declared.operation.Action.{Action}
+use Rattle.sgt_history.specs.declared.operation.Action.TheVariants.{Read, Write, Commit, Abort}
+use Rattle.sgt_history.specs.Histories.{EndedBefore}
+use Rattle.sgt_notation.specs.Spellings.{IsSpelled}
+use Rattle.sgt_notation.specs.declared.items.Items.{Items}
+use Rattle.sgt_notation.specs.declared.reader.HistoryReader.{HistoryReader}
+
+-- the texts of the items, by number
+abbrev pub texts_of : Items → List (List ℕ)
+texts_of items = map (λ text. text.items) items.texts.items
+
+-- the number that is kept for the text
+abbrev pub number_of : Items → List ℕ → Option ℕ
+number_of items text = get_by (λ k. slice_cmp nat_cmp text k.items) items.numbers
+
+-- the number that is kept for a text is that of its item
+abbrev pub KnowsItems : Items → Type 0
+KnowsItems items = (text : List ℕ) (x : ℕ) → (number_of items text ≡ Some x) ↔ (slice_get (texts_of items) x ≡ Some text)
+
+-- whether it ends its transaction
+abbrev pub is_end : Action → Bool
+is_end (Read x) = false
+is_end (Write x) = false
+is_end Commit = true
+is_end Abort = true
+
+-- those that have ended
+abbrev pub KnowsEnds : List Operation → (ℕ → Option ℕ) → Type 0
+KnowsEnds ops ends = (t : ℕ) → IsSome (ends t) ↔ EndedBefore ops t (length ops)
+
+-- what the reader knows of what it has read
+pub record KnowsHistory (r : HistoryReader) : Type 0 where
+  pub items : KnowsItems r.items
+  pub ends : KnowsEnds r.operations.items (get nat_cmp r.ended)
+
+-- the word is the operation that has come behind the others, of a transaction that had not ended
+pub record TakesWord (old new : HistoryReader) (word : List ℕ) : Type 0 where
+  pub operation : Operation
+  pub more : List (List ℕ)
+  pub operations : new.operations.items ≡ old.operations.items ++ operation ∷ []
+  pub items : texts_of new.items ≡ texts_of old.items ++ more
+  pub spelled : IsSpelled word (texts_of new.items) operation
+  pub active : ¬ EndedBefore old.operations.items operation.transaction (length old.operations.items)

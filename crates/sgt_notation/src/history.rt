@@ -1,0 +1,10 @@
+use sgt_history::Operation;
+
+/// The history that a text spells.
+#[derive(Debug, Drop, PartialEq, Eq)]
+pub struct History {
+    /// The operations, in their order. Each item has a number of its own.
+    pub operations: Vec<Operation>,
+    /// The texts of the items, by number.
+    pub items: Vec<Vec<u8>>,
+}

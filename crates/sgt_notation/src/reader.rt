@@ -1,0 +1,158 @@
+//! A text as a history.
+ghost use Rattle.std.specs.Prelude.{◌≡◌, ◌<◌, ◌≤◌, ◌+◌, ◌^◌, ◌∷◌, ◌++◌, [], ℕ, List, length, IfOk, IfErr, OnOk};
+ghost use Rattle.std.specs.BTreeMap.{get};
+ghost use Rattle.std.specs.Ordering.{nat_cmp};
+ghost use Rattle.sgt_history.specs.declared.operation.Operation.{Operation};
+ghost use Rattle.sgt_history.specs.Histories.{EndedBefore};
+ghost use Rattle.sgt_notation.specs.Words.{words_of};
+ghost use Rattle.sgt_notation.specs.Spellings.{IsSpelled};
+ghost use Rattle.sgt_notation.specs.Readings.{AreRead, IsFaultAt, IsFirstFault, texts};
+ghost use Rattle.sgt_notation.specs.Numbering.{KnowsHistory, KnowsItems, KnowsEnds, is_end, texts_of, TakesWord};
+
+use crate::fault::{NotationFault, Shown};
+use crate::history::History;
+use crate::items::Items;
+use crate::spelled::{Spelled, read_word};
+use crate::words::{Place, next_word, word_end};
+use sgt_history::{Action, Operation};
+use sgt_model::NoMemory;
+use std::alloc::Global;
+use std::collections::BTreeMap;
+
+/// The history that the text spells. Each item has a number of its own.
+///
+/// An operation costs a look-up among the items' texts and two among the transactions that have ended.
+///
+/// # Errors
+///
+/// `NoOperation` at the first word that spells none and `Ended` at the first operation of a transaction that has ended, whichever
+/// comes first. `NoMemory` where a growth was refused.
+pub fn read_history(alloc: Global, text: &[u8]) -> Result<History, NotationFault>
+    requires { length text.now < 2 ^ 32 }
+    ensures ok { IfOk result (λ h. AreRead (words_of text.now) (texts h) h.operations.items) }
+    ensures err { IfErr result (IsFirstFault (words_of text.now)) }
+{
+    let mut reader = HistoryReader::new(alloc);
+    let mut place = next_word(text, Place { at: 0, line: 1 });
+    while place.at < text.len() {
+        let end = word_end(text, place.at, place.line);
+        reader.take(alloc, place.line, &text[place.at..end])?;
+        place = next_word(
+            text,
+            Place {
+                at: end,
+                line: place.line,
+            },
+        );
+    }
+    Ok(History {
+        operations: reader.operations,
+        items: reader.items.texts,
+    })
+}
+
+/// What has been read of a text.
+#[derive(Drop)]
+pub(crate) struct HistoryReader {
+    operations: Vec<Operation>,
+    items: Items,
+    /// Where a transaction has ended.
+    ended: BTreeMap<u32, usize>,
+}
+
+impl HistoryReader {
+    /// Nothing has been read.
+    pub fn new(alloc: Global) -> Self
+        ensures known { KnowsHistory result }
+        ensures no_operations { result.operations.items ≡ [] }
+        ensures no_items { texts_of result.items ≡ [] }
+    {
+        HistoryReader {
+            operations: Vec::new(alloc),
+            items: Items::new(alloc),
+            ended: BTreeMap::new(alloc),
+        }
+    }
+
+    /// Takes the next word, of the line of this number.
+    ///
+    /// # Errors
+    ///
+    /// What is wrong with the word, or `NoMemory`. Nothing is to be read further then.
+    pub fn take(&mut self, alloc: Global, line: u64, word: &[u8]) -> Result<(), NotationFault>
+        requires few { length (texts_of self.old.items) + 1 < 2 ^ 32 }
+        requires known { KnowsHistory self.old }
+        ensures known { OnOk result (KnowsHistory self.new) }
+        ensures taken { OnOk result (TakesWord self.old self.new word.now) }
+        ensures few { OnOk result (length (texts_of self.new.items) ≤ length (texts_of self.old.items) + 1) }
+        ensures fault { IfErr result (IsFaultAt self.old.operations.items (record { line = line; text = word.now })) }
+    {
+        let Some(spelled) = read_word(word) else {
+            return Err(NotationFault::NoOperation(line, Shown::of(alloc, word)?));
+        };
+        let transaction = spelled.operation.transaction;
+        if self.ended.contains_key(&transaction) {
+            return Err(NotationFault::Ended(line, transaction));
+        }
+        let action = self.numbered(alloc, &spelled)?;
+        self.note(Operation {
+            transaction,
+            action,
+        })?;
+        Ok(())
+    }
+
+    /// What the operation does, on the item by its number here.
+    fn numbered(&mut self, alloc: Global, spelled: &Spelled) -> Result<Action, NoMemory>
+        requires few { length (texts_of self.old.items) + 1 < 2 ^ 32 }
+        requires known { KnowsItems self.old.items }
+        ensures known { OnOk result (KnowsItems self.new.items) }
+        ensures kept { OnOk result ((more : List (List ℕ)) × (texts_of self.new.items ≡ texts_of self.old.items ++ more)) }
+        ensures few { OnOk result (length (texts_of self.new.items) ≤ length (texts_of self.old.items) + 1) }
+        ensures same { (self.new.operations ≡ self.old.operations) × (self.new.ended ≡ self.old.ended) }
+        ensures spelled { IfOk result (λ a. (word : List ℕ) → IsSpelled word (spelled.now.item.now ∷ []) spelled.now.operation
+            → IsSpelled word (texts_of self.new.items) (record { transaction = spelled.now.operation.transaction; action = a })) }
+    {
+        match spelled.operation.action {
+            Action::Read(_) => Ok(Action::Read(self.items.number(alloc, spelled.item)?)),
+            Action::Write(_) => Ok(Action::Write(self.items.number(alloc, spelled.item)?)),
+            Action::Commit => Ok(Action::Commit),
+            Action::Abort => Ok(Action::Abort),
+        }
+    }
+
+    /// Notes the operation, and that its transaction has ended where it is an end.
+    fn note(&mut self, operation: Operation) -> Result<(), NoMemory>
+        requires ends { KnowsEnds self.old.operations.items (get nat_cmp self.old.ended) }
+        ensures operations { OnOk result (self.new.operations.items ≡ self.old.operations.items ++ operation ∷ []) }
+        ensures items { self.new.items ≡ self.old.items }
+        ensures ends { OnOk result (KnowsEnds self.new.operations.items (get nat_cmp self.new.ended)) }
+    {
+        note_end(&mut self.ended, operation, self.operations.len())?;
+        self.operations.push(operation)?;
+        Ok(())
+    }
+}
+
+/// Whether it ends its transaction.
+fn is_end(action: &Action) -> bool
+    ensures { result ≡ is_end action.now }
+{
+    matches!(action, Action::Commit | Action::Abort)
+}
+
+/// Notes that the operation's transaction has ended at the place, where the operation is an end.
+fn note_end(
+    ended: &mut BTreeMap<u32, usize>,
+    operation: Operation,
+    place: usize,
+) -> Result<(), NoMemory>
+    ensures { OnOk result ((before : List Operation) → KnowsEnds before (get nat_cmp ended.old)
+        → KnowsEnds (before ++ operation ∷ []) (get nat_cmp ended.new)) }
+{
+    if !is_end(&operation.action) {
+        return Ok(());
+    }
+    ended.insert(operation.transaction, place)?;
+    Ok(())
+}
