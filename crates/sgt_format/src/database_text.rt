@@ -20,7 +20,6 @@ pub fn append_database(text: &mut Vec<u8>, database: &Database) -> Result<(), No
 }
 
 /// On an error the text still begins with what it held.
-#[tactic(auto, using(crate::proofs::Begins::still_begins))]
 fn append_rows(text: &mut Vec<u8>, rows: &[(Key, i64)]) -> Result<(), AllocError>
     ensures ok { OnOk result (text.new.items ≡ text.old.items ++ database_text rows.now) }
     ensures err { OnErr result (take (vec_len text.old) text.new.items ≡ text.old.items) }

@@ -110,12 +110,15 @@ fn append_committed(lines: &mut Vec<u8>, answers: &Answers) -> Result<(), AllocE
         (lines.new.items ≡ lines.old.items ++ committed_text answers.now ++ codes "\n") }
     ensures err { OnErr result (take (vec_len lines.old) lines.new.items ≡ lines.old.items) }
 {
-    if let [answer] = answers.as_slice() {
-        return append_answered(lines, *answer);
+    match answers.as_slice() {
+        [] => lines.extend_from_slice(b"committed none\n"),
+        [answer] => append_answered(lines, *answer),
+        _ => {
+            lines.extend_from_slice(b"committed")?;
+            append_answers(lines, answers)?;
+            lines.extend_from_slice(b"\n")
+        }
     }
-    lines.extend_from_slice(b"committed")?;
-    append_answers(lines, answers)?;
-    lines.extend_from_slice(b"\n")
 }
 
 /// Adds the line of a transaction that is committed with one answer.
