@@ -1,4 +1,4 @@
-ghost use Rattle.std.specs.Prelude.{◌≡◌, ◌+◌, ◌-◌, ◌≤◌, ◌<◌, ◌↔◌, [], ◌∷◌, ◌++◌, length, IsTrue, Some, OnOk, OnErr, slice_get, take, min};
+ghost use Rattle.std.specs.Prelude.{◌≡◌, ◌+◌, ◌≤◌, ◌<◌, ◌↔◌, [], ◌∷◌, ◌++◌, length, reverse, IsTrue, Some, OnOk, OnErr, slice_get, take, min};
 ghost use Rattle.std.specs.Result.{IsOk};
 ghost use Rattle.std.specs.Option.{option_map};
 ghost use Rattle.sgt_model.specs.declared.entry.Entry.{Entry as E};
@@ -189,7 +189,7 @@ impl History {
 
     /// The newest entry, if there is one.
     pub fn last(&self) -> Option<Entry>
-        ensures { result ≡ slice_get self.now.entries (length self.now.entries - 1) }
+        ensures { result ≡ slice_get (reverse self.now.entries) 0 }
     {
         if self.is_empty() {
             None
@@ -220,7 +220,7 @@ impl History {
 
     /// The reply of the newest entry, if there is one.
     pub fn last_reply(&self) -> Option<Reply>
-        ensures { result ≡ option_map (λ (e : E). e.reply) (slice_get self.now.entries (length self.now.entries - 1)) }
+        ensures { result ≡ option_map (λ (e : E). e.reply) (slice_get (reverse self.now.entries) 0) }
     {
         if self.is_empty() {
             None
