@@ -27,8 +27,8 @@ use sgt_access::Accesses;
 use sgt_entries::History;
 use sgt_graph::Graph;
 use sgt_model::{
-    Database, Event, Key, Limits, MakeError, NoMemory, Reply, calls_simulate,
-    headline_holds, nexts_agree, replay_is_serial, states_are_sound, verdicts_agree,
+    Database, Event, Key, Limits, MakeError, NoMemory, Reply, calls_simulate, headline_holds,
+    nexts_agree, replay_is_serial, states_are_sound, verdicts_agree,
 };
 use sgt_proc::Checked;
 use sgt_records::Records;
