@@ -8,8 +8,7 @@ loop-p-init g c = (refl, checks_first c.args.history.now.entries c.args.sessions
 pub loop-p-preserved : goal.loop-p-preserved
 loop-p-preserved g c =
     let history = c.args.history.now.entries in
-    let at = c.loop-p.at in
-    (
+    let at = c.loop-p.at in (
       search rules,
       checks_next history c.args.sessions.now c.loop-p.p at c.in-Some.i c.at.result c.loop-p.invariant.1
           c.at.ensures.entry c.in-Some.ensures.index
