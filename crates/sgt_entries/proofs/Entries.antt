@@ -1,8 +1,10 @@
--- More names and values keep the entries.
-use Rattle.std.proofs.Common.{◌≡◌, ◌+◌, ℕ, ℤ, zero, suc, ◌-◌, reverse, ◌<◌, ◌≤◌, arith, List, [], ◌∷◌, ◌++◌, length, Some, refl, ap, sym, subst, ◌∙◌, take, drop, map}
+-- More transactions and values keep the entries, and an entry is seen where it was filed.
+use Rattle.std.proofs.Common.{◌≡◌, ◌+◌, ℕ, ℤ, zero, suc, ◌-◌, reverse, ◌<◌, ◌≤◌, arith, List}
+use Rattle.std.proofs.Common.{[], ◌∷◌, ◌++◌, length, Some, refl, ap, sym, subst, ◌∙◌, take, drop, map}
 use Rattle.std.specs.Prelude.{slice_get, slice_index_or}
 use Rattle.std.proofs.lemmas.Grind.{reverse_onto}
-use Rattle.std.proofs.lemmas.List.{length-map, reverse-reverse, take-append-le, drop-append-le, length-drop, length-append, append_assoc, map-append}
+use Rattle.std.proofs.lemmas.List.{length-map, reverse-reverse, take-append-le, drop-append-le}
+use Rattle.std.proofs.lemmas.List.{length-drop, length-append, append_assoc, map-append}
 use Rattle.sgt_model.specs.declared.entry.Entry.{Entry}
 use Rattle.sgt_model.specs.declared.reply.Cause.TheVariants as cause
 use Rattle.sgt_model.specs.declared.reply.Fate.TheVariants as fate
@@ -19,7 +21,8 @@ use Rattle.sgt_entries.specs.declared.short_event.ShortEvent.{ShortEvent}
 use Rattle.sgt_entries.specs.declared.short_event.ShortEvent.TheVariants as short_event
 use Rattle.sgt_entries.specs.declared.short_entry.ShortEntry.{ShortEntry}
 use Rattle.sgt_entries.specs.Spans.{part_of, IsWithin, HasMore}
-use Rattle.sgt_entries.specs.ShortEntries.{cause_of, fate_of, reply_of, event_of, entry_of, IsCause, IsFate, IsReply, IsEvent, IsEntry, AreEntries}
+use Rattle.sgt_entries.specs.ShortEntries.{cause_of, fate_of, reply_of, event_of, entry_of}
+use Rattle.sgt_entries.specs.ShortEntries.{IsCause, IsFate, IsReply, IsEvent, IsEntry, AreEntries}
 
 part-kept : {X : Type 0} (xs more : List X) (p : Span) → IsWithin (length xs) p → part_of (xs ++ more) p ≡ part_of xs p
 part-kept xs more p h =
@@ -36,7 +39,8 @@ fate-kept ns ms short_fate.Committed h = refl
 fate-kept ns ms (short_fate.Aborted c) h = ap fate.Aborted (cause-kept ns ms c h)
 fate-kept ns ms (short_fate.Fell t) h = refl
 
-reply-kept : (ns ms : List ℕ) (vs ws : List ℤ) (r : ShortReply) → IsReply (length ns) (length vs) r → reply_of (ns ++ ms) (vs ++ ws) r ≡ reply_of ns vs r
+reply-kept : (ns ms : List ℕ) (vs ws : List ℤ) (r : ShortReply) → IsReply (length ns) (length vs) r
+    → reply_of (ns ++ ms) (vs ++ ws) r ≡ reply_of ns vs r
 reply-kept ns ms vs ws (short_reply.Started t) h = refl
 reply-kept ns ms vs ws short_reply.NoProcedure h = refl
 reply-kept ns ms vs ws short_reply.BadArgs h = refl
@@ -51,29 +55,36 @@ reply-kept ns ms vs ws short_reply.NotEnded h = refl
 reply-kept ns ms vs ws (short_reply.Waits t) h = refl
 reply-kept ns ms vs ws (short_reply.Committed a) h = ap reply.Committed (part-kept vs ws a h.0)
 reply-kept ns ms vs ws (short_reply.Refused code fell) h = ap (reply.Refused code) (part-kept ns ms fell h)
-reply-kept ns ms vs ws (short_reply.Aborted c fell) h = ap (λ x. reply.Aborted x (part_of (ns ++ ms) fell)) (cause-kept ns ms c h.0) ∙ ap (λ x. reply.Aborted (cause_of ns c) x) (part-kept ns ms fell h.1)
+reply-kept ns ms vs ws (short_reply.Aborted c fell) h =
+    ap (λ x. reply.Aborted x (part_of (ns ++ ms) fell)) (cause-kept ns ms c h.0)
+    ∙ ap (λ x. reply.Aborted (cause_of ns c) x) (part-kept ns ms fell h.1)
 
-pub event-kept : (vs ws : List ℤ) (e : ShortEvent) → IsEvent (length vs) e → event_of (vs ++ ws) e ≡ event_of vs e
+event-kept : (vs ws : List ℤ) (e : ShortEvent) → IsEvent (length vs) e → event_of (vs ++ ws) e ≡ event_of vs e
 event-kept vs ws (short_event.Start procedure args) h = ap (event.Start procedure) (part-kept vs ws args h.0)
 event-kept vs ws (short_event.Step t) h = refl
 event-kept vs ws (short_event.Commit t) h = refl
 event-kept vs ws (short_event.Quit t) h = refl
 
--- more names and values keep the entries
-pub entries-kept : (ns ms : List ℕ) (vs ws : List ℤ) (es : List ShortEntry) → AreEntries (length ns) (length vs) es → map (entry_of (ns ++ ms) (vs ++ ws)) es ≡ map (entry_of ns vs) es
+-- more transactions and values keep the entries
+entries-kept : (ns ms : List ℕ) (vs ws : List ℤ) (es : List ShortEntry) → AreEntries (length ns) (length vs) es
+    → map (entry_of (ns ++ ms) (vs ++ ws)) es ≡ map (entry_of ns vs) es
 entries-kept ns ms vs ws [] h = refl
 entries-kept ns ms vs ws (e ∷ es) h =
-    ap (λ r. record { event = event_of (vs ++ ws) e.event; reply = r } ∷ map (entry_of (ns ++ ms) (vs ++ ws)) es) (reply-kept ns ms vs ws e.reply h.0.1)
-    ∙ ap (λ v. record { event = v; reply = reply_of ns vs e.reply } ∷ map (entry_of (ns ++ ms) (vs ++ ws)) es) (event-kept vs ws e.event h.0.0)
+    ap (λ r. record { event = event_of (vs ++ ws) e.event; reply = r } ∷ map (entry_of (ns ++ ms) (vs ++ ws)) es)
+    (reply-kept ns ms vs ws e.reply h.0.1)
+    ∙ ap (λ v. record { event = v; reply = reply_of ns vs e.reply } ∷ map (entry_of (ns ++ ms) (vs ++ ws)) es)
+    (event-kept vs ws e.event h.0.0)
     ∙ ap (λ l. entry_of ns vs e ∷ l) (entries-kept ns ms vs ws es h.1)
 
--- an entry that was read
-entry-read : (ns : List ℕ) (vs : List ℤ) (es : List ShortEntry) (place : ℕ) (e : ShortEntry) → place < length es → e ≡ slice_index_or es place e → slice_get (map (entry_of ns vs) es) place ≡ Some (entry_of ns vs e)
+-- an entry that was read, and its parts
+entry-read : (ns : List ℕ) (vs : List ℤ) (es : List ShortEntry) (place : ℕ) (e : ShortEntry) → place < length es
+    → e ≡ slice_index_or es place e → slice_get (map (entry_of ns vs) es) place ≡ Some (entry_of ns vs e)
 entry-read ns vs [] place e h is = absurd (omega (arith, h))
 entry-read ns vs (x ∷ es) zero e h is = ap (λ y. Some (entry_of ns vs y)) (sym is)
 entry-read ns vs (x ∷ es) (suc place) e h is = entry-read ns vs es place e (omega (arith, h)) is
 
-within-read : (n v : ℕ) (es : List ShortEntry) (place : ℕ) (e : ShortEntry) → AreEntries n v es → place < length es → e ≡ slice_index_or es place e → IsEntry n v e
+within-read : (n v : ℕ) (es : List ShortEntry) (place : ℕ) (e : ShortEntry) → AreEntries n v es → place < length es
+    → e ≡ slice_index_or es place e → IsEntry n v e
 within-read n v [] place e all h is = absurd (omega (arith, h))
 within-read n v (x ∷ es) zero e all h is = subst (IsEntry n v) (sym is) all.0
 within-read n v (x ∷ es) (suc place) e all h is = within-read n v es place e all.1 (omega (arith, h)) is
@@ -124,11 +135,14 @@ event-more v w (short_event.Commit t) le h = tt
 event-more v w (short_event.Quit t) le h = tt
 
 -- one entry more
-pub entries-added : (m n v w : ℕ) (es : List ShortEntry) (e : ShortEntry) → m ≤ n → v ≤ w → AreEntries m v es → IsEntry n w e → AreEntries n w (es ++ e ∷ [])
+entries-added : (m n v w : ℕ) (es : List ShortEntry) (e : ShortEntry) → m ≤ n → v ≤ w → AreEntries m v es → IsEntry n w e
+    → AreEntries n w (es ++ e ∷ [])
 entries-added m n v w [] e le lv all one = (one, tt)
-entries-added m n v w (x ∷ es) e le lv all one = ((event-more v w x.event lv all.0.0, reply-more m n v w x.reply le lv all.0.1), entries-added m n v w es e le lv all.1 one)
+entries-added m n v w (x ∷ es) e le lv all one =
+    ((event-more v w x.event lv all.0.0, reply-more m n v w x.reply le lv all.0.1), entries-added m n v w es e le lv all.1 one)
 
-pub entries-same : (ns ms : List ℕ) (vs ws : List ℤ) (es : List ShortEntry) → HasMore ns ms → HasMore vs ws → AreEntries (length ns) (length vs) es → map (entry_of ms ws) es ≡ map (entry_of ns vs) es
+entries-same : (ns ms : List ℕ) (vs ws : List ℤ) (es : List ShortEntry) → HasMore ns ms → HasMore vs ws
+    → AreEntries (length ns) (length vs) es → map (entry_of ms ws) es ≡ map (entry_of ns vs) es
 entries-same ns ms vs ws es names values h = rw (names.1, values.1) (entries-kept ns names.0 vs values.0 es h)
 
 event-same : (vs ws : List ℤ) (e : ShortEvent) → HasMore vs ws → IsEvent (length vs) e → event_of ws e ≡ event_of vs e
@@ -141,15 +155,22 @@ more-length : {X : Type 0} (xs ys : List X) → HasMore xs ys → length xs ≤ 
 more-length xs ys more = let long = ap length more.1 ∙ length-append xs more.0 in omega (arith, long)
 
 -- what a push leaves
-pub entries-pushed : (ns ms : List ℕ) (vs us ws : List ℤ) (es fs : List ShortEntry) (e : ShortEvent) (r : ShortReply) → HasMore ns ms → HasMore vs us → HasMore us ws → AreEntries (length ns) (length vs) es → IsEvent (length us) e → IsReply (length ms) (length ws) r → fs ≡ es ++ record { event = e; reply = r } ∷ [] → AreEntries (length ms) (length ws) fs
+pub entries-pushed : (ns ms : List ℕ) (vs us ws : List ℤ) (es fs : List ShortEntry) (e : ShortEvent) (r : ShortReply)
+    → HasMore ns ms → HasMore vs us → HasMore us ws → AreEntries (length ns) (length vs) es → IsEvent (length us) e
+    → IsReply (length ms) (length ws) r → fs ≡ es ++ record { event = e; reply = r } ∷ [] → AreEntries (length ms) (length ws) fs
 entries-pushed ns ms vs us ws es fs e r names one two all event reply is =
-    rw is (entries-added _ _ _ _ es (record { event = e; reply = r }) (more-length ns ms names) (more-length vs ws (more-more vs us ws one two)) all (event-more _ _ e (more-length us ws two) event, reply))
+    rw is (entries-added _ _ _ _ es (record { event = e; reply = r }) (more-length ns ms names)
+    (more-length vs ws (more-more vs us ws one two)) all (event-more _ _ e (more-length us ws two) event, reply))
 
-pub entries-after : (ns ms : List ℕ) (vs us ws : List ℤ) (es fs : List ShortEntry) (e : ShortEvent) (r : ShortReply) → HasMore ns ms → HasMore vs us → HasMore us ws → AreEntries (length ns) (length vs) es → IsEvent (length us) e → fs ≡ es ++ record { event = e; reply = r } ∷ [] → map (entry_of ms ws) fs ≡ map (entry_of ns vs) es ++ record { event = event_of us e; reply = reply_of ms ws r } ∷ []
+pub entries-after : (ns ms : List ℕ) (vs us ws : List ℤ) (es fs : List ShortEntry) (e : ShortEvent) (r : ShortReply)
+    → HasMore ns ms → HasMore vs us → HasMore us ws → AreEntries (length ns) (length vs) es → IsEvent (length us) e
+    → fs ≡ es ++ record { event = e; reply = r } ∷ []
+    → map (entry_of ms ws) fs ≡ map (entry_of ns vs) es ++ record { event = event_of us e; reply = reply_of ms ws r } ∷ []
 entries-after ns ms vs us ws es fs e r names one two all event is =
     ap (map (entry_of ms ws)) is
     ∙ map-append (entry_of ms ws) es (record { event = e; reply = r } ∷ [])
-    ∙ ap (λ l. l ++ entry_of ms ws (record { event = e; reply = r }) ∷ []) (entries-same ns ms vs ws es names (more-more vs us ws one two) all)
+    ∙ ap (λ l. l ++ entry_of ms ws (record { event = e; reply = r }) ∷ [])
+    (entries-same ns ms vs ws es names (more-more vs us ws one two) all)
     ∙ ap (λ v. map (entry_of ns vs) es ++ record { event = v; reply = reply_of ms ws r } ∷ []) (event-same us ws e two event)
 
 taken-suc : {X : Type 0} (xs : List X) (n : ℕ) (x : X) → slice_get xs n ≡ Some x → take (suc n) xs ≡ take n xs ++ x ∷ []

@@ -1,5 +1,6 @@
 use sgt_access::Accesses;
 use sgt_engine::{CutError, Engine};
+use sgt_entries::History;
 use sgt_format::append_reply;
 use sgt_graph::Graph;
 use sgt_model::{Entry, Event, Key, MOST_LIVE, NoMemory, Reply, Tid, Tids};
@@ -80,7 +81,7 @@ impl<R: Records, A: Accesses, G: Graph> Run<R, A, G> {
         } = self;
         let (engine, refusal) = match engine.cut(alloc) {
             Ok((past, engine)) => {
-                let is_whole = past.history.as_slice() == answered.as_slice();
+                let is_whole = is_history(&past.history, answered.as_slice());
                 println!(rt; "cut {}: history {}", past.history.len(), verdict(is_whole))?;
                 answered.clear();
                 (engine, None)
@@ -142,7 +143,7 @@ impl<R: Records, A: Accesses, G: Graph> Run<R, A, G> {
 
     /// Whether the engine's history is what was answered.
     fn has_history(&self) -> bool {
-        self.engine.history() == self.answered.as_slice()
+        is_history(self.engine.history(), self.answered.as_slice())
     }
 
     fn seen(&self) -> Seen {
@@ -164,6 +165,19 @@ impl<R: Records, A: Accesses, G: Graph> Run<R, A, G> {
         };
         next.copied()
     }
+}
+
+/// Whether a history has just these entries.
+fn is_history(history: &History, entries: &[Entry]) -> bool {
+    if history.len() != entries.len() {
+        return false;
+    }
+    for place in 0..history.len() {
+        if history.get(place).as_ref() != entries.get(place) {
+            return false;
+        }
+    }
+    true
 }
 
 fn verdict(is_as_before: bool) -> &'static str {

@@ -1,4 +1,5 @@
-use sgt_model::{Cause, Entry, Reply, Tids};
+use sgt_entries::History;
+use sgt_model::{Cause, Reply, Tids};
 
 /// How many replies of each kind there were. A count stays at the greatest number of its type.
 #[derive(Clone, Copy)]
@@ -18,7 +19,7 @@ pub struct Counts {
 
 impl Counts {
     /// The counts of a history.
-    pub fn of(history: &[Entry]) -> Self {
+    pub fn of(history: &History) -> Self {
         let mut counts = Counts {
             starts: 0,
             commits: 0,
@@ -29,8 +30,8 @@ impl Counts {
             fallen: 0,
             waits: 0,
         };
-        for entry in history {
-            counts.note(&entry.reply);
+        for place in 0..history.len() {
+            counts.note(&history.reply_at(place));
         }
         counts
     }

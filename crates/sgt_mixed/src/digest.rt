@@ -1,9 +1,10 @@
 use crate::refusals::Refusals;
 use sgt_access::Accesses;
 use sgt_engine::Engine;
+use sgt_entries::History;
 use sgt_format::{append_database, append_reply};
 use sgt_graph::Graph;
-use sgt_model::{Cause, Entry, Fate, NoMemory, Reply, Tids};
+use sgt_model::{Cause, Fate, NoMemory, Reply, Tids};
 use sgt_records::Records;
 use std::alloc::Global;
 
@@ -48,15 +49,16 @@ impl Digests {
 /// The digest of the replies, and the one with the first members alone.
 fn of_replies(
     alloc: Global,
-    history: &[Entry],
+    history: &History,
     refusals: &mut Refusals,
 ) -> Result<(u64, u64), NoMemory> {
     let mut line = Vec::new(alloc);
     let mut whole = BASIS;
     let mut first = BASIS;
-    for entry in history {
-        whole = with_line(whole, &mut line, &entry.reply, refusals)?;
-        first = with_line(first, &mut line, &by_first_member(&entry.reply), refusals)?;
+    for place in 0..history.len() {
+        let reply = history.reply_at(place);
+        whole = with_line(whole, &mut line, &reply, refusals)?;
+        first = with_line(first, &mut line, &by_first_member(&reply), refusals)?;
     }
     Ok((whole, first))
 }

@@ -25,8 +25,9 @@ use crate::refusals::Refusals;
 use crate::runs::tell_runs;
 use sgt_access::{Accesses, PerKey};
 use sgt_engine::Engine;
+use sgt_entries::History;
 use sgt_graph::{BitGraph, Graph};
-use sgt_model::{Asks, Entry, Event, Key, NoMemory};
+use sgt_model::{Asks, Event, Key, NoMemory};
 use sgt_records::{Records, SlabRecords};
 use std::alloc::AllocGlobal;
 use std::io;
@@ -44,7 +45,7 @@ fn quit_all<R: Records, A: Accesses, G: Graph>(
 }
 
 /// Tells how many events the history has, and how many replies of each kind.
-fn tell_counts(rt: &impl Print, history: &[Entry]) -> io::Result<()> {
+fn tell_counts(rt: &impl Print, history: &History) -> io::Result<()> {
     println!(rt; "events {}", history.len())?;
     for (kind, count) in Counts::of(history).by_kind() {
         println!(rt; "{kind} {count}")?;

@@ -5,9 +5,10 @@ use json::Scratch;
 use serde_json::Value;
 use sgt_access::OneList;
 use sgt_engine::{Engine, Ran, run_list};
+use sgt_entries::History;
 use sgt_format::{append_database, append_reply, read_event};
 use sgt_graph::PairGraph;
-use sgt_model::{Args, Asks, Database, Entry, Event, Key, Limits, MakeError, NoMemory, Tid};
+use sgt_model::{Args, Asks, Database, Event, Key, Limits, MakeError, NoMemory, Tid};
 use sgt_proc::{Checked, check};
 use sgt_records::ListRecords;
 use std::alloc::{AllocGlobal, Global};
@@ -46,10 +47,10 @@ fn ran(a: Global, lines: &str) -> Result<SimpleRan, Fail> {
 }
 
 /// The lines of the replies.
-fn replies(a: Global, history: &[Entry]) -> Result<Vec<u8>, NoMemory> {
+fn replies(a: Global, history: &History) -> Result<Vec<u8>, NoMemory> {
     let mut text = Vec::new(a);
-    for entry in history {
-        append_reply(&mut text, &entry.reply)?;
+    for place in 0..history.len() {
+        append_reply(&mut text, &history.reply_at(place))?;
     }
     Ok(text)
 }
