@@ -8,13 +8,13 @@ use Rattle.sgt_entries.proofs.history.History.event_at.Goals as goal
 pub in_full-requires : goal.in_full-requires
 in_full-requires c =
     let seen = seen_at c.self.inside.tids.items c.self.inside.values.items c.self.inside.entries.items c.args.self.now.entries
-        c.args.place c.index-entry.result.now (ap (λ h. h.entries) c.self.view_is) c.self.invariant.0 c.requires c.index-entry.ensures in
+    c.args.place c.index-entry.result.now (ap (λ h. h.entries) c.self.view_is) c.self.invariant.0 c.requires c.index-entry.ensures in
     rw c.as_slice.ensures.value seen.1.0
 
 pub returns : goal.returns
 returns c =
     let seen = seen_at c.self.inside.tids.items c.self.inside.values.items c.self.inside.entries.items c.args.self.now.entries
-        c.args.place c.index-entry.result.now (ap (λ h. h.entries) c.self.view_is) c.self.invariant.0 c.requires c.index-entry.ensures in
+    c.args.place c.index-entry.result.now (ap (λ h. h.entries) c.self.view_is) c.self.invariant.0 c.requires c.index-entry.ensures in
     let full : c.in_full.result ≡ event_of c.self.inside.values.items c.index-entry.result.now.event
-        = search rules in
+    = search rules in
     ap (option_map (λ (e : Entry). e.event)) seen.0 ∙ ap Some (sym full)
