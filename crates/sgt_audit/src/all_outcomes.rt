@@ -10,7 +10,8 @@ use crate::names::{entries_named, none_twice, transactions_named};
 use crate::outcome::Outcome;
 use crate::stands::all_stand;
 use sgt_dispatch::Job;
-use sgt_model::{Entry, NoMemory};
+use sgt_entries::History;
+use sgt_model::NoMemory;
 use std::alloc::Global;
 
 /// Whether the outcomes of the jobs say of a legal history what is so: `OutcomesStand`. It goes a few times through the
@@ -19,15 +20,15 @@ use std::alloc::Global;
 /// `NoMemory` where a growth was refused.
 pub fn audit<N>(
     alloc: Global,
-    history: &[Entry],
+    history: &History,
     jobs: &[Job],
     outcomes: &[Outcome<N>],
     workers: u32,
     tries: u32,
 ) -> Result<bool, NoMemory>
-    requires { (s : Setting) × Legal s (reverse history.now) }
+    requires { (s : Setting) × Legal s (reverse history.now.entries) }
     ensures { IfOk result (λ stands.
-        IsTrue stands ↔ OutcomesStand history.now jobs.now outcomes.now workers tries) }
+        IsTrue stands ↔ OutcomesStand history.now.entries jobs.now outcomes.now workers tries) }
 {
     let lives = lives_of(alloc, history)?;
     if !all_stand(history, &lives, jobs, outcomes, tries) {

@@ -6,7 +6,7 @@ ghost use Rattle.sgt_model.specs.Questions.{is_commit, is_quit};
 ghost use Rattle.sgt_audit.specs.AllOutcomes.{is_done, is_left, is_untaken, is_no_memory, CountsAgree};
 
 use crate::outcome::Outcome;
-use sgt_model::Entry;
+use sgt_entries::History;
 
 /// How many outcomes of a kind there are.
 #[derive(Clone, Copy)]
@@ -18,8 +18,8 @@ struct Kinds {
 }
 
 /// Whether commits, quits and workers that left are as many as the outcomes say.
-pub fn counts_agree<N>(history: &[Entry], outcomes: &[Outcome<N>], workers: u32) -> bool
-    ensures { IsTrue result ↔ CountsAgree history.now outcomes.now workers }
+pub fn counts_agree<N>(history: &History, outcomes: &[Outcome<N>], workers: u32) -> bool
+    ensures { IsTrue result ↔ CountsAgree history.now.entries outcomes.now workers }
 {
     let kinds = kinds_of(outcomes);
     let workers = workers as usize;
@@ -30,12 +30,12 @@ pub fn counts_agree<N>(history: &[Entry], outcomes: &[Outcome<N>], workers: u32)
 }
 
 /// How many entries commit.
-fn commits_in(history: &[Entry]) -> usize
-    ensures { result ≡ count_by (λ (e : E). is_commit e.reply) history.now }
+fn commits_in(history: &History) -> usize
+    ensures { result ≡ count_by (λ (e : E). is_commit e.reply) history.now.entries }
 {
     let mut count = 0;
-    for entry in history {
-        if entry.reply.is_commit() {
+    for place in 0..history.len() {
+        if history.at(place).reply.is_commit() {
             count += 1;
         }
     }
@@ -43,12 +43,12 @@ fn commits_in(history: &[Entry]) -> usize
 }
 
 /// How many entries abort because the caller quit.
-fn quits_in(history: &[Entry]) -> usize
-    ensures { result ≡ count_by (λ (e : E). is_quit e.reply) history.now }
+fn quits_in(history: &History) -> usize
+    ensures { result ≡ count_by (λ (e : E). is_quit e.reply) history.now.entries }
 {
     let mut count = 0;
-    for entry in history {
-        if entry.reply.is_quit() {
+    for place in 0..history.len() {
+        if history.at(place).reply.is_quit() {
             count += 1;
         }
     }

@@ -5,16 +5,17 @@ ghost use Rattle.sgt_model.specs.Legality.{Legal};
 ghost use Rattle.sgt_audit.specs.LiveCount.{count_started, count_ended};
 ghost use Rattle.sgt_audit.specs.AllOutcomes.{FewLive, AllEnded};
 
-use sgt_model::{Entry, Reply};
+use sgt_entries::History;
+use sgt_model::Reply;
 
 /// Whether after no entry more transactions are live than there are workers, and at the end none is.
-pub fn live_counts_stand(history: &[Entry], workers: u32) -> bool
-    requires { (s : Setting) × Legal s (reverse history.now) }
-    ensures { IsTrue result ↔ (FewLive history.now workers × AllEnded history.now) }
+pub fn live_counts_stand(history: &History, workers: u32) -> bool
+    requires { (s : Setting) × Legal s (reverse history.now.entries) }
+    ensures { IsTrue result ↔ (FewLive history.now.entries workers × AllEnded history.now.entries) }
 {
     let mut live = 0;
-    for entry in history {
-        live = live_after(live, &entry.reply);
+    for place in 0..history.len() {
+        live = live_after(live, &history.at(place).reply);
         if live > workers as usize {
             return false;
         }

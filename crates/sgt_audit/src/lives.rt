@@ -8,6 +8,7 @@ ghost use Rattle.sgt_model.specs.Settings.{Setting};
 ghost use Rattle.sgt_model.specs.Legality.{Legal, LegalReply};
 ghost use Rattle.sgt_audit.specs.Lives.{AreLives, ended_life, life_after, with_started};
 
+use sgt_entries::History;
 use sgt_model::{Args, Cause, Entry, Event, NoMemory, Reply, Tid};
 use std::alloc::Global;
 
@@ -28,13 +29,13 @@ pub struct Life {
 /// A row for each transaction, by its number. It goes once through the history.
 ///
 /// `NoMemory` where a growth was refused.
-pub fn lives_of(alloc: Global, history: &[Entry]) -> Result<Vec<Life>, NoMemory>
-    requires { (s : Setting) × Legal s (reverse history.now) }
-    ensures { IfOk result (λ lives. AreLives (reverse history.now) lives.items) }
+pub fn lives_of(alloc: Global, history: &History) -> Result<Vec<Life>, NoMemory>
+    requires { (s : Setting) × Legal s (reverse history.now.entries) }
+    ensures { IfOk result (λ lives. AreLives (reverse history.now.entries) lives.items) }
 {
     let mut lives = Vec::new(alloc);
     for number in 0..history.len() {
-        add_entry(&mut lives, number, &history[number])?;
+        add_entry(&mut lives, number, &history.at(number))?;
     }
     Ok(lives)
 }

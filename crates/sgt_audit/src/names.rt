@@ -5,7 +5,8 @@ ghost use Rattle.sgt_model.specs.Walks.{Distinct};
 ghost use Rattle.sgt_audit.specs.AllOutcomes.{entries_of, transaction_at, transactions_of};
 
 use crate::outcome::Outcome;
-use sgt_model::{Entry, NoMemory, Tid};
+use sgt_entries::History;
+use sgt_model::{NoMemory, Tid};
 use std::alloc::Global;
 
 /// The entries that the outcomes name, in their order.
@@ -29,10 +30,10 @@ pub fn entries_named<N>(alloc: Global, outcomes: &[Outcome<N>]) -> Result<Vec<u6
 /// `NoMemory` where a growth was refused.
 pub fn transactions_named<N>(
     alloc: Global,
-    history: &[Entry],
+    history: &History,
     outcomes: &[Outcome<N>],
 ) -> Result<Vec<u64>, NoMemory>
-    ensures { IfOk result (λ named. named.items ≡ flat_map (transactions_of history.now) outcomes.now) }
+    ensures { IfOk result (λ named. named.items ≡ flat_map (transactions_of history.now.entries) outcomes.now) }
 {
     let mut named = Vec::new(alloc);
     for outcome in outcomes {
@@ -46,8 +47,8 @@ pub fn transactions_named<N>(
 }
 
 /// Adds the transaction that entry n names, if it names one.
-fn add_named_at(named: &mut Vec<u64>, history: &[Entry], n: u64) -> Result<(), NoMemory>
-    ensures { OnOk result (named.new.items ≡ named.old.items ++ transaction_at history.now n) }
+fn add_named_at(named: &mut Vec<u64>, history: &History, n: u64) -> Result<(), NoMemory>
+    ensures { OnOk result (named.new.items ≡ named.old.items ++ transaction_at history.now.entries n) }
 {
     if let Some(entry) = history.get(n as usize) {
         if let Some(t) = entry.event.named() {

@@ -10,18 +10,18 @@ use crate::events::{asks_for, names_one_of};
 use crate::lives::Life;
 use crate::outcome::Outcome;
 use sgt_dispatch::Job;
-use sgt_model::Entry;
+use sgt_entries::History;
 
 /// Whether there is one outcome for each job, and each says what is so.
 pub fn all_stand<N>(
-    history: &[Entry],
+    history: &History,
     lives: &[Life],
     jobs: &[Job],
     outcomes: &[Outcome<N>],
     tries: u32,
 ) -> bool
-    requires { AreLives (reverse history.now) lives.now }
-    ensures { IsTrue result ↔ AllZip (OutcomeStands history.now tries) jobs.now outcomes.now }
+    requires { AreLives (reverse history.now.entries) lives.now }
+    ensures { IsTrue result ↔ AllZip (OutcomeStands history.now.entries tries) jobs.now outcomes.now }
 {
     if jobs.len() != outcomes.len() {
         return false;
@@ -35,9 +35,9 @@ pub fn all_stand<N>(
 }
 
 /// Whether an outcome says what is so.
-fn stands<N>(history: &[Entry], lives: &[Life], job: &Job, outcome: &Outcome<N>, tries: u32) -> bool
-    requires { AreLives (reverse history.now) lives.now }
-    ensures { IsTrue result ↔ OutcomeStands history.now tries job.now outcome.now }
+fn stands<N>(history: &History, lives: &[Life], job: &Job, outcome: &Outcome<N>, tries: u32) -> bool
+    requires { AreLives (reverse history.now.entries) lives.now }
+    ensures { IsTrue result ↔ OutcomeStands history.now.entries tries job.now outcome.now }
 {
     match outcome {
         Outcome::Done(n) => is_committed(history, lives, job, *n),
@@ -49,9 +49,9 @@ fn stands<N>(history: &[Entry], lives: &[Life], job: &Job, outcome: &Outcome<N>,
 }
 
 /// Whether entry n committed a transaction of the job.
-fn is_committed(history: &[Entry], lives: &[Life], job: &Job, n: u64) -> bool
-    requires { AreLives (reverse history.now) lives.now }
-    ensures { IsTrue result ↔ Ends is_commit history.now job.now n }
+fn is_committed(history: &History, lives: &[Life], job: &Job, n: u64) -> bool
+    requires { AreLives (reverse history.now.entries) lives.now }
+    ensures { IsTrue result ↔ Ends is_commit history.now.entries job.now n }
 {
     match history.get(n as usize) {
         Some(entry) => entry.reply.is_commit() && names_one_of(&entry.event, lives, job),
@@ -60,9 +60,9 @@ fn is_committed(history: &[Entry], lives: &[Life], job: &Job, n: u64) -> bool
 }
 
 /// Whether entry n aborted a transaction of the job that asked a code, at the step or at the commit.
-fn is_asked(history: &[Entry], lives: &[Life], job: &Job, n: u64) -> bool
-    requires { AreLives (reverse history.now) lives.now }
-    ensures { IsTrue result ↔ Ends is_ask history.now job.now n }
+fn is_asked(history: &History, lives: &[Life], job: &Job, n: u64) -> bool
+    requires { AreLives (reverse history.now.entries) lives.now }
+    ensures { IsTrue result ↔ Ends is_ask history.now.entries job.now n }
 {
     match history.get(n as usize) {
         Some(entry) => entry.reply.is_ask() && names_one_of(&entry.event, lives, job),
@@ -71,8 +71,8 @@ fn is_asked(history: &[Entry], lives: &[Life], job: &Job, n: u64) -> bool
 }
 
 /// Whether entry n refused a start with the job's procedure and arguments.
-fn is_refused(history: &[Entry], job: &Job, n: u64) -> bool
-    ensures { IsTrue result ↔ StartIsRefused history.now job.now n }
+fn is_refused(history: &History, job: &Job, n: u64) -> bool
+    ensures { IsTrue result ↔ StartIsRefused history.now.entries job.now n }
 {
     match history.get(n as usize) {
         Some(entry) => entry.reply.refuses_start() && asks_for(&entry.event, job),

@@ -1,8 +1,9 @@
 ghost use Rattle.std.specs.Prelude.{◌≡◌, ◌++◌, take, vec_len, slice_get, IfOk, OnOk, OnErr};
 ghost use Rattle.sgt_bank.specs.OutcomeText.{commit_words, code_words, ask_words, refusal_words, words_at, outcome_words, outcome_text};
 
+use sgt_entries::History;
 use sgt_format::{append_answers, append_number, append_numbered};
-use sgt_model::{Cause, Entry, NoMemory, Reply};
+use sgt_model::{Cause, NoMemory, Reply};
 use sgt_workers::Outcome;
 use std::alloc::{AllocError, Global};
 
@@ -14,9 +15,9 @@ pub fn outcome_line<N>(
     alloc: Global,
     number: u32,
     outcome: &Outcome<N>,
-    history: &[Entry],
+    history: &History,
 ) -> Result<Vec<u8>, NoMemory>
-    ensures { IfOk result (λ line. line.items ≡ outcome_text number history.now outcome.now) }
+    ensures { IfOk result (λ line. line.items ≡ outcome_text number history.now.entries outcome.now) }
 {
     let mut line = Vec::new(alloc);
     append_outcome(&mut line, number, outcome, history)?;
@@ -28,10 +29,10 @@ pub(crate) fn append_outcome<N>(
     lines: &mut Vec<u8>,
     number: u32,
     outcome: &Outcome<N>,
-    history: &[Entry],
+    history: &History,
 ) -> Result<(), AllocError>
     ensures ok { OnOk result
-        (lines.new.items ≡ lines.old.items ++ outcome_text number history.now outcome.now) }
+        (lines.new.items ≡ lines.old.items ++ outcome_text number history.now.entries outcome.now) }
     ensures err { OnErr result (take (vec_len lines.old) lines.new.items ≡ lines.old.items) }
 {
     append_number(lines, number)?;
@@ -44,10 +45,10 @@ pub(crate) fn append_outcome<N>(
 fn append_words<N>(
     line: &mut Vec<u8>,
     outcome: &Outcome<N>,
-    history: &[Entry],
+    history: &History,
 ) -> Result<(), AllocError>
     ensures ok { OnOk result
-        (line.new.items ≡ line.old.items ++ outcome_words history.now outcome.now) }
+        (line.new.items ≡ line.old.items ++ outcome_words history.now.entries outcome.now) }
     ensures err { OnErr result (take (vec_len line.old) line.new.items ≡ line.old.items) }
 {
     match outcome {
@@ -61,9 +62,9 @@ fn append_words<N>(
     }
 }
 
-fn append_commit(line: &mut Vec<u8>, history: &[Entry], n: u64) -> Result<(), AllocError>
+fn append_commit(line: &mut Vec<u8>, history: &History, n: u64) -> Result<(), AllocError>
     ensures ok { OnOk result
-        (line.new.items ≡ line.old.items ++ words_at commit_words (slice_get history.now n)) }
+        (line.new.items ≡ line.old.items ++ words_at commit_words (slice_get history.now.entries n)) }
     ensures err { OnErr result (take (vec_len line.old) line.new.items ≡ line.old.items) }
 {
     match history.get(n as usize) {
@@ -85,9 +86,9 @@ fn append_commit_words(line: &mut Vec<u8>, reply: &Reply) -> Result<(), AllocErr
     }
 }
 
-fn append_ask(line: &mut Vec<u8>, history: &[Entry], n: u64) -> Result<(), AllocError>
+fn append_ask(line: &mut Vec<u8>, history: &History, n: u64) -> Result<(), AllocError>
     ensures ok { OnOk result
-        (line.new.items ≡ line.old.items ++ words_at ask_words (slice_get history.now n)) }
+        (line.new.items ≡ line.old.items ++ words_at ask_words (slice_get history.now.entries n)) }
     ensures err { OnErr result (take (vec_len line.old) line.new.items ≡ line.old.items) }
 {
     match history.get(n as usize) {
@@ -117,9 +118,9 @@ fn append_code(line: &mut Vec<u8>, cause: &Cause) -> Result<(), AllocError>
     }
 }
 
-fn append_refusal(line: &mut Vec<u8>, history: &[Entry], n: u64) -> Result<(), AllocError>
+fn append_refusal(line: &mut Vec<u8>, history: &History, n: u64) -> Result<(), AllocError>
     ensures ok { OnOk result
-        (line.new.items ≡ line.old.items ++ words_at refusal_words (slice_get history.now n)) }
+        (line.new.items ≡ line.old.items ++ words_at refusal_words (slice_get history.now.entries n)) }
     ensures err { OnErr result (take (vec_len line.old) line.new.items ≡ line.old.items) }
 {
     match history.get(n as usize) {

@@ -2,8 +2,9 @@ ghost use Rattle.std.specs.Prelude.{◌≡◌, ◌++◌, ◌≤◌, length, IfOk
 ghost use Rattle.sgt_bank.specs.Reports.{outcome_lines, report_text};
 
 use crate::outcome_text::append_outcome;
+use sgt_entries::History;
 use sgt_format::append_database;
-use sgt_model::{Database, Entry, NoMemory};
+use sgt_model::{Database, NoMemory};
 use sgt_workers::Outcome;
 use std::alloc::{AllocError, Global};
 
@@ -12,12 +13,12 @@ use std::alloc::{AllocError, Global};
 /// `NoMemory` where a growth was refused.
 pub fn report_text<N>(
     alloc: Global,
-    history: &[Entry],
+    history: &History,
     outcomes: &[Outcome<N>],
     database: &Database,
 ) -> Result<Vec<u8>, NoMemory>
     requires { length outcomes.now ≤ 1000000 }
-    ensures { IfOk result (λ text. text.items ≡ report_text history.now outcomes.now database.now) }
+    ensures { IfOk result (λ text. text.items ≡ report_text history.now.entries outcomes.now database.now) }
 {
     let mut text = Vec::new(alloc);
     append_outcomes(&mut text, history, outcomes)?;
@@ -28,12 +29,12 @@ pub fn report_text<N>(
 /// Adds the lines of all outcomes.
 fn append_outcomes<N>(
     text: &mut Vec<u8>,
-    history: &[Entry],
+    history: &History,
     outcomes: &[Outcome<N>],
 ) -> Result<(), AllocError>
     requires { length outcomes.now ≤ 1000000 }
     ensures { OnOk result
-        (text.new.items ≡ text.old.items ++ outcome_lines 0 history.now outcomes.now) }
+        (text.new.items ≡ text.old.items ++ outcome_lines 0 history.now.entries outcomes.now) }
 {
     for number in 0..outcomes.len() {
         append_outcome(text, number as u32, &outcomes[number], history)?;

@@ -55,7 +55,7 @@ fn run_behind_opening<W: Threads + Wait + Sync>(
     requires limits { AreLimitsFor workers opening.limits }
     requires jobs { AreJobs jobs.now }
     ensures report { IfOk result (λ r.
-        AreRun opening jobs.now workers tries r.history.items r.outcomes.items r.database) }
+        AreRun opening jobs.now workers tries r.history.entries r.outcomes.items r.database) }
     ensures fault { IfErr result (λ f. ¬ IsOfText f) }
     ensures own { (result ≢ Err Fault.Reading) × (result ≢ Err Fault.Writing) }
 {
@@ -103,7 +103,7 @@ fn report_on_input<S: Source, W: Threads + Wait + Sync>(
     let report = run_behind_opening(rt, alloc, opening, jobs.as_slice(), workers, tries)?;
     let text = report_text(
         alloc,
-        report.history.as_slice(),
+        &report.history,
         report.outcomes.as_slice(),
         &report.database,
     )?;

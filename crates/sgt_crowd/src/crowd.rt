@@ -3,8 +3,9 @@ use crate::bank::{ACCOUNTS, AMALGAMATE, BALANCE, DEPOSIT_CHECKING, held, job, ru
 use crate::gates::Open;
 use sgt_access::{OneList, PerKey};
 use sgt_dispatch::Job;
+use sgt_entries::History;
 use sgt_graph::{BitGraph, PairGraph};
-use sgt_model::{Entry, Limits, Reply};
+use sgt_model::{Limits, Reply};
 use sgt_records::{ListRecords, SlabRecords};
 use sgt_workers::{Outcome, PoolError, Report};
 use std::alloc::{AllocError, Global};
@@ -122,21 +123,22 @@ fn same_answers(
     crowd: &Report<u64>,
     alone: &Report<u64>,
 ) -> Result<bool, PoolError> {
-    let Ok(many) = answers_in(alloc, crowd.history.as_slice()) else {
+    let Ok(many) = answers_in(alloc, &crowd.history) else {
         return Err(PoolError::NoMemory);
     };
-    let Ok(one) = answers_in(alloc, alone.history.as_slice()) else {
+    let Ok(one) = answers_in(alloc, &alone.history) else {
         return Err(PoolError::NoMemory);
     };
     Ok(many == one)
 }
 
 /// The replies of the commits, in their order.
-fn answers_in(alloc: Global, history: &[Entry]) -> Result<Vec<Reply>, AllocError> {
+fn answers_in(alloc: Global, history: &History) -> Result<Vec<Reply>, AllocError> {
     let mut answers = Vec::with_capacity(alloc, history.len())?;
-    for entry in history {
+    for place in 0..history.len() {
+        let entry = history.at(place);
         if matches!(entry.reply, Reply::Committed(_)) {
-            answers.push(entry.reply.copied())?;
+            answers.push(entry.reply)?;
         }
     }
     Ok(answers)

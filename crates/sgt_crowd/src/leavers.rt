@@ -3,6 +3,7 @@ use crate::bank::{DEPOSIT_CHECKING, job};
 use crate::gates::{DeepFall, LeavesAt};
 use crate::{run, tell_report};
 use sgt_dispatch::Job;
+use sgt_entries::History;
 use sgt_format::reply_line;
 use sgt_model::{Entry, Reply};
 use sgt_workers::{Gate, Report};
@@ -39,10 +40,11 @@ fn tell_size<W: Print>(rt: &W, report: &Report<u64>) -> io::Result<()> {
 }
 
 /// Tells the aborts of a history, each on a line.
-fn tell_aborts<W: Print>(rt: &W, alloc: Global, history: &[Entry]) -> io::Result<()> {
-    for entry in history {
+fn tell_aborts<W: Print>(rt: &W, alloc: Global, history: &History) -> io::Result<()> {
+    for place in 0..history.len() {
+        let entry = history.at(place);
         if matches!(entry.reply, Reply::Aborted { .. }) {
-            tell_reply(rt, alloc, entry)?;
+            tell_reply(rt, alloc, &entry)?;
         }
     }
     Ok(())
@@ -61,7 +63,7 @@ fn tell_deposits<T: Gate<Note = u64> + Sync, W: Threads + Wait + Sync + Print>(
         Ok(report) => {
             tell_report(rt, &report)?;
             tell_size(rt, &report)?;
-            tell_aborts(rt, alloc, report.history.as_slice())
+            tell_aborts(rt, alloc, &report.history)
         }
         Err(error) => println!(rt; "{error}"),
     }
@@ -82,7 +84,7 @@ fn leaves_after<W: Threads + Wait + Sync + Print>(
             }
             tell_size(rt, &report)?;
             match report.history.last() {
-                Some(entry) => tell_reply(rt, alloc, entry),
+                Some(entry) => tell_reply(rt, alloc, &entry),
                 None => Ok(()),
             }
         }

@@ -23,6 +23,7 @@ use crate::gates::{BothRead, LeavesAt, Open, SecondFirst};
 use crate::leavers::{all_leave, deep_fall, leave_at_each_call};
 use sgt_access::PerKey;
 use sgt_dispatch::Job;
+use sgt_entries::History;
 use sgt_graph::BitGraph;
 use sgt_model::{Asks, Entry, Event, Limits, Reply};
 use sgt_records::SlabRecords;
@@ -79,10 +80,11 @@ fn subject(entry: &Entry) -> Option<u32> {
 }
 
 /// Tells of which transactions the entries are.
-fn tell_order<W: Print>(rt: &W, history: &[Entry]) -> io::Result<()> {
+fn tell_order<W: Print>(rt: &W, history: &History) -> io::Result<()> {
     print!(rt; "entries of")?;
-    for entry in history {
-        match subject(entry) {
+    for place in 0..history.len() {
+        let entry = history.at(place);
+        match subject(&entry) {
             Some(t) => print!(rt; " {t}")?,
             None => print!(rt; " none")?,
         }
@@ -99,7 +101,7 @@ fn second_commits_first<W: Threads + Wait + Sync + Print>(rt: &W, alloc: Global)
     println!(rt; "second commits first:")?;
     match run(rt, alloc, &jobs, 2, 100, &SecondFirst::new()) {
         Ok(report) => {
-            tell_order(rt, report.history.as_slice())?;
+            tell_order(rt, &report.history)?;
             tell_report(rt, &report)
         }
         Err(error) => println!(rt; "{error}"),

@@ -1,4 +1,4 @@
-ghost use Rattle.std.specs.Prelude.{◌≡◌, ◌+◌, ◌≤◌, ◌<◌, ◌↔◌, [], ◌∷◌, ◌++◌, length, take, reverse, slice_get};
+ghost use Rattle.std.specs.Prelude.{◌≡◌, ◌+◌, ◌≤◌, ◌<◌, ◌↔◌, [], ◌∷◌, ◌++◌, length, take, min, reverse, slice_get};
 ghost use Rattle.std.specs.Prelude.{IsTrue, Some, OnOk, OnErr};
 ghost use Rattle.std.specs.Result.{IsOk};
 ghost use Rattle.std.specs.Option.{option_map};
@@ -7,6 +7,7 @@ ghost use Rattle.sgt_model.specs.declared.entry.Entry.{Entry as E};
 use crate::short_entry::ShortEntry;
 use crate::short_event::ShortEvent;
 use crate::short_reply::ShortReply;
+use crate::touch::touch_ahead;
 use sgt_model::{Entry, Event, NoMemory, Reply, Tid};
 use std::alloc::Global;
 use std::marker::Model;
@@ -137,6 +138,18 @@ impl History {
     {
         self.entries.reserve(count)?;
         Ok(())
+    }
+
+    /// Touches the memory of the next entries, of so many at most, but for that of their lists, and tells up to which place it did.
+    pub fn touch(&mut self, most: usize) -> usize
+        ensures same { self.new ≡ self.old }
+        ensures touched { result ≡ min self.old.capacities.entries (length self.old.entries + most) }
+    {
+        let filler = ShortEntry {
+            event: ShortEvent::Quit(Tid(0)),
+            reply: ShortReply::Ended,
+        };
+        touch_ahead(&mut self.entries, most, filler)
     }
 
     /// Adds an entry, for which there is room. This takes no memory.

@@ -23,5 +23,7 @@ mod short_entry;
 mod short_event;
 mod short_reply;
 mod span;
+mod touch;
 
 pub use history::History;
+pub use touch::touch_ahead;

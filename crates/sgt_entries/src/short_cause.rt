@@ -6,7 +6,7 @@ use crate::span::Span;
 use sgt_model::{Cause, Fate, Tid};
 
 /// Why a transaction was aborted. The walk stands in the list of transactions.
-#[derive(Drop)]
+#[derive(Clone, Copy)]
 pub enum ShortCause {
     Cycle(Span),
     Asked(u16),
@@ -14,7 +14,7 @@ pub enum ShortCause {
 }
 
 /// How a transaction ended.
-#[derive(Drop)]
+#[derive(Clone, Copy)]
 pub enum ShortFate {
     Committed,
     Aborted(ShortCause),

@@ -6,7 +6,7 @@ use crate::span::Span;
 use sgt_model::{Event, Tid};
 
 /// An event. The arguments stand in the list of values.
-#[derive(Drop)]
+#[derive(Clone, Copy)]
 pub enum ShortEvent {
     Start { procedure: u16, args: Span },
     Step(Tid),

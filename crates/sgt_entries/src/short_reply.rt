@@ -8,7 +8,7 @@ use crate::span::Span;
 use sgt_model::{Cause, Key, Reply, Tid, Tids};
 
 /// A reply. Answers stand in the list of values, walks and those that fell in the list of transactions.
-#[derive(Drop)]
+#[derive(Clone, Copy)]
 pub enum ShortReply {
     Started(Tid),
     NoProcedure,

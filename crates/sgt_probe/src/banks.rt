@@ -3,9 +3,10 @@
 use crate::gate::RandomLeave;
 use sgt_access::PerKey;
 use sgt_bank::{read_input, report_text};
+use sgt_entries::History;
 use sgt_format::{Opening, append_reply};
 use sgt_graph::BitGraph;
-use sgt_model::{Args, Entry, Event};
+use sgt_model::{Args, Event};
 use sgt_records::SlabRecords;
 use sgt_smallbank::procedures;
 use sgt_stream::Reader;
@@ -40,9 +41,10 @@ fn line(alloc: Global, event: &Event) -> Result<String, AllocError> {
 }
 
 /// The lines of all entries, each with that of its reply behind it.
-fn lines(alloc: Global, history: &[Entry]) -> io::Result<Vec<u8>> {
+fn lines(alloc: Global, history: &History) -> io::Result<Vec<u8>> {
     let mut text = Vec::new(alloc);
-    for entry in history {
+    for place in 0..history.len() {
+        let entry = history.at(place);
         text.extend_from_slice(line(alloc, &entry.event)?.as_bytes())?;
         if append_reply(&mut text, &entry.reply).is_err() {
             return Err(io::Error::from(ErrorKind::OutOfMemory));
@@ -71,7 +73,7 @@ fn write<R: Print>(rt: &R, alloc: Global, report: &Report<u64>) -> io::Result<()
     if outcomes.len() > 1_000_000 {
         return Err(io::Error::from(ErrorKind::InvalidData));
     }
-    let history = report.history.as_slice();
+    let history = &report.history;
     let Ok(text) = report_text(alloc, history, outcomes, &report.database) else {
         return Err(io::Error::from(ErrorKind::OutOfMemory));
     };

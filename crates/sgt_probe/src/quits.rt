@@ -87,10 +87,7 @@ fn call<N: Named, W: Wait>(
     if session.make(rt, shared, event).is_err() {
         return Told::NoMemory;
     }
-    let Some(receipt) = session.receipts().last() else {
-        return Told::Another;
-    };
-    match &receipt.reply {
+    match &session.last().reply {
         Reply::Started(t) => Told::Started(*t),
         Reply::Full => Told::Full,
         Reply::Aborted {

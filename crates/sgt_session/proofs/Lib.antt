@@ -1,3 +1,4 @@
+pub mod Filed
 pub mod Merging
 pub mod Owns
 pub mod Crossing

@@ -1,7 +1,5 @@
 -- How many transactions a session has to hold for live.
-use Rattle.std.proofs.Common.{◌≡◌, ℕ, ◌+◌, ◌<◌, ◌≤◌, Bool, true, false, cond, List, [], ◌∷◌, ◌++◌, length, slice_index_or, ◌-◌, Option, Some, None, refl, sym, arith}
-use Rattle.std.proofs.lemmas.Grind.{common_steps}
-use Rattle.std.proofs.Math.Seq.{get_or-append_seam}
+use Rattle.std.proofs.Common.{◌≡◌, ℕ, ◌+◌, ◌<◌, ◌≤◌, Bool, true, false, cond, List, [], ◌∷◌, ◌++◌, length, Option, Some, None, refl, sym, arith}
 use Rattle.std.proofs.lemmas.List.{length-append}
 use Rattle.sgt_model.specs.declared.event.Event.{Event}
 use Rattle.sgt_model.specs.declared.event.Event.TheVariants.{Start, Step, Commit, Quit}
@@ -53,14 +51,10 @@ pub noted : (old new : List Receipt) (own own' : List ℕ) (r : Receipt) → own
 noted old new own own' r is longer then = rw (then, is, longer) (sym (open_from-append [] old r))
 
 -- there is room for the ends of those that are open after it
-pub fits : (own own' : List ℕ) (e : Event) (r : Receipt) (len len' count capacity capacity' : ℕ) → own' ≡ own → r.event ≡ e
-    → ((x : Reply) → len + 1 + length (open_by own e x) ≤ capacity) → len' ≡ len + 1 → count ≡ length (open_by own' r.event r.reply)
-    → capacity' ≡ capacity → len' + count ≤ capacity'
-fits own own' e r len len' count capacity capacity' same told room longer counted kept =
+pub fits : (own own' : List ℕ) (e : Event) (r : Receipt) (count room room' : ℕ) → own' ≡ own → r.event ≡ e
+    → ((x : Reply) → 1 + length (open_by own e x) ≤ room) → count ≡ length (open_by own' r.event r.reply) → room' + 1 ≡ room
+    → count ≤ room'
+fits own own' e r count room room' same told enough counted used =
     let is : length (open_by own' r.event r.reply) ≡ length (open_by own e r.reply) = rw (same, told) refl in
-    let h = room r.reply in
-    omega (arith, h, is, longer, counted, kept)
-
--- the last one of a list
-pub newest : (old new : List Receipt) (r x : Receipt) → x ≡ slice_index_or new (length new - 1) x → new ≡ old ++ r ∷ [] → x ≡ r
-newest old new r x at longer = grind (arith, common_steps, get_or-append_seam old r [] x, length-append old (r ∷ []))
+    let h = enough r.reply in
+    omega (arith, h, is, counted, used)

@@ -1,5 +1,5 @@
 -- Receipts, one by one.
-use Rattle.std.specs.Prelude.{◌≡◌, ℕ, true, List, slice_get, Some}
+use Rattle.std.specs.Prelude.{◌≡◌, ℕ, true, List, [], ◌∷◌, slice_get, Some}
 use Rattle.sgt_model.specs.declared.event.Event.TheVariants.{Commit}
 use Rattle.sgt_model.specs.declared.entry.Entry.{Entry}
 use Rattle.sgt_model.specs.Questions.{is_wait}
@@ -8,6 +8,17 @@ use Rattle.sgt_session.specs.declared.receipt.Receipt.{Receipt}
 -- the receipt of the entry of this number
 abbrev pub receipt_of : ℕ → Entry → Receipt
 receipt_of number e = record { number = number; event = e.event; reply = e.reply }
+
+-- the receipts of entries that have these numbers
+abbrev pub receipts_of : List ℕ → List Entry → List Receipt
+receipts_of [] es = []
+receipts_of (n ∷ ns) [] = []
+receipts_of (n ∷ ns) (e ∷ es) = receipt_of n e ∷ receipts_of ns es
+
+-- what callers see of the receipts of a session: the receipts, in the order of its calls, and for how many more there is room
+pub record ReceiptsView : Type 0 where
+  pub receipts : List Receipt
+  pub room : ℕ
 
 -- the entry of a receipt
 abbrev pub entry_of : Receipt → Entry

@@ -4,18 +4,19 @@ ghost use Rattle.sgt_session.specs.Accounts.{AccountsForHistory};
 ghost use Rattle.sgt_session.specs.Receipts.{receipt_of};
 
 use crate::named::Named;
-use crate::receipt::Receipt;
+use crate::receipts::Receipts;
 use crate::session::Session;
+use sgt_entries::History;
 use sgt_model::Entry;
 
 /// Whether the receipts are the entries, each once, in the order of each session's calls.
-pub fn accounts<N: Named>(history: &[Entry], sessions: &[Session<N>]) -> bool
-    requires { (length sessions.now ≤ 64) × (length history.now ≡ sum_by length sessions.now) }
-    ensures { IsTrue result → AccountsForHistory history.now sessions.now }
+pub fn accounts<N: Named>(history: &History, sessions: &[Session<N>]) -> bool
+    requires { (length sessions.now ≤ 64) × (length history.now.entries ≡ sum_by length sessions.now) }
+    ensures { IsTrue result → AccountsForHistory history.now.entries sessions.now }
 {
     let mut at = [0usize; 64];
     for p in 0..history.len() {
-        match owner(sessions, &at, p as u64, &history[p]) {
+        match owner(sessions, &at, p as u64, &history.at(p)) {
             Some(i) => at[i] += 1,
             None => return false,
         }
@@ -45,16 +46,9 @@ fn owner<N: Named>(
 }
 
 /// Whether the receipt of this index is the entry's.
-fn is_next(receipts: &[Receipt], at: usize, number: u64, entry: &Entry) -> bool
-    ensures receipt { IsTrue result → slice_get receipts.now at ≡ Some (receipt_of number entry.now) }
+fn is_next(receipts: &Receipts, at: usize, number: u64, entry: &Entry) -> bool
+    ensures receipt { IsTrue result → slice_get receipts.now.receipts at ≡ Some (receipt_of number entry.now) }
     ensures fits { IsTrue result → at + 1 < 2 ^ 64 }
 {
-    match receipts.get(at) {
-        Some(next) => {
-            next.number == number
-                && next.event.is_same(&entry.event)
-                && next.reply.is_same(&entry.reply)
-        }
-        None => false,
-    }
+    receipts.is_at(at, number, entry)
 }

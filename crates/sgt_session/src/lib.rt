@@ -100,15 +100,16 @@ mod named;
 mod new;
 mod own;
 mod receipt;
+mod receipts;
 mod round;
 mod session;
 mod shared;
-mod touch;
 mod waiters;
 
 pub use close::{CloseError, Closed};
 pub use named::Named;
 pub use new::NewError;
 pub use receipt::Receipt;
+pub use receipts::Receipts;
 pub use session::Session;
 pub use shared::Shared;

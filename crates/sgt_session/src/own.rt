@@ -7,6 +7,7 @@ ghost use Rattle.sgt_model.specs.Questions.{started_in, over_in};
 ghost use Rattle.sgt_session.specs.Own.{with_one, open_without, open_by, is_open, room_needed};
 
 use crate::receipt::Receipt;
+use crate::receipts::Receipts;
 use sgt_model::{Event, NoMemory, Tid};
 
 /// Takes the room that a call of this event needs, whatever it is answered: for its receipt, and for the receipt of one end of
@@ -14,23 +15,21 @@ use sgt_model::{Event, NoMemory, Tid};
 ///
 /// `NoMemory` where a growth was refused.
 pub fn make_receipt_room(
-    receipts: &mut Vec<Receipt>,
+    receipts: &mut Receipts,
     own: &mut Vec<Tid>,
     event: &Event,
 ) -> Result<(), NoMemory>
-    requires { vec_len receipts.old + vec_len own.old ≤ vec_capacity receipts.old }
-    ensures receipts { receipts.new.items ≡ receipts.old.items }
-    ensures count { vec_len receipts.new ≡ vec_len receipts.old }
+    requires { vec_len own.old ≤ receipts.old.room }
+    ensures receipts { receipts.new.receipts ≡ receipts.old.receipts }
     ensures own { own.new.items ≡ own.old.items }
-    ensures ends { vec_len receipts.new + vec_len own.new ≤ vec_capacity receipts.new }
-    ensures receipt { OnOk result (vec_len receipts.new < vec_capacity receipts.new) }
-    ensures room { OnOk result ((r : Answer) →
-        vec_len receipts.new + 1 + length (open_by own.old.items event.now r) ≤ vec_capacity receipts.new) }
+    ensures ends { vec_len own.new ≤ receipts.new.room }
+    ensures receipt { OnOk result (0 < receipts.new.room) }
+    ensures room { OnOk result ((r : Answer) → 1 + length (open_by own.old.items event.now r) ≤ receipts.new.room) }
     ensures started { OnOk result ((r : Answer) →
         length (with_one (started_in event.now r) own.old.items) ≤ vec_capacity own.new) }
     ensures quits { (t : ℕ) → event.now ≡ Quit t → is_open t own.old.items ≡ true → IsOk result }
 {
-    receipts.reserve(room_needed(event, own.as_slice()))?;
+    receipts.make_room(room_needed(event, own.as_slice()))?;
     if matches!(event, Event::Start { .. }) {
         own.reserve(1)?;
     }

@@ -8,12 +8,13 @@ ghost use Rattle.sgt_engine.specs.EngineView.{setting_of, with_entry};
 ghost use Rattle.sgt_session.specs.declared.receipt.Receipt.{Receipt as Told};
 
 use crate::named::Named;
-use crate::receipt::{Receipt, file_newest};
+use crate::receipts::Receipts;
 use crate::session::{Session, lend};
 use sgt_access::Accesses;
 use sgt_engine::Engine;
+use sgt_entries::History;
 use sgt_graph::Graph;
-use sgt_model::{Entry, Event, NoMemory};
+use sgt_model::{Event, NoMemory};
 use sgt_records::Records;
 use std::marker::Model;
 use std::sync::ledger::{Book, Share};
@@ -57,30 +58,29 @@ impl<N: Named, R: Records, A: Accesses, G: Graph> Round<N, R, A, G> {
         &mut self,
         event: Event,
         mine: &mut Share<N>,
-        receipts: &mut Vec<Receipt>,
+        receipts: &mut Receipts,
     ) -> Result<(), NoMemory>
         requires part { 0 < mine.old.parts }
-        requires room { vec_len receipts.old < vec_capacity receipts.old }
+        requires room { 0 < receipts.old.room }
         ensures filed { OnOk result ((r : Told) × (r.event ≡ event) × (r.number ≡ length self.old.past)
             × (self.new ≡ with_entry r.event r.reply self.old)
             × LegalReply (setting_of self.old) self.old.past r.event r.reply
-            × (receipts.new.items ≡ receipts.old.items ++ r ∷ [])) }
-        ensures counted { OnOk result ((mine.new.amount ≡ mine.old.amount + 1)
-            × (vec_len receipts.new ≡ vec_len receipts.old + 1)) }
+            × (receipts.new.receipts ≡ receipts.old.receipts ++ r ∷ [])) }
+        ensures counted { OnOk result (mine.new.amount ≡ mine.old.amount + 1) }
         ensures parts { mine.new.parts ≡ mine.old.parts }
-        ensures capacity { vec_capacity receipts.new ≡ vec_capacity receipts.old }
+        ensures room { OnOk result (receipts.new.room + 1 ≡ receipts.old.room) }
         ensures unchanged { OnErr result ((self.new ≡ self.old) × (mine.new ≡ mine.old) × (receipts.new ≡ receipts.old)) }
         ensures quits { (t : ℕ) → event ≡ Quit t → live self.old.past t ≡ true → IsOk result }
     {
         self.engine.answer(event)?;
         self.calls.add(mine, 1);
-        file_newest(receipts, self.engine.history());
+        receipts.file_newest(self.engine.history());
         Ok(())
     }
 
     /// The history, oldest entry first.
-    pub fn history(&self) -> &[Entry]
-        ensures entries { reverse result.now ≡ self.now.past }
+    pub fn history(&self) -> &History
+        ensures entries { reverse result.now.entries ≡ self.now.past }
     {
         self.engine.history()
     }

@@ -8,8 +8,8 @@ ghost use Rattle.sgt_session.specs.Receipts.{IsWaitOf};
 use crate::named::Named;
 use crate::own::{make_receipt_room, note};
 use crate::receipt::Receipt;
+use crate::receipts::Receipts;
 use crate::shared::Shared;
-use crate::touch::touch;
 use sgt_access::Accesses;
 use sgt_graph::Graph;
 use sgt_model::{Event, NoMemory, Tid};
@@ -26,26 +26,24 @@ use std::sync::ledger::{Book, Share};
 #[derive(Drop)]
 pub struct Session<N: Named> {
     share: Share<N>,
-    receipts: Vec<Receipt>,
+    receipts: Receipts,
     own: Vec<Tid>,
-    /// How far the receipts' room was touched.
-    touched: usize,
 }
 
 impl<N: Named> Model for Session<N> {
-    ghost use Rattle.std.specs.Prelude.{◌≡◌, ◌+◌, ◌≤◌, List, vec_len, vec_capacity};
+    ghost use Rattle.std.specs.Prelude.{◌≡◌, ◌≤◌, List, length, vec_len};
     ghost use Rattle.sgt_session.specs.declared.receipt.Receipt.{Receipt};
     ghost use Rattle.sgt_session.specs.Own.{open_of};
 
     ghost Value = { List Receipt };
 
-    ghost view = { λ s. s.receipts.items };
+    ghost view = { λ s. s.receipts.receipts };
 
     ghost invariant = { λ s.
         (s.share.parts ≡ 1)
-        × (s.share.amount ≡ vec_len s.receipts)
-        × (s.own.items ≡ open_of s.receipts.items)
-        × (vec_len s.receipts + vec_len s.own ≤ vec_capacity s.receipts) };
+        × (s.share.amount ≡ length s.receipts.receipts)
+        × (s.own.items ≡ open_of s.receipts.receipts)
+        × (vec_len s.own ≤ s.receipts.room) };
 }
 
 impl<N: Named> Session<N> {
@@ -56,9 +54,8 @@ impl<N: Named> Session<N> {
     {
         Session {
             share,
-            receipts: Vec::new(alloc),
+            receipts: Receipts::new(alloc),
             own: Vec::new(alloc),
-            touched: 0,
         }
     }
 
@@ -68,23 +65,22 @@ impl<N: Named> Session<N> {
     pub fn reserve(&mut self, calls: usize) -> Result<(), NoMemory>
         ensures { self.new ≡ self.old }
     {
-        self.receipts.reserve(calls)?;
-        Ok(())
+        self.receipts.reserve(calls)
     }
 
     /// The receipts, in the order of the calls.
-    pub fn receipts(&self) -> &[Receipt]
-        ensures { result.now ≡ self.now }
+    pub fn receipts(&self) -> &Receipts
+        ensures { result.now.receipts ≡ self.now }
     {
-        self.receipts.as_slice()
+        &self.receipts
     }
 
     /// The receipt of the last call.
-    pub fn last(&self) -> &Receipt
+    pub fn last(&self) -> Receipt
         requires { 0 < length self.now }
-        ensures { (rs : List Receipt) (r : Receipt) → self.now ≡ rs ++ r ∷ [] → result.now ≡ r }
+        ensures { (rs : List Receipt) (r : Receipt) → self.now ≡ rs ++ r ∷ [] → result ≡ r }
     {
-        &self.receipts[self.receipts.len() - 1]
+        self.receipts.last()
     }
 
     /// One event of the engine, under one hold of the lock. Its receipt is filed in that hold, and handed out. A reply that
@@ -106,10 +102,10 @@ impl<N: Named> Session<N> {
         ensures receipts { MatchResult result (λ r. self.new ≡ self.old ++ r ∷ []) (λ _. self.new ≡ self.old) }
     {
         self.make(rt, shared, event)?;
-        Ok(self.last().copied())
+        Ok(self.last())
     }
 
-    /// As `call`, where the receipt is only filed: `last` lends it.
+    /// As `call`, where the receipt is only filed: `last` hands it out.
     pub fn make<R: Records, A: Accesses, G: Graph, W: Wait>(
         &mut self,
         rt: &W,
@@ -122,7 +118,7 @@ impl<N: Named> Session<N> {
     {
         // A start has time, and a session that is alone keeps nobody waiting.
         if shared.sessions > 1 && matches!(event, Event::Start { .. }) {
-            self.touch_room();
+            self.receipts.touch_room();
         }
         self.make_one(rt, shared, event, false)
     }
@@ -145,10 +141,10 @@ impl<N: Named> Session<N> {
             (λ _. self.new ≡ self.old ++ waits) }
     {
         self.make_commit(rt, shared, t)?;
-        Ok(self.last().copied())
+        Ok(self.last())
     }
 
-    /// As `commit`, where the last receipt is only filed: `last` lends it.
+    /// As `commit`, where the last receipt is only filed: `last` hands it out.
     pub fn make_commit<R: Records, A: Accesses, G: Graph, W: Wait>(
         &mut self,
         rt: &W,
@@ -168,15 +164,6 @@ impl<N: Named> Session<N> {
         unreachable!()
     }
 
-    /// Touches the room of the next receipts, where they have come to the end of what was touched.
-    fn touch_room(&mut self)
-        ensures { self.new ≡ self.old }
-    {
-        if self.receipts.len() >= self.touched {
-            self.touched = touch(&mut self.receipts);
-        }
-    }
-
     /// One event, with its receipt filed. Where the reply tells to wait, and it `may_wait`, it begins to do so in the same hold
     /// of the lock, and returns after a wake.
     fn make_one<R: Records, A: Accesses, G: Graph, W: Wait>(
@@ -193,14 +180,14 @@ impl<N: Named> Session<N> {
         make_receipt_room(&mut self.receipts, &mut self.own, &event)?;
         let (turn, mut round) = shared.lock_policy.lock(rt, &shared.round, &event);
         round.apply(event, &mut self.share, &mut self.receipts)?;
-        let receipt = &self.receipts[self.receipts.len() - 1];
+        let receipt = self.receipts.last();
         if may_wait && receipt.reply.is_wait() {
             drop(shared.waiters.wait(rt, round));
         } else {
             drop(round);
         }
         drop(turn);
-        note(&mut self.own, receipt);
+        note(&mut self.own, &receipt);
         shared.waiters.wake_after(&receipt.reply);
         Ok(())
     }
@@ -229,7 +216,6 @@ pub(crate) fn lend<N: Named>(sessions: &mut [Session<N>], calls: &mut Book<N>, s
             share,
             receipts,
             own: _,
-            touched: _,
         } = first;
         let count = receipts.len() as u64;
         share.give(seen, 1, count);

@@ -5,6 +5,7 @@ ghost use Rattle.sgt_engine.specs.EngineView.{setting_of};
 use crate::commits::{asks_at_once, puts_and_asks};
 use crate::engine::{BALANCE, DEPOSIT_CHECKING, ListEngine, SharedEngine, new_engine, start};
 use crate::stress::all_work;
+use sgt_entries::History;
 use sgt_model::{Entry, Event, Reply, Tid};
 use sgt_session::{CloseError, Named, Session, Shared};
 use std::alloc::Global;
@@ -284,10 +285,11 @@ fn waits_again(all: &[Told], count: usize, one: &Told) -> bool {
 }
 
 /// Whether the transaction was told just this, each wait once or more often.
-pub fn is_told(history: &[Entry], t: Tid, all: &[Told]) -> bool {
+pub fn is_told(history: &History, t: Tid, all: &[Told]) -> bool {
     let mut count: usize = 0;
-    for entry in history {
-        if let Some(one) = compared(entry, t) {
+    for place in 0..history.len() {
+        let entry = history.at(place);
+        if let Some(one) = compared(&entry, t) {
             if !waits_again(all, count, &one) {
                 if !is_at(all, count, &one) {
                     return false;

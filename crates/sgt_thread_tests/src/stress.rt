@@ -4,6 +4,7 @@ use crate::engine::{
     new_engine, start,
 };
 use crate::sessions::{Play, run, starts};
+use sgt_entries::History;
 use sgt_model::{Entry, Event, Key, NoMemory, Reply, Tid};
 use sgt_session::{Named, Session};
 use std::alloc::Global;
@@ -95,9 +96,10 @@ pub fn all_work<N: Named + Send + Sync, R: Threads + Wait + Sync>(
 }
 
 /// How many transactions were started.
-fn starts_in(history: &[Entry]) -> u32 {
+fn starts_in(history: &History) -> u32 {
     let mut starts = 0u32;
-    for entry in history {
+    for place in 0..history.len() {
+        let entry = history.at(place);
         if matches!(entry.reply, Reply::Started(_)) {
             starts = starts.wrapping_add(1);
         }
@@ -117,9 +119,10 @@ fn put_in(event: &Event) -> i64 {
 }
 
 /// What all starts put in, where each commits.
-fn put_in_all(history: &[Entry]) -> i64 {
+fn put_in_all(history: &History) -> i64 {
     let mut total = 0i64;
-    for entry in history {
+    for place in 0..history.len() {
+        let entry = history.at(place);
         total = total.wrapping_add(put_in(&entry.event));
     }
     total
@@ -159,12 +162,13 @@ fn renamed(entry: &Entry, t: Tid, new: Tid) -> Option<Event> {
 /// Adds what a transaction did, in one piece.
 fn add_all_of(
     events: &mut Vec<Event>,
-    history: &[Entry],
+    history: &History,
     t: Tid,
     new: Tid,
 ) -> Result<(), NoMemory> {
-    for entry in history {
-        if let Some(event) = renamed(entry, t, new) {
+    for place in 0..history.len() {
+        let entry = history.at(place);
+        if let Some(event) = renamed(&entry, t, new) {
             events.push(event)?;
         }
     }
@@ -172,11 +176,12 @@ fn add_all_of(
 }
 
 /// The events of the committed transactions, in the order of their commits, each in one piece.
-fn one_after_another(alloc: Global, history: &[Entry]) -> Result<Vec<Event>, NoMemory> {
+fn one_after_another(alloc: Global, history: &History) -> Result<Vec<Event>, NoMemory> {
     let mut events = Vec::new(alloc);
     let mut next = 0u32;
-    for entry in history {
-        if let Some(t) = committed(entry) {
+    for place in 0..history.len() {
+        let entry = history.at(place);
+        if let Some(t) = committed(&entry) {
             add_all_of(&mut events, history, t, Tid(next))?;
             next = next.wrapping_add(1);
         }
@@ -191,11 +196,12 @@ fn alone(alloc: Global, engine: &ListEngine) -> Option<ListEngine> {
 }
 
 /// The replies of the commits, in their order.
-fn answers_in(alloc: Global, history: &[Entry]) -> Result<Vec<Reply>, NoMemory> {
+fn answers_in(alloc: Global, history: &History) -> Result<Vec<Reply>, NoMemory> {
     let mut answers = Vec::new(alloc);
-    for entry in history {
-        if committed(entry).is_some() {
-            answers.push(entry.reply.copied())?;
+    for place in 0..history.len() {
+        let entry = history.at(place);
+        if committed(&entry).is_some() {
+            answers.push(entry.reply)?;
         }
     }
     Ok(answers)

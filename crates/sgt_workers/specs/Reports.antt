@@ -18,13 +18,13 @@ use Rattle.sgt_workers.specs.declared.report.Report.{Report}
 -- outcome says of it what is so; and each part of what every legal history has, with the database that it leaves
 pub record IsReportOf {N : Type 0} (s : Setting) (jobs : List Job) (workers tries : ℕ) (r : Report N) : Type 0 where
   pub opening : (k : Key) → contents_of r.opening k ≡ s.opening k
-  pub legal : Legal s (reverse r.history.items)
-  pub outcomes : OutcomesStand r.history.items jobs r.outcomes.items workers tries
-  pub all_ended : AllEnded r.history.items
-  pub values : (k : Key) → contents_of r.database k ≡ settled s.opening (reverse r.history.items) k
-  pub replayed : (k : Key) → contents_of r.database k ≡ (folded s (reverse r.history.items)).last k
+  pub legal : Legal s (reverse r.history.entries)
+  pub outcomes : OutcomesStand r.history.entries jobs r.outcomes.items workers tries
+  pub all_ended : AllEnded r.history.entries
+  pub values : (k : Key) → contents_of r.database k ≡ settled s.opening (reverse r.history.entries) k
+  pub replayed : (k : Key) → contents_of r.database k ≡ (folded s (reverse r.history.entries)).last k
   pub by_key : IsByKey r.database
-  pub replay : IsSerializable s (reverse r.history.items)
-  pub no_cycle : Acyclic (Pair (reverse r.history.items))
-  pub causes : AbortsHaveCause s (reverse r.history.items)
-  pub order : CommitsInOrder (reverse r.history.items)
+  pub replay : IsSerializable s (reverse r.history.entries)
+  pub no_cycle : Acyclic (Pair (reverse r.history.entries))
+  pub causes : AbortsHaveCause s (reverse r.history.entries)
+  pub order : CommitsInOrder (reverse r.history.entries)

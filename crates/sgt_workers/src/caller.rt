@@ -115,16 +115,16 @@ impl<'a, N: Named, R: Records, A: Accesses, G: Graph, T: Gate, W: Wait> Caller<
             match &receipt.reply {
                 Reply::Looked { .. } | Reply::Wrote { .. } => (),
                 Reply::Ended => break,
-                _ => return attempt_of(t, receipt),
+                _ => return attempt_of(t, &receipt),
             }
         }
         self.pass()?;
         self.session.make_commit(self.rt, self.shared, t)?;
-        attempt_of(t, self.session.last())
+        attempt_of(t, &self.session.last())
     }
 
     /// One call, where the gate lets it go.
-    fn call(&mut self, event: Event) -> Result<&Receipt, Halt<T::Note>> {
+    fn call(&mut self, event: Event) -> Result<Receipt, Halt<T::Note>> {
         self.pass()?;
         self.session.make(self.rt, self.shared, event)?;
         Ok(self.session.last())

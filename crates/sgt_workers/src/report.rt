@@ -8,8 +8,9 @@ use sgt_access::Accesses;
 use sgt_audit::{Outcome, audit};
 use sgt_dispatch::Job;
 use sgt_engine::{Engine, Past};
+use sgt_entries::History;
 use sgt_graph::Graph;
-use sgt_model::{Database, Entry};
+use sgt_model::Database;
 use sgt_records::Records;
 use std::alloc::Global;
 
@@ -19,7 +20,7 @@ pub struct Report<N> {
     /// The database before the first job.
     pub opening: Database,
     /// All that the workers asked, and were answered, oldest entry first.
-    pub history: Vec<Entry>,
+    pub history: History,
     /// By the jobs' numbers.
     pub outcomes: Vec<Outcome<N>>,
     /// The database after the last job.
@@ -38,21 +39,14 @@ pub fn report_of<R: Records, A: Accesses, G: Graph, X: Drop>(
     tries: u32,
 ) -> Result<Report<X>, PoolError>
     ensures report { IfOk result (λ r. IsReportOf (setting_of engine) jobs.now workers tries r) }
-    ensures history { IfOk result (λ r. reverse r.history.items ≡ engine.past) }
+    ensures history { IfOk result (λ r. reverse r.history.entries ≡ engine.past) }
     ensures error { IfErr result IsRunError }
 {
     let Ok(database) = engine.database(alloc) else {
         return Err(PoolError::NoMemory);
     };
     let Past { opening, history } = engine.into_past();
-    let Ok(stands) = audit(
-        alloc,
-        history.as_slice(),
-        jobs,
-        outcomes.as_slice(),
-        workers,
-        tries,
-    ) else {
+    let Ok(stands) = audit(alloc, &history, jobs, outcomes.as_slice(), workers, tries) else {
         return Err(PoolError::NoMemory);
     };
     if !stands {

@@ -10,7 +10,7 @@ use Rattle.sgt_audit.proofs.all_outcomes.audit.Goals as goal
 
 pub none_twice-requires : goal.none_twice-requires
 none_twice-requires g c =
-    let h = c.args.history.now in
+    let h = c.args.history.now.entries in
     let stand : IsTrue c.all_stand.result ↔ AllZip (OutcomeStands h c.args.tries) c.args.jobs.now c.args.outcomes.now =
     c.all_stand.ensures in
     let all = all_started h c.args.tries c.args.jobs.now c.args.outcomes.now (stand.0 c.if-not-all_stand.false) in
@@ -23,16 +23,17 @@ none_twice-requires g c =
 
 pub none_twice-requires-2 : goal.none_twice-requires-2
 none_twice-requires-2 g c =
-    let h = c.args.history.now in
+    let h = c.args.history.now.entries in
     let stand : IsTrue c.all_stand.result ↔ AllZip (OutcomeStands h c.args.tries) c.args.jobs.now c.args.outcomes.now =
     c.all_stand.ensures in
     let all = all_there h c.args.tries c.args.jobs.now c.args.outcomes.now (stand.0 c.if-not-all_stand.false) in
     let named : c.deref-3.result.now ≡ flat_map entries_of c.args.outcomes.now = c.deref-3.ensures.value ∙ c.in_ok-entries.ensures in
-    subst (All (λ n. n < length h)) (sym named) all
+    subst (λ (count : ℕ). All (λ n. n < count) c.deref-3.result.now) (sym c.len-2.ensures)
+    (subst (All (λ n. n < length h)) (sym named) all)
 
 pub returns : goal.returns
 returns g c =
-    let h = c.args.history.now in
+    let h = c.args.history.now.entries in
     let stand : IsTrue c.all_stand.result ↔ AllZip (OutcomeStands h c.args.tries) c.args.jobs.now c.args.outcomes.now =
     c.all_stand.ensures in
     let transactions : IsTrue c.in_ok-none_twice.field-0 ↔ Distinct c.deref-2.result.now = c.in_ok-none_twice.ensures in

@@ -4,8 +4,8 @@ use Rattle.sgt_model.specs.declared.entry.Entry.{Entry}
 use Rattle.sgt_model.specs.Questions.{is_commit}
 use Rattle.sgt_audit.proofs.counts.commits_in.Given as goal
 
-abbrev pub invariant-loop-entry : goal.invariant-loop-entry
-invariant-loop-entry l = record {
-  count : l.count ≡ count_by (λ (e : Entry). is_commit e.reply) (take l.entry-index l.history);
-  few : l.count ≤ l.entry-index;
+abbrev pub invariant-loop-place : goal.invariant-loop-place
+invariant-loop-place l = record {
+  count : l.count ≡ count_by (λ (e : Entry). is_commit e.reply) (take l.place l.history.entries);
+  few : l.count ≤ l.place;
 }

@@ -7,36 +7,36 @@ use Rattle.sgt_audit.proofs.live_count.live_counts_stand.Goals as goal
 
 pub live_after-live-requires-clause-enough : goal.live_after-live-requires-clause-enough
 live_after-live-requires-clause-enough c =
-    let h = c.args.history.now in
-    let i = c.loop-entry.entry-index in
-    let n = ends_live c.requires.0 (reverse (take i h)) c.entry-item.result
-    (legal_next c.requires.0 h i c.entry-item.result c.loop-entry-test.true c.entry-item.is c.requires.1) in
+    let h = c.args.history.now.entries in
+    let i = c.loop-place.place in
+    let n = ends_live c.requires.0 (reverse (take i h)) c.at.result
+    (legal_next c.requires.0 h i c.at.result c.at.ensures.next c.requires.1) in
     omega arith
 
 pub returns-then-live-workers : goal.returns-then-live-workers
 returns-then-live-workers c =
-    let h = c.args.history.now in
-    let i = c.loop-entry.entry-index in
-    let e = c.entry-item.result in
+    let h = c.args.history.now.entries in
+    let i = c.loop-place.place in
+    let e = c.at.result in
     let n = live_count c.requires.0 (reverse (take i h)) e
-    (legal_next c.requires.0 h i e c.loop-entry-test.true c.entry-item.is c.requires.1) in
-    let longer = ap (λ past. length (live_ones past)) (one_more h i e c.loop-entry-test.true c.entry-item.is) in
+    (legal_next c.requires.0 h i e c.at.ensures.next c.requires.1) in
+    let longer = ap (λ past. length (live_ones past)) (one_more h i e c.at.ensures.next) in
     ((λ t. absurd (false≢true t)), λ both. let f = both.0 (i + 1) in absurd (omega arith))
 
-pub loop-entry-preserved : goal.loop-entry-preserved
-loop-entry-preserved c =
-    let h = c.args.history.now in
-    let i = c.loop-entry.entry-index in
-    let e = c.entry-item.result in
+pub loop-place-preserved : goal.loop-place-preserved
+loop-place-preserved c =
+    let h = c.args.history.now.entries in
+    let i = c.loop-place.place in
+    let e = c.at.result in
     let n = live_count c.requires.0 (reverse (take i h)) e
-    (legal_next c.requires.0 h i e c.loop-entry-test.true c.entry-item.is c.requires.1) in
-    let longer = ap (λ past. length (live_ones past)) (one_more h i e c.loop-entry-test.true c.entry-item.is) in
+    (legal_next c.requires.0 h i e c.at.ensures.next c.requires.1) in
+    let longer = ap (λ past. length (live_ones past)) (one_more h i e c.at.ensures.next) in
     let now : c.live_after-live.result ≡ length (live_ones (reverse (take (i + 1) h))) = omega arith in
     record {
       live = now;
       few = c.if-live-workers.false;
       before = λ k within. elim (cases_lt k (i + 1)) [
-        | inl less ↦ c.loop-entry.invariant.before k (omega arith)
+        | inl less ↦ c.loop-place.invariant.before k (omega arith)
         | inr last ↦
             let same : i + 1 ≡ k = omega arith in
             subst (λ m. length (live_ones (reverse (take m h))) ≤ c.args.workers) same
@@ -46,6 +46,6 @@ loop-entry-preserved c =
 
 pub returns : goal.returns
 returns c =
-    let i = c.loop-entry.invariant in
-    at_end c.args.history.now c.loop-entry.entry-index c.args.workers c.loop-entry.live
-    (omega (arith, c.loop-entry-test.false)) i.live i.before
+    let i = c.loop-place.invariant in
+    at_end c.args.history.now.entries c.loop-place.place c.args.workers c.loop-place.live
+    (omega (arith, c.loop-place-test.false)) i.live i.before

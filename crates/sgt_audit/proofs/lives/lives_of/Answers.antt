@@ -5,11 +5,11 @@ use Rattle.sgt_audit.proofs.lives.lives_of.Goals as goal
 
 pub loop-number-preserved : goal.loop-number-preserved
 loop-number-preserved c =
-    let h = c.args.history.now in
+    let h = c.args.history.now.entries in
     let i = c.loop-number.number in
-    let e = c.index-history-number.result in
-    let legal = legal_next c.requires.0 h i e c.loop-number-test.true c.index-history-number.is c.requires.1 in
+    let e = c.at.result in
+    let legal = legal_next c.requires.0 h i e c.at.ensures.next c.requires.1 in
     subst (λ past. AreLives past c.add_entry.new.lives.items)
-    (sym (one_more h i e c.loop-number-test.true c.index-history-number.is))
+    (sym (one_more h i e c.at.ensures.next))
     (c.in_ok-add_entry.ensures c.requires.0 (reverse (take i h)) legal.1 legal.0
     (first_length h i (omega arith)) c.loop-number.invariant)

@@ -13,7 +13,7 @@ report_text-requires g c =
 pub returns-clause-report : goal.returns-clause-report
 returns-clause-report g c =
     is-report c.opened_is_bank.ensures c.args.workers c.args.tries (g.S.Source.rest c.args.source.now)
-    c.in_ok-opening.opening c.in_ok-opening.jobs.items c.in_ok-report.report.history.items c.in_ok-report.report.outcomes.items c.in_ok-report.report.database
+    c.in_ok-opening.opening c.in_ok-opening.jobs.items c.in_ok-report.report.history.entries c.in_ok-report.report.outcomes.items c.in_ok-report.report.database
     c.in_ok-text.text.items c.in_ok-opening.ensures.input
-    (subst (λ js. AreRun c.in_ok-opening.opening js c.args.workers c.args.tries c.in_ok-report.report.history.items c.in_ok-report.report.outcomes.items c.in_ok-report.report.database) c.as_slice.ensures.value c.in_ok-report.ensures.report)
+    (subst (λ js. AreRun c.in_ok-opening.opening js c.args.workers c.args.tries c.in_ok-report.report.history.entries c.in_ok-report.report.outcomes.items c.in_ok-report.report.database) c.as_slice.ensures.value c.in_ok-report.ensures.report)
     (search rules)

@@ -10,7 +10,7 @@ use Rattle.sgt_bank.proofs.run.run_behind_opening.Goals as goal
 pub returns-in-Ok-clause-report : goal.returns-in-Ok-clause-report
 returns-in-Ok-clause-report g c =
     let ran = c.in-Ok.ensures.report in
-    let past = reverse c.in-Ok.report.history.items in
+    let past = reverse c.in-Ok.report.history.entries in
     let same = c.in_ok-bank.ensures.setting in
     record {
       legal = subst (λ (s : Setting). Legal s past) same ran.legal;

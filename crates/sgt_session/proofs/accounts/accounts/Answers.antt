@@ -1,26 +1,23 @@
 use Rattle.std.proofs.Common.{◌≡◌, ◌<◌, length, Some, refl, sym, ap, ◌∙◌, subst, rules, arith}
-use Rattle.std.proofs.lemmas.Option.{slice_get-get_or}
 use Rattle.sgt_session.proofs.Merging.{Checked, checks_first, checks_next, checks_last}
 use Rattle.sgt_session.proofs.accounts.accounts.Goals as goal
 
 pub loop-p-init : goal.loop-p-init
-loop-p-init g c = (refl, checks_first c.args.history.now c.args.sessions.now c.requires.0)
+loop-p-init g c = (refl, checks_first c.args.history.now.entries c.args.sessions.now c.requires.0)
 
 pub loop-p-preserved : goal.loop-p-preserved
 loop-p-preserved g c =
-    let history = c.args.history.now in
-    let at = c.loop-p.at in
-    let below : c.loop-p.p < length history = search rules in (
+    let history = c.args.history.now.entries in
+    let at = c.loop-p.at in (
       search rules,
-      checks_next history c.args.sessions.now c.loop-p.p at c.in-Some.i c.index-history-p.result c.loop-p.invariant.1
-          (slice_get-get_or history c.loop-p.p c.index-history-p.result below
-          ∙ ap Some (sym c.index-history-p.is)) c.in-Some.ensures.index
+      checks_next history c.args.sessions.now c.loop-p.p at c.in-Some.i c.at.result c.loop-p.invariant.1
+          c.at.ensures.entry c.in-Some.ensures.index
           (omega (arith, c.requires.0, c.loop-p.invariant.0)) c.in-Some.ensures.receipt,
     )
 
 pub returns : goal.returns
 returns g c =
-    let history = c.args.history.now in
+    let history = c.args.history.now.entries in
     let S = c.args.sessions.now in
     let at = c.loop-p.at in
     let all : c.loop-p.p ≡ length history = search rules in

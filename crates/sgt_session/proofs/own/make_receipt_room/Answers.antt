@@ -7,4 +7,4 @@ pub returns-else-matches-clause-room : goal.returns-else-matches-clause-room
 returns-else-matches-clause-room c =
     let is : c.room_needed.result ≡ room_needed c.args.event.now c.args.own.now.items =
     rw c.as_slice.ensures.value at c.room_needed.ensures in
-    λ r. omega (arith, room_needed-enough c.args.event.now c.args.own.now.items r, is, c.in_ok-reserve.ensures.ok)
+    λ r. omega (arith, room_needed-enough c.args.event.now c.args.own.now.items r, is, c.in_ok-make_room.ensures.room)

@@ -8,8 +8,8 @@ pub loop-preserved : goal.loop-preserved
 loop-preserved g c =
     let waits = c.loop.invariant.2 in
     let filed = c.in_ok-make_one.ensures in
-    let same : c.last.result.now ≡ filed.0 = c.last.ensures _ _ filed.2 in
-    let waited : is_wait c.last.result.now.reply ≡ true = search rules in
+    let same : c.last.result ≡ filed.0 = c.last.ensures _ _ filed.2 in
+    let waited : is_wait c.last.result.reply ≡ true = search rules in
     let wait : is_wait filed.0.reply ≡ true = rw same at waited in (
       search rules,
       search rules,

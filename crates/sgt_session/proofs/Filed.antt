@@ -1,0 +1,57 @@
+-- Receipts as numbers beside entries.
+use Rattle.std.proofs.Common.{◌≡◌, ℕ, zero, suc, ◌+◌, List, [], ◌∷◌, ◌++◌, length, Some, slice_get, reverse, refl, sym, ap, ◌∙◌, arith}
+use Rattle.std.proofs.lemmas.List.{reverse-reverse, reverse-append, length-reverse}
+use Rattle.sgt_model.specs.declared.entry.Entry.{Entry}
+use Rattle.sgt_session.specs.Receipts.{receipt_of, receipts_of}
+
+-- there are as many receipts as numbers
+pub receipts-length : (ns : List ℕ) (es : List Entry) → length ns ≡ length es → length (receipts_of ns es) ≡ length ns
+receipts-length [] es same = refl
+receipts-length (n ∷ ns) [] same = absurd (omega (arith, same))
+receipts-length (n ∷ ns) (e ∷ es) same = let h = receipts-length ns es (omega (arith, same)) in omega (arith, h)
+
+-- the receipt at a place
+pub receipts-at : (ns : List ℕ) (es : List Entry) (place n : ℕ) (e : Entry) → slice_get ns place ≡ Some n
+    → slice_get es place ≡ Some e → slice_get (receipts_of ns es) place ≡ Some (receipt_of n e)
+receipts-at [] es place n e number entry = absurd cc
+receipts-at (m ∷ ns) [] place n e number entry = absurd cc
+receipts-at (m ∷ ns) (d ∷ es) zero n e number entry =
+    let one : m ≡ n = cc in
+    let two : d ≡ e = cc in
+    rw (one, two) refl
+receipts-at (m ∷ ns) (d ∷ es) (suc place) n e number entry = receipts-at ns es place n e number entry
+
+-- one receipt more
+pub receipts-more : (ns : List ℕ) (es : List Entry) (n : ℕ) (e : Entry) → length ns ≡ length es
+    → receipts_of (ns ++ n ∷ []) (es ++ e ∷ []) ≡ receipts_of ns es ++ receipt_of n e ∷ []
+receipts-more [] [] n e same = refl
+receipts-more [] (d ∷ es) n e same = absurd (omega (arith, same))
+receipts-more (m ∷ ns) [] n e same = absurd (omega (arith, same))
+receipts-more (m ∷ ns) (d ∷ es) n e same = ap (λ rs. receipt_of m d ∷ rs) (receipts-more ns es n e (omega (arith, same)))
+
+pub no-items : {X : Type 0} (xs : List X) → length xs ≡ 0 → xs ≡ []
+no-items [] none = refl
+no-items (x ∷ xs) none = absurd (omega (arith, none))
+
+-- no numbers, no receipts
+pub receipts-none : (ns : List ℕ) (es : List Entry) → length ns ≡ length es → receipts_of ns es ≡ [] → ns ≡ []
+receipts-none [] es same none = refl
+receipts-none (n ∷ ns) [] same none = absurd (omega (arith, same))
+receipts-none (n ∷ ns) (e ∷ es) same none = absurd cc
+
+at-the-end : {X : Type 0} (xs : List X) (x : X) → slice_get (xs ++ x ∷ []) (length xs) ≡ Some x
+at-the-end [] x = refl
+at-the-end (y ∷ xs) x = at-the-end xs x
+
+in-order : {X : Type 0} (xs past : List X) (x : X) → reverse xs ≡ x ∷ past → xs ≡ reverse past ++ x ∷ []
+in-order xs past x is = sym (reverse-reverse xs) ∙ ap reverse is ∙ reverse-append (x ∷ []) past
+
+-- the newest entry of a history
+pub newest : (history past : List Entry) (e : Entry) → reverse history ≡ e ∷ past
+    → (length history ≡ length past + 1) × (slice_get history (length past) ≡ Some e)
+newest history past e is =
+    let long = length-reverse history in
+    let counted = ap length is in (
+      omega (arith, long, counted),
+      rw (in-order history past e is) (ap (slice_get (reverse past ++ e ∷ [])) (sym (length-reverse past)) ∙ at-the-end (reverse past) e),
+    )

@@ -1,0 +1,30 @@
+use Rattle.std.proofs.Common.{rules, ◌≡◌, Some, slice_get, length, sym, ap, ◌∙◌, arith}
+use Rattle.std.proofs.lemmas.Option.{slice_get-get_or}
+use Rattle.sgt_session.specs.Receipts.{receipt_of}
+use Rattle.sgt_session.proofs.Filed.{receipts-length, receipts-at}
+use Rattle.sgt_session.proofs.receipts.Receipts.is_at.Goals as goal
+
+pub index-requires : goal.index-requires
+index-requires c =
+    let long = receipts-length c.self.inside.numbers.items c.self.inside.calls.entries c.self.invariant in
+    let is = ap (λ r. length r.receipts) c.self.view_is in
+    omega (arith, long, is, c.len.ensures, c.if-place-len.true, c.self.inside.numbers.ok.0)
+
+pub at-call-requires : goal.at-call-requires
+at-call-requires c =
+    let long = receipts-length c.self.inside.numbers.items c.self.inside.calls.entries c.self.invariant in
+    let is = ap (λ r. length r.receipts) c.self.view_is in
+    omega (arith, long, is, c.len.ensures, c.if-place-len.true, c.self.invariant)
+
+pub returns-then-is_same-clause-receipt : goal.returns-then-is_same-clause-receipt
+returns-then-is_same-clause-receipt c t =
+    let long = receipts-length c.self.inside.numbers.items c.self.inside.calls.entries c.self.invariant in
+    let is = ap (λ r. length r.receipts) c.self.view_is in
+    let number : slice_get c.self.inside.numbers.items c.args.place ≡ Some c.index.result.now =
+    slice_get-get_or c.self.inside.numbers.items c.args.place c.index.result.now
+    (omega (arith, long, is, c.len.ensures, c.if-place-len.true)) ∙ ap Some (sym c.index.ensures) in
+    let same : receipt_of c.index.result.now c.at-call.result ≡ receipt_of c.args.number c.args.entry.now = search rules in
+    sym (ap (λ r. slice_get r.receipts c.args.place) c.self.view_is)
+    ∙ receipts-at c.self.inside.numbers.items c.self.inside.calls.entries c.args.place c.index.result.now c.at-call.result number
+    c.at-call.ensures.entry
+    ∙ ap Some same

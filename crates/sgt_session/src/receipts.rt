@@ -1,0 +1,164 @@
+//! The receipts of a session.
+ghost use Rattle.std.specs.Prelude.{◌≡◌, ◌+◌, ◌≤◌, ◌<◌, ◌^◌, ◌↔◌, [], ◌∷◌, ◌++◌, List, length, reverse, IsTrue, Some, OnOk, slice_get};
+ghost use Rattle.std.specs.Result.{IsOk};
+ghost use Rattle.sgt_model.specs.declared.entry.Entry.{Entry as E};
+ghost use Rattle.sgt_session.specs.declared.receipt.Receipt.{Receipt as Told};
+ghost use Rattle.sgt_session.specs.Receipts.{receipt_of};
+
+use crate::receipt::Receipt;
+use sgt_entries::{History, touch_ahead};
+use sgt_model::{Entry, NoMemory};
+use std::alloc::Global;
+use std::marker::Model;
+
+/// How many receipts' room is touched at a time: some 5 MB.
+const AT_ONCE: usize = 65_536;
+
+/// The receipts of one session, in the order of its calls. A receipt takes 80 bytes, and what its lists hold: 4 for each
+/// transaction, 8 for each value.
+///
+/// There is room for some more receipts, whatever they are: one that is filed uses it up, and takes no memory.
+#[derive(Drop)]
+pub struct Receipts {
+    numbers: Vec<u64>,
+    // The entries that have these numbers.
+    calls: History,
+    // How far the room was touched.
+    touched: usize,
+}
+
+impl Model for Receipts {
+    ghost use Rattle.std.specs.Prelude.{◌≡◌, ◌-◌, length, min};
+    ghost use Rattle.std.specs.Vec.{vec_len, vec_capacity};
+    ghost use Rattle.sgt_session.specs.Receipts.{ReceiptsView, receipts_of};
+
+    ghost Value = { ReceiptsView };
+
+    ghost view = { λ r. record {
+      receipts = receipts_of r.numbers.items r.calls.entries;
+      room = min r.calls.room (vec_capacity r.numbers - vec_len r.numbers);
+    } };
+
+    ghost invariant = { λ r. length r.numbers.items ≡ length r.calls.entries };
+}
+
+impl Receipts {
+    /// No receipts, and no room. This takes no memory.
+    pub(crate) fn new(alloc: Global) -> Self
+        ensures { result ≡ record { receipts = []; room = 0 } }
+    {
+        Receipts {
+            numbers: Vec::new(alloc),
+            calls: History::new(alloc),
+            touched: 0,
+        }
+    }
+
+    /// How many receipts there are.
+    pub fn len(&self) -> usize
+        ensures { result ≡ length self.now.receipts }
+    {
+        self.numbers.len()
+    }
+
+    /// Whether there are no receipts.
+    pub fn is_empty(&self) -> bool
+        ensures { IsTrue result ↔ (self.now.receipts ≡ []) }
+    {
+        self.numbers.is_empty()
+    }
+
+    /// The receipt at a place.
+    pub fn at(&self, place: usize) -> Receipt
+        requires { place < length self.now.receipts }
+        ensures { slice_get self.now.receipts place ≡ Some result }
+    {
+        let entry = self.calls.at(place);
+        Receipt {
+            number: self.numbers[place],
+            event: entry.event,
+            reply: entry.reply,
+        }
+    }
+
+    /// The receipt at a place, if there is one.
+    pub fn get(&self, place: usize) -> Option<Receipt>
+        ensures { result ≡ slice_get self.now.receipts place }
+    {
+        if place < self.len() {
+            Some(self.at(place))
+        } else {
+            None
+        }
+    }
+
+    /// Whether at a place there is the receipt of this entry, whose number is this.
+    pub(crate) fn is_at(&self, place: usize, number: u64, entry: &Entry) -> bool
+        ensures receipt { IsTrue result → slice_get self.now.receipts place ≡ Some (receipt_of number entry.now) }
+        ensures fits { IsTrue result → place + 1 < 2 ^ 64 }
+    {
+        if place < self.len() && self.numbers[place] == number {
+            let call = self.calls.at(place);
+            call.event.is_same(&entry.event) && call.reply.is_same(&entry.reply)
+        } else {
+            false
+        }
+    }
+
+    /// The newest receipt, of some.
+    pub fn last(&self) -> Receipt
+        requires { 0 < length self.now.receipts }
+        ensures { (rs : List Told) (r : Told) → self.now.receipts ≡ rs ++ r ∷ [] → result ≡ r }
+    {
+        self.at(self.len() - 1)
+    }
+
+    /// Makes room for so many more receipts, whatever they are. It is not lessened where there was more. Receipts stay.
+    ///
+    /// `NoMemory` where a growth was refused; the room stays then.
+    pub(crate) fn make_room(&mut self, count: usize) -> Result<(), NoMemory>
+        ensures receipts { self.new.receipts ≡ self.old.receipts }
+        ensures room { OnOk result (count ≤ self.new.room) }
+        ensures no_less { self.old.room ≤ self.new.room }
+        ensures enough { count ≤ self.old.room → IsOk result }
+    {
+        self.numbers.reserve(count)?;
+        self.calls.reserve(count)
+    }
+
+    /// Takes memory for so many more receipts, but for what their lists will hold. Receipts and room stay.
+    ///
+    /// `NoMemory` where a growth was refused.
+    pub(crate) fn reserve(&mut self, count: usize) -> Result<(), NoMemory>
+        ensures receipts { self.new.receipts ≡ self.old.receipts }
+        ensures no_less { self.old.room ≤ self.new.room }
+    {
+        self.numbers.reserve(count)?;
+        self.calls.reserve_entries(count)
+    }
+
+    /// Touches the memory of the next receipts, where they have come to the end of what was touched: receipts are filed under the
+    /// engine's lock, so without this all threads would wait for that memory; here each gets its own, beside the others.
+    pub(crate) fn touch_room(&mut self)
+        ensures { self.new ≡ self.old }
+    {
+        if self.numbers.len() >= self.touched {
+            let numbers = touch_ahead(&mut self.numbers, AT_ONCE, 0);
+            self.touched = self.calls.touch(AT_ONCE).min(numbers);
+        }
+    }
+
+    /// Files the receipt of a history's newest entry, in the room that there is.
+    pub(crate) fn file_newest(&mut self, history: &History)
+        requires room { 0 < self.old.room }
+        requires some { 0 < length history.now.entries }
+        ensures filed { (e : E) (past : List E) → reverse history.now.entries ≡ e ∷ past
+            → self.new.receipts ≡ self.old.receipts ++ receipt_of (length past) e ∷ [] }
+        ensures room { self.new.room + 1 ≡ self.old.room }
+    {
+        let place = history.len() - 1;
+        let entry = history.at(place);
+        self.numbers.push_reserved(place as u64);
+        self.calls.push(&entry.event, &entry.reply);
+    }
+}
