@@ -6,3 +6,4 @@ pub mod ReadProcedures
 pub mod Numerals
 pub mod LineTokens
 pub mod PlainLines
+pub mod PlainCalls

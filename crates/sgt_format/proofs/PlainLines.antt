@@ -67,7 +67,7 @@ pub number_last : (text : List ℕ) (n digits : ℕ) → take digits text ≡ de
 number_last text n digits are all last =
     sym (take_all (digits + 1) text (omega arith)) ∙ take_more text digits 0 (omega arith) ∙ rw (are, last) refl
 
-whole_decimal : (n : ℕ) → n < 1_000_000_000 → whole_number (decimal n) ≡ Some (pos n)
+pub whole_decimal : (n : ℕ) → n < 1_000_000_000 → whole_number (decimal n) ≡ Some (pos n)
 whole_decimal n small =
     let low : n < 2 ^ 63 = omega arith in
     ap (option_and_then as_i64) (number_of-decimal n (omega arith)) ∙ rw (lt-ltb _ _ low) refl
@@ -106,11 +106,11 @@ ascii_more x xs low rest zero = low
 ascii_more x xs low rest (suc i) = rest i
 
 -- whether each byte is of ASCII
-all_ascii : List ℕ → Bool
+unfoldable pub all_ascii : List ℕ → Bool
 all_ascii [] = true
 all_ascii (x ∷ xs) = cond (nat_lt x 128) (all_ascii xs) false
 
-ascii_from : (xs : List ℕ) → all_ascii xs ≡ true → IsAscii xs
+pub ascii_from : (xs : List ℕ) → all_ascii xs ≡ true → IsAscii xs
 unfolding all_ascii
 ascii_from [] h = λ i. omega arith
 ascii_from (x ∷ xs) h = by_test (nat_lt x 128) refl h (ascii_from xs)

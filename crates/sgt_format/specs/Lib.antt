@@ -9,3 +9,4 @@ pub mod JobLines
 pub mod Procedures
 pub mod Openings
 pub mod LineTokens
+pub mod PlainLines

@@ -10,7 +10,7 @@ ghost use Rattle.sgt_format.specs.LineTokens.{whole_number, whole_numbers, event
 use crate::call::JobCall;
 use crate::event_line::{of_procedure, of_transaction};
 use crate::job_line::job_call;
-use crate::plain_line::plain_event;
+use crate::plain_line::{plain_event, plain_job};
 use fast_float::Numeral;
 use json::{Reader, Scratch, Token};
 use sgt_model::{Args, Event, NoMemory, Tid};
@@ -36,6 +36,9 @@ pub(crate) fn quick_event(line: &[u8], scratch: &mut Scratch) -> Result<Option<E
 pub(crate) fn quick_job(line: &[u8], scratch: &mut Scratch) -> Result<Option<JobCall>, NoMemory>
     ensures { IfOk result (λ found. IfSome found (λ call. job_of line.now ≡ Ok call)) }
 {
+    if let Some(call) = plain_job(line) {
+        return Ok(Some(call));
+    }
     let Ok(text) = str::from_utf8(line) else {
         return Ok(None);
     };

@@ -1,0 +1,8 @@
+use Rattle.std.proofs.Common.{rules}
+use Rattle.sgt_format.proofs.PlainCalls.{call_of}
+use Rattle.sgt_format.proofs.plain_line.last_call.Goals as goal
+
+pub returns : goal.returns
+returns c =
+    call_of _ _ _ c.in_ok-number.number _ _ c.in_ok-number.ensures.text c.in_ok-behind.ensures c.in_ok-args.ensures.text
+    (search rules) (search rules) c.in_ok-args.ensures.small c.in_ok-args.ensures.few
