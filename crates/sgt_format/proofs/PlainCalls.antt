@@ -45,7 +45,7 @@ longer_text [] n = append-nil (signed_decimal n)
 longer_text (m ∷ args) n =
     ap (λ more. signed_decimal m ++ more)
     (flat_map-append (λ n. 44 ∷ signed_decimal n) args (n ∷ [])
-        ∙ ap (λ last. behind_commas args ++ 44 ∷ last) (append-nil (signed_decimal n)))
+    ∙ ap (λ last. behind_commas args ++ 44 ∷ last) (append-nil (signed_decimal n)))
     ∙ sym (append_assoc (signed_decimal m) (behind_commas args) (44 ∷ signed_decimal n))
 
 pub one_argument_more : (text rest more : List ℕ) (args longer : List ℤ) (n : ℤ) → text ≡ arguments_text args ++ rest
@@ -114,7 +114,7 @@ behind_ascii [] small = ascii_from (codes "]]") refl
 behind_ascii (n ∷ args) small =
     subst IsAscii (sym (append_assoc (44 ∷ signed_decimal n) (behind_commas args) (codes "]]")))
     (IsAscii-append (44 ∷ []) (signed_decimal n ++ (behind_commas args ++ codes "]]")) (ascii_from (44 ∷ []) refl)
-        (IsAscii-append (signed_decimal n) _ (IsAscii-signed n (omega (arith, small.0))) (behind_ascii args small.1)))
+    (IsAscii-append (signed_decimal n) _ (IsAscii-signed n (omega (arith, small.0))) (behind_ascii args small.1)))
 
 arguments_ascii : (args : List ℤ) → AreSmall args → IsAscii (arguments_text args ++ codes "]]")
 unfolding all_ascii
@@ -130,7 +130,7 @@ call_utf8 words line rest call plain begins asks =
     begins ∙ ap (λ rest. words ++ rest) asks.is in
     let low : call.procedure < 2 ^ 64 = omega (arith, asks.procedure) in
     rw all (IsUtf8-from_ascii _ (IsAscii-append words _ plain (IsAscii-append (decimal call.procedure) _ (IsAscii-decimal _ low)
-        (IsAscii-append (codes ",[") _ (ascii_from (codes ",[") refl) (arguments_ascii call.args asks.small)))))
+    (IsAscii-append (codes ",[") _ (ascii_from (codes ",[") refl) (arguments_ascii call.args asks.small)))))
 
 -- the tokens of a line that begins with these words
 call_tokens_are : (w words line rest : List ℕ) (call : JobCall) → line ≡ words ++ rest → IsCall rest call
@@ -138,7 +138,7 @@ call_tokens_are : (w words line rest : List ℕ) (call : JobCall) → line ≡ w
     → tokens line ≡ spelled w call.procedure call.args
 call_tokens_are w words line rest call begins asks same =
     ap tokens (begins ∙ ap (λ rest. words ++ rest) (asks.is
-        ∙ ap (λ more. decimal call.procedure ++ (codes ",[" ++ more)) (sym (printed call.args))) ∙ same)
+    ∙ ap (λ more. decimal call.procedure ++ (codes ",[" ++ more)) (sym (printed call.args))) ∙ same)
     ∙ tokens_are w call.procedure call.args asks.procedure asks.small
 
 number_is : (p : ℕ) → p < 65_536 → natural 16 (pos p) ≡ Some p
