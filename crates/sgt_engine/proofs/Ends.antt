@@ -83,10 +83,10 @@ module _ (laws : StateLaws) (s : Setting) (past : List Entry) (legal : Legal s p
   }
 
   -- an event that has got its room leaves room for one end of each that is live then
-  pub room_left : (event : Event) (after : State) (r : Reply) (len cap : ℕ) → CallEffect s.rules event c r after
-      → len + length c.live ≤ cap → ((EndsOne s.rules.limits.asks event c → ⊥) → len + (length c.live + 2) ≤ cap) → len + 1 + length after.live ≤ cap
-  room_left event after r len cap done kept more = both (is_ending r) refl where
-    both : (b : Bool) → is_ending r ≡ b → len + 1 + length after.live ≤ cap
+  pub room_left : (event : Event) (after : State) (r : Reply) (room : ℕ) → CallEffect s.rules event c r after → length c.live ≤ room
+      → ((EndsOne s.rules.limits.asks event c → ⊥) → length c.live + 2 ≤ room) → length after.live + 1 ≤ room
+  room_left event after r room done kept more = both (is_ending r) refl where
+    both : (b : Bool) → is_ending r ≡ b → length after.live + 1 ≤ room
     both true e = omega (arith, kept, (laws.counts s.rules event c r after unended_listed done).fewer e)
     both false e = omega (
       arith,

@@ -24,10 +24,11 @@ use crate::past::Past;
 use crate::room::{file, make_room};
 pub use cut::CutError;
 use sgt_access::Accesses;
+use sgt_entries::History;
 use sgt_graph::Graph;
 use sgt_model::{
-    Database, Entry, Event, Key, Limits, MakeError, NoMemory, Reply, calls_simulate,
-    headline_holds, nexts_agree, replay_is_serial, states_are_sound, verdicts_agree,
+    Database, Event, Key, Limits, MakeError, NoMemory, Reply, calls_simulate, headline_holds,
+    nexts_agree, replay_is_serial, states_are_sound, verdicts_agree,
 };
 use sgt_proc::Checked;
 use sgt_records::Records;
@@ -51,15 +52,14 @@ use std::marker::Model;
 pub struct Engine<R: Records, A: Accesses, G: Graph> {
     opening: Database,
     sched: Sched<R, A, G>,
-    history: Vec<Entry>,
+    history: History,
     // Where the scheduler writes a reply that holds lists, before it is filed.
     out: Reply,
 }
 
 impl<R: Records, A: Accesses, G: Graph> Model for Engine<R, A, G> {
     ghost use Rattle.std.specs.Coded.{codes};
-    ghost use Rattle.std.specs.Prelude.{◌+◌, ◌≤◌, length, reverse};
-    ghost use Rattle.std.specs.Vec.{vec_len, vec_capacity};
+    ghost use Rattle.std.specs.Prelude.{◌≤◌, length, reverse};
     ghost use Rattle.sgt_model.specs.Codes.{coded_program};
     ghost use Rattle.sgt_model.specs.Databases.{contents_of};
     ghost use Rattle.sgt_model.specs.Legality.{Legal};
@@ -77,16 +77,16 @@ impl<R: Records, A: Accesses, G: Graph> Model for Engine<R, A, G> {
       opening = e.opening;
       procedures = (parts e.sched).procedures;
       limits = (parts e.sched).limits;
-      past = reverse e.history.items;
+      past = reverse e.history.entries;
     } };
 
     ghost invariant = { λ e.
         Legal (setting (contents_of e.opening) (parts e.sched).procedures (parts e.sched).limits)
-        (reverse e.history.items)
+        (reverse e.history.entries)
         × IsStateAfter (setting (contents_of e.opening) (parts e.sched).procedures (parts e.sched).limits)
-        (reverse e.history.items)
+        (reverse e.history.entries)
         (state e.sched)
-        × (vec_len e.history + length (numbers e.sched.live) ≤ vec_capacity e.history) };
+        × (length (numbers e.sched.live) ≤ e.history.room) };
 }
 
 impl<R: Records, A: Accesses, G: Graph> Engine<R, A, G> {
@@ -106,20 +106,19 @@ impl<R: Records, A: Accesses, G: Graph> Engine<R, A, G> {
         Ok(Engine {
             opening,
             sched,
-            history: Vec::new(alloc),
+            history: History::new(alloc),
             out: Reply::Ended,
         })
     }
 
-    /// Takes room for so many more entries, so that the history has no need to grow until then: a growth may move all of it.
-    /// Nothing else changes.
+    /// Takes memory for so many more entries, but for what their lists will hold, so that those that are there need not be moved
+    /// until then. Nothing else changes.
     ///
     /// `NoMemory` where the growth was refused.
     pub fn reserve(&mut self, entries: usize) -> Result<(), NoMemory>
         ensures { self.new ≡ self.old }
     {
-        self.history.reserve(entries)?;
-        Ok(())
+        self.history.reserve_entries(entries)
     }
 
     /// Takes an event, answers it, and adds both to the history as one entry. A transaction is named by the number that its
@@ -148,8 +147,8 @@ impl<R: Records, A: Accesses, G: Graph> Engine<R, A, G> {
         ensures quits { (t : ℕ) → event ≡ Quit t → live self.old.past t ≡ true → IsOk result }
     {
         self.answer(event)?;
-        match self.history().last() {
-            Some(entry) => Ok(entry.reply.copied()),
+        match self.history.last_reply() {
+            Some(reply) => Ok(reply),
             None => unreachable!(),
         }
     }
@@ -179,7 +178,7 @@ impl<R: Records, A: Accesses, G: Graph> Engine<R, A, G> {
 
         make_room(&mut self.history, &self.sched, &event)?;
         let brief = self.sched.answer(&event, &mut self.out)?;
-        file(&mut self.history, event, &brief, &self.out);
+        file(&mut self.history, &event, &brief, &self.out);
         Ok(())
     }
 
@@ -195,8 +194,8 @@ impl<R: Records, A: Accesses, G: Graph> Engine<R, A, G> {
     }
 
     /// The history, oldest entry first. Nothing is ever taken out of it.
-    pub fn history(&self) -> &[Entry]
-        ensures entries { reverse result.now ≡ self.now.past }
+    pub fn history(&self) -> &History
+        ensures entries { reverse result.now.entries ≡ self.now.past }
         ensures legal { Legal (setting_of self.now) self.now.past }
         ensures replay { IsSerializable (setting_of self.now) self.now.past }
         ensures no_cycle { Acyclic (Pair self.now.past) }
@@ -204,7 +203,7 @@ impl<R: Records, A: Accesses, G: Graph> Engine<R, A, G> {
         ensures order { CommitsInOrder self.now.past }
     {
         headline_holds();
-        self.history.as_slice()
+        &self.history
     }
 
     /// The committed value of the key, or none: the last one that a committed transaction stored, else the opening's. It is also
@@ -234,7 +233,7 @@ impl<R: Records, A: Accesses, G: Graph> Engine<R, A, G> {
     /// The opening and the history, of an engine that takes no more events. This takes no memory.
     pub fn into_past(self) -> Past
         ensures opening { result.opening ≡ self.opening }
-        ensures entries { reverse result.history.items ≡ self.past }
+        ensures entries { reverse result.history.entries ≡ self.past }
         ensures legal { Legal (setting_of self) self.past }
         ensures replay { IsSerializable (setting_of self) self.past }
         ensures no_cycle { Acyclic (Pair self.past) }

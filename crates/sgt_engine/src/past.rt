@@ -1,9 +1,9 @@
-use sgt_model::{Database, Entry};
+use sgt_entries::History;
+use sgt_model::Database;
 
 /// What is left of an engine: the database that it began with, and all that it was asked and answered since.
 #[derive(Drop)]
 pub struct Past {
     pub opening: Database,
-    /// Oldest entry first.
-    pub history: Vec<Entry>,
+    pub history: History,
 }

@@ -1,13 +1,13 @@
 ghost use Rattle.std.specs.Prelude.{◌≡◌, ◌+◌, ◌<◌, ◌≤◌, [], ◌∷◌, ◌++◌, length, OnOk};
 ghost use Rattle.std.specs.Result.{IsOk};
-ghost use Rattle.std.specs.Vec.{vec_len, vec_capacity};
 ghost use Rattle.sgt_sched.specs.Briefs.{in_full};
 ghost use Rattle.sgt_sched.specs.Endings.{EndsOne};
 ghost use Rattle.sgt_sched.specs.Scheduler.{state, asks_of};
 
 use sgt_access::Accesses;
+use sgt_entries::History;
 use sgt_graph::Graph;
-use sgt_model::{Entry, Event, NoMemory, Reply};
+use sgt_model::{Event, NoMemory, Reply};
 use sgt_records::Records;
 use sgt_sched::{Brief, Sched};
 
@@ -17,72 +17,36 @@ use sgt_sched::{Brief, Sched};
 ///
 /// `NoMemory` where a growth was refused; then the room is as it was.
 pub fn make_room<R: Records, A: Accesses, G: Graph>(
-    history: &mut Vec<Entry>,
+    history: &mut History,
     sched: &Sched<R, A, G>,
     event: &Event,
 ) -> Result<(), NoMemory>
-    requires { vec_len history.old + length (state sched.now).live ≤ vec_capacity history.old }
-    ensures items { history.new.items ≡ history.old.items }
-    ensures ends { vec_len history.new + length (state sched.now).live ≤ vec_capacity history.new }
+    requires { length (state sched.now).live ≤ history.old.room }
+    ensures entries { history.new.entries ≡ history.old.entries }
+    ensures ends { length (state sched.now).live ≤ history.new.room }
     ensures room { OnOk result ((EndsOne (asks_of sched.now) event.now (state sched.now) → ⊥)
-        → vec_len history.new + (length (state sched.now).live + 2) ≤ vec_capacity history.new) }
-    ensures no_growth { EndsOne (asks_of sched.now) event.now (state sched.now) → vec_capacity history.new ≡ vec_capacity history.old }
+        → length (state sched.now).live + 2 ≤ history.new.room) }
+    ensures no_growth { EndsOne (asks_of sched.now) event.now (state sched.now) → history.new ≡ history.old }
     ensures no_memory { EndsOne (asks_of sched.now) event.now (state sched.now) → IsOk result }
 {
     let needed = sched.live_count() + 2;
     // Whether it ends one is worked out only where there is less room than others need.
-    if history.capacity() - history.len() < needed && !sched.ends(event) {
+    if history.room() < needed && !sched.ends(event) {
         history.reserve(needed)?;
     }
     Ok(())
 }
 
-/// Adds an entry, with the reply in full. There is room for it.
-pub fn file(history: &mut Vec<Entry>, event: Event, brief: &Brief, out: &Reply)
-    requires { vec_len history.old < vec_capacity history.old }
-    ensures items { history.new.items ≡ history.old.items ++ record { event = event; reply = in_full brief.now out.now } ∷ [] }
-    ensures len { vec_len history.new ≡ vec_len history.old + 1 }
-    ensures capacity { vec_capacity history.new ≡ vec_capacity history.old }
+/// Adds an entry, for which there is room. What is placed of its reply stands in `out`. This takes no memory.
+pub fn file(history: &mut History, event: &Event, brief: &Brief, out: &Reply)
+    requires { 0 < history.old.room }
+    ensures entries { history.new.entries
+        ≡ history.old.entries ++ record { event = event.now; reply = in_full brief.now out.now } ∷ [] }
+    ensures room { history.new.room + 1 ≡ history.old.room }
+    ensures no_growth { history.new.capacities ≡ history.old.capacities }
 {
     match brief {
-        Brief::Placed => file_placed(history, event, out),
-        _ => history.push_reserved(Entry {
-            event,
-            reply: brief.short(),
-        }),
+        Brief::Placed => history.push(event, out),
+        _ => history.push(event, &brief.short()),
     }
-}
-
-// Adds an entry with the reply that stands in `out`. Most of these are commits.
-#[inline(never)]
-fn file_placed(history: &mut Vec<Entry>, event: Event, out: &Reply)
-    requires { vec_len history.old < vec_capacity history.old }
-    ensures items { history.new.items ≡ history.old.items ++ record { event = event; reply = out.now } ∷ [] }
-    ensures len { vec_len history.new ≡ vec_len history.old + 1 }
-    ensures capacity { vec_capacity history.new ≡ vec_capacity history.old }
-{
-    match out {
-        Reply::Committed(answers) => {
-            let answers = answers.copied();
-            history.push_reserved(Entry {
-                event,
-                reply: Reply::Committed(answers),
-            });
-        }
-        _ => file_copy(history, event, out),
-    }
-}
-
-// Adds an entry with a copy of the reply.
-#[inline(never)]
-fn file_copy(history: &mut Vec<Entry>, event: Event, reply: &Reply)
-    requires { vec_len history.old < vec_capacity history.old }
-    ensures items { history.new.items ≡ history.old.items ++ record { event = event; reply = reply.now } ∷ [] }
-    ensures len { vec_len history.new ≡ vec_len history.old + 1 }
-    ensures capacity { vec_capacity history.new ≡ vec_capacity history.old }
-{
-    history.push_reserved(Entry {
-        event,
-        reply: reply.copied(),
-    });
 }

@@ -20,7 +20,7 @@ use Rattle.sgt_stream.specs.declared.fault.Fault.{Fault}
 use Rattle.sgt_stream.specs.declared.fault.Fault.TheVariants as fault
 use Rattle.sgt_stream.specs.Lines.{Cut, Ending, cut, has_break}
 use Rattle.sgt_stream.specs.Intake.{Intake, before_input, bytes_left, cut_left, taken, Gives}
-use Rattle.sgt_stream.specs.Ends.{End, IsExact, IsOfInput}
+use Rattle.sgt_stream.specs.Ends.{End, IsOfInput}
 use Rattle.sgt_stream.specs.Spelled.{spelled, end_of}
 use Rattle.sgt_script.specs.Parts.{Answer, LegalAnswer, LegalRun, Part, answer_text, left_by, lines_of, part_behind, part_of, replies}
 use Rattle.sgt_script.specs.Scripts.{RunOutput, ScriptOf, script_line_at, Closing}

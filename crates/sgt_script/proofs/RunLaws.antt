@@ -7,7 +7,6 @@ use Rattle.sgt_model.specs.declared.limits.Limits.{Limits}
 use Rattle.sgt_model.specs.declared.reply.Reply.{Reply}
 use Rattle.sgt_model.specs.declared.reply.Reply.TheVariants as reply
 use Rattle.sgt_model.specs.Contents.{Key, Contents}
-use Rattle.sgt_model.specs.Databases.{contents_of}
 use Rattle.sgt_model.specs.Settings.{Setting, Rules, rules_from, setting}
 use Rattle.sgt_model.specs.StoredValues.{HoldValues, CommittedAreValues}
 use Rattle.sgt_model.specs.Syntax.{Program}
@@ -20,7 +19,7 @@ use Rattle.sgt_program.specs.Openings.{OpenedHoldValues}
 use Rattle.sgt_format.specs.ReplyText.{text}
 use Rattle.sgt_stream.specs.Lines.{Ending, cut}
 use Rattle.sgt_stream.specs.Ends.{End}
-use Rattle.sgt_script.specs.Parts.{Answer, Replied, WasCut, StillLive, LegalRun, Part, answer_text, cut_off, left_by, part_of, replies}
+use Rattle.sgt_script.specs.Parts.{Answer, Replied, WasCut, StillLive, LegalRun, answer_text, cut_off, left_by, part_of, replies}
 use Rattle.sgt_script.specs.Scripts.{Execution, Closing, RunOutput, Script, ScriptOf}
 use Rattle.sgt_script.specs.RunLaws.{InEachPart, IsSerialText, PartLaws, RunLaws, carried, chained, line_telling, opened_on, replies_telling, results_left}
 use Rattle.sgt_script.proofs.Parts.{legal-part}

@@ -1,5 +1,5 @@
 -- How far the lines of a script are answered.
-use Rattle.std.specs.Prelude.{◌≡◌, ◌≢◌, ℕ, ⊤, false, List, [], ◌∷◌, ◌++◌, Option, None, Some, Ok, Err}
+use Rattle.std.specs.Prelude.{◌≡◌, ℕ, ⊤, false, List, [], ◌∷◌, ◌++◌, Option, None, Some, Ok}
 use Rattle.std.specs.Io.KnownBytes.{Appends, Consumes, Keeps}
 use Rattle.sgt_model.specs.Settings.{Setting}
 use Rattle.sgt_format.specs.declared.script_line.ScriptLine.{ScriptLine}
@@ -7,7 +7,7 @@ use Rattle.sgt_stream.specs.Lines.{Cut, AtEnd, whole_lines}
 use Rattle.sgt_stream.specs.Intake.{Intake, bytes_left}
 use Rattle.sgt_stream.specs.Ends.{End}
 use Rattle.sgt_stream.specs.Spelled.{spelled, end_of}
-use Rattle.sgt_script.specs.Parts.{Answer, LegalAnswer, LegalRun, Part, answer_text, asked, lines_of, part_behind, part_of, replies}
+use Rattle.sgt_script.specs.Parts.{Answer, LegalAnswer, LegalRun, Part, answer_text, asked, lines_of, part_behind, replies}
 use Rattle.sgt_script.specs.Scripts.{script_line_at}
 
 -- known lines from number n on begin with those that ask for this; behind them, from number m on, are these

@@ -3,7 +3,7 @@ use Rattle.std.specs.Prelude.{◌≡◌, ℕ, ⊤, List, [], ◌∷◌, ◌++◌
 use Rattle.sgt_model.specs.declared.entry.Entry.{Entry}
 use Rattle.sgt_model.specs.Contents.{Contents}
 use Rattle.sgt_model.specs.Settings.{Setting}
-use Rattle.sgt_model.specs.Legality.{Legal, LegalReply}
+use Rattle.sgt_model.specs.Legality.{LegalReply}
 use Rattle.sgt_model.specs.Values.{settled}
 use Rattle.sgt_engine.specs.Cuts.{NobodyLive, setting_behind}
 use Rattle.sgt_engine.specs.EngineView.{EngineView, setting_of}

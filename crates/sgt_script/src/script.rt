@@ -75,8 +75,8 @@ fn answer_event(engine: &mut SgtEngine, event: Event, replies: &mut Vec<u8>) -> 
     ensures kept { OnErr result (replies.new.items ≡ replies.old.items) }
 {
     engine.answer(event)?;
-    match engine.history().last() {
-        Some(entry) => append_reply(replies, &entry.reply),
+    match engine.history().last_reply() {
+        Some(reply) => append_reply(replies, &reply),
         None => unreachable!(),
     }
 }

@@ -13,6 +13,7 @@ ghost use Rattle.sgt_engine.specs.EngineView.{setting_of};
 use crate::engine::Engine;
 use crate::past::Past;
 use sgt_access::Accesses;
+use sgt_entries::History;
 use sgt_graph::Graph;
 use sgt_model::{headline_holds, new_is_empty};
 use sgt_records::Records;
@@ -52,16 +53,16 @@ impl<R: Records, A: Accesses, G: Graph> Engine<R, A, G> {
     /// as it was.
     pub fn cut(self, alloc: Global) -> Result<(Past, Self), CutError<R, A, G>>
         ensures past { IfOk result (λ c. c.0.opening ≡ self.opening) }
-        ensures entries { IfOk result (λ c. reverse c.0.history.items ≡ self.past) }
+        ensures entries { IfOk result (λ c. reverse c.0.history.entries ≡ self.past) }
         ensures goes_on { IfOk result (λ c. GoesOn self c.1) }
         ensures replayed { IfOk result (λ c. (k : K) →
             contents_of c.1.opening k ≡ (folded (setting_of self) self.past).last k) }
         ensures by_key { IfOk result (λ c. IsByKey c.1.opening) }
-        ensures legal { IfOk result (λ c. Legal (setting_of self) (reverse c.0.history.items)) }
-        ensures replay { IfOk result (λ c. IsSerializable (setting_of self) (reverse c.0.history.items)) }
-        ensures no_cycle { IfOk result (λ c. Acyclic (Pair (reverse c.0.history.items))) }
-        ensures causes { IfOk result (λ c. AbortsHaveCause (setting_of self) (reverse c.0.history.items)) }
-        ensures order { IfOk result (λ c. CommitsInOrder (reverse c.0.history.items)) }
+        ensures legal { IfOk result (λ c. Legal (setting_of self) (reverse c.0.history.entries)) }
+        ensures replay { IfOk result (λ c. IsSerializable (setting_of self) (reverse c.0.history.entries)) }
+        ensures no_cycle { IfOk result (λ c. Acyclic (Pair (reverse c.0.history.entries))) }
+        ensures causes { IfOk result (λ c. AbortsHaveCause (setting_of self) (reverse c.0.history.entries)) }
+        ensures order { IfOk result (λ c. CommitsInOrder (reverse c.0.history.entries)) }
         ensures still_live { IsStillLive result ↔ (¬ NobodyLive self.past) }
         ensures unchanged { IfErr result (λ e. handed_back e ≡ self) }
     {
@@ -84,7 +85,7 @@ impl<R: Records, A: Accesses, G: Graph> Engine<R, A, G> {
         let engine = Engine {
             opening: database,
             sched,
-            history: Vec::new(alloc),
+            history: History::new(alloc),
             out,
         };
         Ok((Past { opening, history }, engine))

@@ -1,7 +1,6 @@
-use Rattle.std.proofs.Common.{rules, Err, ◌+◌, refl}
+use Rattle.std.proofs.Common.{rules, ◌+◌, refl}
 use Rattle.sgt_format.specs.declared.script_line.ScriptLine.TheVariants as script_line
 use Rattle.sgt_stream.specs.Intake.{bytes_left, cut_left}
-use Rattle.sgt_stream.specs.declared.fault.Fault.TheVariants as fault
 use Rattle.sgt_engine.specs.EngineView.{setting_of}
 use Rattle.sgt_script.specs.Parts.{part_at}
 use Rattle.sgt_script.proofs.Parts.{replied}

@@ -1,7 +1,6 @@
 use Rattle.std.proofs.Common.{refl, sym, ap, ◌∙◌, arith, reverse}
 use Rattle.std.proofs.lemmas.Bool.{true≢false}
 use Rattle.std.specs.Result.{is_ok}
-use Rattle.std.specs.Vec.{vec_len, vec_capacity}
 use Rattle.sgt_model.specs.Databases.{contents_of}
 use Rattle.sgt_model.specs.Settings.{setting}
 use Rattle.sgt_sched.specs.Briefs.{in_full}
@@ -14,10 +13,10 @@ use Rattle.sgt_engine.proofs.engine.Engine.answer.Goals as goal
 pub invariant_of-self-2 : goal.invariant_of-self-2
 invariant_of-self-2 g c =
     let s = setting (contents_of c.self.inside.opening) c.self.inside.sched.procedures.items c.self.inside.sched.limits in
-    let kept = kept_entry c.calls_simulate.ensures s _ c.self.inside.history.items c.file.new.history.items (state c.self.inside.sched)
+    let kept = kept_entry c.calls_simulate.ensures s _ c.self.inside.history.entries c.file.new.history.entries (state c.self.inside.sched)
     (state c.answer.new.self) c.args.event (in_full c.in_ok-brief.brief c.answer.new.out)
     (same_setting _ _ _ _ _ c.answer.ensures.done.kept.0 c.answer.ensures.done.kept.1)
-    (added _ _ _ _ _ _ c.file.ensures.items c.make_room.ensures.items refl)
+    (added _ _ _ _ _ _ c.file.ensures.entries c.make_room.ensures.entries refl)
     (c.self.invariant.0, c.self.invariant.1) c.in_ok-brief.ensures.done.done.does in
     let left = room_left (record {
       sound = c.states_are_sound.ensures;
@@ -27,11 +26,11 @@ invariant_of-self-2 g c =
       counts = c.endings_agree.ensures.counts;
     })
     (setting (contents_of c.self.inside.opening) c.self.inside.sched.procedures.items c.self.inside.sched.limits)
-    (reverse c.self.inside.history.items) c.self.invariant.0 (state c.self.inside.sched) c.self.invariant.1 c.args.event
-    (state c.answer.new.self) (in_full c.in_ok-brief.brief c.answer.new.out) (vec_len c.make_room.new.history)
-    (vec_capacity c.make_room.new.history) c.in_ok-brief.ensures.done.done.does c.make_room.ensures.ends
+    (reverse c.self.inside.history.entries) c.self.invariant.0 (state c.self.inside.sched) c.self.invariant.1 c.args.event
+    (state c.answer.new.self) (in_full c.in_ok-brief.brief c.answer.new.out) c.make_room.new.history.room
+    c.in_ok-brief.ensures.done.done.does c.make_room.ensures.ends
     c.in_ok-make_room.ensures.room in
-    (kept.0, kept.1, omega (arith, left, c.file.ensures.len, c.file.ensures.capacity))
+    (kept.0, kept.1, omega (arith, left, c.file.ensures.room))
 
 pub returns-clause-legal : goal.returns-clause-legal
 returns-clause-legal g c = (invariant_of-self-2 g c).0
@@ -46,10 +45,10 @@ pub returns-clause-adds : goal.returns-clause-adds
 returns-clause-adds g c =
     let s = setting (contents_of c.self.inside.opening) c.self.inside.sched.procedures.items c.self.inside.sched.limits in (
       in_full c.in_ok-brief.brief c.answer.new.out,
-      entry_added c.self.inside.opening _ _ _ _ c.self.inside.history.items c.file.new.history.items c.args.event
+      entry_added c.self.inside.opening _ _ _ _ c.self.inside.history.entries c.file.new.history.entries c.args.event
           (in_full c.in_ok-brief.brief c.answer.new.out) c.args.self.now c.answer.ensures.done.kept.0 c.answer.ensures.done.kept.1
-          (added _ _ _ _ _ _ c.file.ensures.items c.make_room.ensures.items refl) c.self.view_is,
-      legal_reply c.calls_simulate.ensures s _ (reverse c.self.inside.history.items) _ (state c.self.inside.sched)
+          (added _ _ _ _ _ _ c.file.ensures.entries c.make_room.ensures.entries refl) c.self.view_is,
+      legal_reply c.calls_simulate.ensures s _ (reverse c.self.inside.history.entries) _ (state c.self.inside.sched)
           (state c.answer.new.self) c.args.event (in_full c.in_ok-brief.brief c.answer.new.out) (ap setting_of c.self.view_is)
           (ap (λ e. e.past) c.self.view_is) (c.self.invariant.0, c.self.invariant.1) c.in_ok-brief.ensures.done.done.does,
     )
@@ -88,8 +87,8 @@ file-requires g c =
       counts = c.endings_agree.ensures.counts;
     })
     (setting (contents_of c.self.inside.opening) c.self.inside.sched.procedures.items c.self.inside.sched.limits)
-    (reverse c.self.inside.history.items) c.self.invariant.0 (state c.self.inside.sched) c.self.invariant.1 c.args.event
-    (state c.answer.new.self) (in_full c.in_ok-brief.brief c.answer.new.out) (vec_len c.make_room.new.history)
-    (vec_capacity c.make_room.new.history) c.in_ok-brief.ensures.done.done.does c.make_room.ensures.ends
+    (reverse c.self.inside.history.entries) c.self.invariant.0 (state c.self.inside.sched) c.self.invariant.1 c.args.event
+    (state c.answer.new.self) (in_full c.in_ok-brief.brief c.answer.new.out) c.make_room.new.history.room
+    c.in_ok-brief.ensures.done.done.does c.make_room.ensures.ends
     c.in_ok-make_room.ensures.room in
     omega (arith, left)

@@ -1,0 +1,3 @@
+pub mod HistoryView
+pub mod Spans
+pub mod ShortEntries

@@ -1,0 +1,218 @@
+ghost use Rattle.std.specs.Prelude.{◌≡◌, ◌+◌, ◌≤◌, ◌<◌, ◌↔◌, [], ◌∷◌, ◌++◌, length, reverse, IsTrue, Some, OnOk, OnErr, slice_get, take};
+ghost use Rattle.std.specs.Result.{IsOk};
+ghost use Rattle.std.specs.Option.{option_map};
+ghost use Rattle.sgt_model.specs.declared.entry.Entry.{Entry as E};
+
+use crate::short_entry::ShortEntry;
+use crate::short_event::ShortEvent;
+use crate::short_reply::ShortReply;
+use sgt_model::{Entry, Event, NoMemory, Reply, Tid};
+use std::alloc::Global;
+use std::marker::Model;
+
+/// How many transactions the lists of one reply can hold: a walk of 32, and 32 that fell.
+const MOST_TIDS: usize = 64;
+
+/// How many values the lists of one entry can hold: 4 arguments, and 8 answers.
+const MOST_VALUES: usize = 12;
+
+/// For how many entries a growth makes room beyond those that were asked for, so that growths are rare.
+const AHEAD: usize = 64;
+
+/// The entries of a history, oldest first. An entry takes 72 bytes, and what its lists hold: 4 for each transaction, 8 for each
+/// value.
+///
+/// It has room for some more entries, whatever they are: `reserve` makes it, and a `push` uses it up without taking memory.
+#[derive(Drop)]
+pub struct History {
+    entries: Vec<ShortEntry>,
+    tids: Vec<Tid>,
+    values: Vec<i64>,
+    // For how many more entries there is room in each list.
+    room: usize,
+}
+
+impl Model for History {
+    ghost use Rattle.std.specs.Prelude.{◌+◌, ◌*◌, ◌≤◌, length, map};
+    ghost use Rattle.std.specs.Vec.{vec_len, vec_capacity};
+    ghost use Rattle.sgt_entries.specs.HistoryView.{HistoryView};
+    ghost use Rattle.sgt_entries.specs.ShortEntries.{AreEntries, entry_of};
+
+    ghost Value = { HistoryView };
+
+    ghost view = { λ h. record {
+      entries = map (entry_of h.tids.items h.values.items) h.entries.items;
+      room = h.room;
+      capacities = record { entries = vec_capacity h.entries; tids = vec_capacity h.tids; values = vec_capacity h.values };
+    } };
+
+    ghost invariant = { λ h.
+        AreEntries (length h.tids.items) (length h.values.items) h.entries.items
+        × (vec_len h.entries + h.room ≤ vec_capacity h.entries)
+        × (vec_len h.tids + h.room * 64 ≤ vec_capacity h.tids)
+        × (vec_len h.values + h.room * 12 ≤ vec_capacity h.values) };
+}
+
+impl History {
+    /// No entries, and no room. This takes no memory.
+    pub fn new(alloc: Global) -> Self
+        ensures entries { result.entries ≡ [] }
+        ensures room { result.room ≡ 0 }
+    {
+        History {
+            entries: Vec::new(alloc),
+            tids: Vec::new(alloc),
+            values: Vec::new(alloc),
+            room: 0,
+        }
+    }
+
+    /// How many entries there are.
+    pub fn len(&self) -> usize
+        ensures { result ≡ length self.now.entries }
+    {
+        self.entries.len()
+    }
+
+    /// Whether there are no entries.
+    pub fn is_empty(&self) -> bool
+        ensures { IsTrue result ↔ (self.now.entries ≡ []) }
+    {
+        self.entries.is_empty()
+    }
+
+    /// For how many more entries there is room, whatever they are.
+    pub fn room(&self) -> usize
+        ensures { result ≡ self.now.room }
+    {
+        self.room
+    }
+
+    /// Makes room for so many more entries, whatever they are. It is not lessened where there was more. Entries stay.
+    ///
+    /// `NoMemory` where a growth was refused, or the room can't be counted; the room stays then.
+    #[inline]
+    pub fn reserve(&mut self, count: usize) -> Result<(), NoMemory>
+        ensures entries { self.new.entries ≡ self.old.entries }
+        ensures room { OnOk result (count ≤ self.new.room) }
+        ensures no_less { self.old.room ≤ self.new.room }
+        ensures enough { count ≤ self.old.room → self.new ≡ self.old }
+        ensures succeeds { count ≤ self.old.room → IsOk result }
+        ensures refused { OnErr result (self.new.room ≡ self.old.room) }
+    {
+        if count <= self.room {
+            return Ok(());
+        }
+        self.grow(count)
+    }
+
+    // Makes more room than there is.
+    #[cold]
+    #[inline(never)]
+    fn grow(&mut self, count: usize) -> Result<(), NoMemory>
+        requires { self.old.room < count }
+        ensures entries { self.new.entries ≡ self.old.entries }
+        ensures room { OnOk result (count ≤ self.new.room) }
+        ensures no_less { self.old.room ≤ self.new.room }
+        ensures refused { OnErr result (self.new.room ≡ self.old.room) }
+    {
+        let room = count.checked_add(AHEAD).ok_or(NoMemory)?;
+        let tids = room.checked_mul(MOST_TIDS).ok_or(NoMemory)?;
+        let values = room.checked_mul(MOST_VALUES).ok_or(NoMemory)?;
+        self.entries.reserve(room)?;
+        self.tids.reserve(tids)?;
+        self.values.reserve(values)?;
+        self.room = room;
+        Ok(())
+    }
+
+    /// Takes memory for so many more entries, but for what their lists will hold: then those that are there need not be moved
+    /// until then. Nothing else changes.
+    ///
+    /// `NoMemory` where the growth was refused.
+    pub fn reserve_entries(&mut self, count: usize) -> Result<(), NoMemory>
+        ensures entries { self.new.entries ≡ self.old.entries }
+        ensures room { self.new.room ≡ self.old.room }
+    {
+        self.entries.reserve(count)?;
+        Ok(())
+    }
+
+    /// Adds an entry, for which there is room. This takes no memory.
+    pub fn push(&mut self, event: &Event, reply: &Reply)
+        requires { 0 < self.old.room }
+        ensures entries { self.new.entries ≡ self.old.entries ++ record { event = event.now; reply = reply.now } ∷ [] }
+        ensures room { self.new.room + 1 ≡ self.old.room }
+        ensures capacities { self.new.capacities ≡ self.old.capacities }
+    {
+        let event = ShortEvent::of(event, &mut self.values);
+        let reply = ShortReply::of(reply, &mut self.tids, &mut self.values);
+        self.entries.push_reserved(ShortEntry { event, reply });
+        self.room -= 1;
+    }
+
+    /// The entry at a place.
+    pub fn at(&self, place: usize) -> Entry
+        requires { place < length self.now.entries }
+        ensures entry { slice_get self.now.entries place ≡ Some result }
+        ensures next { take (place + 1) self.now.entries ≡ take place self.now.entries ++ result ∷ [] }
+    {
+        Entry {
+            event: self.event_at(place),
+            reply: self.reply_at(place),
+        }
+    }
+
+    /// The entry at a place, if there is one.
+    pub fn get(&self, place: usize) -> Option<Entry>
+        ensures { result ≡ slice_get self.now.entries place }
+    {
+        if place < self.entries.len() {
+            Some(self.at(place))
+        } else {
+            None
+        }
+    }
+
+    /// The newest entry, if there is one.
+    pub fn last(&self) -> Option<Entry>
+        ensures { result ≡ slice_get (reverse self.now.entries) 0 }
+    {
+        if self.is_empty() {
+            None
+        } else {
+            Some(self.at(self.len() - 1))
+        }
+    }
+
+    /// The event of the entry at a place.
+    pub fn event_at(&self, place: usize) -> Event
+        requires { place < length self.now.entries }
+        ensures { option_map (λ (e : E). e.event) (slice_get self.now.entries place) ≡ Some result }
+    {
+        let entry = &self.entries[place];
+        entry.event.in_full(self.values.as_slice())
+    }
+
+    /// The reply of the entry at a place.
+    pub fn reply_at(&self, place: usize) -> Reply
+        requires { place < length self.now.entries }
+        ensures { option_map (λ (e : E). e.reply) (slice_get self.now.entries place) ≡ Some result }
+    {
+        let entry = &self.entries[place];
+        entry
+            .reply
+            .in_full(self.tids.as_slice(), self.values.as_slice())
+    }
+
+    /// The reply of the newest entry, if there is one.
+    pub fn last_reply(&self) -> Option<Reply>
+        ensures { result ≡ option_map (λ (e : E). e.reply) (slice_get (reverse self.now.entries) 0) }
+    {
+        if self.is_empty() {
+            None
+        } else {
+            Some(self.reply_at(self.len() - 1))
+        }
+    }
+}

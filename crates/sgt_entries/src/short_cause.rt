@@ -1,0 +1,85 @@
+ghost use Rattle.std.specs.Prelude.{◌≡◌, ◌+◌, ◌≤◌, length, vec_len, vec_capacity};
+ghost use Rattle.sgt_entries.specs.Spans.{HasMore};
+ghost use Rattle.sgt_entries.specs.ShortEntries.{cause_of, fate_of, IsCause, IsFate};
+
+use crate::span::Span;
+use sgt_model::{Cause, Fate, Tid};
+
+/// Why a transaction was aborted. The walk stands in the list of transactions.
+#[derive(Drop)]
+pub enum ShortCause {
+    Cycle(Span),
+    Asked(u16),
+    Quit,
+}
+
+/// How a transaction ended.
+#[derive(Drop)]
+pub enum ShortFate {
+    Committed,
+    Aborted(ShortCause),
+    Fell(Tid),
+}
+
+impl ShortCause {
+    /// The cause in short. Its walk is added to the list of transactions, which has room for it.
+    pub fn of(cause: &Cause, tids: &mut Vec<Tid>) -> Self
+        requires { vec_len tids.old + 32 ≤ vec_capacity tids.old }
+        ensures cause { cause_of tids.new.items result ≡ cause.now }
+        ensures within { IsCause (length tids.new.items) result }
+        ensures more { HasMore tids.old.items tids.new.items }
+        ensures len { vec_len tids.new ≤ vec_len tids.old + 32 }
+        ensures capacity { vec_capacity tids.new ≡ vec_capacity tids.old }
+    {
+        match cause {
+            Cause::Cycle(walk) => {
+                let _count = walk.len();
+                ShortCause::Cycle(Span::append(tids, walk.as_slice()))
+            }
+            Cause::Asked(code) => ShortCause::Asked(*code),
+            Cause::Quit => ShortCause::Quit,
+        }
+    }
+
+    /// The cause in full.
+    pub fn in_full(&self, tids: &[Tid]) -> Cause
+        requires { IsCause (length tids.now) self.now }
+        ensures { result ≡ cause_of tids.now self.now }
+    {
+        match self {
+            ShortCause::Cycle(walk) => Cause::Cycle(walk.tids(tids)),
+            ShortCause::Asked(code) => Cause::Asked(*code),
+            ShortCause::Quit => Cause::Quit,
+        }
+    }
+}
+
+impl ShortFate {
+    /// The fate in short. The walk that it may have is added to the list of transactions, which has room for it.
+    pub fn of(fate: &Fate, tids: &mut Vec<Tid>) -> Self
+        requires { vec_len tids.old + 32 ≤ vec_capacity tids.old }
+        ensures fate { fate_of tids.new.items result ≡ fate.now }
+        ensures within { IsFate (length tids.new.items) result }
+        ensures more { HasMore tids.old.items tids.new.items }
+        ensures len { vec_len tids.new ≤ vec_len tids.old + 32 }
+        ensures capacity { vec_capacity tids.new ≡ vec_capacity tids.old }
+    {
+        match fate {
+            Fate::Committed => ShortFate::Committed,
+            Fate::Aborted(cause) => ShortFate::Aborted(ShortCause::of(cause, tids)),
+            Fate::Fell(first) => ShortFate::Fell(*first),
+        }
+    }
+
+    /// The fate in full.
+    pub fn in_full(&self, tids: &[Tid]) -> Fate
+        requires { IsFate (length tids.now) self.now }
+        ensures { result ≡ fate_of tids.now self.now }
+    {
+        match self {
+            ShortFate::Committed => Fate::Committed,
+            ShortFate::Aborted(cause) => Fate::Aborted(cause.in_full(tids)),
+            ShortFate::Fell(first) => Fate::Fell(*first),
+        }
+    }
+}
