@@ -11,16 +11,16 @@ enum { THREADS = 4, EACH = 20000 };
 static const char opening[] = "{\"limits\":[8,4000000],\"accounts\":[[1,101,0,0],[2,102,0,0]],\"procedures\":[]}";
 static sgt_engine engine;
 static pthread_mutex_t lock = PTHREAD_MUTEX_INITIALIZER;
+static pthread_cond_t ended = PTHREAD_COND_INITIALIZER;
 
-/* One event under the lock. Between two of them other threads make theirs. */
+/* One event. The caller holds the lock. Who waits for an end is told of each. */
 static void ask(uint32_t (*event)(sgt_engine *, uint32_t, sgt_reply *), uint32_t tid, sgt_reply *reply)
 {
-    pthread_mutex_lock(&lock);
     if (event(&engine, tid, reply) != SGT_OK) reply->kind = 0;
-    pthread_mutex_unlock(&lock);
+    if (reply->kind == SGT_COMMITTED || reply->kind == SGT_ABORTED) pthread_cond_broadcast(&ended);
 }
 
-/* One deposit, which is given up where it is aborted. */
+/* One deposit, which is given up where it is aborted. Between two of its events other threads make theirs. */
 static int deposit(int64_t account)
 {
     sgt_reply reply = {0};
@@ -30,11 +30,19 @@ static int deposit(int64_t account)
     pthread_mutex_unlock(&lock);
     if (reply.kind != SGT_STARTED) return 0;
     uint32_t tid = reply.tid;
-    do ask(sgt_step, tid, &reply);
-    while (reply.kind == SGT_LOOKED || reply.kind == SGT_WROTE);
+    do {
+        pthread_mutex_lock(&lock);
+        ask(sgt_step, tid, &reply);
+        pthread_mutex_unlock(&lock);
+    } while (reply.kind == SGT_LOOKED || reply.kind == SGT_WROTE);
     if (reply.kind != SGT_ENDED) return 0;
-    do ask(sgt_commit, tid, &reply);
-    while (reply.kind == SGT_WAITS);
+    pthread_mutex_lock(&lock);
+    ask(sgt_commit, tid, &reply);
+    while (reply.kind == SGT_WAITS) {
+        pthread_cond_wait(&ended, &lock);
+        ask(sgt_commit, tid, &reply);
+    }
+    pthread_mutex_unlock(&lock);
     return reply.kind == SGT_COMMITTED;
 }
 

@@ -126,6 +126,7 @@ def _load() -> ctypes.CDLL:
 
 
 _LIBRARY = _load()
+_start, _step, _commit, _quit = _LIBRARY.sgt_start, _LIBRARY.sgt_step, _LIBRARY.sgt_commit, _LIBRARY.sgt_quit
 _OK, _NO_MEMORY, _CLOSED, _NONE, _BAD_CALL, _FIRST_FAULT = 0, 1, 2, 4, 5, 16
 _ARGS = [ctypes.c_int64 * max(1, count) for count in range(5)]
 
@@ -157,21 +158,27 @@ def _ended(told: _Reply, kind: Kind) -> Reply:
     )
 
 
+_KINDS = [None, *Kind]
+_PLAIN = [kind and Reply(kind) for kind in _KINDS]
+_LOOKED, _WROTE, _STARTED, _WAITS, _COMMITTED = Kind.LOOKED, Kind.WROTE, Kind.STARTED, Kind.WAITS, Kind.COMMITTED
+
+
 def _reply(told: _Reply) -> Reply:
-    kind = Kind(told.kind)
-    if kind is Kind.LOOKED:
-        return Reply(kind, table=told.table, number=told.number, value=told.value if told.found else None)
-    if kind is Kind.WROTE:
-        return Reply(kind, table=told.table, number=told.number, value=told.value)
-    if kind in (Kind.STARTED, Kind.WAITS):
-        return Reply(kind, tid=told.tid)
-    if kind is Kind.COMMITTED:
+    number = told.kind
+    kind = _KINDS[number]
+    if kind is _LOOKED:
+        return Reply(kind, None, told.table, told.number, told.value if told.found else None)
+    if kind is _WROTE:
+        return Reply(kind, None, told.table, told.number, told.value)
+    if kind is _STARTED or kind is _WAITS:
+        return Reply(kind, told.tid)
+    if kind is _COMMITTED:
         return Reply(kind, answers=tuple(told.answer[: told.answers]))
     if kind is Kind.REFUSED:
         return Reply(kind, code=told.code, fell=tuple(told.fell[: told.fallen]))
-    if kind in (Kind.ABORTED, Kind.OVER):
+    if kind is Kind.ABORTED or kind is Kind.OVER:
         return _ended(told, kind)
-    return Reply(kind)
+    return _PLAIN[number]
 
 
 def _check(status: int) -> None:
@@ -201,28 +208,37 @@ class Engine:
             raise OpeningRefused(status, _text(fault))
         _check(status)
         self._told = _Reply()
+        # What every event is passed.
+        self._at, self._to = ctypes.pointer(self._engine), ctypes.pointer(self._told)
 
     def start(self, procedure: int, *args: int) -> Reply:
         """Starts a transaction of the procedure with at most 4 arguments."""
         if len(args) >= len(_ARGS):
             raise ValueError("sgt: a procedure takes at most 4 arguments")
-        told = self._told
-        _check(_LIBRARY.sgt_start(self._engine, procedure, _ARGS[len(args)](*args), len(args), told))
-        return _reply(told)
+        status = _start(self._at, procedure, _ARGS[len(args)](*args), len(args), self._to)
+        if status:
+            _check(status)
+        return _reply(self._told)
 
     def step(self, tid: int) -> Reply:
         """Lets the transaction make its next access."""
-        _check(_LIBRARY.sgt_step(self._engine, tid, self._told))
+        status = _step(self._at, tid, self._to)
+        if status:
+            _check(status)
         return _reply(self._told)
 
     def commit(self, tid: int) -> Reply:
         """Commits the transaction, unless it has to wait."""
-        _check(_LIBRARY.sgt_commit(self._engine, tid, self._told))
+        status = _commit(self._at, tid, self._to)
+        if status:
+            _check(status)
         return _reply(self._told)
 
     def quit(self, tid: int) -> Reply:
         """Quits the transaction: it is aborted."""
-        _check(_LIBRARY.sgt_quit(self._engine, tid, self._told))
+        status = _quit(self._at, tid, self._to)
+        if status:
+            _check(status)
         return _reply(self._told)
 
     def get(self, table: int, number: int) -> Optional[int]:
