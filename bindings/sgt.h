@@ -2,7 +2,8 @@
  * sgt: an in-memory transaction engine that schedules by serialization graph testing. This header is its manual for C.
  *
  * The library is proved: running the committed transactions one after another in commit order gives each of them the answers
- * that it was told, and ends in the committed database. See docs/LIBRARY.md for a first program, and docs/DEFINITIONS.md for the
+ * that it was told, and ends in the committed database. See docs/LIBRARY.md for a first program, and docs/DEFINITIONS.md for
+ * the
  * words used here.
  *
  * A caller keeps an engine in an sgt_engine. Transactions are started, make one access at each step, and are committed or quit;
@@ -82,20 +83,20 @@ enum sgt_kind {
     SGT_FULL = 5,          /* as many transactions are live as the limits allow */
     SGT_UNKNOWN = 6,       /* no transaction of that number was started */
     SGT_OVER = 7,          /* the transaction has ended before; `cause` says how */
-    SGT_LOOKED = 8,        /* the step looked at the record `table`, `number`: `found` is 1, and `value` is it, or `found` is 0 */
+    SGT_LOOKED = 8,       /* the step looked at the record `table`, `number`: `found` is 1, and `value` is it, or `found` is 0 */
     SGT_WROTE = 9,         /* the step stored `value` in the record `table`, `number` */
     SGT_ENDED = 10,        /* the procedure is at its end, and nothing was done: the transaction may be committed */
     SGT_NOT_ENDED = 11,    /* the procedure is not at its end: the transaction can't be committed yet */
     SGT_WAITS = 12,        /* the commit has to wait for the transaction `tid`, and is asked again later */
     SGT_COMMITTED = 13,    /* the transaction is committed; its answers are the first `answers` of `answer` */
     SGT_ABORTED = 14,      /* the transaction is aborted, as `cause` says, and with it the first `fallen` of `fell` */
-    SGT_REFUSED = 15       /* its procedure asks `code`: the transaction is aborted at its commit, and with it those of `fell` */
+    SGT_REFUSED = 15      /* its procedure asks `code`: the transaction is aborted at its commit, and with it those of `fell` */
 };
 
 /* How a transaction ended: in SGT_ABORTED one of the first three. */
 enum sgt_cause {
     SGT_BY_COMMIT = 0,
-    SGT_BY_CYCLE = 1,  /* its step would close a cycle of conflicts: the first `walked` of `walk`, the transaction itself first */
+    SGT_BY_CYCLE = 1, /* its step would close a cycle of conflicts: the first `walked` of `walk`, the transaction itself first */
     SGT_BY_CODE = 2,   /* its procedure asked `code` */
     SGT_BY_QUIT = 3,   /* its caller quit it */
     SGT_BY_FALL = 4    /* it had read from an aborted one; `tid` is the one whose abort began it */
@@ -121,7 +122,8 @@ typedef struct sgt_reply {
 } sgt_reply;
 
 /*
- * Opens an engine. `opening` is `length` bytes of JSON as the first line of a script has them, without its end: limits, accounts
+ * Opens an engine. `opening` is `length` bytes of JSON as the first line of a script has them, without its end: limits,
+ * accounts
  * and procedures, as docs/FORMATS.md says. `{"limits":[8,1000],"accounts":[[1,101,500,1000]],"procedures":[]}` allows 8 live
  * transactions and 1000 in all, and opens one account: name 1, customer 101, saving 500, checking 1000, in cents.
  *
