@@ -1,5 +1,5 @@
 -- What a line means that is a call written plainly.
-use Rattle.std.proofs.Common.{◌≡◌, ◌≤◌, ◌<◌, ◌+◌, ◌-◌, ◌^◌, Bool, true, false, ℕ, ℤ, pos, negsuc, zero, suc, List, [], ◌∷◌, ◌++◌, length, take, drop, Some, None, Option, subst, refl, arith, sym, ◌∙◌, ap, lt-ltb}
+use Rattle.std.proofs.Common.{◌≡◌, ◌≤◌, ◌<◌, ◌-◌, ◌^◌, true, false, ℕ, ℤ, pos, negsuc, suc, List, [], ◌∷◌, ◌++◌, length, take, drop, Some, None, Option, subst, refl, arith, sym, ◌∙◌, ap, lt-ltb}
 use Rattle.std.specs.Prelude.{slice_index, codes, map, IsUtf8, Ok, option_and_then, IfSome}
 use Rattle.std.specs.Fmt.{decimal, signed_decimal}
 use Rattle.std.specs.Str.{IsAscii}
@@ -14,13 +14,13 @@ use Rattle.json.specs.Print.{escape_byte, print_from, print, ArePrintable}
 use Rattle.json.proofs.Printed.Tokens.{tokens-print}
 use Rattle.json.proofs.Printed.Decimals.{IsNumber-decimal, IsNumber-signed_decimal}
 use Rattle.serde_json.specs.Find.{as_i64}
-use Rattle.serde_json.proofs.Numbers.{number_of-decimal, number_of-negative}
+use Rattle.serde_json.proofs.Numbers.{number_of-negative}
 use Rattle.sgt_model.specs.declared.event.Event.TheVariants.{Start}
 use Rattle.sgt_proc_json.specs.Trees.{natural}
 use Rattle.sgt_format.specs.declared.call.JobCall.{JobCall}
-use Rattle.sgt_format.specs.EventLines.{of_procedure, event_of}
-use Rattle.sgt_format.specs.JobLines.{job_call, job_of}
-use Rattle.sgt_format.specs.LineTokens.{whole_number, whole_numbers, event_at, job_at}
+use Rattle.sgt_format.specs.EventLines.{event_of}
+use Rattle.sgt_format.specs.JobLines.{job_of}
+use Rattle.sgt_format.specs.LineTokens.{whole_number, whole_numbers}
 use Rattle.sgt_format.specs.PlainLines.{behind_commas, arguments_text, comma_behind, AreSmall, IsCall}
 use Rattle.sgt_format.proofs.LineTokens.{spelled_start, spelled_job, event_found, job_found}
 use Rattle.sgt_format.proofs.PlainLines.{whole_decimal, all_ascii, ascii_from}
@@ -45,7 +45,7 @@ longer_text [] n = append-nil (signed_decimal n)
 longer_text (m ∷ args) n =
     ap (λ more. signed_decimal m ++ more)
     (flat_map-append (λ n. 44 ∷ signed_decimal n) args (n ∷ [])
-        ∙ ap (λ last. behind_commas args ++ 44 ∷ last) (append-nil (signed_decimal n)))
+    ∙ ap (λ last. behind_commas args ++ 44 ∷ last) (append-nil (signed_decimal n)))
     ∙ sym (append_assoc (signed_decimal m) (behind_commas args) (44 ∷ signed_decimal n))
 
 pub one_argument_more : (text rest more : List ℕ) (args longer : List ℤ) (n : ℤ) → text ≡ arguments_text args ++ rest
@@ -114,7 +114,7 @@ behind_ascii [] small = ascii_from (codes "]]") refl
 behind_ascii (n ∷ args) small =
     subst IsAscii (sym (append_assoc (44 ∷ signed_decimal n) (behind_commas args) (codes "]]")))
     (IsAscii-append (44 ∷ []) (signed_decimal n ++ (behind_commas args ++ codes "]]")) (ascii_from (44 ∷ []) refl)
-        (IsAscii-append (signed_decimal n) _ (IsAscii-signed n (omega (arith, small.0))) (behind_ascii args small.1)))
+    (IsAscii-append (signed_decimal n) _ (IsAscii-signed n (omega (arith, small.0))) (behind_ascii args small.1)))
 
 arguments_ascii : (args : List ℤ) → AreSmall args → IsAscii (arguments_text args ++ codes "]]")
 unfolding all_ascii
@@ -130,15 +130,16 @@ call_utf8 words line rest call plain begins asks =
     begins ∙ ap (λ rest. words ++ rest) asks.is in
     let low : call.procedure < 2 ^ 64 = omega (arith, asks.procedure) in
     rw all (IsUtf8-from_ascii _ (IsAscii-append words _ plain (IsAscii-append (decimal call.procedure) _ (IsAscii-decimal _ low)
-        (IsAscii-append (codes ",[") _ (ascii_from (codes ",[") refl) (arguments_ascii call.args asks.small)))))
+    (IsAscii-append (codes ",[") _ (ascii_from (codes ",[") refl) (arguments_ascii call.args asks.small)))))
 
 -- the tokens of a line that begins with these words
 call_tokens_are : (w words line rest : List ℕ) (call : JobCall) → line ≡ words ++ rest → IsCall rest call
-    → words ++ (decimal call.procedure ++ (codes ",[" ++ print_from false (number_tokens call.args))) ≡ print (spelled w call.procedure call.args)
+    → words ++ (decimal call.procedure ++ (codes ",[" ++ print_from false (number_tokens call.args)))
+    ≡ print (spelled w call.procedure call.args)
     → tokens line ≡ spelled w call.procedure call.args
 call_tokens_are w words line rest call begins asks same =
     ap tokens (begins ∙ ap (λ rest. words ++ rest) (asks.is
-        ∙ ap (λ more. decimal call.procedure ++ (codes ",[" ++ more)) (sym (printed call.args))) ∙ same)
+    ∙ ap (λ more. decimal call.procedure ++ (codes ",[" ++ more)) (sym (printed call.args))) ∙ same)
     ∙ tokens_are w call.procedure call.args asks.procedure asks.small
 
 number_is : (p : ℕ) → p < 65_536 → natural 16 (pos p) ≡ Some p
