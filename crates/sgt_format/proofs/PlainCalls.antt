@@ -1,5 +1,5 @@
 -- What a line means that is a call written plainly.
-use Rattle.std.proofs.Common.{◌≡◌, ◌≤◌, ◌<◌, ◌+◌, ◌-◌, ◌^◌, Bool, true, false, ℕ, ℤ, pos, negsuc, zero, suc, List, [], ◌∷◌, ◌++◌, length, take, drop, Some, None, Option, subst, refl, arith, sym, ◌∙◌, ap, lt-ltb}
+use Rattle.std.proofs.Common.{◌≡◌, ◌≤◌, ◌<◌, ◌-◌, ◌^◌, true, false, ℕ, ℤ, pos, negsuc, suc, List, [], ◌∷◌, ◌++◌, length, take, drop, Some, None, Option, subst, refl, arith, sym, ◌∙◌, ap, lt-ltb}
 use Rattle.std.specs.Prelude.{slice_index, codes, map, IsUtf8, Ok, option_and_then, IfSome}
 use Rattle.std.specs.Fmt.{decimal, signed_decimal}
 use Rattle.std.specs.Str.{IsAscii}
@@ -14,13 +14,13 @@ use Rattle.json.specs.Print.{escape_byte, print_from, print, ArePrintable}
 use Rattle.json.proofs.Printed.Tokens.{tokens-print}
 use Rattle.json.proofs.Printed.Decimals.{IsNumber-decimal, IsNumber-signed_decimal}
 use Rattle.serde_json.specs.Find.{as_i64}
-use Rattle.serde_json.proofs.Numbers.{number_of-decimal, number_of-negative}
+use Rattle.serde_json.proofs.Numbers.{number_of-negative}
 use Rattle.sgt_model.specs.declared.event.Event.TheVariants.{Start}
 use Rattle.sgt_proc_json.specs.Trees.{natural}
 use Rattle.sgt_format.specs.declared.call.JobCall.{JobCall}
-use Rattle.sgt_format.specs.EventLines.{of_procedure, event_of}
-use Rattle.sgt_format.specs.JobLines.{job_call, job_of}
-use Rattle.sgt_format.specs.LineTokens.{whole_number, whole_numbers, event_at, job_at}
+use Rattle.sgt_format.specs.EventLines.{event_of}
+use Rattle.sgt_format.specs.JobLines.{job_of}
+use Rattle.sgt_format.specs.LineTokens.{whole_number, whole_numbers}
 use Rattle.sgt_format.specs.PlainLines.{behind_commas, arguments_text, comma_behind, AreSmall, IsCall}
 use Rattle.sgt_format.proofs.LineTokens.{spelled_start, spelled_job, event_found, job_found}
 use Rattle.sgt_format.proofs.PlainLines.{whole_decimal, all_ascii, ascii_from}
@@ -134,7 +134,8 @@ call_utf8 words line rest call plain begins asks =
 
 -- the tokens of a line that begins with these words
 call_tokens_are : (w words line rest : List ℕ) (call : JobCall) → line ≡ words ++ rest → IsCall rest call
-    → words ++ (decimal call.procedure ++ (codes ",[" ++ print_from false (number_tokens call.args))) ≡ print (spelled w call.procedure call.args)
+    → words ++ (decimal call.procedure ++ (codes ",[" ++ print_from false (number_tokens call.args)))
+    ≡ print (spelled w call.procedure call.args)
     → tokens line ≡ spelled w call.procedure call.args
 call_tokens_are w words line rest call begins asks same =
     ap tokens (begins ∙ ap (λ rest. words ++ rest) (asks.is
