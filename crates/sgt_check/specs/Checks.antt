@@ -1,14 +1,13 @@
 -- What the check of a text writes, and how it ends.
-use Rattle.std.specs.Prelude.{◌≡◌, ◌<◌, ◌≤◌, ◌↔◌, ℕ, Bool, true, List, length, Result, Ok, Err, ⊤}
+use Rattle.std.specs.Prelude.{◌≡◌, ◌<◌, ◌↔◌, ℕ, Bool, true, List, length, ⊤}
 use Rattle.sgt_history.specs.Classes.{IsRecoverable}
 use Rattle.sgt_history.specs.Serializability.{IsSerializable}
-use Rattle.sgt_notation.specs.declared.fault.NotationFault.{NotationFault}
 use Rattle.sgt_notation.specs.declared.history.History.{History}
 use Rattle.sgt_notation.specs.Words.{words_of}
 use Rattle.sgt_notation.specs.Readings.{AreRead, IsFirstFault, texts}
 use Rattle.sgt_check.specs.declared.report.Report.{Report}
 use Rattle.sgt_check.specs.declared.fault.CheckFault.{CheckFault}
-use Rattle.sgt_check.specs.declared.fault.CheckFault.TheVariants.{Notation, TooLong, Reading, Writing, NoMemory}
+use Rattle.sgt_check.specs.declared.fault.CheckFault.TheVariants.{Notation, TooLong}
 use Rattle.sgt_check.specs.Reports.{IsReport}
 use Rattle.sgt_check.specs.ReportText.{report_text}
 

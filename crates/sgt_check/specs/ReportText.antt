@@ -3,7 +3,6 @@ use Rattle.std.specs.Prelude.{ℕ, ◌+◌, ◌-◌, List, [], ◌∷◌, ◌++�
 use Rattle.std.specs.Option.{option_map_or}
 use Rattle.std.specs.List.{flat_map}
 use Rattle.std.specs.Fmt.{decimal}
-use Rattle.sgt_history.specs.declared.operation.Operation.{Operation}
 use Rattle.sgt_history.specs.declared.operation.Violation.{Violation}
 use Rattle.sgt_history.specs.declared.graph.Edge.{Edge}
 use Rattle.sgt_history.specs.declared.serial.Serializability.{Serializability}
@@ -29,7 +28,7 @@ transaction_of h place = option_map_or (transaction_at h) place []
 -- how many transactions there are, and what became of them
 abbrev pub counts_text : Counts → List ℕ
 counts_text c = codes "transactions " ++ decimal c.transactions ++ codes ": " ++ decimal c.committed ++ codes " committed, "
-    ++ decimal c.aborted ++ codes " aborted, " ++ decimal (c.transactions - (c.committed + c.aborted)) ++ codes " active\n"
+    ++ decimal c.aborted ++ codes " aborted, " ++ decimal (c.transactions - c.committed - c.aborted) ++ codes " active\n"
 
 -- a transaction of a serial order
 abbrev pub next_text : ℕ → List ℕ
@@ -54,32 +53,36 @@ order_text [] = codes " none"
 order_text (t ∷ ts) = flat_map next_text (t ∷ ts)
 
 -- a serial order or a cycle
+abbrev pub shown_text : History → Serializability → List ℕ
+shown_text h (Serial order) = codes "serializable yes:" ++ order_text order.items
+shown_text h (Cycle edges) = codes "serializable no:" ++ cycle_text h edges.items
+
+-- the same as a line
 abbrev pub serial_text : History → Serializability → List ℕ
-serial_text h (Serial order) = codes "serializable yes:" ++ order_text order.items ++ codes "\n"
-serial_text h (Cycle edges) = codes "serializable no:" ++ cycle_text h edges.items ++ codes "\n"
+serial_text h shown = shown_text h shown ++ codes "\n"
 
 -- a class: yes, or no and why not
 abbrev pub class_text : List ℕ → (Violation → List ℕ) → Option Violation → List ℕ
 class_text name why None = name ++ codes " yes\n"
-class_text name why (Some v) = name ++ codes " no: " ++ why v ++ codes "\n"
+class_text name why (Some v) = name ++ codes " no: " ++ why v
 
 -- a commit too early
 abbrev pub recoverable_why : History → Option ℕ → Violation → List ℕ
 recoverable_why h write v = placed h v.later ++ codes ", which reads from " ++ transaction_of h write ++ codes " by " ++ placed h v.earlier
-    ++ codes ", and " ++ transaction_of h write ++ codes " has not committed"
+    ++ codes ", and " ++ transaction_of h write ++ codes " has not committed\n"
 
 -- a read of what is not committed
 abbrev pub avoiding_why : History → Violation → List ℕ
-avoiding_why h v = placed h v.later ++ codes " reads from " ++ transaction_at h v.earlier ++ codes ", which has not committed"
+avoiding_why h v = placed h v.later ++ codes " reads from " ++ transaction_at h v.earlier ++ codes ", which has not committed\n"
 
 -- an operation that came before the end of the earlier one's transaction
 abbrev pub follows_why : History → Violation → List ℕ
-follows_why h v = placed h v.later ++ codes " follows " ++ placed h v.earlier ++ codes ", and " ++ transaction_at h v.earlier ++ codes " has not ended"
+follows_why h v = placed h v.later ++ codes " follows " ++ placed h v.earlier ++ codes ", and " ++ transaction_at h v.earlier ++ codes " has not ended\n"
 
 -- two operations whose transactions committed the other way round
 abbrev pub order_why : History → Violation → List ℕ
 order_why h v = transaction_at h v.earlier ++ codes " before " ++ transaction_at h v.later ++ codes " by " ++ placed h v.earlier ++ codes " "
-    ++ placed h v.later ++ codes ", and " ++ transaction_at h v.later ++ codes " committed first"
+    ++ placed h v.later ++ codes ", and " ++ transaction_at h v.later ++ codes " committed first\n"
 
 -- the seven lines
 abbrev pub report_text : History → Report → List ℕ

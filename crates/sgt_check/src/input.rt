@@ -1,6 +1,8 @@
 //! The whole of an input.
 ghost use Rattle.std.specs.Prelude.{◌≡◌, ◌≢◌, ◌^◌, ◌+◌, ◌++◌, ◌<◌, ◌≤◌, length, IfOk, OnOk, IfSome, Err};
 ghost use Rattle.std.specs.Io.KnownBytes.{Consumes, IsAtEnd};
+ghost use Rattle.sgt_check.specs.declared.fault.CheckFault.TheVariants as fault;
+ghost use Rattle.sgt_notation.specs.declared.fault.NotationFault.{NotationFault};
 
 use crate::fault::CheckFault;
 use sgt_model::NoMemory;
@@ -22,8 +24,11 @@ pub(crate) fn read_input<S: Source>(alloc: Global, source: &mut S) -> Result<Vec
     requires { S.failures source.old + 1 < 2 ^ 64 }
     ensures bytes { IfOk result (λ text. IfSome (S.rest source.old) (λ bytes. bytes ≡ text.items)) }
     ensures short { IfOk result (λ text. length text.items ≤ 268435456) }
+    ensures long { result ≡ Err CheckFault.TooLong →
+        IfSome (S.rest source.old) (λ bytes. 268435456 < length bytes) }
     ensures well { result ≢ Err CheckFault.Reading → S.failures source.new ≡ S.failures source.old }
     ensures failed { result ≡ Err CheckFault.Reading → S.failures source.new ≡ S.failures source.old + 1 }
+    ensures no_notation { (f : NotationFault) → result ≢ Err (fault.Notation f) }
     ensures no_other { result ≢ Err CheckFault.Writing }
 {
     let mut text = Vec::new(alloc);

@@ -1,8 +1,8 @@
 //! Operations and transactions of a history as text.
-ghost use Rattle.std.specs.Prelude.{◌≡◌, ◌++◌, OnOk, ◌+◌, ◌<◌, ◌^◌, length, slice_get, codes};
+ghost use Rattle.std.specs.Prelude.{◌≡◌, ◌++◌, [], OnOk, slice_get};
+ghost use Rattle.std.specs.Option.{option_map_or};
 ghost use Rattle.sgt_notation.specs.Spellings.{spelling, bracketed, text_at};
 ghost use Rattle.sgt_notation.specs.Readings.{texts};
-ghost use Rattle.std.specs.Fmt.{decimal};
 ghost use Rattle.sgt_check.specs.ReportText.{placed, transaction_at, transaction_of};
 
 use sgt_format::{append_number, append_numbered};
@@ -46,10 +46,19 @@ fn append_item(text: &mut Vec<u8>, history: &History, item: u32) -> Result<(), N
     ensures { OnOk result (text.new.items ≡ text.old.items ++ bracketed (text_at (texts history.now) item)) }
 {
     text.extend_from_slice(b"[")?;
+    append_name(text, history, item)?;
+    text.extend_from_slice(b"]")?;
+    Ok(())
+}
+
+/// Adds the text of the item.
+fn append_name(text: &mut Vec<u8>, history: &History, item: u32) -> Result<(), NoMemory>
+    ensures { OnOk result (text.new.items
+        ≡ text.old.items ++ option_map_or (λ name. name.items) (slice_get history.now.items.items item) []) }
+{
     if let Some(name) = history.items.get(item as usize) {
         text.extend_from_slice(name.as_slice())?;
     }
-    text.extend_from_slice(b"]")?;
     Ok(())
 }
 

@@ -1,9 +1,9 @@
 //! What a check finds.
-ghost use Rattle.std.specs.Prelude.{◌≡◌, ◌≢◌, ◌<◌, ◌+◌, ◌↔◌, ℕ, length, IfOk, OnOk, IfSome, IsSome};
-ghost use Rattle.sgt_history.specs.Classes.{BreaksStrictness, BreaksAvoidance, BreaksRecoverability, BreaksRigorousness, IsFirstViolation};
-ghost use Rattle.sgt_history.specs.Serializability.{BreaksCommitOrder, IsSerializable};
-ghost use Rattle.sgt_history.specs.SerialOrders.{IsShown, IsSerial};
-ghost use Rattle.sgt_check.specs.Reports.{IsReport, AreCounts, IsWriteOf};
+ghost use Rattle.std.specs.Prelude.{◌≡◌, ◌<◌, ◌+◌, ◌-◌, ◌^◌, ◌==◌, ◌||◌, not, if◌then◌else◌, ℕ, is_some, IfOk, OnOk};
+ghost use Rattle.std.specs.BTreeMap.{get};
+ghost use Rattle.std.specs.Ordering.{nat_cmp};
+ghost use Rattle.sgt_history.specs.Classes.{BreaksRecoverability, IsFirstViolation};
+ghost use Rattle.sgt_check.specs.Reports.{IsReport, AreCounts, IsWriteOf, commits, aborts};
 
 use sgt_history::{
     Action, Operation, Serializability, Violation, avoidance_violation, commit_order_violation,
@@ -23,6 +23,17 @@ pub struct Counts {
     pub committed: usize,
     /// The aborts.
     pub aborted: usize,
+}
+
+impl Counts {
+    /// The transactions that have not ended.
+    pub fn active(&self) -> usize
+        ensures { result ≡ self.now.transactions - self.now.committed - self.now.aborted }
+    {
+        self.transactions
+            .saturating_sub(self.committed)
+            .saturating_sub(self.aborted)
+    }
 }
 
 /// What a check finds of a history. Of each class the first operation that breaks it stands here, with one that it breaks it by.
@@ -90,15 +101,34 @@ fn count(alloc: Global, history: &[Operation]) -> Result<Counts, NoMemory>
     let mut counts = Counts::default();
     for place in 0..history.len() {
         let operation = history[place];
-        if !seen.contains_key(&operation.transaction) {
-            seen.insert(operation.transaction, place)?;
-            counts.transactions += 1;
-        }
-        match operation.action {
-            Action::Commit => counts.committed += 1,
-            Action::Abort => counts.aborted += 1,
-            Action::Read(_) | Action::Write(_) => (),
-        }
+        let is_first = note(&mut seen, operation.transaction, place)?;
+        add(&mut counts, is_first, &operation.action);
     }
     Ok(counts)
+}
+
+/// Notes that the transaction acts, and tells whether it has not before.
+fn note(seen: &mut BTreeMap<u32, usize>, transaction: u32, place: usize) -> Result<bool, NoMemory>
+    ensures first { IfOk result (λ first. first ≡ not (is_some (get nat_cmp seen.old transaction))) }
+    ensures seen { OnOk result ((t : ℕ) →
+        is_some (get nat_cmp seen.new t) ≡ (is_some (get nat_cmp seen.old t) || transaction == t)) }
+{
+    Ok(seen.insert(transaction, place)?.is_none())
+}
+
+/// Counts an operation.
+fn add(counts: &mut Counts, is_first: bool, action: &Action)
+    requires transactions { counts.old.transactions + 1 < 2 ^ 64 }
+    requires committed { counts.old.committed + 1 < 2 ^ 64 }
+    requires aborted { counts.old.aborted + 1 < 2 ^ 64 }
+    ensures transactions { counts.new.transactions ≡ counts.old.transactions + (if is_first then 1 else 0) }
+    ensures committed { counts.new.committed ≡ counts.old.committed + (if commits action.now then 1 else 0) }
+    ensures aborted { counts.new.aborted ≡ counts.old.aborted + (if aborts action.now then 1 else 0) }
+{
+    counts.transactions += usize::from(is_first);
+    match action {
+        Action::Commit => counts.committed += 1,
+        Action::Abort => counts.aborted += 1,
+        Action::Read(_) | Action::Write(_) => (),
+    }
 }

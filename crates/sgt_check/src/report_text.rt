@@ -1,6 +1,6 @@
 //! The lines of a report.
 ghost use Rattle.std.specs.Prelude.{◌≡◌, ◌++◌, OnOk, codes, flat_map};
-ghost use Rattle.sgt_check.specs.ReportText.{counts_text, order_text, next_text, edge_text, later_edge_text, cycle_text, serial_text, class_text, recoverable_why, avoiding_why, follows_why, order_why, report_text};
+ghost use Rattle.sgt_check.specs.ReportText.{counts_text, order_text, next_text, edge_text, later_edge_text, cycle_text, shown_text, serial_text, class_text, recoverable_why, avoiding_why, follows_why, order_why, report_text};
 
 use crate::placed_text::{append_placed, append_transaction_at, append_transaction_of};
 use crate::report::{Counts, Report};
@@ -23,18 +23,18 @@ pub fn append_report(text: &mut Vec<u8>, history: &History, report: &Report) -> 
     append_avoiding(text, history, &report.avoiding)?;
     append_follows(text, b"strict", history, &report.strict)?;
     append_follows(text, b"rigorous", history, &report.rigorous)?;
-    append_order_kept(text, history, &report.commit_ordered)
+    append_order_kept(text, history, &report.commit_ordered)?;
+    Ok(())
 }
 
 /// Adds the line of the counts.
 fn append_counts(text: &mut Vec<u8>, counts: &Counts) -> Result<(), NoMemory>
     ensures { OnOk result (text.new.items ≡ text.old.items ++ counts_text counts.now) }
 {
-    let ended = counts.committed.saturating_add(counts.aborted);
     append_numbered(text, b"transactions ", counts.transactions)?;
     append_numbered(text, b": ", counts.committed)?;
     append_numbered(text, b" committed, ", counts.aborted)?;
-    append_numbered(text, b" aborted, ", counts.transactions.saturating_sub(ended))?;
+    append_numbered(text, b" aborted, ", counts.active())?;
     text.extend_from_slice(b" active\n")?;
     Ok(())
 }
@@ -43,18 +43,25 @@ fn append_counts(text: &mut Vec<u8>, counts: &Counts) -> Result<(), NoMemory>
 fn append_serial(text: &mut Vec<u8>, history: &History, shown: &Serializability) -> Result<(), NoMemory>
     ensures { OnOk result (text.new.items ≡ text.old.items ++ serial_text history.now shown.now) }
 {
+    append_shown(text, history, shown)?;
+    text.extend_from_slice(b"\n")?;
+    Ok(())
+}
+
+/// Adds a serial order or a cycle.
+fn append_shown(text: &mut Vec<u8>, history: &History, shown: &Serializability) -> Result<(), NoMemory>
+    ensures { OnOk result (text.new.items ≡ text.old.items ++ shown_text history.now shown.now) }
+{
     match shown {
         Serializability::Serial(order) => {
             text.extend_from_slice(b"serializable yes:")?;
-            append_order(text, order.as_slice())?;
+            append_order(text, order.as_slice())
         }
         Serializability::Cycle(edges) => {
             text.extend_from_slice(b"serializable no:")?;
-            append_cycle(text, history, edges.as_slice())?;
+            append_cycle(text, history, edges.as_slice())
         }
     }
-    text.extend_from_slice(b"\n")?;
-    Ok(())
 }
 
 /// Adds a serial order.
