@@ -9,8 +9,8 @@ standard output:
   sgt bank --workers 4 < examples/bank/four_deposits.jsonl
   sgt check < examples/histories/write_skew.txt
 
-'sgt script --help', 'sgt bank --help' and 'sgt check --help' show what they read. A fault of the input is told by one line on standard error, with
-status 2.
+'sgt script --help', 'sgt bank --help' and 'sgt check --help' show what they read. A fault of the input is told by one line on
+standard error, with status 2.
 
 Limits:
 
@@ -121,15 +121,16 @@ report has these lines, in which an operation is followed by its place, counted 
   rigorous no: w2[x] (3) follows r1[x] (1), and 1 has not ended
   commit ordered no: 1 before 2 by r1[x] (1) w2[x] (3), and 2 committed first
 
-  serializable    yes with a serial order of those that committed: of those that may come next it is the one that committed first;
-                  no with a cycle of conflicts between them
+  serializable    yes with a serial order of those that committed: of those that may come next always the one that committed
+                  first; no with a cycle of conflicts between them
   recoverable     who commits has read from committed ones alone
   avoids ..       who reads from another reads what is committed
   strict          nobody reads or writes what another has written that has not ended
   rigorous        strict, and nobody writes what another has read that has not ended
   commit ordered  those whose operations conflict commit in the order of these operations
 
-Of each class that does not hold the first operation is told that breaks it, and one that it breaks it by. The status is 0 where the
-history is serializable and recoverable, 1 where not, and 2 at a fault, which is told on standard error: nothing is written then.
-An input has at most 268435456 bytes.
-The classes are those of Bernstein, Hadzilacos and Goodman (1987), chapter 2. docs/FORMATS.md of the repository has each line."#;
+Of each class that does not hold the first operation is told that breaks it, and one that it breaks it by. The status is 0 where
+the history is serializable and recoverable, 1 where not, and 2 at a fault, which is told on standard error: nothing is written
+then. An input has at most 268435456 bytes.
+The classes are those of Bernstein, Hadzilacos and Goodman (1987), chapter 2.
+docs/FORMATS.md of the repository has each line, examples/histories more histories."#;
