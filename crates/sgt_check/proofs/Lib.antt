@@ -1,0 +1,4 @@
+pub mod Pieces
+pub mod Counting
+pub mod Sound
+pub mod Whole

@@ -1,0 +1,51 @@
+-- Texts that grow piece by piece.
+use Rattle.std.proofs.Common.{◌≡◌, ℕ, ◌+◌, List, [], ◌++◌, map, refl, ap, sym, ◌∙◌, append_assoc}
+use Rattle.std.specs.Prelude.{Option, Some, None, Result, Ok, Err, OnOk, slice_get, codes}
+use Rattle.std.specs.Option.{option_map_or, option_map}
+use Rattle.std.specs.Fmt.{decimal}
+use Rattle.std.proofs.lemmas.Option.{slice_get-map}
+use Rattle.sgt_history.specs.declared.operation.Operation.{Operation}
+use Rattle.sgt_history.specs.declared.operation.Violation.{Violation}
+use Rattle.sgt_notation.specs.declared.history.History.{History}
+use Rattle.sgt_notation.specs.Spellings.{spelling, text_at}
+use Rattle.sgt_notation.specs.Readings.{texts}
+use Rattle.sgt_check.specs.ReportText.{placed, class_text}
+
+-- a piece behind what came
+pub grow : (start before after : List ℕ) (came piece : List ℕ) → before ≡ start ++ came → after ≡ before ++ piece
+    → after ≡ start ++ (came ++ piece)
+grow start before after came piece first second = second ∙ ap (λ l. l ++ piece) first ∙ append_assoc start came piece
+
+-- words and a number behind what came
+pub grow_number : (start before after : List ℕ) (came words number : List ℕ) → before ≡ start ++ came
+    → after ≡ (before ++ words) ++ number → after ≡ start ++ ((came ++ words) ++ number)
+grow_number start before after came words number first second =
+    second ∙ ap (λ l. (l ++ words) ++ number) first ∙ ap (λ l. l ++ number) (append_assoc start came words)
+    ∙ append_assoc start (came ++ words) number
+
+-- what follows from a good end
+pub on_ok : {T E : Type 0} (r : Result T E) (P Q : Type 0) → (P → Q) → OnOk r P → OnOk r Q
+on_ok (Ok x) P Q f p = f p
+on_ok (Err e) P Q f p = tt
+
+-- a class that is broken
+pub told_no : (name : List ℕ) (why : Violation → List ℕ) (o : Option Violation) (v : Violation) → o ≡ Some v
+    → name ++ codes " no: " ++ why v ≡ class_text name why o
+told_no name why o v is = sym (ap (class_text name why) is)
+
+text_of_item : {X : Type 0} (f : X → List ℕ) (xs : List X) (i : ℕ)
+    → option_map_or (λ text. text) (slice_get (map f xs) i) [] ≡ option_map_or f (slice_get xs i) []
+text_of_item {X} f xs i = ap (λ o. option_map_or (λ text. text) o []) (slice_get-map f xs i) ∙ by (slice_get xs i)
+  where
+    by : (o : Option X) → option_map_or (λ text. text) (option_map f o) [] ≡ option_map_or f o []
+    by None = refl
+    by (Some x) = refl
+
+-- the text of an item of a history
+pub name_text : (h : History) (i : ℕ) → option_map_or (λ name. name.items) (slice_get h.items.items i) [] ≡ text_at (texts h) i
+name_text h i = sym (text_of_item _ h.items.items i)
+
+-- the text of an operation that there is
+pub placed_there : (h : History) (i : ℕ) (op : Operation) → slice_get h.operations.items i ≡ Some op
+    → placed h i ≡ spelling (texts h) op ++ codes " (" ++ decimal (i + 1) ++ codes ")"
+placed_there h i op is = ap (λ o. option_map_or (λ op. spelling (texts h) op ++ codes " (" ++ decimal (i + 1) ++ codes ")") o []) is

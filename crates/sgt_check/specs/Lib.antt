@@ -1,0 +1,3 @@
+pub mod Reports
+pub mod ReportText
+pub mod Checks

@@ -1,0 +1,94 @@
+-- The lines of a report.
+use Rattle.std.specs.Prelude.{ℕ, ◌+◌, ◌-◌, List, [], ◌∷◌, ◌++◌, Option, Some, None, slice_get, codes}
+use Rattle.std.specs.Option.{option_map_or}
+use Rattle.std.specs.List.{flat_map}
+use Rattle.std.specs.Fmt.{decimal}
+use Rattle.sgt_history.specs.declared.operation.Violation.{Violation}
+use Rattle.sgt_history.specs.declared.graph.Edge.{Edge}
+use Rattle.sgt_history.specs.declared.serial.Serializability.{Serializability}
+use Rattle.sgt_history.specs.declared.serial.Serializability.TheVariants.{Serial, Cycle}
+use Rattle.sgt_notation.specs.declared.history.History.{History}
+use Rattle.sgt_notation.specs.Spellings.{spelling}
+use Rattle.sgt_notation.specs.Readings.{texts}
+use Rattle.sgt_check.specs.declared.report.Counts.{Counts}
+use Rattle.sgt_check.specs.declared.report.Report.{Report}
+
+-- the operation at a place, with the place counted from 1
+abbrev pub placed : History → ℕ → List ℕ
+placed h i = option_map_or (λ op. spelling (texts h) op ++ codes " (" ++ decimal (i + 1) ++ codes ")") (slice_get h.operations.items i) []
+
+-- the transaction of the operation at a place
+abbrev pub transaction_at : History → ℕ → List ℕ
+transaction_at h i = option_map_or (λ op. decimal op.transaction) (slice_get h.operations.items i) []
+
+-- the same of a place that may be none
+abbrev pub transaction_of : History → Option ℕ → List ℕ
+transaction_of h place = option_map_or (transaction_at h) place []
+
+-- how many transactions there are, and what became of them
+abbrev pub counts_text : Counts → List ℕ
+counts_text c = codes "transactions " ++ decimal c.transactions ++ codes ": " ++ decimal c.committed ++ codes " committed, "
+    ++ decimal c.aborted ++ codes " aborted, " ++ decimal (c.transactions - c.committed - c.aborted) ++ codes " active\n"
+
+-- a transaction of a serial order
+abbrev pub next_text : ℕ → List ℕ
+next_text t = codes " " ++ decimal t
+
+-- an edge by its two operations
+abbrev pub edge_text : History → Edge → List ℕ
+edge_text h e = codes " " ++ decimal e.from ++ codes " " ++ decimal e.to ++ codes " by " ++ placed h e.earlier ++ codes " " ++ placed h e.later
+
+-- each edge of a cycle but the first behind a comma
+abbrev pub later_edge_text : History → Edge → List ℕ
+later_edge_text h e = codes "," ++ edge_text h e
+
+-- the edges of a cycle, parted by commas
+abbrev pub cycle_text : History → List Edge → List ℕ
+cycle_text h [] = []
+cycle_text h (e ∷ es) = edge_text h e ++ flat_map (later_edge_text h) es
+
+-- a serial order, `none` where no transaction committed
+abbrev pub order_text : List ℕ → List ℕ
+order_text [] = codes " none"
+order_text (t ∷ ts) = flat_map next_text (t ∷ ts)
+
+-- a serial order or a cycle
+abbrev pub shown_text : History → Serializability → List ℕ
+shown_text h (Serial order) = codes "serializable yes:" ++ order_text order.items
+shown_text h (Cycle edges) = codes "serializable no:" ++ cycle_text h edges.items
+
+-- the same as a line
+abbrev pub serial_text : History → Serializability → List ℕ
+serial_text h shown = shown_text h shown ++ codes "\n"
+
+-- a class: yes, or no and why not
+abbrev pub class_text : List ℕ → (Violation → List ℕ) → Option Violation → List ℕ
+class_text name why None = name ++ codes " yes\n"
+class_text name why (Some v) = name ++ codes " no: " ++ why v
+
+-- a commit too early
+abbrev pub recoverable_why : History → Option ℕ → Violation → List ℕ
+recoverable_why h write v = placed h v.later ++ codes ", which reads from " ++ transaction_of h write ++ codes " by " ++ placed h v.earlier
+    ++ codes ", and " ++ transaction_of h write ++ codes " has not committed\n"
+
+-- a read of what is not committed
+abbrev pub avoiding_why : History → Violation → List ℕ
+avoiding_why h v = placed h v.later ++ codes " reads from " ++ transaction_at h v.earlier ++ codes ", which has not committed\n"
+
+-- an operation that came before the end of the earlier one's transaction
+abbrev pub follows_why : History → Violation → List ℕ
+follows_why h v = placed h v.later ++ codes " follows " ++ placed h v.earlier ++ codes ", and " ++ transaction_at h v.earlier ++ codes " has not ended\n"
+
+-- two operations whose transactions committed the other way round
+abbrev pub order_why : History → Violation → List ℕ
+order_why h v = transaction_at h v.earlier ++ codes " before " ++ transaction_at h v.later ++ codes " by " ++ placed h v.earlier ++ codes " "
+    ++ placed h v.later ++ codes ", and " ++ transaction_at h v.later ++ codes " committed first\n"
+
+-- the seven lines
+abbrev pub report_text : History → Report → List ℕ
+report_text h r = counts_text r.counts ++ serial_text h r.serializability
+    ++ class_text (codes "recoverable") (recoverable_why h r.dirty_write) r.recoverable
+    ++ class_text (codes "avoids cascading aborts") (avoiding_why h) r.avoiding
+    ++ class_text (codes "strict") (follows_why h) r.strict
+    ++ class_text (codes "rigorous") (follows_why h) r.rigorous
+    ++ class_text (codes "commit ordered") (order_why h) r.commit_ordered

@@ -1,0 +1,41 @@
+ghost use Rattle.std.specs.Prelude.{◌≡◌};
+ghost use Rattle.sgt_check.specs.declared.fault.CheckFault.TheVariants as fault;
+
+use sgt_notation::NotationFault;
+use thiserror::Error;
+
+/// How a check can end without a report.
+#[derive(Debug, Drop, PartialEq, Eq, Error)]
+pub enum CheckFault {
+    /// The text spells no history.
+    #[error("{0}")]
+    Notation(NotationFault),
+    /// The input is longer than 268,435,456 bytes.
+    #[error("input too long")]
+    TooLong,
+    /// A read failed.
+    #[error("reading failed")]
+    Reading,
+    /// A write failed, or took nothing.
+    #[error("writing failed")]
+    Writing,
+    /// A growth was refused.
+    #[error("no memory")]
+    NoMemory,
+}
+
+impl From<sgt_model::NoMemory> for CheckFault {
+    ghost from_gives = { λ _ f. f ≡ fault.NoMemory };
+
+    fn from(_: sgt_model::NoMemory) -> Self {
+        CheckFault::NoMemory
+    }
+}
+
+impl From<NotationFault> for CheckFault {
+    ghost from_gives = { λ f g. g ≡ fault.Notation f };
+
+    fn from(fault: NotationFault) -> Self {
+        CheckFault::Notation(fault)
+    }
+}

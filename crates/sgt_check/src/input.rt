@@ -1,0 +1,63 @@
+//! The whole of an input.
+ghost use Rattle.std.specs.Prelude.{◌≡◌, ◌≢◌, ◌^◌, ◌+◌, ◌++◌, ◌<◌, ◌≤◌, length, IfOk, OnOk, IfSome, Err};
+ghost use Rattle.std.specs.Io.KnownBytes.{Consumes, IsAtEnd};
+ghost use Rattle.sgt_check.specs.declared.fault.CheckFault.TheVariants as fault;
+ghost use Rattle.sgt_notation.specs.declared.fault.NotationFault.{NotationFault};
+
+use crate::fault::CheckFault;
+use sgt_model::NoMemory;
+use sgt_stream::Source;
+use std::alloc::{AllocError, Global};
+
+/// The most bytes that an input may have.
+pub(crate) const LONGEST_INPUT: usize = 268_435_456;
+
+/// How many bytes are asked for at once.
+const ROOM: usize = 65_536;
+
+/// All the bytes that the source gives.
+///
+/// # Errors
+///
+/// `TooLong` where they are more than an input may have, `Reading` where a read failed, and `NoMemory`.
+pub(crate) fn read_input<S: Source>(alloc: Global, source: &mut S) -> Result<Vec<u8>, CheckFault>
+    requires { S.failures source.old + 1 < 2 ^ 64 }
+    ensures bytes { IfOk result (λ text. IfSome (S.rest source.old) (λ bytes. bytes ≡ text.items)) }
+    ensures short { IfOk result (λ text. length text.items ≤ 268435456) }
+    ensures long { result ≡ Err CheckFault.TooLong →
+        IfSome (S.rest source.old) (λ bytes. 268435456 < length bytes) }
+    ensures well { result ≢ Err CheckFault.Reading → S.failures source.new ≡ S.failures source.old }
+    ensures failed { result ≡ Err CheckFault.Reading → S.failures source.new ≡ S.failures source.old + 1 }
+    ensures no_notation { (f : NotationFault) → result ≢ Err (fault.Notation f) }
+    ensures no_other { result ≢ Err CheckFault.Writing }
+{
+    let mut text = Vec::new(alloc);
+    let mut room = new_room(alloc)?;
+    loop {
+        let Ok(count) = source.read(&mut room) else {
+            return Err(CheckFault::Reading);
+        };
+        if count == 0 {
+            return Ok(text);
+        }
+        if count > LONGEST_INPUT - text.len() {
+            return Err(CheckFault::TooLong);
+        }
+        append(&mut text, &room[..count])?;
+    }
+}
+
+/// Room for what comes at once.
+fn new_room(alloc: Global) -> Result<Vec<u8>, NoMemory>
+    ensures { IfOk result (λ room. length room.items ≡ 65536) }
+{
+    Ok(vec![in alloc; 0; ROOM]?)
+}
+
+/// Adds bytes to a text.
+fn append(text: &mut Vec<u8>, bytes: &[u8]) -> Result<(), NoMemory>
+    ensures { OnOk result (text.new.items ≡ text.old.items ++ bytes.now) }
+{
+    text.extend_from_slice(bytes)?;
+    Ok(())
+}

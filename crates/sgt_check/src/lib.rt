@@ -1,0 +1,24 @@
+//! The check of a history that is given as text: is it serializable, recoverable, and of which other classes?
+//!
+//! [`check_history`] puts the checkers of `sgt_history` together into a [`Report`], [`append_report`] writes it as seven lines,
+//! and [`run_check`] does so for what a reader gives. The classes are defined in `sgt_history`, the notation in `sgt_notation`,
+//! and the lines of a report in `specs/ReportText.antt`.
+//!
+//! ```
+//! let history = read_history(alloc, b"w1[x] r2[x] c2 c1")?;
+//! let report = check_history(alloc, history.operations.as_slice())?;
+//! report.recoverable;     // 2 commits before 1, which it reads from
+//! ```
+#![tactic(auto)]
+
+mod fault;
+mod input;
+mod placed_text;
+mod report;
+mod report_text;
+mod run;
+
+pub use fault::CheckFault;
+pub use report::{Counts, Report, check_history};
+pub use report_text::append_report;
+pub use run::run_check;

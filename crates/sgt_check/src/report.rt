@@ -1,0 +1,134 @@
+//! What a check finds.
+ghost use Rattle.std.specs.Prelude.{◌≡◌, ◌<◌, ◌+◌, ◌-◌, ◌^◌, ◌==◌, ◌||◌, not, if◌then◌else◌, ℕ, is_some, IfOk, OnOk};
+ghost use Rattle.std.specs.BTreeMap.{get};
+ghost use Rattle.std.specs.Ordering.{nat_cmp};
+ghost use Rattle.sgt_history.specs.Classes.{BreaksRecoverability, IsFirstViolation};
+ghost use Rattle.sgt_check.specs.Reports.{IsReport, AreCounts, IsWriteOf, commits, aborts};
+
+use sgt_history::{
+    Action, Operation, Serializability, Violation, avoidance_violation, commit_order_violation,
+    read_source, recoverable_violation, rigorous_violation, serial_order_or_cycle,
+    strict_violation,
+};
+use sgt_model::NoMemory;
+use std::alloc::Global;
+use std::collections::BTreeMap;
+
+/// How many transactions a history has, and how many of them have ended.
+#[derive(Clone, Copy, Debug, Default, PartialEq, Eq)]
+pub struct Counts {
+    /// The transactions: the operations that are the first of theirs.
+    pub transactions: usize,
+    /// The commits.
+    pub committed: usize,
+    /// The aborts.
+    pub aborted: usize,
+}
+
+impl Counts {
+    /// The transactions that have not ended.
+    pub fn active(&self) -> usize
+        ensures { result ≡ self.now.transactions - self.now.committed - self.now.aborted }
+    {
+        self.transactions
+            .saturating_sub(self.committed)
+            .saturating_sub(self.aborted)
+    }
+}
+
+/// What a check finds of a history. Of each class the first operation that breaks it stands here, with one that it breaks it by.
+#[derive(Debug, Drop, PartialEq, Eq)]
+pub struct Report {
+    pub counts: Counts,
+    /// A serial order or a cycle.
+    pub serializability: Serializability,
+    /// The commit of a transaction that has read from one that has not committed, and that read.
+    pub recoverable: Option<Violation>,
+    /// The place of the write that this read reads from.
+    pub dirty_write: Option<usize>,
+    pub avoiding: Option<Violation>,
+    pub strict: Option<Violation>,
+    pub rigorous: Option<Violation>,
+    pub commit_ordered: Option<Violation>,
+}
+
+/// Checks a history for all classes.
+///
+/// It costs what the checkers of `sgt_history` cost, one after another.
+///
+/// # Errors
+///
+/// `NoMemory` where a growth was refused.
+pub fn check_history(alloc: Global, history: &[Operation]) -> Result<Report, NoMemory>
+    ensures { IfOk result (IsReport history.now) }
+{
+    let counts = count(alloc, history)?;
+    let serializability = serial_order_or_cycle(alloc, history)?;
+    let recoverable = recoverable_violation(alloc, history)?;
+    let dirty_write = dirty_write(alloc, history, &recoverable)?;
+    Ok(Report {
+        counts,
+        serializability,
+        recoverable,
+        dirty_write,
+        avoiding: avoidance_violation(alloc, history)?,
+        strict: strict_violation(alloc, history)?,
+        rigorous: rigorous_violation(alloc, history)?,
+        commit_ordered: commit_order_violation(alloc, history)?,
+    })
+}
+
+/// The place of the write that the read of a violation of recoverability reads from.
+fn dirty_write(
+    alloc: Global,
+    history: &[Operation],
+    violation: &Option<Violation>,
+) -> Result<Option<usize>, NoMemory>
+    requires { IsFirstViolation (BreaksRecoverability history.now) violation.now }
+    ensures { IfOk result (IsWriteOf history.now violation.now) }
+{
+    match violation {
+        Some(violation) => read_source(alloc, history, violation.earlier),
+        None => Ok(None),
+    }
+}
+
+/// Counts the transactions.
+fn count(alloc: Global, history: &[Operation]) -> Result<Counts, NoMemory>
+    ensures { IfOk result (AreCounts history.now) }
+{
+    let mut seen = BTreeMap::new(alloc);
+    let mut counts = Counts::default();
+    for place in 0..history.len() {
+        let operation = history[place];
+        let is_first = note(&mut seen, operation.transaction, place)?;
+        add(&mut counts, is_first, &operation.action);
+    }
+    Ok(counts)
+}
+
+/// Notes that the transaction acts, and tells whether it has not before.
+fn note(seen: &mut BTreeMap<u32, usize>, transaction: u32, place: usize) -> Result<bool, NoMemory>
+    ensures first { IfOk result (λ first. first ≡ not (is_some (get nat_cmp seen.old transaction))) }
+    ensures seen { OnOk result ((t : ℕ) →
+        is_some (get nat_cmp seen.new t) ≡ (is_some (get nat_cmp seen.old t) || transaction == t)) }
+{
+    Ok(seen.insert(transaction, place)?.is_none())
+}
+
+/// Counts an operation.
+fn add(counts: &mut Counts, is_first: bool, action: &Action)
+    requires transactions { counts.old.transactions + 1 < 2 ^ 64 }
+    requires committed { counts.old.committed + 1 < 2 ^ 64 }
+    requires aborted { counts.old.aborted + 1 < 2 ^ 64 }
+    ensures transactions { counts.new.transactions ≡ counts.old.transactions + (if is_first then 1 else 0) }
+    ensures committed { counts.new.committed ≡ counts.old.committed + (if commits action.now then 1 else 0) }
+    ensures aborted { counts.new.aborted ≡ counts.old.aborted + (if aborts action.now then 1 else 0) }
+{
+    counts.transactions += usize::from(is_first);
+    match action {
+        Action::Commit => counts.committed += 1,
+        Action::Abort => counts.aborted += 1,
+        Action::Read(_) | Action::Write(_) => (),
+    }
+}

@@ -1,0 +1,204 @@
+//! The lines of a report.
+ghost use Rattle.std.specs.Prelude.{◌≡◌, ◌++◌, OnOk, codes, flat_map};
+ghost use Rattle.sgt_check.specs.ReportText.{counts_text, order_text, next_text, edge_text, later_edge_text, cycle_text, shown_text, serial_text, class_text, recoverable_why, avoiding_why, follows_why, order_why, report_text};
+
+use crate::placed_text::{append_placed, append_transaction_at, append_transaction_of};
+use crate::report::{Counts, Report};
+use sgt_format::append_numbered;
+use sgt_history::{Edge, Serializability, Violation};
+use sgt_model::NoMemory;
+use sgt_notation::History;
+
+/// Adds the seven lines of a report.
+///
+/// # Errors
+///
+/// `NoMemory` where a growth was refused. A part of the lines may have been added then.
+pub fn append_report(text: &mut Vec<u8>, history: &History, report: &Report) -> Result<(), NoMemory>
+    ensures { OnOk result (text.new.items ≡ text.old.items ++ report_text history.now report.now) }
+{
+    append_counts(text, &report.counts)?;
+    append_serial(text, history, &report.serializability)?;
+    append_recoverable(text, history, report)?;
+    append_avoiding(text, history, &report.avoiding)?;
+    append_follows(text, b"strict", history, &report.strict)?;
+    append_follows(text, b"rigorous", history, &report.rigorous)?;
+    append_order_kept(text, history, &report.commit_ordered)?;
+    Ok(())
+}
+
+/// Adds the line of the counts.
+fn append_counts(text: &mut Vec<u8>, counts: &Counts) -> Result<(), NoMemory>
+    ensures { OnOk result (text.new.items ≡ text.old.items ++ counts_text counts.now) }
+{
+    append_numbered(text, b"transactions ", counts.transactions)?;
+    append_numbered(text, b": ", counts.committed)?;
+    append_numbered(text, b" committed, ", counts.aborted)?;
+    append_numbered(text, b" aborted, ", counts.active())?;
+    text.extend_from_slice(b" active\n")?;
+    Ok(())
+}
+
+/// Adds the line of serializability.
+fn append_serial(text: &mut Vec<u8>, history: &History, shown: &Serializability) -> Result<(), NoMemory>
+    ensures { OnOk result (text.new.items ≡ text.old.items ++ serial_text history.now shown.now) }
+{
+    append_shown(text, history, shown)?;
+    text.extend_from_slice(b"\n")?;
+    Ok(())
+}
+
+/// Adds a serial order or a cycle.
+fn append_shown(text: &mut Vec<u8>, history: &History, shown: &Serializability) -> Result<(), NoMemory>
+    ensures { OnOk result (text.new.items ≡ text.old.items ++ shown_text history.now shown.now) }
+{
+    match shown {
+        Serializability::Serial(order) => {
+            text.extend_from_slice(b"serializable yes:")?;
+            append_order(text, order.as_slice())
+        }
+        Serializability::Cycle(edges) => {
+            text.extend_from_slice(b"serializable no:")?;
+            append_cycle(text, history, edges.as_slice())
+        }
+    }
+}
+
+/// Adds a serial order.
+fn append_order(text: &mut Vec<u8>, order: &[u32]) -> Result<(), NoMemory>
+    ensures { OnOk result (text.new.items ≡ text.old.items ++ order_text order.now) }
+{
+    if order.is_empty() {
+        text.extend_from_slice(b" none")?;
+        return Ok(());
+    }
+    append_each(text, order)
+}
+
+/// Adds each transaction behind a blank.
+fn append_each(text: &mut Vec<u8>, order: &[u32]) -> Result<(), NoMemory>
+    ensures { OnOk result (text.new.items ≡ text.old.items ++ flat_map next_text order.now) }
+{
+    for transaction in order {
+        append_numbered(text, b" ", *transaction)?;
+    }
+    Ok(())
+}
+
+/// Adds the edges of a cycle.
+fn append_cycle(text: &mut Vec<u8>, history: &History, edges: &[Edge]) -> Result<(), NoMemory>
+    ensures { OnOk result (text.new.items ≡ text.old.items ++ cycle_text history.now edges.now) }
+{
+    if edges.is_empty() {
+        return Ok(());
+    }
+    append_edge(text, history, &edges[0])?;
+    append_later_edges(text, history, &edges[1..])
+}
+
+/// Adds each edge behind a comma.
+fn append_later_edges(text: &mut Vec<u8>, history: &History, edges: &[Edge]) -> Result<(), NoMemory>
+    ensures { OnOk result (text.new.items ≡ text.old.items ++ flat_map (later_edge_text history.now) edges.now) }
+{
+    for edge in edges {
+        append_later_edge(text, history, edge)?;
+    }
+    Ok(())
+}
+
+/// Adds an edge behind a comma.
+fn append_later_edge(text: &mut Vec<u8>, history: &History, edge: &Edge) -> Result<(), NoMemory>
+    ensures { OnOk result (text.new.items ≡ text.old.items ++ later_edge_text history.now edge.now) }
+{
+    text.extend_from_slice(b",")?;
+    append_edge(text, history, edge)
+}
+
+/// Adds an edge and its two operations.
+fn append_edge(text: &mut Vec<u8>, history: &History, edge: &Edge) -> Result<(), NoMemory>
+    ensures { OnOk result (text.new.items ≡ text.old.items ++ edge_text history.now edge.now) }
+{
+    append_numbered(text, b" ", edge.from)?;
+    append_numbered(text, b" ", edge.to)?;
+    text.extend_from_slice(b" by ")?;
+    append_placed(text, history, edge.earlier)?;
+    text.extend_from_slice(b" ")?;
+    append_placed(text, history, edge.later)
+}
+
+/// Adds the line of recoverability.
+fn append_recoverable(text: &mut Vec<u8>, history: &History, report: &Report) -> Result<(), NoMemory>
+    ensures { OnOk result (text.new.items ≡ text.old.items ++ class_text (codes "recoverable") (recoverable_why history.now report.now.dirty_write) report.now.recoverable) }
+{
+    let Some(violation) = &report.recoverable else {
+        text.extend_from_slice(b"recoverable yes\n")?;
+        return Ok(());
+    };
+    text.extend_from_slice(b"recoverable no: ")?;
+    append_placed(text, history, violation.later)?;
+    text.extend_from_slice(b", which reads from ")?;
+    append_transaction_of(text, history, report.dirty_write)?;
+    text.extend_from_slice(b" by ")?;
+    append_placed(text, history, violation.earlier)?;
+    text.extend_from_slice(b", and ")?;
+    append_transaction_of(text, history, report.dirty_write)?;
+    text.extend_from_slice(b" has not committed\n")?;
+    Ok(())
+}
+
+/// Adds the line of the avoidance of cascading aborts.
+fn append_avoiding(text: &mut Vec<u8>, history: &History, violation: &Option<Violation>) -> Result<(), NoMemory>
+    ensures { OnOk result (text.new.items ≡ text.old.items ++ class_text (codes "avoids cascading aborts") (avoiding_why history.now) violation.now) }
+{
+    let Some(violation) = violation else {
+        text.extend_from_slice(b"avoids cascading aborts yes\n")?;
+        return Ok(());
+    };
+    text.extend_from_slice(b"avoids cascading aborts no: ")?;
+    append_placed(text, history, violation.later)?;
+    text.extend_from_slice(b" reads from ")?;
+    append_transaction_at(text, history, violation.earlier)?;
+    text.extend_from_slice(b", which has not committed\n")?;
+    Ok(())
+}
+
+/// Adds the line of a class that an operation breaks which comes before the end of an earlier one's transaction.
+fn append_follows(text: &mut Vec<u8>, name: &[u8], history: &History, violation: &Option<Violation>) -> Result<(), NoMemory>
+    ensures { OnOk result (text.new.items ≡ text.old.items ++ class_text name.now (follows_why history.now) violation.now) }
+{
+    text.extend_from_slice(name)?;
+    let Some(violation) = violation else {
+        text.extend_from_slice(b" yes\n")?;
+        return Ok(());
+    };
+    text.extend_from_slice(b" no: ")?;
+    append_placed(text, history, violation.later)?;
+    text.extend_from_slice(b" follows ")?;
+    append_placed(text, history, violation.earlier)?;
+    text.extend_from_slice(b", and ")?;
+    append_transaction_at(text, history, violation.earlier)?;
+    text.extend_from_slice(b" has not ended\n")?;
+    Ok(())
+}
+
+/// Adds the line of the commit order.
+fn append_order_kept(text: &mut Vec<u8>, history: &History, violation: &Option<Violation>) -> Result<(), NoMemory>
+    ensures { OnOk result (text.new.items ≡ text.old.items ++ class_text (codes "commit ordered") (order_why history.now) violation.now) }
+{
+    let Some(violation) = violation else {
+        text.extend_from_slice(b"commit ordered yes\n")?;
+        return Ok(());
+    };
+    text.extend_from_slice(b"commit ordered no: ")?;
+    append_transaction_at(text, history, violation.earlier)?;
+    text.extend_from_slice(b" before ")?;
+    append_transaction_at(text, history, violation.later)?;
+    text.extend_from_slice(b" by ")?;
+    append_placed(text, history, violation.earlier)?;
+    text.extend_from_slice(b" ")?;
+    append_placed(text, history, violation.later)?;
+    text.extend_from_slice(b", and ")?;
+    append_transaction_at(text, history, violation.later)?;
+    text.extend_from_slice(b" committed first\n")?;
+    Ok(())
+}
