@@ -65,7 +65,9 @@ fn command<'a>(alloc: Global) -> Result<Command<'a>, AllocError> {
         .arg(workers)?
         .arg(tries)?;
     let check = Command::new(alloc, "check")
-        .about("Tells whether a history from standard input is serializable, recoverable, and of which other classes")
+        .about(
+            "Tells whether a history from standard input is serializable, recoverable, and of which other classes",
+        )
         .after_help(CHECK_HELP);
     Command::new(alloc, "sgt")
         .about("An in-memory transaction engine that schedules by serialization graph testing")

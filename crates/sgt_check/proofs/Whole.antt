@@ -22,14 +22,18 @@ pub is_checked : (rest held held' : Option (List ℕ)) (text lines : List ℕ) (
     → ((sound ≡ true) ↔ (IsSerializable h.operations.items × IsRecoverable h.operations.items))
     → IfSome rest (λ input. (output : List ℕ) × Appends held held' output × IsChecked input output sound)
 is_checked None held held' text lines h r sound same read found written appended verdict = tt
-is_checked (Some bytes) held held' text lines h r sound same read found written appended verdict = (lines, appended, record {
-  history = h;
-  report = r;
-  read = subst (λ t. AreRead (words_of t) (texts h) h.operations.items) (sym same) read;
-  found = found;
-  written = written;
-  verdict = verdict;
-})
+is_checked (Some bytes) held held' text lines h r sound same read found written appended verdict = (
+  lines,
+  appended,
+  record {
+    history = h;
+    report = r;
+    read = subst (λ t. AreRead (words_of t) (texts h) h.operations.items) (sym same) read;
+    found = found;
+    written = written;
+    verdict = verdict;
+  },
+)
 
 -- what kept the input from being read is told of it
 pub input_fault : (rest : Option (List ℕ)) (f : CheckFault) → (f ≡ TooLong → IfSome rest (λ bytes. 268435456 < length bytes))

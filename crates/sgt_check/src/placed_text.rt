@@ -11,7 +11,11 @@ use sgt_model::NoMemory;
 use sgt_notation::History;
 
 /// Adds the operation at a place, and the place counted from 1.
-pub(crate) fn append_placed(text: &mut Vec<u8>, history: &History, place: usize) -> Result<(), NoMemory>
+pub(crate) fn append_placed(
+    text: &mut Vec<u8>,
+    history: &History,
+    place: usize,
+) -> Result<(), NoMemory>
     ensures { OnOk result (text.new.items ≡ text.old.items ++ placed history.now place) }
 {
     let Some(operation) = history.operations.get(place) else {
@@ -24,7 +28,11 @@ pub(crate) fn append_placed(text: &mut Vec<u8>, history: &History, place: usize)
 }
 
 /// Adds the operation as it is spelled.
-fn append_operation(text: &mut Vec<u8>, history: &History, operation: &Operation) -> Result<(), NoMemory>
+fn append_operation(
+    text: &mut Vec<u8>,
+    history: &History,
+    operation: &Operation,
+) -> Result<(), NoMemory>
     ensures { OnOk result (text.new.items ≡ text.old.items ++ spelling (texts history.now) operation.now) }
 {
     match operation.action {
@@ -63,7 +71,11 @@ fn append_name(text: &mut Vec<u8>, history: &History, item: u32) -> Result<(), N
 }
 
 /// Adds the transaction of the operation at a place.
-pub(crate) fn append_transaction_at(text: &mut Vec<u8>, history: &History, place: usize) -> Result<(), NoMemory>
+pub(crate) fn append_transaction_at(
+    text: &mut Vec<u8>,
+    history: &History,
+    place: usize,
+) -> Result<(), NoMemory>
     ensures { OnOk result (text.new.items ≡ text.old.items ++ transaction_at history.now place) }
 {
     if let Some(operation) = history.operations.get(place) {
@@ -73,7 +85,11 @@ pub(crate) fn append_transaction_at(text: &mut Vec<u8>, history: &History, place
 }
 
 /// Adds the transaction of the operation at a place, if there is a place.
-pub(crate) fn append_transaction_of(text: &mut Vec<u8>, history: &History, place: Option<usize>) -> Result<(), NoMemory>
+pub(crate) fn append_transaction_of(
+    text: &mut Vec<u8>,
+    history: &History,
+    place: Option<usize>,
+) -> Result<(), NoMemory>
     ensures { OnOk result (text.new.items ≡ text.old.items ++ transaction_of history.now place) }
 {
     match place {

@@ -40,7 +40,11 @@ fn append_counts(text: &mut Vec<u8>, counts: &Counts) -> Result<(), NoMemory>
 }
 
 /// Adds the line of serializability.
-fn append_serial(text: &mut Vec<u8>, history: &History, shown: &Serializability) -> Result<(), NoMemory>
+fn append_serial(
+    text: &mut Vec<u8>,
+    history: &History,
+    shown: &Serializability,
+) -> Result<(), NoMemory>
     ensures { OnOk result (text.new.items ≡ text.old.items ++ serial_text history.now shown.now) }
 {
     append_shown(text, history, shown)?;
@@ -49,7 +53,11 @@ fn append_serial(text: &mut Vec<u8>, history: &History, shown: &Serializability)
 }
 
 /// Adds a serial order or a cycle.
-fn append_shown(text: &mut Vec<u8>, history: &History, shown: &Serializability) -> Result<(), NoMemory>
+fn append_shown(
+    text: &mut Vec<u8>,
+    history: &History,
+    shown: &Serializability,
+) -> Result<(), NoMemory>
     ensures { OnOk result (text.new.items ≡ text.old.items ++ shown_text history.now shown.now) }
 {
     match shown {
@@ -127,7 +135,11 @@ fn append_edge(text: &mut Vec<u8>, history: &History, edge: &Edge) -> Result<(),
 }
 
 /// Adds the line of recoverability.
-fn append_recoverable(text: &mut Vec<u8>, history: &History, report: &Report) -> Result<(), NoMemory>
+fn append_recoverable(
+    text: &mut Vec<u8>,
+    history: &History,
+    report: &Report,
+) -> Result<(), NoMemory>
     ensures { OnOk result (text.new.items ≡ text.old.items ++ class_text (codes "recoverable") (recoverable_why history.now report.now.dirty_write) report.now.recoverable) }
 {
     let Some(violation) = &report.recoverable else {
@@ -147,7 +159,11 @@ fn append_recoverable(text: &mut Vec<u8>, history: &History, report: &Report) ->
 }
 
 /// Adds the line of the avoidance of cascading aborts.
-fn append_avoiding(text: &mut Vec<u8>, history: &History, violation: &Option<Violation>) -> Result<(), NoMemory>
+fn append_avoiding(
+    text: &mut Vec<u8>,
+    history: &History,
+    violation: &Option<Violation>,
+) -> Result<(), NoMemory>
     ensures { OnOk result (text.new.items ≡ text.old.items ++ class_text (codes "avoids cascading aborts") (avoiding_why history.now) violation.now) }
 {
     let Some(violation) = violation else {
@@ -163,7 +179,12 @@ fn append_avoiding(text: &mut Vec<u8>, history: &History, violation: &Option<Vio
 }
 
 /// Adds the line of a class that an operation breaks which comes before the end of an earlier one's transaction.
-fn append_follows(text: &mut Vec<u8>, name: &[u8], history: &History, violation: &Option<Violation>) -> Result<(), NoMemory>
+fn append_follows(
+    text: &mut Vec<u8>,
+    name: &[u8],
+    history: &History,
+    violation: &Option<Violation>,
+) -> Result<(), NoMemory>
     ensures { OnOk result (text.new.items ≡ text.old.items ++ class_text name.now (follows_why history.now) violation.now) }
 {
     text.extend_from_slice(name)?;
@@ -182,7 +203,11 @@ fn append_follows(text: &mut Vec<u8>, name: &[u8], history: &History, violation:
 }
 
 /// Adds the line of the commit order.
-fn append_order_kept(text: &mut Vec<u8>, history: &History, violation: &Option<Violation>) -> Result<(), NoMemory>
+fn append_order_kept(
+    text: &mut Vec<u8>,
+    history: &History,
+    violation: &Option<Violation>,
+) -> Result<(), NoMemory>
     ensures { OnOk result (text.new.items ≡ text.old.items ++ class_text (codes "commit ordered") (order_why history.now) violation.now) }
 {
     let Some(violation) = violation else {

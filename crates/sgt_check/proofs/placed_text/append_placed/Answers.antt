@@ -13,7 +13,7 @@ returns c =
     let op = c.in-Some.operation.now in
     let within : c.args.place < length items = subst (λ l. c.args.place < length l) c.deref.ensures.value c.in-Some.ensures.lookup.3.0 in
     let is : op ≡ slice_index_or items c.args.place op =
-        c.in-Some.ensures.lookup.1 ∙ ap (λ l. slice_index_or l c.args.place op) c.deref.ensures.value in
+    c.in-Some.ensures.lookup.1 ∙ ap (λ l. slice_index_or l c.args.place op) c.deref.ensures.value in
     let there : slice_get items c.args.place ≡ Some op = slice_get-get_or items c.args.place op within ∙ ap Some (sym is) in
     (grow c.args.text.now.items c.append_numbered.new.line.items c.extend_from_slice.new.self.items _ (codes ")")
     (grow_number c.args.text.now.items c.append_operation.new.text.items c.append_numbered.new.line.items (spelling (texts c.args.history.now) c.in-Some.operation.now) (codes " (") (decimal (c.args.place + 1))

@@ -20,6 +20,9 @@ loop-place-preserved c =
       transactions = first_one h p d _ _ _ _ c.loop-place-test.true old.transactions (old.seen _) noted.first added.transactions;
       committed = count_one (λ op. commits op.action) h p d _ _ c.loop-place-test.true old.committed added.committed;
       aborted = count_one (λ op. aborts op.action) h p d _ _ c.loop-place-test.true old.aborted added.aborted;
-      few = (few_one _ _ _ _ old.few.0 added.transactions, few_one _ _ _ _ old.few.1 added.committed,
-          few_one _ _ _ _ old.few.2 added.aborted);
+      few = (
+        few_one _ _ _ _ old.few.0 added.transactions,
+        few_one _ _ _ _ old.few.1 added.committed,
+        few_one _ _ _ _ old.few.2 added.aborted,
+      );
     }
