@@ -1,33 +1,43 @@
 //! The line of each kind of outcome, also of those that no bank of the program has.
 
 use sgt_bank::outcome_line;
-use sgt_model::{Answers, Cause, Entry, Event, Reply, Tid, Tids};
+use sgt_entries::History;
+use sgt_model::{Answers, Cause, Event, NoMemory, Reply, Tid, Tids};
 use sgt_workers::Outcome;
-use std::alloc::AllocGlobal;
+use std::alloc::{AllocGlobal, Global};
 use std::io;
 use std::io::{ErrorKind, Print, Write};
 
-/// An entry with this reply.
-fn entry(reply: Reply) -> Entry {
-    let event = Event::Commit(Tid(0));
-    Entry { event, reply }
+/// A history with each kind of reply that an outcome names.
+fn replied(alloc: Global) -> Result<History, NoMemory> {
+    let replies = [
+        Reply::Committed(Answers::from_slice(&[1500, -1]).unwrap_or(Answers::new())),
+        Reply::Committed(Answers::new()),
+        Reply::Aborted {
+            cause: Cause::Asked(3),
+            fell: Tids::new(),
+        },
+        Reply::NoProcedure,
+        Reply::BadArgs,
+        Reply::Spent,
+        Reply::Full,
+    ];
+    let mut history = History::new(alloc);
+    for reply in &replies {
+        history.reserve(1)?;
+        history.push(&Event::Commit(Tid(0)), reply);
+    }
+    Ok(history)
+}
+
+/// The line of an outcome of job 7.
+fn line(alloc: Global, outcome: &Outcome<u64>) -> Result<Vec<u8>, NoMemory> {
+    outcome_line(alloc, 7, outcome, &replied(alloc)?)
 }
 
 /// Writes the line of an outcome of job 7.
 fn write_line<R: AllocGlobal + Print>(rt: &R, outcome: &Outcome<u64>) -> io::Result<()> {
-    let history = [
-        entry(Reply::Committed(Answers::from_slice(&[1500, -1]).unwrap_or(Answers::new()))),
-        entry(Reply::Committed(Answers::new())),
-        entry(Reply::Aborted {
-            cause: Cause::Asked(3),
-            fell: Tids::new(),
-        }),
-        entry(Reply::NoProcedure),
-        entry(Reply::BadArgs),
-        entry(Reply::Spent),
-        entry(Reply::Full),
-    ];
-    match outcome_line(rt.alloc(), 7, outcome, &history) {
+    match line(rt.alloc(), outcome) {
         Ok(line) => io::writer(rt).write_all(line.as_slice()),
         Err(_) => Err(io::Error::from(ErrorKind::OutOfMemory)),
     }
