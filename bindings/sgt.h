@@ -3,8 +3,7 @@
  *
  * The library is proved: running the committed transactions one after another in commit order gives each of them the answers
  * that it was told, and ends in the committed database. See docs/LIBRARY.md for a first program, and docs/DEFINITIONS.md for
- * the
- * words used here.
+ * the words used here.
  *
  * A caller keeps an engine in an sgt_engine. Transactions are started, make one access at each step, and are committed or quit;
  * each of these events is answered by one reply, and both are kept in the history. Every call answers a status; SGT_OK is 0.
@@ -16,7 +15,7 @@
  *   - An sgt_engine is all zero bytes before its first sgt_open: `sgt_engine engine = {0};`. From then on only the library
  *     writes it, and nobody copies it: a copy would be a second owner of the same engine. It may be moved by memcpy while no
  *     call runs, where the old bytes are never used again.
- *   - An sgt_reply and an sgt_fault are filled with anything, but filled: `sgt_reply reply = {0};`.
+ *   - An sgt_reply, an sgt_event, an sgt_fault and an sgt_row are filled with anything, but filled: `sgt_reply reply = {0};`.
  *   - Pointers are not null, are aligned, point to as much as the call says, and no two of one call overlap. Where a count is
  *     0 the pointer may not be null either: pass the address of anything.
  *   - One call at a time to one engine. Another thread calls behind a lock that the thread before it released, or was joined.
@@ -54,7 +53,7 @@ enum sgt_status {
     SGT_NO_MEMORY = 1,   /* malloc or realloc gave nothing; nothing has changed, and the call may be made again */
     SGT_CLOSED = 2,      /* the engine is closed */
     SGT_OPEN = 3,        /* the engine is open already */
-    SGT_NONE = 4,        /* there is no such record */
+    SGT_NONE = 4,        /* there is no such record or entry */
     SGT_BAD_CALL = 5,    /* a number that was passed is out of its range */
     SGT_NOT_JSON = 16,   /* the opening is no JSON */
     SGT_BAD_LINE = 17,   /* the opening is JSON, and has not the shape of one */
@@ -83,14 +82,14 @@ enum sgt_kind {
     SGT_FULL = 5,          /* as many transactions are live as the limits allow */
     SGT_UNKNOWN = 6,       /* no transaction of that number was started */
     SGT_OVER = 7,          /* the transaction has ended before; `cause` says how */
-    SGT_LOOKED = 8,       /* the step looked at the record `table`, `number`: `found` is 1, and `value` is it, or `found` is 0 */
+    SGT_LOOKED = 8,        /* the step looked at the record `table`, `number`: `found` is 1, and `value` is it, or `found` is 0 */
     SGT_WROTE = 9,         /* the step stored `value` in the record `table`, `number` */
     SGT_ENDED = 10,        /* the procedure is at its end, and nothing was done: the transaction may be committed */
     SGT_NOT_ENDED = 11,    /* the procedure is not at its end: the transaction can't be committed yet */
     SGT_WAITS = 12,        /* the commit has to wait for the transaction `tid`, and is asked again later */
     SGT_COMMITTED = 13,    /* the transaction is committed; its answers are the first `answers` of `answer` */
     SGT_ABORTED = 14,      /* the transaction is aborted, as `cause` says, and with it the first `fallen` of `fell` */
-    SGT_REFUSED = 15      /* its procedure asks `code`: the transaction is aborted at its commit, and with it those of `fell` */
+    SGT_REFUSED = 15       /* its procedure asks `code`: the transaction is aborted at its commit, and with it those of `fell` */
 };
 
 /* How a transaction ended: in SGT_ABORTED one of the first three. */
@@ -121,16 +120,54 @@ typedef struct sgt_reply {
     uint32_t fell[32];
 } sgt_reply;
 
+/* What was asked, in an entry of the history. */
+enum sgt_asked {
+    SGT_START = 1,  /* a start of the procedure `procedure` with the first `args` of `arg` */
+    SGT_STEP = 2,   /* a step of the transaction `tid` */
+    SGT_COMMIT = 3, /* a commit of the transaction `tid` */
+    SGT_QUIT = 4    /* a quit of the transaction `tid` */
+};
+
+/* `kind` says which other fields count. */
+typedef struct sgt_event {
+    uint32_t kind;
+    uint32_t tid;
+    uint32_t procedure;
+    uint32_t args;
+    int64_t arg[4];
+} sgt_event;
+
+/* A record of the database, and its value. `spare` is nothing. */
+typedef struct sgt_row {
+    uint32_t table;
+    uint32_t spare;
+    int64_t number;
+    int64_t value;
+} sgt_row;
+
+/* The least and the greatest of values, arguments and record numbers. */
+#define SGT_LEAST INT64_C(-999999999999999)
+#define SGT_MOST INT64_C(999999999999999)
+
 /*
  * Opens an engine. `opening` is `length` bytes of JSON as the first line of a script has them, without its end: limits,
- * accounts
- * and procedures, as docs/FORMATS.md says. `{"limits":[8,1000],"accounts":[[1,101,500,1000]],"procedures":[]}` allows 8 live
+ * accounts and procedures, as docs/FORMATS.md says. `{"limits":[8,1000],"accounts":[[1,101,500,1000]],"procedures":[]}` allows 8 live
  * transactions and 1000 in all, and opens one account: name 1, customer 101, saving 500, checking 1000, in cents.
  *
  * SGT_OPEN where the engine is open, tested first; SGT_NO_MEMORY; from SGT_NOT_JSON on the first fault of the opening, which is
  * written into `fault`. But for SGT_OK the engine stays as it was.
  */
 uint32_t sgt_open(sgt_engine *engine, const uint8_t *opening, size_t length, sgt_fault *fault);
+
+/*
+ * The same, where `count` rows of the caller's are put into the database that the opening's accounts make, one after another: each
+ * in place of the value that its record has, or as a new record. So an engine goes on from a database that is kept elsewhere;
+ * rows in the order of sgt_rows are put in fastest.
+ *
+ * SGT_OPEN where the engine is open, tested first; then SGT_BAD_CALL where a table is over 7, or a number or a value out of range.
+ */
+uint32_t sgt_open_with(sgt_engine *engine, const uint8_t *opening, size_t length, const sgt_row *rows, size_t count,
+                       sgt_fault *fault);
 
 /* Closes an engine, and gives back all that it took. One that is closed stays so. */
 void sgt_close(sgt_engine *engine);
@@ -156,6 +193,18 @@ uint32_t sgt_commit(sgt_engine *engine, uint32_t tid, sgt_reply *reply);
 uint32_t sgt_quit(sgt_engine *engine, uint32_t tid, sgt_reply *reply);
 
 /*
+ * Runs a procedure from its start to its commit, for a caller whose transactions need not run side by side: a start, steps as long
+ * as they look or store, and at the procedure's end the commit, each an event with its entry. The reply is the last one:
+ * SGT_COMMITTED, SGT_REFUSED, or SGT_ABORTED at a step; SGT_WAITS where others are live that have to end first, and then
+ * sgt_commit is called later; or what a start is answered that starts nothing. The number of a transaction that was started is
+ * written into `tid`, which else stays as it was.
+ *
+ * SGT_BAD_CALL where there are over 4 arguments, tested first; SGT_CLOSED; SGT_NO_MEMORY, where nothing has changed, or the
+ * transaction was started and is quit. But for SGT_OK tid and reply stay as they were.
+ */
+uint32_t sgt_run(sgt_engine *engine, uint16_t procedure, const int64_t *args, size_t count, uint32_t *tid, sgt_reply *reply);
+
+/*
  * The committed value of a record: the last one that a committed transaction stored, else the opening's.
  *
  * SGT_BAD_CALL where the table is over 7 or the number out of range, tested first; SGT_CLOSED; SGT_NONE where there is no such
@@ -163,8 +212,34 @@ uint32_t sgt_quit(sgt_engine *engine, uint32_t tid, sgt_reply *reply);
  */
 uint32_t sgt_get(sgt_engine *engine, uint8_t table, int64_t number, int64_t *value);
 
+/*
+ * The committed database from a record on, by table and then by number: from table 0, number SGT_LEAST on it is all. The first of
+ * its rows are written into `rows`, which has room for so many, and how many there are into `count`, which may be more. It goes
+ * once through all records, and takes memory for them meanwhile.
+ *
+ * SGT_BAD_CALL where the table is over 7 or the number out of range, tested first; SGT_CLOSED; SGT_NO_MEMORY. But for SGT_OK rows
+ * and count stay as they were.
+ */
+uint32_t sgt_rows(sgt_engine *engine, uint8_t table, int64_t number, sgt_row *rows, size_t room, uint64_t *count);
+
 /* How many entries the history has: one for each event that was answered. SGT_CLOSED. */
 uint32_t sgt_entries(sgt_engine *engine, uint64_t *count);
+
+/*
+ * The entry at a place of the history, counted from 0, oldest first: the event is written into `event`, and what it was answered
+ * into `reply`.
+ *
+ * SGT_CLOSED; SGT_NONE where there are not so many entries. But for SGT_OK event and reply stay as they were.
+ */
+uint32_t sgt_entry(sgt_engine *engine, uint64_t place, sgt_event *event, sgt_reply *reply);
+
+/*
+ * Takes memory for `entries` more entries, of 72 bytes each, so that the history is not moved until then. What the lists of
+ * arguments, answers and transactions in them hold is not counted in. Nothing else changes.
+ *
+ * SGT_CLOSED; SGT_NO_MEMORY, also where the number is beyond all memory.
+ */
+uint32_t sgt_reserve(sgt_engine *engine, uint64_t entries);
 
 #ifdef __cplusplus
 }

@@ -7,6 +7,8 @@
 
 static const char opening[] = "{\"limits\":[8,100],\"accounts\":[[1,101,500,1000]],\"procedures\":[]}";
 
+static const char empty[] = "{\"limits\":[8,100],\"accounts\":[],\"procedures\":[]}";
+
 static void show(const sgt_reply *reply)
 {
     switch (reply->kind) {
@@ -23,10 +25,12 @@ int main(void)
 {
     sgt_engine engine = {0};
     sgt_fault fault = {0};
+    sgt_event event = {0};
+    sgt_row rows[8] = {{0}};
     sgt_reply reply = {0};
     const int64_t account_and_amount[] = {1, 100};
     int64_t value = 0;
-    uint64_t entries = 0;
+    uint64_t entries = 0, count = 0;
     if (sgt_open(&engine, (const uint8_t *)opening, strlen(opening), &fault) != SGT_OK) return 1;
     for (uint32_t tid = 0; tid < 2; tid++) { /* procedure 1 is a deposit; procedure 0, with the account alone, a balance */
         if (sgt_start(&engine, tid == 0 ? 1 : 0, account_and_amount, tid == 0 ? 2 : 1, &reply) != SGT_OK) return 1;
@@ -41,6 +45,22 @@ int main(void)
     sgt_commit(&engine, 1, &reply), show(&reply);
     if (sgt_get(&engine, 2, 101, &value) == SGT_OK) printf("2/101 %" PRId64 "\n", value);
     if (sgt_entries(&engine, &entries) == SGT_OK) printf("%" PRIu64 " entries\n", entries);
+    if (sgt_entry(&engine, 8, &event, &reply) != SGT_OK || event.kind != SGT_COMMIT) return 1;
+    printf("entry 8: commit of %" PRIu32 ", ", event.tid), show(&reply);
+    if (sgt_rows(&engine, 0, SGT_LEAST, rows, 8, &count) != SGT_OK || count > 8) return 1;
+    for (uint64_t i = 0; i < count; i++) {
+        printf("%" PRIu32 "/%" PRId64 " %" PRId64 "\n", rows[i].table, rows[i].number, rows[i].value);
+    }
+    sgt_close(&engine);
+    rows[count - 1].value = 7; /* an engine that goes on from these rows, but for one */
+    if (sgt_open_with(&engine, (const uint8_t *)empty, strlen(empty), rows, count, &fault) != SGT_OK) return 1;
+    if (sgt_rows(&engine, 0, SGT_LEAST, rows, 0, &count) != SGT_OK || sgt_get(&engine, 2, 101, &value) != SGT_OK) return 1;
+    printf("again %" PRIu64 " rows, 2/101 %" PRId64 "\n", count, value);
+    for (int run = 0; run < 3; run++) { /* two deposits and a balance, each in one call */
+        uint32_t tid = 0;
+        if (sgt_run(&engine, run < 2 ? 1 : 0, account_and_amount, run < 2 ? 2 : 1, &tid, &reply) != SGT_OK) return 1;
+        if (run == 2) printf("ran %" PRIu32 ": ", tid), show(&reply);
+    }
     sgt_close(&engine);
     return 0;
 }

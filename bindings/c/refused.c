@@ -10,6 +10,7 @@
 #include "sgt.h"
 
 static const char opening[] = "{\"limits\":[8,100],\"accounts\":[[1,101,500,1000],[2,102,5,6]],\"procedures\":[]}";
+static const sgt_row own = {7, 0, 5, 51}; /* a record of the caller's */
 static long asked, refuse;
 
 void *__real_malloc(size_t size);
@@ -26,6 +27,36 @@ static uint32_t event(sgt_engine *engine, int number, sgt_reply *reply)
     return sgt_commit(engine, tid, reply);
 }
 
+/*
+ * Deposits, each in one call: where memory is refused behind the start, the transaction is quit. Then all rows, and room. How many
+ * calls were refused, or -1.
+ */
+static int runs(sgt_engine *engine, sgt_reply *reply)
+{
+    const int64_t args[] = {2, 1};
+    sgt_event event = {0};
+    sgt_row rows[8] = {{0}};
+    uint64_t had = 0, has = 0, count = 0;
+    uint32_t tid = 0, status;
+    int refused = 0;
+    for (int64_t committed = 0; committed < 60;) {
+        if (sgt_entries(engine, &had) != SGT_OK) return -1;
+        status = sgt_run(engine, 1, args, 2, &tid, reply);
+        if (sgt_entries(engine, &has) != SGT_OK) return -1;
+        if (status == SGT_OK) {
+            if (reply->kind != SGT_COMMITTED || reply->answer[0] != 6 + ++committed || has != had + 6) return -1;
+            continue;
+        }
+        if (status != SGT_NO_MEMORY) return -1;
+        refused++;
+        if (has != had && (sgt_entry(engine, has - 1, &event, reply) != SGT_OK || event.kind != SGT_QUIT)) return -1;
+    }
+    while ((status = sgt_rows(engine, 0, SGT_LEAST, rows, 8, &count)) == SGT_NO_MEMORY) refused++;
+    if (status != SGT_OK || count != 7 || rows[6].value != 51) return -1;
+    while ((status = sgt_reserve(engine, 1000)) == SGT_NO_MEMORY) refused++;
+    return status == SGT_OK ? refused : -1;
+}
+
 /* Two deposits, one behind the other; how many calls were refused memory, or -1 where one did not keep its word. */
 static int run(void)
 {
@@ -35,8 +66,8 @@ static int run(void)
     uint64_t had = 0, has = 0;
     int64_t value = 0;
     uint32_t status;
-    int refused = 0;
-    while ((status = sgt_open(&engine, (const uint8_t *)opening, strlen(opening), &fault)) == SGT_NO_MEMORY) {
+    int refused = 0, more;
+    while ((status = sgt_open_with(&engine, (const uint8_t *)opening, strlen(opening), &own, 1, &fault)) == SGT_NO_MEMORY) {
         if (engine.is_open || engine.at) return -1;
         refused++;
     }
@@ -53,8 +84,9 @@ static int run(void)
         if (status != SGT_OK) return -1;
     }
     if (sgt_get(&engine, 2, 101, &value) != SGT_OK || value != 1200) return -1;
+    if ((more = runs(&engine, &reply)) < 0) return -1;
     sgt_close(&engine);
-    return engine.is_open || engine.at ? -1 : refused;
+    return engine.is_open || engine.at ? -1 : refused + more;
 }
 
 int main(void)

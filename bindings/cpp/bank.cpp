@@ -26,6 +26,20 @@ int main()
     show(engine.commit(0));
     show(engine.commit(1));
     std::cout << "2/101 " << engine.get(2, 101).value() << '\n' << engine.entries() << " entries\n";
+    engine.reserve(100);
+    sgt::Entry entry = engine.entry(8).value();
+    std::cout << "entry 8: " << (entry.event.kind == SGT_COMMIT ? "commit" : "other") << " of " << entry.event.tid << ", ";
+    show(entry.reply);
+    if (engine.entry(11)) return 1;
+    auto rows = engine.rows();
+    for (const auto &row : rows) std::cout << row.table << '/' << row.number << ' ' << row.value << '\n';
+    rows.back().value = 7; // an engine that goes on from these rows, but for one
+    sgt::Engine again(R"({"limits":[8,100],"accounts":[],"procedures":[]})", rows);
+    std::cout << "again " << again.rows().size() << " rows, 2/101 " << again.get(2, 101).value() << '\n';
+    for (int run = 0; run < 2; run++) again.run(1, {1, 100}); // each in one call
+    sgt::Ran ran = again.run(0, {1});
+    std::cout << "ran " << ran.tid.value() << ": ";
+    show(ran.reply);
     try {
         sgt::Engine refused(R"({"limits":[99,1],"accounts":[],"procedures":[]})");
     } catch (const sgt::Refused &why) {

@@ -9,6 +9,7 @@
 #include <stdexcept>
 #include <string>
 #include <string_view>
+#include <vector>
 
 #include "sgt.h"
 
@@ -38,15 +39,32 @@ private:
     }
 };
 
+// An entry of the history: what was asked, and what was answered.
+struct Entry {
+    sgt_event event;
+    sgt_reply reply;
+};
+
+// What a run was answered: the last reply, and the number of its transaction, if one was started.
+struct Ran {
+    std::optional<std::uint32_t> tid;
+    sgt_reply reply;
+};
+
 // An engine. Want of memory is std::bad_alloc, and has changed nothing; too many arguments are std::invalid_argument.
 class Engine {
 public:
-    explicit Engine(std::string_view opening)
+    explicit Engine(std::string_view opening) : Engine(opening, {}) {}
+
+    // With these rows put into the database of the opening's accounts; std::invalid_argument where one is out of range.
+    Engine(std::string_view opening, const std::vector<sgt_row> &rows)
     {
         sgt_fault fault{};
         auto bytes = reinterpret_cast<const std::uint8_t *>(opening.data());
         static const std::uint8_t none = 0;
-        auto status = sgt_open(&engine, bytes ? bytes : &none, opening.size(), &fault);
+        static const sgt_row no_row{};
+        auto row = rows.empty() ? &no_row : rows.data();
+        auto status = sgt_open_with(&engine, bytes ? bytes : &none, opening.size(), row, rows.size(), &fault);
         if (status >= SGT_NOT_JSON) throw Refused(fault);
         check(status);
     }
@@ -64,6 +82,17 @@ public:
         return reply;
     }
 
+    // Runs a procedure from its start to its commit.
+    Ran run(std::uint16_t procedure, std::initializer_list<std::int64_t> args)
+    {
+        sgt_reply reply{};
+        static const std::int64_t none = 0;
+        const std::uint32_t no_tid = UINT32_MAX; // a number that the limits never allow
+        std::uint32_t tid = no_tid;
+        check(sgt_run(&engine, procedure, args.size() ? args.begin() : &none, args.size(), &tid, &reply));
+        return {tid == no_tid ? std::nullopt : std::optional(tid), reply};
+    }
+
     sgt_reply step(std::uint32_t tid) { return ask(sgt_step, tid); }
     sgt_reply commit(std::uint32_t tid) { return ask(sgt_commit, tid); }
     sgt_reply quit(std::uint32_t tid) { return ask(sgt_quit, tid); }
@@ -78,12 +107,36 @@ public:
         return value;
     }
 
+    // The committed database from a record on, by table and then by number.
+    std::vector<sgt_row> rows(std::uint8_t table = 0, std::int64_t number = SGT_LEAST)
+    {
+        sgt_row none{};
+        std::uint64_t count = 0;
+        check(sgt_rows(&engine, table, number, &none, 0, &count));
+        std::vector<sgt_row> rows(count);
+        if (count) check(sgt_rows(&engine, table, number, rows.data(), rows.size(), &count));
+        return rows;
+    }
+
     std::uint64_t entries()
     {
         std::uint64_t count = 0;
         check(sgt_entries(&engine, &count));
         return count;
     }
+
+    // The entry at a place, counted from 0, oldest first, or none where there are not so many.
+    std::optional<Entry> entry(std::uint64_t place)
+    {
+        Entry entry{};
+        auto status = sgt_entry(&engine, place, &entry.event, &entry.reply);
+        if (status == SGT_NONE) return std::nullopt;
+        check(status);
+        return entry;
+    }
+
+    // Takes memory for so many more entries.
+    void reserve(std::uint64_t entries) { check(sgt_reserve(&engine, entries)); }
 
 private:
     sgt_engine engine{};

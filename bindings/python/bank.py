@@ -1,6 +1,6 @@
 """A bank's story: a deposit, and a balance that reads what it stored before it is committed."""
 
-from sgt import Engine, Kind, OpeningRefused, Reply
+from sgt import Asked, Engine, Kind, OpeningRefused, Reply
 
 
 def show(reply: Reply) -> None:
@@ -30,6 +30,30 @@ with Engine(limits=(8, 100), accounts=[(1, 101, 500, 1000)]) as engine:
     show(engine.commit(1))
     print("2/101", engine.get(2, 101))
     print(len(engine), "entries")
+    engine.reserve(100)
+    event, reply = engine.entry(8)
+    assert event.kind is Asked.COMMIT, event
+    print(f"entry 8: commit of {event.tid}, ", end="")
+    show(reply)
+    assert engine.entry(0)[0].args == (1, 100)
+    try:
+        engine.entry(11)
+        raise SystemExit("an entry that is not there was told")
+    except IndexError:
+        pass
+
+    rows = engine.rows()
+    for row in rows:
+        print(f"{row.table}/{row.number} {row.value}")
+
+rows[-1] = rows[-1]._replace(value=7)  # an engine that goes on from these rows, but for one
+with Engine(limits=(8, 100), rows=rows) as again:
+    print("again", len(again.rows()), "rows, 2/101", again.get(2, 101))
+    for _ in range(2):
+        again.run(1, 1, 100)  # each in one call
+    tid, reply = again.run(0, 1)
+    print(f"ran {tid}: ", end="")
+    show(reply)
 
 try:
     Engine(limits=(99, 1))

@@ -51,6 +51,24 @@ class Cause(enum.IntEnum):
     FALL = 4
 
 
+class Asked(enum.IntEnum):
+    """What was asked: see `enum sgt_asked` in sgt.h."""
+
+    START = 1
+    STEP = 2
+    COMMIT = 3
+    QUIT = 4
+
+
+class Event(NamedTuple):
+    """An event. A start names its procedure, with its arguments, and each other its transaction."""
+
+    kind: Asked
+    tid: Optional[int] = None
+    procedure: Optional[int] = None
+    args: tuple[int, ...] = ()
+
+
 class Reply(NamedTuple):
     """A reply. `kind` says which other fields count; those that do not are none, or empty."""
 
@@ -64,6 +82,18 @@ class Reply(NamedTuple):
     code: Optional[int] = None
     walk: tuple[int, ...] = ()
     fell: tuple[int, ...] = ()
+
+
+class Row(NamedTuple):
+    """A record of the database, and its value."""
+
+    table: int
+    number: int
+    value: int
+
+
+# The least and the greatest of values, arguments and record numbers.
+LEAST, MOST = -999_999_999_999_999, 999_999_999_999_999
 
 
 class OpeningRefused(ValueError):
@@ -100,22 +130,41 @@ class _Reply(ctypes.Structure):
     ]
 
 
+class _Event(ctypes.Structure):
+    _fields_ = [
+        *((name, ctypes.c_uint32) for name in ("kind", "tid", "procedure", "args")),
+        ("arg", ctypes.c_int64 * 4),
+    ]
+
+
+class _Row(ctypes.Structure):
+    _fields_ = [
+        *((name, ctypes.c_uint32) for name in ("table", "spare")),
+        *((name, ctypes.c_int64) for name in ("number", "value")),
+    ]
+
+
 def _load() -> ctypes.CDLL:
     beside = pathlib.Path(__file__).resolve().parent.parent / "out" / "libsgt.so"
     path = os.environ.get("SGT_LIBRARY") or (str(beside) if beside.exists() else ctypes.util.find_library("sgt"))
     if not path:
         raise ImportError("sgt: no libsgt.so: set SGT_LIBRARY, or make it by bindings/build")
     library = ctypes.CDLL(path)
-    engine, reply = ctypes.POINTER(_Engine), ctypes.POINTER(_Reply)
+    engine, reply, size = ctypes.POINTER(_Engine), ctypes.POINTER(_Reply), ctypes.c_size_t
     values, event = ctypes.POINTER(ctypes.c_int64), [engine, ctypes.c_uint32, reply]
     takes = {
-        "sgt_open": [engine, ctypes.c_char_p, ctypes.c_size_t, ctypes.POINTER(_Fault)],
-        "sgt_start": [engine, ctypes.c_uint16, values, ctypes.c_size_t, reply],
+        "sgt_open": [engine, ctypes.c_char_p, size, ctypes.POINTER(_Fault)],
+        "sgt_open_with": [engine, ctypes.c_char_p, size, ctypes.POINTER(_Row), size, ctypes.POINTER(_Fault)],
+        "sgt_start": [engine, ctypes.c_uint16, values, size, reply],
+        "sgt_run": [engine, ctypes.c_uint16, values, size, ctypes.POINTER(ctypes.c_uint32), reply],
         "sgt_step": event,
         "sgt_commit": event,
         "sgt_quit": event,
         "sgt_get": [engine, ctypes.c_uint8, ctypes.c_int64, values],
+        "sgt_rows": [engine, ctypes.c_uint8, ctypes.c_int64, ctypes.POINTER(_Row), size, ctypes.POINTER(ctypes.c_uint64)],
         "sgt_entries": [engine, ctypes.POINTER(ctypes.c_uint64)],
+        "sgt_entry": [engine, ctypes.c_uint64, ctypes.POINTER(_Event), reply],
+        "sgt_reserve": [engine, ctypes.c_uint64],
         "sgt_close": [engine],
     }
     for name, types in takes.items():
@@ -128,6 +177,7 @@ def _load() -> ctypes.CDLL:
 _LIBRARY = _load()
 _start, _step, _commit, _quit = _LIBRARY.sgt_start, _LIBRARY.sgt_step, _LIBRARY.sgt_commit, _LIBRARY.sgt_quit
 _OK, _NO_MEMORY, _CLOSED, _NONE, _BAD_CALL, _FIRST_FAULT = 0, 1, 2, 4, 5, 16
+_NO_TID = 2**32 - 1  # the limits never allow this number
 _ARGS = [ctypes.c_int64 * max(1, count) for count in range(5)]
 
 
@@ -181,6 +231,13 @@ def _reply(told: _Reply) -> Reply:
     return _PLAIN[number]
 
 
+def _event(asked: _Event) -> Event:
+    kind = Asked(asked.kind)
+    if kind is Asked.START:
+        return Event(kind, procedure=asked.procedure, args=tuple(asked.arg[: asked.args]))
+    return Event(kind, asked.tid)
+
+
 def _check(status: int) -> None:
     if status == _OK:
         return
@@ -191,19 +248,39 @@ def _check(status: int) -> None:
     raise ValueError("sgt: a number is out of its range")
 
 
+def _table(table: int) -> int:
+    if not 0 <= table < 256:
+        raise ValueError("sgt: a number is out of its range")
+    return table
+
+
+def _value(value: int) -> int:
+    if not LEAST <= value <= MOST:
+        raise ValueError("sgt: a number is out of its range")
+    return value
+
+
 class Engine:
     """An engine. It is closed at the end of a `with` block, by `close`, or when it is let go."""
 
-    def __init__(self, limits: Sequence[int], accounts: Sequence[Sequence[int]] = (), procedures: Sequence[object] = ()) -> None:
+    def __init__(
+        self,
+        limits: Sequence[int],
+        accounts: Sequence[Sequence[int]] = (),
+        procedures: Sequence[object] = (),
+        rows: Sequence[Row] = (),
+    ) -> None:
         """Opens an engine: limits (live, begins) or (live, begins, asks), accounts (name, customer, saving, checking).
 
-        OpeningRefused with the fault's text; MemoryError.
+        The rows are put into the database that the accounts make. OpeningRefused with the fault's text; MemoryError;
+        ValueError where a row is out of its range.
         """
         self._engine = _Engine()
         opening = {"limits": list(limits), "accounts": [list(a) for a in accounts], "procedures": list(procedures)}
         line = json.dumps(opening).encode()
         fault = _Fault()
-        status = _LIBRARY.sgt_open(self._engine, line, len(line), fault)
+        put = (_Row * max(1, len(rows)))(*(_Row(_table(row[0]), 0, _value(row[1]), _value(row[2])) for row in rows))
+        status = _LIBRARY.sgt_open_with(self._engine, line, len(line), put, len(rows), fault)
         if status >= _FIRST_FAULT:
             raise OpeningRefused(status, _text(fault))
         _check(status)
@@ -219,6 +296,14 @@ class Engine:
         if status:
             _check(status)
         return _reply(self._told)
+
+    def run(self, procedure: int, *args: int) -> tuple[Optional[int], Reply]:
+        """Runs a procedure from its start to its commit: its transaction's number, if one was started, and the last reply."""
+        if len(args) >= len(_ARGS):
+            raise ValueError("sgt: a procedure takes at most 4 arguments")
+        tid = ctypes.c_uint32(_NO_TID)
+        _check(_LIBRARY.sgt_run(self._at, procedure, _ARGS[len(args)](*args), len(args), tid, self._to))
+        return (None if tid.value == _NO_TID else tid.value), _reply(self._told)
 
     def step(self, tid: int) -> Reply:
         """Lets the transaction make its next access."""
@@ -243,20 +328,41 @@ class Engine:
 
     def get(self, table: int, number: int) -> Optional[int]:
         """The committed value of a record, or None where there is no such record."""
-        if not 0 <= table < 256:
-            raise ValueError("sgt: a number is out of its range")
         value = ctypes.c_int64()
-        status = _LIBRARY.sgt_get(self._engine, table, number, value)
+        status = _LIBRARY.sgt_get(self._engine, _table(table), _value(number), value)
         if status == _NONE:
             return None
         _check(status)
         return value.value
+
+    def rows(self, table: int = 0, number: int = LEAST) -> list[Row]:
+        """The committed database from a record on, by table and then by number."""
+        count = ctypes.c_uint64()
+        _check(_LIBRARY.sgt_rows(self._engine, _table(table), _value(number), _Row(), 0, count))
+        told = (_Row * max(1, count.value))()
+        _check(_LIBRARY.sgt_rows(self._engine, table, number, told, count.value, count))
+        return [Row(row.table, row.number, row.value) for row in told[: count.value]]
 
     def __len__(self) -> int:
         """How many entries the history has."""
         count = ctypes.c_uint64()
         _check(_LIBRARY.sgt_entries(self._engine, count))
         return count.value
+
+    def entry(self, place: int) -> tuple[Event, Reply]:
+        """The entry at a place of the history, counted from 0, oldest first. IndexError where there are not so many."""
+        asked, told = _Event(), _Reply()
+        status = _NONE if place < 0 else _LIBRARY.sgt_entry(self._engine, place, asked, told)
+        if status == _NONE:
+            raise IndexError("sgt: there are not so many entries")
+        _check(status)
+        return _event(asked), _reply(told)
+
+    def reserve(self, entries: int) -> None:
+        """Takes memory for so many more entries."""
+        if entries < 0:
+            raise ValueError("sgt: a number is out of its range")
+        _check(_LIBRARY.sgt_reserve(self._engine, entries))
 
     def close(self) -> None:
         """Closes the engine. Later calls raise ValueError."""

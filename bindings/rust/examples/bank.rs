@@ -1,5 +1,5 @@
 //! A bank's story: a deposit, and a balance that reads what it stored before it is committed.
-use sgt::{Engine, Error, Fault, Reply};
+use sgt::{Engine, Error, Event, Fault, LEAST, Reply, Row};
 
 fn show(reply: Reply) {
     match reply {
@@ -27,6 +27,24 @@ fn main() -> Result<(), Error> {
     show(engine.commit(1)?);
     println!("2/101 {}", engine.get(2, 101)?.unwrap_or(0));
     println!("{} entries", engine.entries());
+    engine.reserve(100)?;
+    if let Some((Event::Commit(tid), reply)) = engine.entry(8) {
+        print!("entry 8: commit of {tid}, ");
+        show(reply);
+    }
+    assert_eq!(engine.entry(11), None);
+    let mut rows = engine.rows(0, LEAST)?;
+    for Row { table, number, value } in &rows {
+        println!("{table}/{number} {value}");
+    }
+    rows[2].value = 7; // an engine that goes on from these rows, but for one
+    let mut again = Engine::open_with(r#"{"limits":[8,100],"accounts":[],"procedures":[]}"#, &rows)?;
+    println!("again {} rows, 2/101 {}", again.rows(0, LEAST)?.len(), again.get(2, 101)?.unwrap_or(0));
+    again.run(1, &[1, 100])?; // each in one call
+    again.run(1, &[1, 100])?;
+    let (tid, reply) = again.run(0, &[1])?;
+    print!("ran {}: ", tid.unwrap_or(0));
+    show(reply);
     let refused = Engine::open(r#"{"limits":[99,1],"accounts":[],"procedures":[]}"#);
     assert_eq!(refused.err(), Some(Error::Opening(Fault::BadLimits)));
     let engine = std::sync::Mutex::new(engine);

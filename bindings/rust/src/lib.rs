@@ -52,6 +52,29 @@ pub enum Reply {
     Refused { code: u32, fell: Vec<u32> },
 }
 
+/// What was asked.
+#[derive(Clone, Debug, PartialEq, Eq)]
+pub enum Event {
+    Start { procedure: u16, args: Vec<i64> },
+    Step(u32),
+    Commit(u32),
+    Quit(u32),
+}
+
+/// A record of the database, and its value.
+#[derive(Clone, Copy, Debug, PartialEq, Eq)]
+pub struct Row {
+    pub table: u8,
+    pub number: i64,
+    pub value: i64,
+}
+
+/// The least of values, arguments and record numbers.
+pub const LEAST: i64 = -999_999_999_999_999;
+
+/// The greatest of them.
+pub const MOST: i64 = 999_999_999_999_999;
+
 /// Why an opening was refused.
 #[derive(Clone, Debug, PartialEq, Eq)]
 pub enum Fault {
@@ -71,7 +94,7 @@ pub enum Fault {
 pub enum Error {
     /// The system gave no memory.
     NoMemory,
-    /// Over four arguments, a table over 7, or a record number of over fifteen digits.
+    /// Over four arguments, a table over 7, or a record number or a row's value of over fifteen digits.
     BadCall,
     /// The opening has a fault.
     Opening(Fault),
@@ -135,17 +158,55 @@ mod c {
         pub fell: [u32; 32],
     }
 
-    pub type Event = unsafe extern "C" fn(*mut Engine, u32, *mut Reply) -> u32;
+    #[repr(C)]
+    #[derive(Default)]
+    pub struct Event {
+        pub kind: u32,
+        pub tid: u32,
+        pub procedure: u32,
+        pub args: u32,
+        pub arg: [i64; 4],
+    }
+
+    #[repr(C)]
+    #[derive(Clone, Copy, Default)]
+    pub struct Row {
+        pub table: u32,
+        pub spare: u32,
+        pub number: i64,
+        pub value: i64,
+    }
+
+    pub type Ask = unsafe extern "C" fn(*mut Engine, u32, *mut Reply) -> u32;
 
     extern "C" {
         pub fn sgt_open(engine: *mut Engine, opening: *const u8, length: usize, fault: *mut Fault) -> u32;
+        pub fn sgt_open_with(
+            engine: *mut Engine,
+            opening: *const u8,
+            length: usize,
+            rows: *const Row,
+            count: usize,
+            fault: *mut Fault,
+        ) -> u32;
         pub fn sgt_close(engine: *mut Engine);
         pub fn sgt_start(engine: *mut Engine, procedure: u16, args: *const i64, count: usize, reply: *mut Reply) -> u32;
+        pub fn sgt_run(
+            engine: *mut Engine,
+            procedure: u16,
+            args: *const i64,
+            count: usize,
+            tid: *mut u32,
+            reply: *mut Reply,
+        ) -> u32;
         pub fn sgt_step(engine: *mut Engine, tid: u32, reply: *mut Reply) -> u32;
         pub fn sgt_commit(engine: *mut Engine, tid: u32, reply: *mut Reply) -> u32;
         pub fn sgt_quit(engine: *mut Engine, tid: u32, reply: *mut Reply) -> u32;
         pub fn sgt_get(engine: *mut Engine, table: u8, number: i64, value: *mut i64) -> u32;
+        pub fn sgt_rows(engine: *mut Engine, table: u8, number: i64, rows: *mut Row, room: usize, count: *mut u64) -> u32;
         pub fn sgt_entries(engine: *mut Engine, count: *mut u64) -> u32;
+        pub fn sgt_entry(engine: *mut Engine, place: u64, event: *mut Event, reply: *mut Reply) -> u32;
+        pub fn sgt_reserve(engine: *mut Engine, entries: u64) -> u32;
     }
 }
 
@@ -160,14 +221,19 @@ unsafe impl Send for Engine {}
 impl Engine {
     /// Opens an engine by an opening's JSON text.
     pub fn open(opening: &str) -> Result<Engine, Error> {
-        let mut engine = Engine { inner: c::Engine { is_open: false, at: std::ptr::null_mut() } };
-        let mut fault = c::Fault { kind: 0, number: 0, procedure: 0, depth: 0, spare: 0, place: [0; 128] };
+        let (mut engine, mut fault) = blank();
         // The pointers are of live values of their own, and stay so for the call; so it is of each call below.
-        match unsafe { c::sgt_open(&mut engine.inner, opening.as_ptr(), opening.len(), &mut fault) } {
-            0 => Ok(engine),
-            1 => Err(Error::NoMemory),
-            _ => Err(Error::Opening(fault_of(&fault))),
-        }
+        let status = unsafe { c::sgt_open(&mut engine.inner, opening.as_ptr(), opening.len(), &mut fault) };
+        opened(status, engine, &fault)
+    }
+
+    /// The same, with these rows put into the database of the opening's accounts.
+    pub fn open_with(opening: &str, rows: &[Row]) -> Result<Engine, Error> {
+        let (mut engine, mut fault) = blank();
+        let rows: Vec<c::Row> = rows.iter().map(row_for).collect();
+        let (bytes, length) = (opening.as_ptr(), opening.len());
+        let status = unsafe { c::sgt_open_with(&mut engine.inner, bytes, length, rows.as_ptr(), rows.len(), &mut fault) };
+        opened(status, engine, &fault)
     }
 
     /// Starts a transaction of a procedure, with at most four arguments.
@@ -175,6 +241,15 @@ impl Engine {
         let mut reply = c::Reply::default();
         let status = unsafe { c::sgt_start(&mut self.inner, procedure, args.as_ptr(), args.len(), &mut reply) };
         told(status, &reply)
+    }
+
+    /// Runs a procedure from its start to its commit: the number of its transaction, if one was started, and the last reply.
+    pub fn run(&mut self, procedure: u16, args: &[i64]) -> Result<(Option<u32>, Reply), Error> {
+        let mut reply = c::Reply::default();
+        let mut tid = u32::MAX; // a number that the limits never allow
+        let status =
+            unsafe { c::sgt_run(&mut self.inner, procedure, args.as_ptr(), args.len(), &mut tid, &mut reply) };
+        told(status, &reply).map(|reply| ((tid != u32::MAX).then_some(tid), reply))
     }
 
     /// Lets a transaction make its next access.
@@ -202,6 +277,15 @@ impl Engine {
         }
     }
 
+    /// The committed database from a record on, by table and then by number: from table 0, number `LEAST` on it is all.
+    pub fn rows(&mut self, table: u8, number: i64) -> Result<Vec<Row>, Error> {
+        let mut count = 0;
+        done(unsafe { c::sgt_rows(&mut self.inner, table, number, Vec::new().as_mut_ptr(), 0, &mut count) })?;
+        let mut rows = vec![c::Row::default(); count as usize];
+        done(unsafe { c::sgt_rows(&mut self.inner, table, number, rows.as_mut_ptr(), rows.len(), &mut count) })?;
+        Ok(rows.iter().map(row_of).collect())
+    }
+
     /// How many entries the history has.
     pub fn entries(&mut self) -> u64 {
         let mut count = 0;
@@ -209,7 +293,21 @@ impl Engine {
         count
     }
 
-    fn ask(&mut self, event: c::Event, tid: u32) -> Result<Reply, Error> {
+    /// The entry at a place of the history, counted from 0, oldest first, or none where there are not so many.
+    pub fn entry(&mut self, place: u64) -> Option<(Event, Reply)> {
+        let (mut event, mut reply) = (c::Event::default(), c::Reply::default());
+        match unsafe { c::sgt_entry(&mut self.inner, place, &mut event, &mut reply) } {
+            0 => Some((event_of(&event), reply_of(&reply))),
+            _ => None,
+        }
+    }
+
+    /// Takes memory for so many more entries.
+    pub fn reserve(&mut self, entries: u64) -> Result<(), Error> {
+        done(unsafe { c::sgt_reserve(&mut self.inner, entries) })
+    }
+
+    fn ask(&mut self, event: c::Ask, tid: u32) -> Result<Reply, Error> {
         let mut reply = c::Reply::default();
         let status = unsafe { event(&mut self.inner, tid, &mut reply) };
         told(status, &reply)
@@ -220,6 +318,26 @@ impl Drop for Engine {
     fn drop(&mut self) {
         unsafe { c::sgt_close(&mut self.inner) }
     }
+}
+
+fn blank() -> (Engine, c::Fault) {
+    let engine = Engine { inner: c::Engine { is_open: false, at: std::ptr::null_mut() } };
+    (engine, c::Fault { kind: 0, number: 0, procedure: 0, depth: 0, spare: 0, place: [0; 128] })
+}
+
+fn opened(status: u32, engine: Engine, fault: &c::Fault) -> Result<Engine, Error> {
+    match status {
+        16.. => Err(Error::Opening(fault_of(fault))),
+        _ => done(status).map(|()| engine),
+    }
+}
+
+fn row_for(row: &Row) -> c::Row {
+    c::Row { table: row.table.into(), spare: 0, number: row.number, value: row.value }
+}
+
+fn row_of(row: &c::Row) -> Row {
+    Row { table: row.table as u8, number: row.number, value: row.value }
 }
 
 fn fault_of(fault: &c::Fault) -> Fault {
@@ -233,11 +351,24 @@ fn fault_of(fault: &c::Fault) -> Fault {
     }
 }
 
-fn told(status: u32, reply: &c::Reply) -> Result<Reply, Error> {
+fn done(status: u32) -> Result<(), Error> {
     match status {
-        0 => Ok(reply_of(reply)),
+        0 => Ok(()),
         1 => Err(Error::NoMemory),
         _ => Err(Error::BadCall),
+    }
+}
+
+fn told(status: u32, reply: &c::Reply) -> Result<Reply, Error> {
+    done(status).map(|()| reply_of(reply))
+}
+
+fn event_of(event: &c::Event) -> Event {
+    match event.kind {
+        1 => Event::Start { procedure: event.procedure as u16, args: event.arg[..event.args as usize].to_vec() },
+        2 => Event::Step(event.tid),
+        3 => Event::Commit(event.tid),
+        _ => Event::Quit(event.tid),
     }
 }
 

@@ -129,8 +129,20 @@ report has these lines, in which an operation is followed by its place, counted 
   rigorous        strict, and nobody writes what another has read that has not ended
   commit ordered  those whose operations conflict commit in the order of these operations
 
-Of each class that does not hold the first operation is told that breaks it, and one that it breaks it by. The status is 0 where
-the history is serializable and recoverable, 1 where not, and 2 at a fault, which is told on standard error: nothing is written
-then. An input has at most 268435456 bytes.
+Of each class that does not hold the first operation is told that breaks it, and one that it breaks it by.
+
+With --graph the serialization graph is written in place of the report, for 'dot -Tsvg' of Graphviz: those that committed in the
+order of their commits, and for each two of them whose operations conflict an edge with the first two that do. The edges of the
+cycle are red. Of the history above it is
+
+  digraph serialization {
+    2;
+    1;
+    1 -> 2 [label="r1[x] (1) w2[x] (3)", color=red];
+    2 -> 1 [label="r2[y] (2) w1[y] (4)", color=red];
+  }
+
+The status is 0 where the history is serializable and recoverable, 1 where not, and 2 at a fault, which is told on standard
+error: nothing is written then. An input has at most 268435456 bytes.
 The classes are those of Bernstein, Hadzilacos and Goodman (1987), chapter 2.
 docs/FORMATS.md of the repository has each line, examples/histories more histories."#;

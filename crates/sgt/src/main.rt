@@ -1,7 +1,7 @@
 //! The program: `sgt script` runs a script of JSON lines from standard input on an engine, writes a line for each reply to
 //! standard output and then the committed database. `sgt bank` runs jobs on worker threads, and writes a line for what became of
-//! each and then the committed database. `sgt check` reads a history, and writes of which classes it is. All tell a fault on
-//! standard error, with status 2.
+//! each and then the committed database. `sgt check` reads a history, and writes of which classes it is, or its serialization
+//! graph. All tell a fault on standard error, with status 2.
 //!
 //! It has the command line and nothing else: what a script's run writes is said and proved in `sgt_script`, what a bank's run
 //! writes in `sgt_bank`, and what a check writes in `sgt_check`.
@@ -13,10 +13,10 @@ ghost use Rattle.std.specs.Prelude.{◌≤◌};
 
 use clap::builder::ValueParser;
 use clap::error::ErrorKind;
-use clap::{Arg, ArgMatches, Command};
+use clap::{Arg, ArgAction, ArgMatches, Command};
 use help::{BANK_HELP, CHECK_HELP, HELP, SCRIPT_HELP};
 use sgt_bank::{MOST_TRIES, MOST_WORKERS, run_jobs};
-use sgt_check::run_check;
+use sgt_check::{CheckFault, run_check, run_graph};
 use sgt_script::run_script;
 use sgt_stream::{Fault, Reader, Writer};
 use std::alloc::{AllocError, Global};
@@ -42,11 +42,27 @@ Usage: sgt <COMMAND>
 
 For more information, try '--help'.";
 
-/// The command line. Without a word, and with an unknown one, it tells how to call it.
-fn command<'a>(alloc: Global) -> Result<Command<'a>, AllocError> {
-    let script = Command::new(alloc, "script")
+/// The option that has a run written as a history.
+fn history_flag<'a>(alloc: Global, help: &'a str) -> Arg<'a> {
+    Arg::new(alloc, "history")
+        .long("history")
+        .help(help)
+        .action(ArgAction::SetTrue)
+}
+
+/// The words of `sgt script`.
+fn script_command<'a>(alloc: Global) -> Result<Command<'a>, AllocError> {
+    Command::new(alloc, "script")
         .about("Runs a script: an opening and then events, a JSON line each, from standard input")
-        .after_help(SCRIPT_HELP);
+        .after_help(SCRIPT_HELP)
+        .arg(history_flag(
+            alloc,
+            "In place of the replies, writes the run as a history, for 'sgt check'",
+        ))
+}
+
+/// The words of `sgt bank`.
+fn bank_command<'a>(alloc: Global) -> Result<Command<'a>, AllocError> {
     let workers = Arg::new(alloc, "workers")
         .long("workers")
         .help("How many jobs run at the same time, from 1 to 16")
@@ -57,27 +73,44 @@ fn command<'a>(alloc: Global) -> Result<Command<'a>, AllocError> {
         .help("How often a job is tried before it is given up, from 1 to 1000")
         .value_parser(ValueParser::unsigned(1, u64::from(MOST_TRIES)))
         .default_value("100");
-    let bank = Command::new(alloc, "bank")
+    Command::new(alloc, "bank")
         .about(
             "Runs jobs on worker threads: an opening and then jobs, a JSON line each, from standard input",
         )
         .after_help(BANK_HELP)
         .arg(workers)?
-        .arg(tries)?;
-    let check = Command::new(alloc, "check")
+        .arg(tries)?
+        .arg(history_flag(
+            alloc,
+            "In place of the outcomes, writes the run as a history, for 'sgt check'",
+        ))
+}
+
+/// The words of `sgt check`.
+fn check_command<'a>(alloc: Global) -> Result<Command<'a>, AllocError> {
+    let graph = Arg::new(alloc, "graph")
+        .long("graph")
+        .help("Writes the serialization graph in DOT, and no report")
+        .action(ArgAction::SetTrue);
+    Command::new(alloc, "check")
         .about(
             "Tells whether a history from standard input is serializable, recoverable, and of which other classes",
         )
-        .after_help(CHECK_HELP);
+        .after_help(CHECK_HELP)
+        .arg(graph)
+}
+
+/// The command line. Without a word, and with an unknown one, it tells how to call it.
+fn command<'a>(alloc: Global) -> Result<Command<'a>, AllocError> {
     Command::new(alloc, "sgt")
         .about("An in-memory transaction engine that schedules by serialization graph testing")
         .version(VERSION)
         .after_help(HELP)
         .subcommand_required(true)
         .arg_required_else_help(true)
-        .subcommand(script)?
-        .subcommand(bank)?
-        .subcommand(check)
+        .subcommand(script_command(alloc)?)?
+        .subcommand(bank_command(alloc)?)?
+        .subcommand(check_command(alloc)?)
 }
 
 /// A number of the options. `clap` gives it a default, and keeps it from 1 to the most.
@@ -91,28 +124,66 @@ fn number(options: &ArgMatches<'_>, name: &str, default: u32, most: u32) -> u32
         .clamp(1, most)
 }
 
-/// Runs what the words ask for from standard input to standard output, and gives the status.
+/// Runs a script from standard input to standard output.
+fn script<R: Print + Input>(rt: &R, alloc: Global, options: &ArgMatches<'_>) -> Result<(), Fault> {
+    let mut reader = Reader::new(rt.reader());
+    let mut writer = Writer::new(io::writer(rt));
+    if options.get_flag("history") {
+        sgt_script::run_history(alloc, &mut reader, &mut writer)
+    } else {
+        run_script(alloc, &mut reader, &mut writer)
+    }
+}
+
+/// Runs the jobs of a bank from standard input to standard output.
+fn bank<R: Print + Input + Threads + Wait + Sync>(
+    rt: &R,
+    alloc: Global,
+    options: &ArgMatches<'_>,
+) -> Result<(), Fault> {
+    let mut reader = Reader::new(rt.reader());
+    let mut writer = Writer::new(io::writer(rt));
+    let workers = number(options, "workers", WORKERS, MOST_WORKERS);
+    let tries = number(options, "tries", TRIES, MOST_TRIES);
+    if options.get_flag("history") {
+        sgt_bank::run_history(rt, alloc, &mut reader, &mut writer, workers, tries)
+    } else {
+        run_jobs(rt, alloc, &mut reader, &mut writer, workers, tries)
+    }
+}
+
+/// Checks a history from standard input to standard output, and tells whether it is serializable and recoverable.
+fn check<R: Print + Input>(
+    rt: &R,
+    alloc: Global,
+    options: &ArgMatches<'_>,
+) -> Result<bool, CheckFault> {
+    let mut reader = Reader::new(rt.reader());
+    let mut writer = Writer::new(io::writer(rt));
+    if options.get_flag("graph") {
+        run_graph(alloc, &mut reader, &mut writer)
+    } else {
+        run_check(alloc, &mut reader, &mut writer)
+    }
+}
+
+/// Runs what the words ask for, and gives the status.
 fn run<R: Print + Eprint + Input + Threads + Wait + Sync>(
     rt: &R,
     alloc: Global,
     matches: &ArgMatches<'_>,
 ) -> ExitCode {
-    let mut reader = Reader::new(rt.reader());
-    let mut writer = Writer::new(io::writer(rt));
     let ran = match matches.subcommand() {
-        Some(("check", _)) => {
-            return match run_check(alloc, &mut reader, &mut writer) {
+        Some(("check", options)) => {
+            return match check(rt, alloc, options) {
                 Ok(true) => ExitCode::SUCCESS,
                 Ok(false) => ExitCode::from(1),
                 Err(fault) => tell(rt, fault),
             };
         }
-        Some(("bank", options)) => {
-            let workers = number(options, "workers", WORKERS, MOST_WORKERS);
-            let tries = number(options, "tries", TRIES, MOST_TRIES);
-            run_jobs(rt, alloc, &mut reader, &mut writer, workers, tries)
-        }
-        _ => run_script(alloc, &mut reader, &mut writer),
+        Some(("bank", options)) => bank(rt, alloc, options),
+        Some((_, options)) => script(rt, alloc, options),
+        None => Ok(()),
     };
     match ran {
         Ok(()) => ExitCode::SUCCESS,

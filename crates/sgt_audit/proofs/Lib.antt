@@ -3,4 +3,5 @@ pub mod Numbers
 pub mod LiveCount
 pub mod Rows
 pub mod Named
+pub mod Told
 pub mod Crossing

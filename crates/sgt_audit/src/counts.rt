@@ -35,7 +35,7 @@ fn commits_in(history: &History) -> usize
 {
     let mut count = 0;
     for place in 0..history.len() {
-        if history.at(place).reply.is_commit() {
+        if history.entry(place).is_commit() {
             count += 1;
         }
     }
@@ -48,7 +48,7 @@ fn quits_in(history: &History) -> usize
 {
     let mut count = 0;
     for place in 0..history.len() {
-        if history.at(place).reply.is_quit() {
+        if history.entry(place).is_quit() {
             count += 1;
         }
     }

@@ -9,6 +9,7 @@ ghost use Rattle.sgt_audit.specs.Outcomes.{call_for, IsOf};
 use crate::attempts::{is_call, is_of};
 use crate::lives::Life;
 use sgt_dispatch::Job;
+use sgt_entries::EntryRef;
 use sgt_model::Event;
 
 /// Whether the event is a start of the job.
@@ -21,12 +22,12 @@ pub fn asks_for(event: &Event, job: &Job) -> bool
     }
 }
 
-/// Whether the event names a transaction of the job.
-pub fn names_one_of(event: &Event, lives: &[Life], job: &Job) -> bool
+/// Whether the entry's event names a transaction of the job.
+pub fn names_one_of(entry: &EntryRef<'_>, lives: &[Life], job: &Job) -> bool
     ensures { (past : List E) → AreLives past lives.now
-        → (IsTrue result ↔ ((t : ℕ) × (named_by event.now ≡ Some t) × IsOf past job.now t)) }
+        → (IsTrue result ↔ ((t : ℕ) × (named_by entry.now.event ≡ Some t) × IsOf past job.now t)) }
 {
-    match event.named() {
+    match entry.named() {
         Some(t) => is_of(lives, job, t),
         None => false,
     }

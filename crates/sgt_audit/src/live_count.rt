@@ -5,8 +5,7 @@ ghost use Rattle.sgt_model.specs.Legality.{Legal};
 ghost use Rattle.sgt_audit.specs.LiveCount.{count_started, count_ended};
 ghost use Rattle.sgt_audit.specs.AllOutcomes.{FewLive, AllEnded};
 
-use sgt_entries::History;
-use sgt_model::Reply;
+use sgt_entries::{EntryRef, History};
 
 /// Whether after no entry more transactions are live than there are workers, and at the end none is.
 pub fn live_counts_stand(history: &History, workers: u32) -> bool
@@ -15,7 +14,7 @@ pub fn live_counts_stand(history: &History, workers: u32) -> bool
 {
     let mut live = 0;
     for place in 0..history.len() {
-        live = live_after(live, &history.at(place).reply);
+        live = live_after(live, &history.entry(place));
         if live > workers as usize {
             return false;
         }
@@ -23,16 +22,17 @@ pub fn live_counts_stand(history: &History, workers: u32) -> bool
     live == 0
 }
 
-/// How many are live after a reply.
-fn live_after(live: usize, reply: &Reply) -> usize
+/// How many are live after an entry.
+fn live_after(live: usize, entry: &EntryRef<'_>) -> usize
     requires few { live < 2 ^ 32 }
-    requires enough { count_ended reply.now ≤ live }
-    ensures { result + count_ended reply.now ≡ live + count_started reply.now }
+    requires enough { count_ended entry.now.reply ≤ live }
+    ensures { result + count_ended entry.now.reply ≡ live + count_started entry.now.reply }
 {
-    match reply {
-        Reply::Started(_) => live + 1,
-        Reply::Committed(_) => live - 1,
-        Reply::Aborted { fell, .. } | Reply::Refused { fell, .. } => live - 1 - fell.len(),
-        _ => live,
+    if entry.is_start() {
+        return live + 1;
     }
+    if entry.is_ending() {
+        return live - 1 - entry.fell().len();
+    }
+    live
 }

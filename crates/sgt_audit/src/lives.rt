@@ -8,8 +8,8 @@ ghost use Rattle.sgt_model.specs.Settings.{Setting};
 ghost use Rattle.sgt_model.specs.Legality.{Legal, LegalReply};
 ghost use Rattle.sgt_audit.specs.Lives.{AreLives, ended_life, life_after, with_started};
 
-use sgt_entries::History;
-use sgt_model::{Args, Cause, Entry, Event, NoMemory, Reply, Tid};
+use sgt_entries::{EntryRef, History};
+use sgt_model::{Args, Event, NoMemory, Tid};
 use std::alloc::Global;
 
 /// What a history says of one transaction.
@@ -35,34 +35,32 @@ pub fn lives_of(alloc: Global, history: &History) -> Result<Vec<Life>, NoMemory>
 {
     let mut lives = Vec::new(alloc);
     for number in 0..history.len() {
-        add_entry(&mut lives, number, &history.at(number))?;
+        add_entry(&mut lives, number, &history.entry(number))?;
     }
     Ok(lives)
 }
 
 /// Adds what an entry says, whose number is this.
-fn add_entry(lives: &mut Vec<Life>, number: usize, entry: &Entry) -> Result<(), NoMemory>
+fn add_entry(lives: &mut Vec<Life>, number: usize, entry: &EntryRef<'_>) -> Result<(), NoMemory>
     ensures { (s : Setting) (past : List E) → LegalReply s past entry.now.event entry.now.reply
         → Legal s past → length past ≡ number → AreLives past lives.old.items
         → OnOk result (AreLives (entry.now ∷ past) lives.new.items) }
 {
-    match &entry.reply {
-        Reply::Started(_) => add_started(lives, number, &entry.event),
-        _ => {
-            end_those(lives, number, entry);
-            Ok(())
-        }
+    if entry.is_start() {
+        return add_started(lives, number, entry.event());
     }
+    end_those(lives, number, entry);
+    Ok(())
 }
 
 /// Adds the row of the transaction that this event started.
-fn add_started(lives: &mut Vec<Life>, number: usize, event: &Event) -> Result<(), NoMemory>
-    ensures { OnOk result (lives.new.items ≡ with_started number event.now lives.old.items) }
+fn add_started(lives: &mut Vec<Life>, number: usize, event: Event) -> Result<(), NoMemory>
+    ensures { OnOk result (lives.new.items ≡ with_started number event lives.old.items) }
 {
     if let Event::Start { procedure, args } = event {
         lives.push(Life {
-            procedure: *procedure,
-            args: args.copied(),
+            procedure,
+            args,
             started: number,
             ended: None,
             failed: false,
@@ -72,27 +70,14 @@ fn add_started(lives: &mut Vec<Life>, number: usize, event: &Event) -> Result<()
 }
 
 /// Ends the rows of those that this entry ended.
-fn end_those(lives: &mut Vec<Life>, number: usize, entry: &Entry)
+fn end_those(lives: &mut Vec<Life>, number: usize, entry: &EntryRef<'_>)
     ensures rows { (t : ℕ) → slice_get lives.new.items t
         ≡ option_map (life_after number (ending_in entry.now.event entry.now.reply t)) (slice_get lives.old.items t) }
     ensures count { vec_len lives.new ≡ vec_len lives.old }
 {
-    match &entry.reply {
-        Reply::Committed(_) => end_subject(lives, number, &entry.event, false),
-        Reply::Aborted { cause, fell } => {
-            end_fallen(lives, number, fell.as_slice());
-            end_subject(
-                lives,
-                number,
-                &entry.event,
-                matches!(cause, Cause::Cycle(_)),
-            );
-        }
-        Reply::Refused { fell, .. } => {
-            end_fallen(lives, number, fell.as_slice());
-            end_subject(lives, number, &entry.event, false);
-        }
-        _ => (),
+    if entry.is_ending() {
+        end_fallen(lives, number, entry.fell());
+        end_subject(lives, number, entry, entry.is_by_cycle());
     }
 }
 
@@ -108,16 +93,15 @@ fn end_fallen(lives: &mut Vec<Life>, number: usize, fell: &[Tid])
     }
 }
 
-/// Ends the row of the transaction that the event names.
-fn end_subject(lives: &mut Vec<Life>, number: usize, event: &Event, failed: bool)
+/// Ends the row of the transaction that the entry's event names.
+fn end_subject(lives: &mut Vec<Life>, number: usize, entry: &EntryRef<'_>, failed: bool)
     ensures rows { (t : ℕ) → slice_get lives.new.items t
-        ≡ option_map (λ life. cond (concerns event.now t) (ended_life number failed life) life)
+        ≡ option_map (λ life. cond (concerns entry.now.event t) (ended_life number failed life) life)
         (slice_get lives.old.items t) }
     ensures count { vec_len lives.new ≡ vec_len lives.old }
 {
-    match event {
-        Event::Start { .. } => (),
-        Event::Step(t) | Event::Commit(t) | Event::Quit(t) => end_one(lives, number, *t, failed),
+    if let Some(t) = entry.named() {
+        end_one(lives, number, t, failed);
     }
 }
 

@@ -50,8 +50,8 @@ pub fn transactions_named<N>(
 fn add_named_at(named: &mut Vec<u64>, history: &History, n: u64) -> Result<(), NoMemory>
     ensures { OnOk result (named.new.items ≡ named.old.items ++ transaction_at history.now.entries n) }
 {
-    if let Some(entry) = history.get(n as usize) {
-        if let Some(t) = entry.event.named() {
+    if let Some(entry) = history.get_entry(n as usize) {
+        if let Some(t) = entry.named() {
             named.push(u64::from(t.0))?;
         }
     }

@@ -53,8 +53,8 @@ fn is_committed(history: &History, lives: &[Life], job: &Job, n: u64) -> bool
     requires { AreLives (reverse history.now.entries) lives.now }
     ensures { IsTrue result ↔ Ends is_commit history.now.entries job.now n }
 {
-    match history.get(n as usize) {
-        Some(entry) => entry.reply.is_commit() && names_one_of(&entry.event, lives, job),
+    match history.get_entry(n as usize) {
+        Some(entry) => entry.is_commit() && names_one_of(&entry, lives, job),
         None => false,
     }
 }
@@ -64,8 +64,8 @@ fn is_asked(history: &History, lives: &[Life], job: &Job, n: u64) -> bool
     requires { AreLives (reverse history.now.entries) lives.now }
     ensures { IsTrue result ↔ Ends is_ask history.now.entries job.now n }
 {
-    match history.get(n as usize) {
-        Some(entry) => entry.reply.is_ask() && names_one_of(&entry.event, lives, job),
+    match history.get_entry(n as usize) {
+        Some(entry) => entry.is_ask() && names_one_of(&entry, lives, job),
         None => false,
     }
 }
@@ -74,8 +74,8 @@ fn is_asked(history: &History, lives: &[Life], job: &Job, n: u64) -> bool
 fn is_refused(history: &History, job: &Job, n: u64) -> bool
     ensures { IsTrue result ↔ StartIsRefused history.now.entries job.now n }
 {
-    match history.get(n as usize) {
-        Some(entry) => entry.reply.refuses_start() && asks_for(&entry.event, job),
+    match history.get_entry(n as usize) {
+        Some(entry) => entry.refuses_start() && asks_for(&entry.event(), job),
         None => false,
     }
 }

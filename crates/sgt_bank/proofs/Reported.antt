@@ -1,6 +1,7 @@
 -- Laws of a bank's report.
 use Rattle.std.proofs.Common.{◌≡◌, ℕ, zero, suc, ◌+◌, ◌<◌, ◌≤◌, List, [], ◌∷◌, refl, sym, ◌∙◌, arith}
-use Rattle.std.specs.Prelude.{cond, Option, None, Some, IfSome, reverse}
+use Rattle.std.specs.Prelude.{cond, Option, None, Some, IfSome, reverse, take}
+use Rattle.std.specs.Io.KnownBytes.{Appends}
 use Rattle.std.specs.List.{All, count_by}
 use Rattle.std.proofs.lemmas.List.Sums.{sum_by-cons}
 use Rattle.std.specs.declared.convert.Infallible.{Infallible}
@@ -15,7 +16,9 @@ use Rattle.sgt_dispatch.specs.declared.job.Job.{Job}
 use Rattle.sgt_stream.specs.Lines.{Ending, cut}
 use Rattle.sgt_bank.specs.Inputs.{InputAsks, LinesAsk}
 use Rattle.sgt_program.specs.Openings.{opened_setting, OpenedIsBank}
-use Rattle.sgt_bank.specs.Banks.{HasRun, AreRun, IsReport}
+use Rattle.sgt_bank.specs.Banks.{HasRun, AreRun, IsHistory, IsReport, IsRun}
+use Rattle.sgt_textbook.specs.Laws.{AreCommitOrdered, AreSerializable, AreRecoverable}
+use Rattle.sgt_transcript.specs.Transcripts.{TranscriptsSpellTextbooks, transcript}
 use Rattle.sgt_bank.proofs.SerialTexts.{text-same}
 use Rattle.sgt_bank.specs.Reports.{report_text}
 
@@ -67,23 +70,61 @@ opens-first : (workers : ℕ) (ls : List (List ℕ)) (ending : Ending) (o : Open
 opens-first workers [] ending o jobs asks = absurd asks
 opens-first workers (line ∷ later) ending o jobs asks = (line, asks.opens)
 
--- the text of jobs that were run is a report
-pub is-report : OpenedIsBank → (workers tries : ℕ) (rest : Option (List ℕ)) (o : Opening) (jobs : List Job) (history : List Entry)
-    (outcomes : List (Outcome Infallible)) (rows : List Row) (out : List ℕ) → IfSome rest (λ bytes. InputAsks workers bytes o jobs)
-    → AreRun o jobs workers tries history outcomes rows → out ≡ report_text history outcomes rows
-    → IfSome rest (λ bytes. IsReport workers tries bytes out)
-is-report bank workers tries None o jobs history outcomes rows out asks run text = tt
-is-report bank workers tries (Some bytes) o jobs history outcomes rows out asks run text =
+-- jobs that were run are those of the input
+pub is-run : OpenedIsBank → (workers tries : ℕ) (rest : Option (List ℕ)) (o : Opening) (jobs : List Job) (history : List Entry)
+    (outcomes : List (Outcome Infallible)) (rows : List Row) → IfSome rest (λ bytes. InputAsks workers bytes o jobs)
+    → AreRun o jobs workers tries history outcomes rows → IfSome rest (λ bytes. IsRun workers tries bytes history outcomes rows)
+is-run bank workers tries None o jobs history outcomes rows asks run = tt
+is-run bank workers tries (Some bytes) o jobs history outcomes rows asks run =
     let opens = opens-first workers (cut bytes).given (cut bytes).ending o jobs asks in
     record {
       opening = o;
       jobs = jobs;
       asks = asks;
-      history = history;
-      outcomes = outcomes;
-      rows = rows;
       are_run = run;
       bank = bank workers opens.0 o (reverse history) opens.1 run.legal;
-      text = text;
-      written = text ∙ text-same (opened_setting o) history tries jobs outcomes rows run.replay run.stand.each;
     }
+
+-- the text of jobs that were run is a report
+pub is-report : (workers tries : ℕ) (bytes : List ℕ) (history : List Entry) (outcomes : List (Outcome Infallible)) (rows : List Row)
+    (out : List ℕ) → IsRun workers tries bytes history outcomes rows → out ≡ report_text history outcomes rows
+    → IsReport workers tries bytes out
+is-report workers tries bytes history outcomes rows out run text = record {
+  history = history;
+  outcomes = outcomes;
+  rows = rows;
+  run = run;
+  text = text;
+  written = text ∙ text-same (opened_setting run.opening) history tries run.jobs outcomes rows run.are_run.replay run.are_run.stand.each;
+}
+
+-- and so it is where they are told by their operations
+pub is-history : AreCommitOrdered → AreSerializable → AreRecoverable → TranscriptsSpellTextbooks → (workers tries : ℕ) (bytes : List ℕ)
+    (history : List Entry) (outcomes : List (Outcome Infallible)) (rows : List Row) (out : List ℕ)
+    → IsRun workers tries bytes history outcomes rows → out ≡ transcript (reverse history) → IsHistory workers tries bytes out
+is-history ordered serializable recoverable spelled workers tries bytes history outcomes rows out run text = record {
+  history = history;
+  outcomes = outcomes;
+  rows = rows;
+  run = run;
+  textbook = record {
+    commit_ordered = λ number numbers. ordered number numbers (opened_setting run.opening) (reverse history) run.are_run.legal;
+    serializable = λ number numbers. serializable number numbers (opened_setting run.opening) (reverse history) run.are_run.legal;
+    recoverable = λ number numbers. recoverable number numbers (opened_setting run.opening) (reverse history) run.are_run.legal;
+  };
+  text = text;
+  spelled = spelled;
+}
+
+-- what was written of what was run, where the input is known
+pub written-all : (Is : List ℕ → List ℕ → Type 0) (Ran : List ℕ → Type 0) (rest held held' : Option (List ℕ)) (out : List ℕ)
+    → ((bytes : List ℕ) → Ran bytes → Is bytes out) → IfSome rest Ran → Appends held held' out
+    → IfSome rest (λ bytes. (out : List ℕ) × Is bytes out × Appends held held' out)
+written-all Is Ran None held held' out is ran wrote = tt
+written-all Is Ran (Some bytes) held held' out is ran wrote = (out, is bytes ran, wrote)
+
+pub written-part : (Is : List ℕ → List ℕ → Type 0) (Ran : List ℕ → Type 0) (rest held held' : Option (List ℕ)) (out : List ℕ)
+    → ((bytes : List ℕ) → Ran bytes → Is bytes out) → IfSome rest Ran → ((k : ℕ) × Appends held held' (take k out))
+    → IfSome rest (λ bytes. (out : List ℕ) × (k : ℕ) × Is bytes out × Appends held held' (take k out))
+written-part Is Ran None held held' out is ran wrote = tt
+written-part Is Ran (Some bytes) held held' out is ran (k, wrote) = (out, k, is bytes ran, wrote)

@@ -18,6 +18,8 @@ use Rattle.sgt_dispatch.specs.declared.job.Job.{Job}
 use Rattle.sgt_audit.specs.declared.outcome.Outcome.{Outcome}
 use Rattle.sgt_audit.specs.declared.outcome.Outcome.TheVariants as outcome
 use Rattle.sgt_audit.specs.AllOutcomes.{OutcomesStand}
+use Rattle.sgt_textbook.specs.Laws.{TextbookLaws}
+use Rattle.sgt_transcript.specs.Transcripts.{TranscriptsSpellTextbooks, transcript}
 use Rattle.sgt_bank.specs.Inputs.{InputAsks}
 use Rattle.sgt_bank.specs.Reports.{report_text}
 use Rattle.sgt_bank.specs.SerialText.{serial_text}
@@ -46,18 +48,33 @@ pub record AreRun (opening : Opening) (jobs : List Job) (workers tries : ℕ) (h
   pub database : (k : Key) → contents_of rows k ≡ (folded (opened_setting opening) (reverse history)).last k
   pub by_key : IsByKey rows
 
--- what is written for an input of these bytes: the text of a report on the jobs that it asks for. Each `committed` line of it has
--- the answers that the serial run gives the job's transaction, and each `asked` line of one that was refused at its commit the
--- code. Each committed or refused transaction of one of SmallBank's five procedures did the bank's arithmetic, on what those
--- before it left
-pub record IsReport (workers tries : ℕ) (bytes out : List ℕ) : Type 0 where
+-- an input of these bytes was run: the jobs that it asks for, behind its opening. Each committed or refused transaction of one of
+-- SmallBank's five procedures did the bank's arithmetic, on what those before it left
+pub record IsRun (workers tries : ℕ) (bytes : List ℕ) (history : List Entry) (outcomes : List (Outcome Infallible)) (rows : List Row) : Type 0 where
   pub opening : Opening
   pub jobs : List Job
   pub asks : InputAsks workers bytes opening jobs
+  pub are_run : AreRun opening jobs workers tries history outcomes rows
+  pub bank : CommitsAreBank (opened_setting opening) (reverse history)
+
+-- what is written for an input of these bytes that is told by its operations: the transcript of the history of the jobs, which
+-- spells the operations of the textbook's history
+pub record IsHistory (workers tries : ℕ) (bytes out : List ℕ) : Type 0 where
   pub history : List Entry
   pub outcomes : List (Outcome Infallible)
   pub rows : List Row
-  pub are_run : AreRun opening jobs workers tries history outcomes rows
-  pub bank : CommitsAreBank (opened_setting opening) (reverse history)
+  pub run : IsRun workers tries bytes history outcomes rows
+  pub textbook : TextbookLaws (reverse history)
+  pub text : out ≡ transcript (reverse history)
+  pub spelled : TranscriptsSpellTextbooks
+
+-- what is written for an input of these bytes: the text of a report on the jobs that it asks for. Each `committed` line of it has
+-- the answers that the serial run gives the job's transaction, and each `asked` line of one that was refused at its commit the
+-- code
+pub record IsReport (workers tries : ℕ) (bytes out : List ℕ) : Type 0 where
+  pub history : List Entry
+  pub outcomes : List (Outcome Infallible)
+  pub rows : List Row
+  pub run : IsRun workers tries bytes history outcomes rows
   pub text : out ≡ report_text history outcomes rows
-  pub written : out ≡ serial_text (opened_setting opening) history outcomes rows
+  pub written : out ≡ serial_text (opened_setting run.opening) history outcomes rows

@@ -67,8 +67,8 @@ fn append_commit(line: &mut Vec<u8>, history: &History, n: u64) -> Result<(), Al
         (line.new.items ≡ line.old.items ++ words_at commit_words (slice_get history.now.entries n)) }
     ensures err { OnErr result (take (vec_len line.old) line.new.items ≡ line.old.items) }
 {
-    match history.get(n as usize) {
-        Some(entry) => append_commit_words(line, &entry.reply),
+    match history.get_entry(n as usize) {
+        Some(entry) => append_commit_words(line, &entry.reply()),
         None => Ok(()),
     }
 }
@@ -91,8 +91,8 @@ fn append_ask(line: &mut Vec<u8>, history: &History, n: u64) -> Result<(), Alloc
         (line.new.items ≡ line.old.items ++ words_at ask_words (slice_get history.now.entries n)) }
     ensures err { OnErr result (take (vec_len line.old) line.new.items ≡ line.old.items) }
 {
-    match history.get(n as usize) {
-        Some(entry) => append_ask_words(line, &entry.reply),
+    match history.get_entry(n as usize) {
+        Some(entry) => append_ask_words(line, &entry.reply()),
         None => Ok(()),
     }
 }
@@ -123,8 +123,8 @@ fn append_refusal(line: &mut Vec<u8>, history: &History, n: u64) -> Result<(), A
         (line.new.items ≡ line.old.items ++ words_at refusal_words (slice_get history.now.entries n)) }
     ensures err { OnErr result (take (vec_len line.old) line.new.items ≡ line.old.items) }
 {
-    match history.get(n as usize) {
-        Some(entry) => append_refusal_words(line, &entry.reply),
+    match history.get_entry(n as usize) {
+        Some(entry) => append_refusal_words(line, &entry.reply()),
         None => Ok(()),
     }
 }

@@ -1,10 +1,10 @@
-ghost use Rattle.std.specs.Prelude.{◌≡◌, ◌≢◌, ℕ, List, IfOk, IfErr, IfSome, Err, Ok, take, ◌+◌, ◌^◌, ◌<◌, ◌≤◌};
+ghost use Rattle.std.specs.Prelude.{◌≡◌, ◌≢◌, ℕ, List, IfOk, IfErr, OnOk, OnErr, IfSome, Err, Ok, length, take, ◌+◌, ◌^◌, ◌<◌, ◌≤◌};
 ghost use Rattle.std.specs.Io.KnownBytes.{Appends};
 ghost use Rattle.sgt_program.specs.Openings.{opened_setting};
 ghost use Rattle.sgt_stream.specs.Ends.{IsOfInput};
 ghost use Rattle.sgt_workers.specs.Banks.{engine_setting, AreWorkers, AreTries, AreLimitsFor, AreJobs};
 ghost use Rattle.sgt_bank.specs.Inputs.{InputFails, IsOfText};
-ghost use Rattle.sgt_bank.specs.Banks.{AreRun, IsReport};
+ghost use Rattle.sgt_bank.specs.Banks.{AreRun, IsHistory, IsReport, IsRun};
 
 use crate::gate::OpenGate;
 use crate::input::read_input;
@@ -14,6 +14,8 @@ use sgt_format::Opening;
 use sgt_model::NoMemory;
 use sgt_program::{SgtAccesses, SgtGraph, SgtRecords, all_procedures, opened_is_bank};
 use sgt_stream::{Fault, Sink, Source, write_all};
+use sgt_textbook::{legal_are_commit_ordered, legal_are_recoverable, legal_are_serializable};
+use sgt_transcript::{append_transcript, transcripts_spell_textbooks};
 use sgt_workers::{Bank, PoolError, Report, run};
 use std::alloc::Global;
 use std::convert::Infallible;
@@ -71,23 +73,24 @@ fn run_behind_opening<W: Threads + Wait + Sync>(
     }
 }
 
-/// The text of the report on the jobs of an input.
+/// Runs the jobs of an input.
 ///
 /// # Errors
 ///
 /// The first fault of the input; and `Reading`, `Spawn`, `Mismatch` and `NoMemory`.
-fn report_on_input<S: Source, W: Threads + Wait + Sync>(
+fn run_input<S: Source, W: Threads + Wait + Sync>(
     rt: &W,
     alloc: Global,
     source: &mut S,
     workers: u32,
     tries: u32,
-) -> Result<Vec<u8>, Fault>
+) -> Result<Report<Infallible>, Fault>
     requires reading { S.failures source.old + 1 < 2 ^ 64 }
     requires workers { AreWorkers workers }
     requires tries { AreTries tries }
-    ensures report { IfOk result (λ text. IfSome (S.rest source.old) (λ bytes.
-        IsReport workers tries bytes text.items)) }
+    ensures run { IfOk result (λ r. IfSome (S.rest source.old) (λ bytes.
+        IsRun workers tries bytes r.history.entries r.outcomes.items r.database)) }
+    ensures few { IfOk result (λ r. length r.outcomes.items ≤ 1000000) }
     ensures fault { IfErr result (λ f. IsOfText f → IfSome (S.rest source.old) (λ bytes.
         InputFails workers bytes f)) }
     ensures bounded { S.given source.new ≤ S.given source.old + 16777217 }
@@ -101,13 +104,22 @@ fn report_on_input<S: Source, W: Threads + Wait + Sync>(
     opened_is_bank();
     let (opening, jobs) = read_input(alloc, source, workers)?;
     let report = run_behind_opening(rt, alloc, opening, jobs.as_slice(), workers, tries)?;
-    let text = report_text(
-        alloc,
-        &report.history,
-        report.outcomes.as_slice(),
-        &report.database,
-    )?;
-    Ok(text)
+    Ok(report)
+}
+
+/// Writes the text of a run.
+fn write_text<T: Sink>(sink: &mut T, text: &[u8]) -> Result<(), Fault>
+    requires { T.failures sink.old + 1 < 2 ^ 64 }
+    ensures all { OnOk result (Appends (T.held sink.old) (T.held sink.new) text.now) }
+    ensures part { OnErr result ((k : ℕ) × Appends (T.held sink.old) (T.held sink.new) (take k text.now)) }
+    ensures err { IfErr result (λ f. f ≡ Fault.Writing) }
+    ensures well { OnOk result (T.failures sink.new ≡ T.failures sink.old) }
+    ensures failed { OnErr result (T.failures sink.new ≡ T.failures sink.old + 1) }
+{
+    if write_all(sink, text).is_err() {
+        return Err(Fault::Writing);
+    }
+    Ok(())
 }
 
 /// Runs the jobs of an input on worker threads, and writes what became of them: a line for each job, by number, and then the
@@ -151,9 +163,61 @@ pub fn run_jobs<S: Source, T: Sink, W: Threads + Wait + Sync>(
     ensures write_failed { result ≡ Err Fault.Writing →
         T.failures sink.new ≡ T.failures sink.old + 1 }
 {
-    let text = report_on_input(rt, alloc, source, workers, tries)?;
-    if write_all(sink, text.as_slice()).is_err() {
-        return Err(Fault::Writing);
-    }
+    let report = run_input(rt, alloc, source, workers, tries)?;
+    let text = report_text(
+        alloc,
+        &report.history,
+        report.outcomes.as_slice(),
+        &report.database,
+    )?;
+    write_text(sink, text.as_slice())?;
+    Ok(())
+}
+
+/// Runs the jobs of an input as `run_jobs` does, and writes the run as a history in the notation of Bernstein, Hadzilacos and
+/// Goodman (1987), chapter 2, in place of outcomes and database: a line for each read, write, commit and abort of all tries, as
+/// `r1[2/101]`, in the order of the history, an abort for the transaction that is aborted and then one for each that falls.
+///
+/// # Errors
+///
+/// As of `run_jobs`.
+pub fn run_history<S: Source, T: Sink, W: Threads + Wait + Sync>(
+    rt: &W,
+    alloc: Global,
+    source: &mut S,
+    sink: &mut T,
+    workers: u32,
+    tries: u32,
+) -> Result<(), Fault>
+    requires reading { S.failures source.old + 1 < 2 ^ 64 }
+    requires writing { T.failures sink.old + 1 < 2 ^ 64 }
+    requires workers { AreWorkers workers }
+    requires tries { AreTries tries }
+    ensures history { result ≡ Ok tt → IfSome (S.rest source.old) (λ bytes. (out : List ℕ)
+        × IsHistory workers tries bytes out × Appends (T.held sink.old) (T.held sink.new) out) }
+    ensures fault { IfErr result (λ f. IsOfText f → IfSome (S.rest source.old) (λ bytes.
+        InputFails workers bytes f)) }
+    ensures nothing { IfErr result (λ f. f ≢ Fault.Writing → sink.new ≡ sink.old) }
+    ensures part { result ≡ Err Fault.Writing → IfSome (S.rest source.old) (λ bytes. (out : List ℕ) × (k : ℕ)
+        × IsHistory workers tries bytes out × Appends (T.held sink.old) (T.held sink.new) (take k out)) }
+    ensures bounded { S.given source.new ≤ S.given source.old + 16777217 }
+    ensures read_well { result ≢ Err Fault.Reading →
+        S.failures source.new ≡ S.failures source.old }
+    ensures read_failed { result ≡ Err Fault.Reading →
+        S.failures source.new ≡ S.failures source.old + 1 }
+    ensures wrote_well { result ≢ Err Fault.Writing →
+        T.failures sink.new ≡ T.failures sink.old }
+    ensures write_failed { result ≡ Err Fault.Writing →
+        T.failures sink.new ≡ T.failures sink.old + 1 }
+{
+    let report = run_input(rt, alloc, source, workers, tries)?;
+    // What the textbook's own classes say of every legal history.
+    legal_are_commit_ordered();
+    legal_are_serializable();
+    legal_are_recoverable();
+    transcripts_spell_textbooks();
+    let mut text = Vec::new(alloc);
+    append_transcript(&mut text, &report.history)?;
+    write_text(sink, text.as_slice())?;
     Ok(())
 }

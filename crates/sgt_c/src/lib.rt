@@ -16,12 +16,17 @@
 //! ```
 #![tactic(auto)]
 
+mod asked;
 mod events;
 mod fault;
 mod handle;
 mod held;
+mod history;
 mod opening;
+mod opening_with;
 mod reading;
+mod rows;
+mod run;
 mod slot;
 mod status;
 #[cfg(test)]

@@ -1,5 +1,5 @@
 //! What is committed.
-ghost use Rattle.std.specs.Prelude.{◌≡◌, ◌≢◌, ◌≤◌, ◌↔◌, Some, None, IsSome, IfSome, length};
+ghost use Rattle.std.specs.Prelude.{◌≡◌, ◌≢◌, ◌≤◌, ◌↔◌, Some, None, IsSome, IfSome};
 ghost use Rattle.sgt_model.specs.Databases.{contents_of};
 ghost use Rattle.sgt_model.specs.Numbers.{IsValue};
 ghost use Rattle.sgt_model.specs.Replay.{folded};
@@ -50,23 +50,4 @@ pub extern "C" fn sgt_get(
         }
         None => status::NONE,
     }
-}
-
-/// How many events were answered since the opening.
-///
-/// `CLOSED`.
-#[unsafe(no_mangle)]
-pub extern "C" fn sgt_entries(alloc: Global, engine: &mut Handle, count: &mut u64) -> u32
-    ensures count { result ≡ 0 → IfSome engine.old.slot.held (λ h. count.new ≡ length h.engine.past) }
-    ensures closed { (result ≡ 2) ↔ (engine.old.slot.held ≡ None) }
-    ensures statuses { result ≢ 0 → result ≡ 2 }
-    ensures kept { result ≢ 0 → count.new ≡ count.old }
-    ensures same { engine.new.slot.held ≡ engine.old.slot.held }
-{
-    let Some(held) = engine.take(alloc) else {
-        return status::CLOSED;
-    };
-    *count = held.engine.history().len() as u64;
-    engine.put(held);
-    status::OK
 }

@@ -1,8 +1,13 @@
+use crate::asked::Asked;
 use crate::events::{sgt_commit, sgt_quit, sgt_start, sgt_step};
 use crate::fault::Fault;
 use crate::handle::Handle;
+use crate::history::{sgt_entries, sgt_entry, sgt_reserve};
 use crate::opening::{sgt_close, sgt_open};
-use crate::reading::{sgt_entries, sgt_get};
+use crate::opening_with::sgt_open_with;
+use crate::reading::sgt_get;
+use crate::rows::{Row, sgt_rows};
+use crate::run::sgt_run;
 use crate::told::Told;
 use std::prelude::HostRuntime;
 
@@ -16,6 +21,16 @@ fn no_fault() -> Fault {
         depth: 0,
         spare: 0,
         place: [0; 128],
+    }
+}
+
+fn nothing_asked() -> Asked {
+    Asked {
+        kind: 0,
+        tid: 0,
+        procedure: 0,
+        args: 0,
+        arg: [0; 4],
     }
 }
 
@@ -98,4 +113,154 @@ fn statuses_are_told(rt: HostRuntime) {
     );
     sgt_close(alloc, &mut engine);
     assert_eq!(rt; sgt_commit(alloc, &mut engine, 0, &mut told), 2);
+}
+
+#[test]
+fn entries_are_told(rt: HostRuntime) {
+    let alloc = rt.alloc();
+    let mut engine = Handle::closed(alloc);
+    let mut fault = no_fault();
+    let mut asked = nothing_asked();
+    let mut told = blank();
+    assert_eq!(rt; sgt_entry(alloc, &mut engine, 0, &mut asked, &mut told), 2);
+    assert_eq!(rt; sgt_reserve(alloc, &mut engine, 10), 2);
+    assert_eq!(rt; sgt_open(alloc, &mut engine, OPENING, &mut fault), 0);
+    assert_eq!(rt; sgt_reserve(alloc, &mut engine, 10), 0);
+    assert_eq!(rt; sgt_start(alloc, &mut engine, 1, &[1, 100], &mut told), 0);
+    assert_eq!(rt; sgt_step(alloc, &mut engine, 0, &mut told), 0);
+    assert_eq!(rt; sgt_commit(alloc, &mut engine, 0, &mut told), 0);
+    assert_eq!(rt; sgt_quit(alloc, &mut engine, 0, &mut told), 0);
+    let mut told = blank();
+    assert_eq!(rt; sgt_entry(alloc, &mut engine, 0, &mut asked, &mut told), 0);
+    assert_eq!(rt; (asked.kind, asked.procedure, asked.args), (1, 1, 2));
+    assert_eq!(rt; (asked.arg[0], asked.arg[1]), (1, 100));
+    assert_eq!(rt; (told.kind, told.tid), (1, 0));
+    assert_eq!(rt; sgt_entry(alloc, &mut engine, 1, &mut asked, &mut told), 0);
+    assert_eq!(rt;
+        (asked.kind, asked.tid, told.kind, told.value),
+        (2, 0, 8, 101)
+    );
+    assert_eq!(rt; sgt_entry(alloc, &mut engine, 2, &mut asked, &mut told), 0);
+    assert_eq!(rt; (asked.kind, told.kind), (3, 11));
+    assert_eq!(rt; sgt_entry(alloc, &mut engine, 3, &mut asked, &mut told), 0);
+    assert_eq!(rt; (asked.kind, told.kind, told.cause), (4, 14, 3));
+    assert_eq!(rt; sgt_entry(alloc, &mut engine, 4, &mut asked, &mut told), 4);
+    assert_eq!(rt; asked.kind, 4);
+    sgt_close(alloc, &mut engine);
+}
+
+fn row(table: u32, number: i64, value: i64) -> Row {
+    Row {
+        table,
+        spare: 0,
+        number,
+        value,
+    }
+}
+
+#[test]
+fn rows_are_told_and_opened(rt: HostRuntime) {
+    let alloc = rt.alloc();
+    let mut engine = Handle::closed(alloc);
+    let mut fault = no_fault();
+    let mut value = 0;
+    let mut count = 9;
+    let mut rows = [row(9, 9, 9), row(9, 9, 9)];
+    assert_eq!(rt;
+        sgt_rows(alloc, &mut engine, 8, 0, &mut rows, &mut count),
+        5
+    );
+    assert_eq!(rt;
+        sgt_rows(alloc, &mut engine, 0, 0, &mut rows, &mut count),
+        2
+    );
+    assert_eq!(rt; (count, rows[0].table), (9, 9));
+    assert_eq!(rt; sgt_open(alloc, &mut engine, OPENING, &mut fault), 0);
+    assert_eq!(rt;
+        sgt_rows(alloc, &mut engine, 0, 1, &mut rows, &mut count),
+        0
+    );
+    assert_eq!(rt; (rows[0].table, rows[0].number, rows[0].value), (0, 1, 101));
+    assert_eq!(rt;
+        (rows[1].table, rows[1].number, rows[1].value),
+        (1, 101, 500)
+    );
+    assert_eq!(rt; count, 3);
+    assert_eq!(rt;
+        sgt_rows(alloc, &mut engine, 1, 102, &mut rows, &mut count),
+        0
+    );
+    assert_eq!(rt; (rows[0].table, rows[0].value, rows[1].table), (2, 1000, 1));
+    assert_eq!(rt; count, 1);
+    sgt_close(alloc, &mut engine);
+    let own = [row(7, 5, 50), row(2, 101, 7), row(7, 5, 51)];
+    assert_eq!(rt;
+        sgt_open_with(alloc, &mut engine, OPENING, &[row(8, 0, 0)], &mut fault),
+        5
+    );
+    assert_eq!(rt;
+        sgt_open_with(alloc, &mut engine, b"", &own, &mut fault),
+        16
+    );
+    assert_eq!(rt;
+        sgt_open_with(alloc, &mut engine, OPENING, &own, &mut fault),
+        0
+    );
+    assert_eq!(rt;
+        sgt_open_with(alloc, &mut engine, OPENING, &own, &mut fault),
+        3
+    );
+    assert_eq!(rt; sgt_get(alloc, &mut engine, 7, 5, &mut value), 0);
+    assert_eq!(rt; value, 51);
+    assert_eq!(rt; sgt_get(alloc, &mut engine, 2, 101, &mut value), 0);
+    assert_eq!(rt; value, 7);
+    assert_eq!(rt; sgt_rows(alloc, &mut engine, 0, 0, &mut [], &mut count), 0);
+    assert_eq!(rt; count, 4);
+    sgt_close(alloc, &mut engine);
+}
+
+#[test]
+fn a_run_goes_to_its_end(rt: HostRuntime) {
+    let alloc = rt.alloc();
+    let mut engine = Handle::closed(alloc);
+    let mut fault = no_fault();
+    let mut told = blank();
+    let mut t = 77;
+    let mut count = 0;
+    assert_eq!(rt;
+        sgt_run(alloc, &mut engine, 1, &[1, 1, 1, 1, 1], &mut t, &mut told),
+        5
+    );
+    assert_eq!(rt;
+        sgt_run(alloc, &mut engine, 1, &[1, 100], &mut t, &mut told),
+        2
+    );
+    assert_eq!(rt; sgt_open(alloc, &mut engine, OPENING, &mut fault), 0);
+    assert_eq!(rt; sgt_run(alloc, &mut engine, 9, &[], &mut t, &mut told), 0);
+    assert_eq!(rt; (told.kind, t), (2, 77));
+    assert_eq!(rt;
+        sgt_run(alloc, &mut engine, 1, &[1, 100], &mut t, &mut told),
+        0
+    );
+    assert_eq!(rt;
+        (told.kind, told.answers, told.answer[0], t),
+        (13, 1, 1100, 0)
+    );
+    assert_eq!(rt;
+        sgt_run(alloc, &mut engine, 1, &[1, -5], &mut t, &mut told),
+        0
+    );
+    assert_eq!(rt; (told.kind, told.cause, t), (14, 2, 1));
+    assert_eq!(rt; sgt_start(alloc, &mut engine, 1, &[1, 1], &mut told), 0);
+    assert_eq!(rt; sgt_step(alloc, &mut engine, 2, &mut told), 0);
+    assert_eq!(rt; sgt_step(alloc, &mut engine, 2, &mut told), 0);
+    assert_eq!(rt; sgt_step(alloc, &mut engine, 2, &mut told), 0);
+    assert_eq!(rt; sgt_run(alloc, &mut engine, 0, &[1], &mut t, &mut told), 0);
+    assert_eq!(rt; (told.kind, told.tid, t), (12, 2, 3));
+    assert_eq!(rt; sgt_entries(alloc, &mut engine, &mut count), 0);
+    assert_eq!(rt; sgt_commit(alloc, &mut engine, 2, &mut told), 0);
+    assert_eq!(rt; sgt_commit(alloc, &mut engine, 3, &mut told), 0);
+    assert_eq!(rt; (told.kind, told.answer[0]), (13, 1601));
+    assert_eq!(rt; count, 19);
+    sgt_close(alloc, &mut engine);
 }

@@ -2,3 +2,4 @@ pub mod Pieces
 pub mod Counting
 pub mod Sound
 pub mod Whole
+pub mod Graphs

@@ -1,3 +1,5 @@
 pub mod Reports
 pub mod ReportText
 pub mod Checks
+pub mod GraphText
+pub mod Graphs

@@ -26,6 +26,7 @@ pub(crate) fn read_input<S: Source>(alloc: Global, source: &mut S) -> Result<Vec
     ensures short { IfOk result (λ text. length text.items ≤ 268435456) }
     ensures long { result ≡ Err CheckFault.TooLong →
         IfSome (S.rest source.old) (λ bytes. 268435456 < length bytes) }
+    ensures bounded { S.given source.new ≤ S.given source.old + 268500992 }
     ensures well { result ≢ Err CheckFault.Reading → S.failures source.new ≡ S.failures source.old }
     ensures failed { result ≡ Err CheckFault.Reading → S.failures source.new ≡ S.failures source.old + 1 }
     ensures no_notation { (f : NotationFault) → result ≢ Err (fault.Notation f) }

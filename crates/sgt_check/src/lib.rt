@@ -1,8 +1,9 @@
 //! The check of a history that is given as text: is it serializable, recoverable, and of which other classes?
 //!
 //! [`check_history`] puts the checkers of `sgt_history` together into a [`Report`], [`append_report`] writes it as seven lines,
-//! and [`run_check`] does so for what a reader gives. The classes are defined in `sgt_history`, the notation in `sgt_notation`,
-//! and the lines of a report in `specs/ReportText.antt`.
+//! and [`run_check`] does so for what a reader gives. [`append_graph`] writes the serialization graph in DOT, and [`run_graph`]
+//! that of what a reader gives. The classes are defined in `sgt_history`, the notation in `sgt_notation`, the lines of a report
+//! in `specs/ReportText.antt`, and those of a graph in `specs/GraphText.antt`.
 //!
 //! ```
 //! let history = read_history(alloc, b"w1[x] r2[x] c2 c1")?;
@@ -12,6 +13,8 @@
 #![tactic(auto)]
 
 mod fault;
+mod graph;
+mod graph_text;
 mod input;
 mod placed_text;
 mod report;
@@ -19,6 +22,8 @@ mod report_text;
 mod run;
 
 pub use fault::CheckFault;
+pub use graph::run_graph;
+pub use graph_text::append_graph;
 pub use report::{Counts, Report, check_history};
 pub use report_text::append_report;
 pub use run::run_check;

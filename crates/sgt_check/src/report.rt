@@ -2,13 +2,13 @@
 ghost use Rattle.std.specs.Prelude.{◌≡◌, ◌<◌, ◌+◌, ◌-◌, ◌^◌, ◌==◌, ◌||◌, not, if◌then◌else◌, ℕ, is_some, IfOk, OnOk};
 ghost use Rattle.std.specs.BTreeMap.{get};
 ghost use Rattle.std.specs.Ordering.{nat_cmp};
-ghost use Rattle.sgt_history.specs.Classes.{BreaksRecoverability, IsFirstViolation};
+ghost use Rattle.sgt_history.specs.Classes.{BreaksRecoverability, BreaksAvoidance, BreaksStrictness, BreaksRigorousness, IsFirstViolation};
 ghost use Rattle.sgt_check.specs.Reports.{IsReport, AreCounts, IsWriteOf, commits, aborts};
 
 use sgt_history::{
-    Action, Operation, Serializability, Violation, avoidance_violation, commit_order_violation,
-    read_source, recoverable_violation, rigorous_violation, serial_order_or_cycle,
-    strict_violation,
+    Action, Operation, Serializability, Violation, avoidance_violation, avoiding_are_recoverable,
+    commit_order_violation, read_source, recoverable_violation, rigorous_are_strict,
+    rigorous_violation, serial_order_or_cycle, strict_avoid_cascading_aborts, strict_violation,
 };
 use sgt_model::NoMemory;
 use std::alloc::Global;
@@ -54,7 +54,9 @@ pub struct Report {
 
 /// Checks a history for all classes.
 ///
-/// It costs what the checkers of `sgt_history` cost, one after another.
+/// It costs what the checkers of `sgt_history` cost, one after another. Of rigorousness, strictness, the avoidance of cascading
+/// aborts and recoverability each is implied by the one before it: where a history is of one of these classes, those behind it
+/// cost nothing.
 ///
 /// # Errors
 ///
@@ -64,18 +66,69 @@ pub fn check_history(alloc: Global, history: &[Operation]) -> Result<Report, NoM
 {
     let counts = count(alloc, history)?;
     let serializability = serial_order_or_cycle(alloc, history)?;
-    let recoverable = recoverable_violation(alloc, history)?;
+    let rigorous = rigorous_violation(alloc, history)?;
+    let strict = strict_unless_rigorous(alloc, history, &rigorous)?;
+    let avoiding = avoiding_unless_strict(alloc, history, &strict)?;
+    let recoverable = recoverable_unless_avoiding(alloc, history, &avoiding)?;
     let dirty_write = dirty_write(alloc, history, &recoverable)?;
     Ok(Report {
         counts,
         serializability,
         recoverable,
         dirty_write,
-        avoiding: avoidance_violation(alloc, history)?,
-        strict: strict_violation(alloc, history)?,
-        rigorous: rigorous_violation(alloc, history)?,
+        avoiding,
+        strict,
+        rigorous,
         commit_ordered: commit_order_violation(alloc, history)?,
     })
+}
+
+/// The first violation of strictness, of which there is none where there is none of rigorousness.
+fn strict_unless_rigorous(
+    alloc: Global,
+    history: &[Operation],
+    rigorous: &Option<Violation>,
+) -> Result<Option<Violation>, NoMemory>
+    requires { IsFirstViolation (BreaksRigorousness history.now) rigorous.now }
+    ensures { IfOk result (IsFirstViolation (BreaksStrictness history.now)) }
+{
+    rigorous_are_strict();
+    match rigorous {
+        Some(_) => strict_violation(alloc, history),
+        None => Ok(None),
+    }
+}
+
+/// The first violation of the avoidance of cascading aborts, of which there is none where there is none of strictness.
+fn avoiding_unless_strict(
+    alloc: Global,
+    history: &[Operation],
+    strict: &Option<Violation>,
+) -> Result<Option<Violation>, NoMemory>
+    requires { IsFirstViolation (BreaksStrictness history.now) strict.now }
+    ensures { IfOk result (IsFirstViolation (BreaksAvoidance history.now)) }
+{
+    strict_avoid_cascading_aborts();
+    match strict {
+        Some(_) => avoidance_violation(alloc, history),
+        None => Ok(None),
+    }
+}
+
+/// The first violation of recoverability, of which there is none where there is none of the avoidance of cascading aborts.
+fn recoverable_unless_avoiding(
+    alloc: Global,
+    history: &[Operation],
+    avoiding: &Option<Violation>,
+) -> Result<Option<Violation>, NoMemory>
+    requires { IsFirstViolation (BreaksAvoidance history.now) avoiding.now }
+    ensures { IfOk result (IsFirstViolation (BreaksRecoverability history.now)) }
+{
+    avoiding_are_recoverable();
+    match avoiding {
+        Some(_) => recoverable_violation(alloc, history),
+        None => Ok(None),
+    }
 }
 
 /// The place of the write that the read of a violation of recoverability reads from.

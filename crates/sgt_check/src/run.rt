@@ -1,5 +1,5 @@
 //! The check of what a reader gives.
-ghost use Rattle.std.specs.Prelude.{◌≡◌, ◌≢◌, ◌↔◌, ◌^◌, ◌+◌, ◌<◌, ℕ, List, IfOk, IfErr, IfSome, Err, true};
+ghost use Rattle.std.specs.Prelude.{◌≡◌, ◌≢◌, ◌↔◌, ◌^◌, ◌+◌, ◌<◌, ◌≤◌, ℕ, Bool, List, IfOk, IfErr, IfSome, Err, true, take};
 ghost use Rattle.std.specs.Io.KnownBytes.{Appends, Keeps};
 ghost use Rattle.sgt_history.specs.declared.operation.Operation.{Operation};
 ghost use Rattle.sgt_history.specs.Classes.{IsRecoverable};
@@ -18,7 +18,9 @@ use sgt_stream::{Sink, Source, write_all};
 use std::alloc::Global;
 
 /// Checks the history that the source's bytes spell, writes the report, and tells whether the history is serializable and
-/// recoverable.
+/// recoverable. All input is read before the first line is written.
+///
+/// It reads at most 268,500,992 bytes, 65,536 more than an input may have, however long its reader goes on.
 ///
 /// # Errors
 ///
@@ -36,20 +38,28 @@ pub fn run_check<S: Source, T: Sink>(
         × Appends (T.held sink.old) (T.held sink.new) output × IsChecked input output sound)) }
     ensures fault { IfErr result (λ f. IfSome (S.rest source.old) (λ input. IsFaultOf input f)) }
     ensures nothing { (f : CheckFault) → result ≡ Err f → f ≢ CheckFault.Writing → sink.new ≡ sink.old }
+    ensures part { result ≡ Err CheckFault.Writing → IfSome (S.rest source.old) (λ input. (output : List ℕ) × (sound : Bool) × (k : ℕ)
+        × IsChecked input output sound × Appends (T.held sink.old) (T.held sink.new) (take k output)) }
+    ensures bounded { S.given source.new ≤ S.given source.old + 268500992 }
+    ensures read_well { result ≢ Err CheckFault.Reading → S.failures source.new ≡ S.failures source.old }
+    ensures read_failed { result ≡ Err CheckFault.Reading → S.failures source.new ≡ S.failures source.old + 1 }
+    ensures wrote_well { result ≢ Err CheckFault.Writing → T.failures sink.new ≡ T.failures sink.old }
+    ensures write_failed { result ≡ Err CheckFault.Writing → T.failures sink.new ≡ T.failures sink.old + 1 }
 {
     let text = read_input(alloc, source)?;
     let history = read_history(alloc, text.as_slice())?;
     let report = check_history(alloc, history.operations.as_slice())?;
     let mut lines = Vec::new(alloc);
     append_report(&mut lines, &history, &report)?;
+    let sound = is_sound(&report);
     let Ok(()) = write_all(sink, lines.as_slice()) else {
         return Err(CheckFault::Writing);
     };
-    Ok(is_sound(&report))
+    Ok(sound)
 }
 
 /// Whether the history is serializable and recoverable.
-fn is_sound(report: &Report) -> bool
+pub(crate) fn is_sound(report: &Report) -> bool
     ensures { (h : List Operation) → IsReport h report.now → (result ≡ true) ↔ (IsSerializable h × IsRecoverable h) }
 {
     matches!(report.serializability, Serializability::Serial(_)) && report.recoverable.is_none()

@@ -1,3 +1,4 @@
 pub mod HistoryView
 pub mod Spans
 pub mod ShortEntries
+pub mod EntryParts

@@ -4,6 +4,7 @@ ghost use Rattle.std.specs.Result.{IsOk};
 ghost use Rattle.std.specs.Option.{option_map};
 ghost use Rattle.sgt_model.specs.declared.entry.Entry.{Entry as E};
 
+use crate::entry_ref::EntryRef;
 use crate::short_entry::ShortEntry;
 use crate::short_event::ShortEvent;
 use crate::short_reply::ShortReply;
@@ -165,26 +166,73 @@ impl History {
         self.room -= 1;
     }
 
+    /// Adds an entry that another history holds, for which there is room here. This takes no memory.
+    pub fn push_entry(&mut self, entry: &EntryRef<'_>)
+        requires { 0 < self.old.room }
+        ensures entries { self.new.entries ≡ self.old.entries ++ entry.now ∷ [] }
+        ensures room { self.new.room + 1 ≡ self.old.room }
+        ensures capacities { self.new.capacities ≡ self.old.capacities }
+    {
+        let event = entry.short.event.moved(entry.values, &mut self.values);
+        let reply = entry
+            .short
+            .reply
+            .moved(entry.tids, entry.values, &mut self.tids, &mut self.values);
+        self.entries.push_reserved(ShortEntry { event, reply });
+        self.room -= 1;
+    }
+
+    /// The entry at a place, read where it stands.
+    pub fn entry(&self, place: usize) -> EntryRef<'_>
+        requires { place < length self.now.entries }
+        ensures entry { slice_get self.now.entries place ≡ Some result }
+        ensures next { take (place + 1) self.now.entries ≡ take place self.now.entries ++ result ∷ [] }
+    {
+        EntryRef {
+            short: &self.entries[place],
+            tids: self.tids.as_slice(),
+            values: self.values.as_slice(),
+        }
+    }
+
+    /// The entry at a place, if there is one, read where it stands.
+    pub fn get_entry(&self, place: usize) -> Option<EntryRef<'_>>
+        ensures { result ≡ slice_get self.now.entries place }
+    {
+        if place < self.entries.len() {
+            Some(self.entry(place))
+        } else {
+            None
+        }
+    }
+
+    /// The newest entry, if there is one, read where it stands.
+    pub fn last_entry(&self) -> Option<EntryRef<'_>>
+        ensures { result ≡ slice_get (reverse self.now.entries) 0 }
+    {
+        if self.is_empty() {
+            None
+        } else {
+            Some(self.entry(self.len() - 1))
+        }
+    }
+
     /// The entry at a place.
     pub fn at(&self, place: usize) -> Entry
         requires { place < length self.now.entries }
         ensures entry { slice_get self.now.entries place ≡ Some result }
         ensures next { take (place + 1) self.now.entries ≡ take place self.now.entries ++ result ∷ [] }
     {
-        Entry {
-            event: self.event_at(place),
-            reply: self.reply_at(place),
-        }
+        self.entry(place).in_full()
     }
 
     /// The entry at a place, if there is one.
     pub fn get(&self, place: usize) -> Option<Entry>
         ensures { result ≡ slice_get self.now.entries place }
     {
-        if place < self.entries.len() {
-            Some(self.at(place))
-        } else {
-            None
+        match self.get_entry(place) {
+            Some(entry) => Some(entry.in_full()),
+            None => None,
         }
     }
 
@@ -192,20 +240,10 @@ impl History {
     pub fn last(&self) -> Option<Entry>
         ensures { result ≡ slice_get (reverse self.now.entries) 0 }
     {
-        if self.is_empty() {
-            None
-        } else {
-            Some(self.at(self.len() - 1))
+        match self.last_entry() {
+            Some(entry) => Some(entry.in_full()),
+            None => None,
         }
-    }
-
-    /// The event of the entry at a place.
-    pub fn event_at(&self, place: usize) -> Event
-        requires { place < length self.now.entries }
-        ensures { option_map (λ (e : E). e.event) (slice_get self.now.entries place) ≡ Some result }
-    {
-        let entry = &self.entries[place];
-        entry.event.in_full(self.values.as_slice())
     }
 
     /// The reply of the entry at a place.
@@ -213,20 +251,16 @@ impl History {
         requires { place < length self.now.entries }
         ensures { option_map (λ (e : E). e.reply) (slice_get self.now.entries place) ≡ Some result }
     {
-        let entry = &self.entries[place];
-        entry
-            .reply
-            .in_full(self.tids.as_slice(), self.values.as_slice())
+        self.entry(place).reply()
     }
 
     /// The reply of the newest entry, if there is one.
     pub fn last_reply(&self) -> Option<Reply>
         ensures { result ≡ option_map (λ (e : E). e.reply) (slice_get (reverse self.now.entries) 0) }
     {
-        if self.is_empty() {
-            None
-        } else {
-            Some(self.reply_at(self.len() - 1))
+        match self.last_entry() {
+            Some(entry) => Some(entry.reply()),
+            None => None,
         }
     }
 }

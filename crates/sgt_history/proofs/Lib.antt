@@ -15,3 +15,5 @@ pub mod Orderings
 pub mod Waiting
 pub mod FirstWaits
 pub mod Taking
+pub mod FirstAccesses
+pub mod FirstConflicts

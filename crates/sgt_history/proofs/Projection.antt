@@ -105,6 +105,24 @@ edge_by h q e is made =
     writes (inl wrote) = inl ((is e.earlier e.from made.conflict.0).1.0 wrote).0
     writes (inr wrote) = inr ((is e.later e.to made.conflict.0).1.0 wrote).0
 
+-- two operations that make an edge of the history's graph conflict in the projection
+pub conflict_by : (h q : List Operation) (e : Edge) → IsProjection h q → IsEdgeBy h e → IsConflictBy q e
+conflict_by h q e is edge = record {
+  differ = edge.differ;
+  order = edge.order;
+  conflict = (
+    edge.conflict.0,
+    uses h q e.earlier e.from edge.conflict.0 is edge.conflict.1 edge.commits_first,
+    uses h q e.later e.to edge.conflict.0 is edge.conflict.2 edge.commits_second,
+    writes edge.conflict.3,
+  );
+}
+  where
+    writes : Does h e.earlier e.from (Write edge.conflict.0) ⊎ Does h e.later e.to (Write edge.conflict.0)
+        → Does q e.earlier e.from (Write edge.conflict.0) ⊎ Does q e.later e.to (Write edge.conflict.0)
+    writes (inl wrote) = inl ((is e.earlier e.from edge.conflict.0).1.1 (wrote, edge.commits_first))
+    writes (inr wrote) = inr ((is e.later e.to edge.conflict.0).1.1 (wrote, edge.commits_second))
+
 -- of a conflict along which they do not rise, with a write between, they do not rise along one of its parts
 no_write_between : (q : List Operation) (rank : ℕ → ℕ) (n i t j u x : ℕ) → j < n + 1 + i → t ≢ u → Uses q i t x → Uses q j u x
     → rank u ≤ rank t

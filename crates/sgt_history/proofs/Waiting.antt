@@ -1,11 +1,11 @@
 -- Who waits for whom, after one has been looked at again.
-use Rattle.std.proofs.Common.{◌≡◌, ◌≢◌, ◌<◌, ◌⊎◌, ℕ, Option, Some, IsSome, sym, ap, ◌∙◌, subst, inl, inr, arith}
+use Rattle.std.proofs.Common.{◌≡◌, ◌≢◌, ◌<◌, ◌≤◌, ◌⊎◌, ℕ, List, Option, Some, None, IsSome, sym, ap, ◌∙◌, subst, inl, inr, arith}
 use Rattle.std.specs.Prelude.{slice_get}
 use Rattle.std.specs.BTreeMap.{get}
 use Rattle.std.specs.Ordering.{nat_cmp}
-use Rattle.std.proofs.lemmas.Bool.{cases_eq}
+use Rattle.std.proofs.lemmas.Bool.{cases_eq, cases_lt}
 use Rattle.sgt_history.specs.declared.graph.Edge.{Edge}
-use Rattle.sgt_history.specs.declared.chains.End.TheVariants.{From}
+use Rattle.sgt_history.specs.declared.chains.End.TheVariants.{From, To}
 use Rattle.sgt_history.specs.declared.serial.Waits.{Waits}
 use Rattle.sgt_history.specs.Seen.{height}
 use Rattle.sgt_history.specs.Sorting.{IsLastEdge, IsTopEdge, KnowsWaits, IsReady, AllWait, AllWaitBut, WaitsForLeft}
@@ -60,3 +60,27 @@ wait_below w w' t i e o edges left tops waits here before looked last u k f top 
             | inr differ ↦ inr (out.0, not_after_last From w.edges.items i t k f o last (omega (arith, out.1, differ)) at_old out.0)
           ]
         ]
+
+-- an edge to u that is not below one from what is not left, which all above it are
+not_under : (es : List Edge) (left : ℕ → Option ℕ) (u i k : ℕ) (e f : Edge) → slice_get es i ≡ Some e → left e.from ≡ None
+    → IsTopEdge es left u (Some i) → i ≤ k → slice_get es k ≡ Some f → f.to ≡ u → left f.from ≡ None
+not_under es left u i k e f at gone top most here to = elim (cases_eq k i) [
+  | inl same ↦ subst (λ (g : Edge). left g.from ≡ None)
+      (same_at es i e f at (subst (λ n. slice_get es n ≡ Some f) same here)) gone
+  | inr differ ↦ top.1 k f (omega (arith, most, differ)) here to
+]
+
+-- an edge from one that is not left gives way to the next lower one
+pub below_passed : (es : List Edge) (left : ℕ → Option ℕ) (u i : ℕ) (e : Edge) (o : Option ℕ) → slice_get es i ≡ Some e
+    → left e.from ≡ None → IsTopEdge es left u (Some i) → IsLastEdge To es i u o → IsTopEdge es left u o
+below_passed es left u i e None at gone top last = λ k f here to. elim (cases_lt k i) [
+  | inl under ↦ absurd (last k f under here to)
+  | inr most ↦ not_under es left u i k e f at gone top (omega (arith, most)) here to
+]
+below_passed es left u i e (Some j) at gone top last = (
+  last.1,
+  λ k f after here to. elim (cases_lt k i) [
+    | inl under ↦ absurd (last.2 k f after under here to)
+    | inr most ↦ not_under es left u i k e f at gone top (omega (arith, most)) here to
+  ],
+)

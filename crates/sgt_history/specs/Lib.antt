@@ -1,6 +1,9 @@
 pub mod Histories
+pub mod Links
 pub mod Classes
 pub mod Seen
 pub mod Serializability
 pub mod SerialOrders
 pub mod Sorting
+pub mod FirstConflicts
+pub mod FirstAccesses

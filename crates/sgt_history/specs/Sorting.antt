@@ -7,6 +7,7 @@ use Rattle.sgt_history.specs.declared.graph.Edge.{Edge}
 use Rattle.sgt_history.specs.declared.chains.End.{End}
 use Rattle.sgt_history.specs.declared.chains.End.TheVariants.{From, To}
 use Rattle.sgt_history.specs.declared.serial.Waits.{Waits}
+use Rattle.sgt_history.specs.Links.{link_of}
 use Rattle.sgt_history.specs.Serializability.{IsCycle, IsEdgeBy}
 
 -- the transaction at an end of an edge
@@ -44,8 +45,8 @@ pub record AreWaits (es : List Edge) (left tops below outs further ready : ℕ �
 
 -- what is kept, of its maps
 abbrev pub KnowsWaits : Waits → Type 0
-KnowsWaits w = AreWaits w.edges.items (get nat_cmp w.left) (get nat_cmp w.incoming.tops) (get nat_cmp w.incoming.below)
-    (get nat_cmp w.outgoing.tops) (get nat_cmp w.outgoing.below) (get nat_cmp w.ready)
+KnowsWaits w = AreWaits w.edges.items (get nat_cmp w.left) (get nat_cmp w.incoming.tops) (link_of w.incoming.below)
+    (get nat_cmp w.outgoing.tops) (link_of w.outgoing.below) (get nat_cmp w.ready)
 
 -- if the transaction is left and waits for none, it is among those
 abbrev pub IsReady : Waits → ℕ → Type 0

@@ -5,9 +5,11 @@ ghost use Rattle.std.specs.Ordering.{nat_cmp};
 ghost use Rattle.sgt_history.specs.declared.operation.Operation.{Operation};
 ghost use Rattle.sgt_history.specs.declared.operation.Action.TheVariants.{Write};
 ghost use Rattle.sgt_history.specs.Histories.{Does, AbortedBefore};
+ghost use Rattle.sgt_history.specs.Links.{link_of};
 ghost use Rattle.sgt_history.specs.Classes.{ReadsFrom, BreaksAvoidance, IsFirstViolation};
 ghost use Rattle.sgt_history.specs.Seen.{KnowsSources, AvoidsBefore, IsTopWrite};
 
+use crate::links::Links;
 use crate::operation::{Action, Operation, Violation};
 use crate::strict::set_place;
 use sgt_model::NoMemory;
@@ -21,7 +23,7 @@ use std::collections::BTreeMap;
 /// item before it whose transaction has not aborted by then.
 ///
 /// Each write of an aborted transaction is passed once in the whole; but for that an operation costs four look-ups in a map at
-/// most, of the items, the writes and the transactions seen.
+/// most, of the items and the transactions seen.
 pub fn avoidance_violation(
     alloc: Global,
     history: &[Operation],
@@ -70,7 +72,7 @@ pub struct Sources {
     /// The place of an item's last write whose transaction is not known to have aborted.
     tops: BTreeMap<u32, usize>,
     /// For the place of a write that of one of its item below, which is the top once the writer has aborted.
-    below: BTreeMap<usize, usize>,
+    below: Links,
     /// Where a transaction has committed.
     commits: BTreeMap<u32, usize>,
     /// Where a transaction has aborted.
@@ -84,7 +86,7 @@ impl Sources {
     {
         Sources {
             tops: BTreeMap::new(alloc),
-            below: BTreeMap::new(alloc),
+            below: Links::new(alloc),
             commits: BTreeMap::new(alloc),
             aborts: BTreeMap::new(alloc),
         }
@@ -137,7 +139,7 @@ impl Sources {
             if !self.aborts.contains_key(&history[write].transaction) {
                 return top;
             }
-            top = self.below.get(&write).copied();
+            top = self.below.get(write);
         }
         None
     }
@@ -180,18 +182,18 @@ pub fn set_top(
 /// Puts a place on top of a number's: of the writes of an item, say.
 pub fn put_on_top(
     tops: &mut BTreeMap<u32, usize>,
-    below: &mut BTreeMap<usize, usize>,
+    below: &mut Links,
     item: u32,
     place: usize,
 ) -> Result<(), NoMemory>
-    requires fresh { get nat_cmp below.old place ≡ None }
+    requires fresh { link_of below.old place ≡ None }
     ensures top { OnOk result (get nat_cmp tops.new item ≡ Some place) }
     ensures other_tops { OnOk result ((x : ℕ) → x ≢ item → get nat_cmp tops.new x ≡ get nat_cmp tops.old x) }
-    ensures lower { OnOk result (get nat_cmp below.new place ≡ get nat_cmp tops.old item) }
-    ensures others_below { OnOk result ((i : ℕ) → i ≢ place → get nat_cmp below.new i ≡ get nat_cmp below.old i) }
+    ensures lower { OnOk result (link_of below.new place ≡ get nat_cmp tops.old item) }
+    ensures others_below { OnOk result ((i : ℕ) → i ≢ place → link_of below.new i ≡ link_of below.old i) }
 {
-    if let Some(lower) = tops.get(&item).copied() {
-        below.insert(place, lower)?;
+    if let Some(lower) = tops.insert(item, place)? {
+        below.set(place, lower)?;
     }
-    set_place(tops, item, place)
+    Ok(())
 }

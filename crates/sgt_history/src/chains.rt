@@ -2,10 +2,12 @@
 ghost use Rattle.std.specs.Prelude.{◌≡◌, ◌≢◌, ◌<◌, ℕ, None, length, IfOk, OnOk, IfSome};
 ghost use Rattle.std.specs.BTreeMap.{get, btree_map_len};
 ghost use Rattle.std.specs.Ordering.{nat_cmp};
+ghost use Rattle.sgt_history.specs.Links.{link_of};
 ghost use Rattle.sgt_history.specs.Sorting.{end_of, AreChains};
 
 use crate::avoiding::{put_on_top, set_top};
 use crate::graph::Edge;
+use crate::links::Links;
 use sgt_model::NoMemory;
 use std::alloc::Global;
 use std::collections::BTreeMap;
@@ -37,17 +39,17 @@ pub struct Chains {
     /// The edge that a transaction's begin with.
     tops: BTreeMap<u32, usize>,
     /// For an edge the next earlier one at the same transaction.
-    below: BTreeMap<usize, usize>,
+    below: Links,
 }
 
 impl Chains {
     /// All edges, by one of their ends.
     pub fn by_end(alloc: Global, edges: &[Edge], end: End) -> Result<Self, NoMemory>
-        ensures { IfOk result (λ c. AreChains end edges.now (length edges.now) (get nat_cmp c.tops) (get nat_cmp c.below)) }
+        ensures { IfOk result (λ c. AreChains end edges.now (length edges.now) (get nat_cmp c.tops) (link_of c.below)) }
     {
         let mut chains = Chains {
             tops: BTreeMap::new(alloc),
-            below: BTreeMap::new(alloc),
+            below: Links::new(alloc),
         };
         for place in 0..edges.len() {
             let transaction = end.of(edges[place]);
@@ -65,9 +67,9 @@ impl Chains {
 
     /// The next earlier edge at the same transaction.
     pub fn edge_before(&self, edge: usize) -> Option<usize>
-        ensures { result ≡ get nat_cmp self.now.below edge }
+        ensures { result ≡ link_of self.now.below edge }
     {
-        self.below.get(&edge).copied()
+        self.below.get(edge)
     }
 
     /// Lets the transaction's begin with the edge.

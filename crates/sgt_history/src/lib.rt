@@ -18,9 +18,12 @@
 mod avoiding;
 mod chains;
 mod commit_order;
+mod conflicts;
 mod cycles;
+mod first_accesses;
 mod graph;
 mod laws;
+mod links;
 mod operation;
 mod recoverable;
 mod rigorous;
@@ -29,6 +32,7 @@ mod strict;
 
 pub use avoiding::{avoidance_violation, read_source};
 pub use commit_order::commit_order_violation;
+pub use conflicts::first_conflicts;
 pub use graph::{Edge, serialization_edges};
 pub use laws::{
     avoiding_are_recoverable, commit_ordered_are_serializable, cycles_are_enough,

@@ -4,6 +4,7 @@ ghost use Rattle.sgt_history.specs.Classes.{BreaksRecoverability, IsFirstViolati
 ghost use Rattle.sgt_history.specs.Seen.{KnowsSources, KnowsDirtyReads, KeepsDirtyReads};
 
 use crate::avoiding::{Sources, put_on_top};
+use crate::links::Links;
 use crate::operation::{Action, Operation, Violation};
 use sgt_model::NoMemory;
 use std::alloc::Global;
@@ -15,7 +16,7 @@ use std::collections::BTreeMap;
 /// Bernstein, Hadzilacos and Goodman (1987), chapter 2: recoverable.
 ///
 /// It costs what `avoidance_violation` costs, a look-up in a map for each commit, and for each read from one that has not
-/// committed three at the read and three at the commit of its reader.
+/// committed two at the read and two at the commit of its reader.
 pub fn recoverable_violation(
     alloc: Global,
     history: &[Operation],
@@ -25,7 +26,7 @@ pub fn recoverable_violation(
     let mut seen = DirtyReads {
         sources: Sources::new(alloc),
         lasts: BTreeMap::new(alloc),
-        earlier: BTreeMap::new(alloc),
+        earlier: Links::new(alloc),
         writers: BTreeMap::new(alloc),
     };
     for place in 0..history.len() {
@@ -48,7 +49,7 @@ struct DirtyReads {
     /// The place of a transaction's last dirty read.
     lasts: BTreeMap<u32, usize>,
     /// For the place of a dirty read that of its transaction's next earlier one.
-    earlier: BTreeMap<usize, usize>,
+    earlier: Links,
     /// For the place of a dirty read the transaction that it reads from.
     writers: BTreeMap<usize, u32>,
 }
@@ -73,7 +74,7 @@ impl DirtyReads {
             if !self.sources.has_committed(*writer) {
                 return read;
             }
-            read = self.earlier.get(&dirty).copied();
+            read = self.earlier.get(dirty);
         }
         None
     }

@@ -4,9 +4,11 @@ ghost use Rattle.std.specs.BTreeMap.{get};
 ghost use Rattle.std.specs.Ordering.{nat_cmp};
 ghost use Rattle.sgt_history.specs.declared.operation.Operation.{Operation};
 ghost use Rattle.sgt_history.specs.Classes.{BreaksStrictness, OverwritesReader, BreaksRigorousness, IsFirstViolation};
+ghost use Rattle.sgt_history.specs.Links.{link_of};
 ghost use Rattle.sgt_history.specs.Seen.{KnowsAccesses, AreReads, IsRigorousBefore};
 
 use crate::avoiding::put_on_top;
+use crate::links::Links;
 use crate::operation::{Action, Operation, Violation};
 use crate::strict::Writes;
 use sgt_model::NoMemory;
@@ -47,7 +49,7 @@ pub struct Accesses {
     /// The place of an item's last read since its last write.
     lasts: BTreeMap<u32, usize>,
     /// For the place of a read that of the item's next earlier one since the write before.
-    earlier: BTreeMap<usize, usize>,
+    earlier: Links,
 }
 
 impl Accesses {
@@ -58,7 +60,7 @@ impl Accesses {
         Accesses {
             writes: Writes::new(alloc),
             lasts: BTreeMap::new(alloc),
-            earlier: BTreeMap::new(alloc),
+            earlier: Links::new(alloc),
         }
     }
 
@@ -78,9 +80,9 @@ impl Accesses {
 
     /// The next earlier one since the write before.
     pub fn read_before(&self, read: usize) -> Option<usize>
-        ensures { result ≡ get nat_cmp self.now.earlier read }
+        ensures { result ≡ link_of self.now.earlier read }
     {
-        self.earlier.get(&read).copied()
+        self.earlier.get(read)
     }
 
     /// The use by another transaction, which has not ended, that the operation conflicts with.
@@ -117,7 +119,7 @@ impl Accesses {
             if reader != operation.transaction && !self.writes.has_ended(reader) {
                 return read;
             }
-            read = self.earlier.get(&earlier).copied();
+            read = self.earlier.get(earlier);
         }
         None
     }
@@ -136,9 +138,9 @@ impl Accesses {
     /// Notes the operation if it is a read, and takes the reads of its item out if it is a write.
     fn note_read(&mut self, history: &[Operation], place: usize) -> Result<(), NoMemory>
         requires within { place < length history.now }
-        requires reads { AreReads history.now place (get nat_cmp self.old.lasts) (get nat_cmp self.old.earlier) }
+        requires reads { AreReads history.now place (get nat_cmp self.old.lasts) (link_of self.old.earlier) }
         ensures same { OnOk result (self.new.writes ≡ self.old.writes) }
-        ensures reads { OnOk result (AreReads history.now (place + 1) (get nat_cmp self.new.lasts) (get nat_cmp self.new.earlier)) }
+        ensures reads { OnOk result (AreReads history.now (place + 1) (get nat_cmp self.new.lasts) (link_of self.new.earlier)) }
     {
         let operation = history[place];
         match operation.action {

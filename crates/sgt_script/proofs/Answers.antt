@@ -3,9 +3,6 @@ use Rattle.std.proofs.Common.{◌≡◌, ℕ, ◌+◌, List, [], ◌∷◌, ◌+
 use Rattle.std.proofs.lemmas.List.{map-append}
 use Rattle.std.proofs.lemmas.Grind.{reverse_onto}
 use Rattle.std.specs.Prelude.{map, reverse, Option, None, Some, IfSome, IfErr, OnOk, Ok, Err}
-use Rattle.sgt_model.specs.Contents.{Key}
-use Rattle.sgt_model.specs.Databases.{Row, IsByKey, contents_of}
-use Rattle.sgt_format.specs.DatabaseText.{database_text}
 use Rattle.sgt_stream.specs.declared.fault.Fault.{Fault}
 use Rattle.sgt_model.specs.Settings.{Setting}
 use Rattle.sgt_stream.specs.declared.fault.Fault.TheVariants as fault
@@ -13,8 +10,9 @@ use Rattle.std.specs.Io.KnownBytes.{Appends}
 use Rattle.sgt_stream.specs.Lines.{Cut}
 use Rattle.sgt_stream.specs.Ends.{End, IsExact, IsOfInput}
 use Rattle.sgt_stream.specs.Spelled.{spelled, end_of}
-use Rattle.sgt_script.specs.Parts.{Answer, LegalRun, Part, asked, left_by, lines_of, part_of, replies}
-use Rattle.sgt_script.specs.Scripts.{Execution, RunOutput, script_line_at, Closing}
+use Rattle.sgt_script.specs.declared.telling.Telling.{Telling}
+use Rattle.sgt_script.specs.Parts.{Answer, LegalRun, Part, asked, left_by, lines_of, part_of, answers_text}
+use Rattle.sgt_script.specs.Scripts.{Execution, RunOutput, script_line_at, Closing, Last}
 use Rattle.sgt_script.specs.Answering.{AllAnswered, AnswersAll, BeginWith, NoLine}
 
 -- what the lines ask for, with one answer more
@@ -49,20 +47,20 @@ appends-trans (Some ws) (Some bs) None xs ys first second = second
 appends-trans (Some ws) (Some bs) (Some cs) xs ys first second = second ∙ ap (λ l. l ++ ys) first ∙ append_assoc ws xs ys
 
 -- what a run over known lines writes, with what it started from
-abbrev pub Output : Setting → Option Cut → Option (List ℕ) → Option (List ℕ) → End → Type 0
-Output s known held held' end =
+abbrev pub Output : Telling → Setting → Option Cut → Option (List ℕ) → Option (List ℕ) → End → Type 0
+Output w s known held held' end =
     IfSome known (λ c. (run : Execution) × (run.setting ≡ s) × (out : List ℕ) × Appends held held' out
-    × RunOutput run c.given c.ending out end)
+    × RunOutput w run c.given c.ending out end)
 
 -- a run whose lines are all answered, with what it wrote
-pub output-all : (s : Setting) (n : ℕ) (known : Option Cut) (answers : List Answer) (end : End) (last : List ℕ)
+pub output-all : (w : Telling) (s : Setting) (n : ℕ) (known : Option Cut) (answers : List Answer) (end : End) (last : List ℕ)
     (held held' : Option (List ℕ)) → n ≡ 2 → LegalRun s answers → AllAnswered n known answers end
-    → Closing (left_by (part_of s answers)) end last → Appends held held' (replies answers ++ last) → Output s known held held' end
-output-all s n None answers end last held held' second legal all closing written = tt
-output-all s n (Some c) answers end last held held' second legal all closing written = (
+    → Closing w (left_by (part_of s answers)) end last → Appends held held' (answers_text w answers ++ last) → Output w s known held held' end
+output-all w s n None answers end last held held' second legal all closing written = tt
+output-all w s n (Some c) answers end last held held' second legal all closing written = (
   record { setting = s; answers = answers },
   refl,
-  replies answers ++ last,
+  answers_text w answers ++ last,
   written,
   record {
     last = last;
@@ -80,28 +78,27 @@ exact-flush (Ok tt') err exact = refl
 exact-flush (Err f) err exact = absurd (subst IsOfInput err exact)
 
 -- what a run writes that ended at a fault of the script
-pub output-fault : (s : Setting) (n : ℕ) (known : Option Cut) (r : End) (f : Fault) (held held' : Option (List ℕ)) → n + 1 ≡ 2
-    → r ≡ Err f → (IsOfInput f → AnswersAll s (n + 1) known held held' (Err f)) → IsExact r → Output s known held held' r
-output-fault s n known r f held held' second failed answered exact =
+pub output-fault : (w : Telling) (s : Setting) (n : ℕ) (known : Option Cut) (r : End) (f : Fault) (held held' : Option (List ℕ)) → n + 1 ≡ 2
+    → r ≡ Err f → (IsOfInput f → AnswersAll w s (n + 1) known held held' (Err f)) → IsExact r → Output w s known held held' r
+output-fault w s n known r f held held' second failed answered exact =
     let all = answered (subst IsExact failed exact) in
-    subst (Output s known held held') (sym failed)
-    (output-all s (n + 1) known all.answers (Err f) [] held held' second all.legal all.all refl
-    (subst (Appends held held') (sym (append-nil (replies all.answers))) all.written))
+    subst (Output w s known held held') (sym failed)
+    (output-all w s (n + 1) known all.answers (Err f) [] held held' second all.legal all.all refl
+    (subst (Appends held held') (sym (append-nil (answers_text w all.answers))) all.written))
 
 -- the database behind an engine's part
-pub closes-part : (p q : Part) (rows : List Row) (last : List ℕ) → p ≡ q → IsByKey rows → ((k : Key) → contents_of rows k ≡ left_by q k)
-    → last ≡ database_text rows → Closing (left_by p) (Ok tt) last
-closes-part p q rows last same by_key contents text = (rows, by_key, λ k. contents k ∙ ap (λ (x : Part). left_by x k) (sym same), text)
+pub closes-part : (w : Telling) (p q : Part) (last : List ℕ) → p ≡ q → Last w (left_by q) last → Closing w (left_by p) (Ok tt) last
+closes-part w p q last same is = subst (λ (x : Part). Last w (left_by x) last) (sym same) is
 
 -- what a run writes that ended well
-pub output-well : (s : Setting) (n : ℕ) (known : Option Cut) (q : Part) (r : End) (rows : List Row) (gathered : List ℕ)
+pub output-well : (w : Telling) (s : Setting) (n : ℕ) (known : Option Cut) (q : Part) (r : End) (gathered : List ℕ)
     (held held' held'' : Option (List ℕ)) → n + 1 ≡ 2 → r ≡ Ok tt
-    → (all : AnswersAll s (n + 1) known held held' (Ok tt)) × (part_of s all.answers ≡ q) → IsByKey rows
-    → ((k : Key) → contents_of rows k ≡ left_by q k) → gathered ≡ database_text rows → OnOk r (Appends held' held'' gathered)
-    → Output s known held held'' r
-output-well s n known q r rows gathered held held' held'' second wrote (all, part) by_key contents text last =
+    → (all : AnswersAll w s (n + 1) known held held' (Ok tt)) × (part_of s all.answers ≡ q) → Last w (left_by q) gathered
+    → OnOk r (Appends held' held'' gathered)
+    → Output w s known held held'' r
+output-well w s n known q r gathered held held' held'' second wrote (all, part) is last =
     let more : Appends held' held'' gathered = subst (λ (e : End). OnOk e (Appends held' held'' gathered)) wrote last in
-    subst (Output s known held held'') (sym wrote)
-    (output-all s (n + 1) known all.answers (Ok tt) gathered held held'' second all.legal all.all
-    (closes-part (part_of s all.answers) q rows gathered part by_key contents text)
-    (appends-trans held held' held'' (replies all.answers) gathered all.written more))
+    subst (Output w s known held held'') (sym wrote)
+    (output-all w s (n + 1) known all.answers (Ok tt) gathered held held'' second all.legal all.all
+    (closes-part w (part_of s all.answers) q gathered part is)
+    (appends-trans held held' held'' (answers_text w all.answers) gathered all.written more))

@@ -7,7 +7,7 @@ use Rattle.std.specs.Io.KnownBytes.{Appends, Consumes}
 use Rattle.sgt_model.specs.declared.entry.Entry.{Entry}
 use Rattle.sgt_model.specs.Contents.{Key}
 use Rattle.sgt_model.specs.Continuations.{SettledAreRows}
-use Rattle.sgt_model.specs.Databases.{Row, IsByKey, contents_of}
+use Rattle.sgt_model.specs.Databases.{Row, contents_of}
 use Rattle.sgt_model.specs.OneReply.{SomeReplyIsLegal}
 use Rattle.sgt_model.specs.Settings.{Setting}
 use Rattle.sgt_model.specs.Values.{settled}
@@ -22,8 +22,10 @@ use Rattle.sgt_stream.specs.Lines.{Cut, Ending, cut, has_break}
 use Rattle.sgt_stream.specs.Intake.{Intake, before_input, bytes_left, cut_left, taken, Gives}
 use Rattle.sgt_stream.specs.Ends.{End, IsOfInput}
 use Rattle.sgt_stream.specs.Spelled.{spelled, end_of}
-use Rattle.sgt_script.specs.Parts.{Answer, LegalAnswer, LegalRun, Part, answer_text, left_by, lines_of, part_behind, part_of, replies}
-use Rattle.sgt_script.specs.Scripts.{RunOutput, ScriptOf, script_line_at, Closing}
+use Rattle.sgt_script.specs.declared.telling.Telling.{Telling}
+use Rattle.sgt_script.specs.declared.telling.Telling.TheVariants.{Replies, Operations}
+use Rattle.sgt_script.specs.Parts.{Answer, LegalAnswer, LegalRun, Part, answer_text, left_by, lines_of, part_behind, part_of, answers_text}
+use Rattle.sgt_script.specs.Scripts.{RunOutput, ScriptOf, script_line_at, Closing, Last}
 use Rattle.sgt_script.specs.Answering.{AnswersAll, AnswersLine, AnswersRead, AnswersScriptRead, AnswersSome, BeginWith, NoLine}
 use Rattle.sgt_script.specs.Beginnings.{AppendsPart, Begins, IsStop, LineRuns, ScriptRuns, WritesAt}
 use Rattle.sgt_script.proofs.Answers.{all-answered, appends-trans, begin-next, closes-part}
@@ -34,25 +36,25 @@ use Rattle.sgt_script.proofs.Runs.{appends-none}
 -- what is written, and what is gathered
 
 -- what was written of the answers, and what is gathered of them
-abbrev pub Gathers : Option (List ℕ) → Option (List ℕ) → List Answer → List ℕ → Type 0
-Gathers old now answers gathered = (bytes : List ℕ) × Appends old now bytes × (replies answers ≡ bytes ++ gathered)
+abbrev pub Gathers : Telling → Option (List ℕ) → Option (List ℕ) → List Answer → List ℕ → Type 0
+Gathers w old now answers gathered = (bytes : List ℕ) × Appends old now bytes × (answers_text w answers ≡ bytes ++ gathered)
 
 -- some of what is gathered was written out
 abbrev pub Flushed : Option (List ℕ) → Option (List ℕ) → List ℕ → List ℕ → Type 0
 Flushed old now gathered left = (bytes : List ℕ) × Appends old now bytes × (gathered ≡ bytes ++ left)
 
-gathers-less : (a b c : Option (List ℕ)) (answers : List Answer) (held held' : List ℕ) → Gathers a b answers held → Flushed b c held held'
-    → Gathers a c answers held'
-gathers-less a b c answers held held' (xs, first, all) (ys, second, rest) = (
+gathers-less : (w : Telling) (a b c : Option (List ℕ)) (answers : List Answer) (held held' : List ℕ) → Gathers w a b answers held → Flushed b c held held'
+    → Gathers w a c answers held'
+gathers-less w a b c answers held held' (xs, first, all) (ys, second, rest) = (
   xs ++ ys,
   appends-trans a b c xs ys first second,
   all ∙ ap (λ l. xs ++ l) rest ∙ sym (append_assoc xs ys held'),
 )
 
-gathers-next : (a b : Option (List ℕ)) (answers : List Answer) (x : Answer) (held held' : List ℕ) → Gathers a b answers held
-    → held' ≡ held ++ answer_text x → Gathers a b (x ∷ answers) held'
-gathers-next a b answers x held held' (xs, first, all) more =
-    (xs, first, ap (λ l. l ++ answer_text x) all ∙ append_assoc xs held (answer_text x) ∙ ap (λ l. xs ++ l) (sym more))
+gathers-next : (w : Telling) (a b : Option (List ℕ)) (answers : List Answer) (x : Answer) (held held' : List ℕ) → Gathers w a b answers held
+    → held' ≡ held ++ answer_text w x → Gathers w a b (x ∷ answers) held'
+gathers-next w a b answers x held held' (xs, first, all) more =
+    (xs, first, ap (λ l. l ++ answer_text w x) all ∙ append_assoc xs held (answer_text w x) ∙ ap (λ l. xs ++ l) (sym more))
 
 -- a failed write of these bytes wrote the first of them
 pub part-of : {A E : Type 0} (r : Result A E) (a b : Option (List ℕ)) (bytes seen : List ℕ) → seen ≡ bytes → is_err r ≡ true
@@ -83,13 +85,13 @@ on-failed {P} r f is holds = subst (λ (e : End). OnErr e P) is holds
 -- behind some lines
 
 -- of known lines from number n on, those before this intake were answered, and here an engine's part and what is gathered stand
-pub record IsAnsweredSo (s : Setting) (n : ℕ) (known : Option Cut) (from old : Option (List ℕ)) (i : Intake) (rest held : Option (List ℕ)) (gathered : List ℕ) (p : Part) : Type 0 where
+pub record IsAnsweredSo (w : Telling) (s : Setting) (n : ℕ) (known : Option Cut) (from old : Option (List ℕ)) (i : Intake) (rest held : Option (List ℕ)) (gathered : List ℕ) (p : Part) : Type 0 where
   pub answers : List Answer
   pub legal : LegalRun s answers
   pub part : part_of s answers ≡ p
   pub answered : BeginWith n known (lines_of answers) (i.number + 1) (cut_left i rest)
   pub read : i.ended ≡ false → IsReadSo n from (bytes_left i rest) answers (i.number + 1)
-  pub written : Gathers old held answers gathered
+  pub written : Gathers w old held answers gathered
 
 begin-here : (n : ℕ) (known : Option Cut) → BeginWith n known [] n known
 begin-here n None = tt
@@ -100,10 +102,10 @@ consumes-none None = tt
 consumes-none (Some xs) = refl
 
 -- before the first
-pub answered-none : (i : Intake) (rest held : Option (List ℕ)) (gathered : List ℕ) (s : Setting) (past : List Entry) → gathered ≡ []
+pub answered-none : (w : Telling) (i : Intake) (rest held : Option (List ℕ)) (gathered : List ℕ) (s : Setting) (past : List Entry) → gathered ≡ []
     → past ≡ []
-    → IsAnsweredSo s (i.number + 1) (cut_left i rest) (bytes_left i rest) held i rest held gathered (record { setting = s; past = past })
-answered-none i rest held gathered s past empty none = record {
+    → IsAnsweredSo w s (i.number + 1) (cut_left i rest) (bytes_left i rest) held i rest held gathered (record { setting = s; past = past })
+answered-none w i rest held gathered s past empty none = record {
   answers = [];
   legal = tt;
   part = ap (λ (es : List Entry). record { setting = s; past = es }) (sym none);
@@ -119,26 +121,26 @@ answered-none i rest held gathered s past empty none = record {
   written = ([], appends-none held, sym empty);
 }
 
-module _ (s : Setting) (n : ℕ) (known : Option Cut) (from old : Option (List ℕ)) where
+module _ (w : Telling) (s : Setting) (n : ℕ) (known : Option Cut) (from old : Option (List ℕ)) where
   -- where some of what is gathered is written out
   pub answered-flushed : (i : Intake) (rest b c : Option (List ℕ)) (held held' : List ℕ) (p : Part)
-      → IsAnsweredSo s n known from old i rest b held p → Flushed b c held held' → IsAnsweredSo s n known from old i rest c held' p
+      → IsAnsweredSo w s n known from old i rest b held p → Flushed b c held held' → IsAnsweredSo w s n known from old i rest c held' p
   answered-flushed i rest b c held held' p so flushed = record {
     answers = so.answers;
     legal = so.legal;
     part = so.part;
     answered = so.answered;
     read = so.read;
-    written = gathers-less old b c so.answers held held' so.written flushed;
+    written = gathers-less w old b c so.answers held held' so.written flushed;
   }
 
   -- behind one more
   pub answered-next : (i i' : Intake) (rest rest' held : Option (List ℕ)) (gathered gathered' : List ℕ) (p p' : Part) (line : ScriptLine)
-      → IsAnsweredSo s n known from old i rest held gathered p
+      → IsAnsweredSo w s n known from old i rest held gathered p
       → BeginWith (i.number + 1) (cut_left i rest) (line ∷ []) (i'.number + 1) (cut_left i' rest')
       → script_line_at i'.number i'.line ≡ Ok line → Consumes (bytes_left i rest) (bytes_left i' rest') (taken i')
       → has_break i'.line ≡ false → i'.number ≡ i.number + 1 → (i'.ended ≡ false → i.ended ≡ false)
-      → AnswersLine line p p' gathered gathered' → IsAnsweredSo s n known from old i' rest' held gathered' p'
+      → AnswersLine w line p p' gathered gathered' → IsAnsweredSo w s n known from old i' rest' held gathered' p'
   answered-next i i' rest rest' held gathered gathered' p p' line so begin at took unbroken number before step = record {
     answers = step.answer ∷ so.answers;
     legal = (so.legal, subst (λ (q : Part). LegalAnswer q step.answer) (sym so.part) step.legal);
@@ -148,13 +150,13 @@ module _ (s : Setting) (n : ℕ) (known : Option Cut) (from old : Option (List �
         (sym step.of_line) begin);
     read = read-next n from i i' rest rest' so.answers step.answer so.read before took unbroken
         (at ∙ ap (λ (l : ScriptLine). Ok l) (sym step.of_line)) number;
-    written = gathers-next old held so.answers step.answer gathered gathered' so.written step.text;
+    written = gathers-next w old held so.answers step.answer gathered gathered' so.written step.text;
   }
 
   -- where what is gathered is written out
   pub some-written : (i : Intake) (rest to b c : Option (List ℕ)) (held : List ℕ) (p : Part) (wrote unread : Type 0)
-      → (so : IsAnsweredSo s n known from old i rest b held p) → Appends b c held → (unread → AnswersRead n from to so.answers)
-      → AnswersSome s n known from to old c wrote unread
+      → (so : IsAnsweredSo w s n known from old i rest b held p) → Appends b c held → (unread → AnswersRead n from to so.answers)
+      → AnswersSome w s n known from to old c wrote unread
   some-written i rest to b c held p wrote unread so last read = record {
     answers = so.answers;
     next = i.number + 1;
@@ -171,8 +173,8 @@ module _ (s : Setting) (n : ℕ) (known : Option Cut) (from old : Option (List �
 
   -- where the write of it failed
   pub some-part : (i : Intake) (rest to b c : Option (List ℕ)) (held : List ℕ) (p : Part) (wrote unread : Type 0)
-      → (so : IsAnsweredSo s n known from old i rest b held p) → AppendsPart b c held → ¬ wrote → ¬ unread
-      → AnswersSome s n known from to old c wrote unread
+      → (so : IsAnsweredSo w s n known from old i rest b held p) → AppendsPart b c held → ¬ wrote → ¬ unread
+      → AnswersSome w s n known from to old c wrote unread
   some-part i rest to b c held p wrote unread so part failed unread' = record {
     answers = so.answers;
     next = i.number + 1;
@@ -189,17 +191,17 @@ module _ (s : Setting) (n : ℕ) (known : Option Cut) (from old : Option (List �
 
   -- where the run ends there with a failed write
   pub some-failed : {A : Type 0} (i : Intake) (rest to b c : Option (List ℕ)) (held : List ℕ) (p : Part) (r : Result A Fault)
-      → (so : IsAnsweredSo s n known from old i rest b held p) → AppendsPart b c held → r ≡ Err fault.Writing
-      → AnswersSome s n known from to old c (r ≢ Err fault.Writing) (r ≡ Err fault.Reading)
+      → (so : IsAnsweredSo w s n known from old i rest b held p) → AppendsPart b c held → r ≡ Err fault.Writing
+      → AnswersSome w s n known from to old c (r ≢ Err fault.Writing) (r ≡ Err fault.Reading)
   some-failed i rest to b c held p r so part is =
       some-part i rest to b c held p (r ≢ Err fault.Writing) (r ≡ Err fault.Reading) so part (λ other. other is)
       (λ reading. absurd (cc (sym reading ∙ is)))
 
   -- where it stops there
   pub some-stop : {A : Type 0} (i : Intake) (rest to b c : Option (List ℕ)) (held : List ℕ) (p : Part) (r : Result A Fault)
-      (f told : Fault) → (so : IsAnsweredSo s n known from old i rest b held p) → WritesAt f told b c held → r ≡ Err told
+      (f told : Fault) → (so : IsAnsweredSo w s n known from old i rest b held p) → WritesAt f told b c held → r ≡ Err told
       → (f ≡ fault.Reading → AnswersRead n from to so.answers)
-      → AnswersSome s n known from to old c (r ≢ Err fault.Writing) (r ≡ Err fault.Reading)
+      → AnswersSome w s n known from to old c (r ≢ Err fault.Writing) (r ≡ Err fault.Reading)
   some-stop i rest to b c held p r f told so (inl (same, written)) is read =
       some-written i rest to b c held p (r ≢ Err fault.Writing) (r ≡ Err fault.Reading) so written
       (λ reading. read (cc (sym reading ∙ is ∙ ap (λ (g : Fault). Err g) same)))
@@ -208,16 +210,16 @@ module _ (s : Setting) (n : ℕ) (known : Option Cut) (from old : Option (List �
 
   -- where it stops as a growth was refused, which has left what is gathered as it was
   pub some-refused : {A : Type 0} (i : Intake) (rest to b c : Option (List ℕ)) (held held' : List ℕ) (p : Part) (r : Result A Fault)
-      (told : Fault) → IsAnsweredSo s n known from old i rest b held p → held' ≡ held → WritesAt fault.NoMemory told b c held'
-      → r ≡ Err told → AnswersSome s n known from to old c (r ≢ Err fault.Writing) (r ≡ Err fault.Reading)
+      (told : Fault) → IsAnsweredSo w s n known from old i rest b held p → held' ≡ held → WritesAt fault.NoMemory told b c held'
+      → r ≡ Err told → AnswersSome w s n known from to old c (r ≢ Err fault.Writing) (r ≡ Err fault.Reading)
   some-refused i rest to b c held held' p r told so kept written is =
       some-stop i rest to b c held p r fault.NoMemory told so (subst (λ (l : List ℕ). WritesAt fault.NoMemory told b c l) kept written) is
       (λ reading. absurd (cc reading))
 
   -- where these were all lines
   pub all-so : (i : Intake) (rest b c : Option (List ℕ)) (held : List ℕ) (p : Part) (end : End)
-      → (so : IsAnsweredSo s n known from old i rest b held p) → NoLine (i.number + 1) (cut_left i rest) end → Appends b c held
-      → (all : AnswersAll s n known old c end) × (part_of s all.answers ≡ p)
+      → (so : IsAnsweredSo w s n known from old i rest b held p) → NoLine (i.number + 1) (cut_left i rest) end → Appends b c held
+      → (all : AnswersAll w s n known old c end) × (part_of s all.answers ≡ p)
   all-so i rest b c held p end so none last = (
     record {
       answers = so.answers;
@@ -230,39 +232,40 @@ module _ (s : Setting) (n : ℕ) (known : Option Cut) (from old : Option (List �
 
   -- where they end at a fault of the input
   pub fault-stop : (i : Intake) (rest b c : Option (List ℕ)) (held : List ℕ) (p : Part) (f told : Fault)
-      → (so : IsAnsweredSo s n known from old i rest b held p) → WritesAt f told b c held
-      → (IsOfInput f → NoLine (i.number + 1) (cut_left i rest) (Err f)) → IsOfInput told → AnswersAll s n known old c (Err told)
+      → (so : IsAnsweredSo w s n known from old i rest b held p) → WritesAt f told b c held
+      → (IsOfInput f → NoLine (i.number + 1) (cut_left i rest) (Err f)) → IsOfInput told → AnswersAll w s n known old c (Err told)
   fault-stop i rest b c held p f told so (inl (same, written)) none exact =
-      subst (λ (g : Fault). AnswersAll s n known old c (Err g)) (sym same)
+      subst (λ (g : Fault). AnswersAll w s n known old c (Err g)) (sym same)
       (all-so i rest b c held p (Err f) so (none (subst IsOfInput same exact)) written).0
   fault-stop i rest b c held p f told so (inr (failed, part)) none exact = absurd (subst IsOfInput failed exact)
 
 -- whole runs
 
 -- what stands behind the answers
-closes : SettledAreRows → (s : Setting) (rows : List Row) (answers : List Answer) (end : End) → s.opening ≡ contents_of rows
-    → (last : List ℕ) × Closing (left_by (part_of s answers)) end last
-closes are_rows s rows answers (Ok tt') is =
+closes : (w : Telling) → SettledAreRows → (s : Setting) (rows : List Row) (answers : List Answer) (end : End) → s.opening ≡ contents_of rows
+    → (last : List ℕ) × Closing w (left_by (part_of s answers)) end last
+closes Operations are_rows s rows answers (Ok tt') is = ([], refl)
+closes Replies are_rows s rows answers (Ok tt') is =
     let opened = part-rows are_rows s rows answers is in
     let told = are_rows opened.0 (part_of s answers).past in (
       database_text told.0,
       (told.0, told.1, λ k. told.2 k ∙ ap (λ m. settled m (part_of s answers).past k) (sym opened.1), refl),
     )
-closes are_rows s rows answers (Err f) is = ([], refl)
+closes w are_rows s rows answers (Err f) is = ([], refl)
 
 -- what was answered goes on to a whole run
-goes-on : SomeReplyIsLegal → SettledAreRows → (s : Setting) (rows : List Row) (n m : ℕ) (c : Cut) (left : Option Cut)
+goes-on : (w : Telling) → SomeReplyIsLegal → SettledAreRows → (s : Setting) (rows : List Row) (n m : ℕ) (c : Cut) (left : Option Cut)
     (answers : List Answer) (out rest : List ℕ) → s.opening ≡ contents_of rows → n ≡ 2 → LegalRun s answers
-    → BeginWith n (Some c) (lines_of answers) m left → replies answers ≡ out ++ rest → Begins (LineRuns s c) answers out
-goes-on some are_rows s rows n m c None answers out rest is second legal answered parts = absurd answered
-goes-on some are_rows s rows n m c (Some left) answers out rest is second legal answered parts =
+    → BeginWith n (Some c) (lines_of answers) m left → answers_text w answers ≡ out ++ rest → Begins (LineRuns w s c) answers out
+goes-on w some are_rows s rows n m c None answers out rest is second legal answered parts = absurd answered
+goes-on w some are_rows s rows n m c (Some left) answers out rest is second legal answered parts =
     let more = runs-go-on some s answers (spelled script_line_at m left.given) legal in
     let end : End = end_of script_line_at 2 c.given c.ending in
-    let closing = closes are_rows s rows (more.0 ++ answers) end is in record {
+    let closing = closes w are_rows s rows (more.0 ++ answers) end is in record {
       run = record { setting = s; answers = more.0 ++ answers };
       newer = more.0;
       begins = refl;
-      rest = rest ++ (replies more.0 ++ closing.0);
+      rest = rest ++ (answers_text w more.0 ++ closing.0);
       end = end;
       whole = (
         refl,
@@ -273,60 +276,60 @@ goes-on some are_rows s rows n m c (Some left) answers out rest is second legal 
               ∙ ap (λ k. spelled script_line_at k c.given) second;
           end_is = refl;
           closing = closing.1;
-          text = sym (ap (λ l. l ++ closing.0) (replies-newer more.0 answers ∙ ap (λ l. l ++ replies more.0) parts)
-              ∙ append_assoc (out ++ rest) (replies more.0) closing.0 ∙ append_assoc out rest (replies more.0 ++ closing.0));
+          text = sym (ap (λ l. l ++ closing.0) (replies-newer w more.0 answers ∙ ap (λ l. l ++ answers_text w more.0) parts)
+              ∙ append_assoc (out ++ rest) (answers_text w more.0) closing.0 ∙ append_assoc out rest (answers_text w more.0 ++ closing.0));
         },
       );
     }
 
 -- what a run over known lines wrote that stopped behind a reply
-abbrev pub Stops : Setting → Option Cut → (from to old new : Option (List ℕ)) → End → Type 0
-Stops s known from to old new end = IfSome known (λ c. (answered : List Answer) × Appends old new (replies answered)
-    × Begins (LineRuns s c) answered (replies answered) × (end ≡ Err fault.Reading → AnswersRead 2 from to answered))
+abbrev pub Stops : Telling → Setting → Option Cut → (from to old new : Option (List ℕ)) → End → Type 0
+Stops w s known from to old new end = IfSome known (λ c. (answered : List Answer) × Appends old new (answers_text w answered)
+    × Begins (LineRuns w s c) answered (answers_text w answered) × (end ≡ Err fault.Reading → AnswersRead 2 from to answered))
 
 -- and what one wrote whose write failed
-abbrev pub Fails : Setting → Option Cut → Option (List ℕ) → Option (List ℕ) → Type 0
-Fails s known old new = IfSome known (λ c. (answered : List Answer) × (out : List ℕ) × Appends old new out
-    × Begins (LineRuns s c) answered out)
+abbrev pub Fails : Telling → Setting → Option Cut → Option (List ℕ) → Option (List ℕ) → Type 0
+Fails w s known old new = IfSome known (λ c. (answered : List Answer) × (out : List ℕ) × Appends old new out
+    × Begins (LineRuns w s c) answered out)
 
-pub stops-from : SomeReplyIsLegal → SettledAreRows → (s : Setting) (rows : List Row) (n : ℕ) (known : Option Cut)
+pub stops-from : (w : Telling) → SomeReplyIsLegal → SettledAreRows → (s : Setting) (rows : List Row) (n : ℕ) (known : Option Cut)
     (from to old new : Option (List ℕ)) (wrote unread : Type 0) (end : End) → s.opening ≡ contents_of rows → n + 1 ≡ 2 → wrote
-    → (end ≡ Err fault.Reading → unread) → AnswersSome s (n + 1) known from to old new wrote unread
-    → Stops s known from to old new end
-stops-from answer are_rows s rows n None from to old new wrote unread end is second well failed some = tt
-stops-from answer are_rows s rows n (Some c) from to old new wrote unread end is second well failed some =
-    let whole : replies some.answers ≡ some.written =
+    → (end ≡ Err fault.Reading → unread) → AnswersSome w s (n + 1) known from to old new wrote unread
+    → Stops w s known from to old new end
+stops-from w answer are_rows s rows n None from to old new wrote unread end is second well failed some = tt
+stops-from w answer are_rows s rows n (Some c) from to old new wrote unread end is second well failed some =
+    let whole : answers_text w some.answers ≡ some.written =
     some.parts ∙ ap (λ l. some.written ++ l) (some.all well) ∙ append-nil some.written in (
       some.answers,
       subst (Appends old new) (sym whole) some.appends,
-      goes-on answer are_rows s rows (n + 1) some.next c some.left some.answers (replies some.answers) [] is second some.legal
-          some.answered (sym (append-nil (replies some.answers))),
+      goes-on w answer are_rows s rows (n + 1) some.next c some.left some.answers (answers_text w some.answers) [] is second some.legal
+          some.answered (sym (append-nil (answers_text w some.answers))),
       λ reading. subst (λ k. AnswersRead k from to some.answers) second (some.read (failed reading)),
     )
 
-pub fails-from : SomeReplyIsLegal → SettledAreRows → (s : Setting) (rows : List Row) (n : ℕ) (known : Option Cut)
+pub fails-from : (w : Telling) → SomeReplyIsLegal → SettledAreRows → (s : Setting) (rows : List Row) (n : ℕ) (known : Option Cut)
     (from to old new : Option (List ℕ)) (wrote unread : Type 0) → s.opening ≡ contents_of rows → n + 1 ≡ 2
-    → AnswersSome s (n + 1) known from to old new wrote unread → Fails s known old new
-fails-from answer are_rows s rows n None from to old new wrote unread is second some = tt
-fails-from answer are_rows s rows n (Some c) from to old new wrote unread is second some = (
+    → AnswersSome w s (n + 1) known from to old new wrote unread → Fails w s known old new
+fails-from w answer are_rows s rows n None from to old new wrote unread is second some = tt
+fails-from w answer are_rows s rows n (Some c) from to old new wrote unread is second some = (
   some.answers,
   some.written,
   some.appends,
-  goes-on answer are_rows s rows (n + 1) some.next c some.left some.answers some.written some.rest is second some.legal some.answered
+  goes-on w answer are_rows s rows (n + 1) some.next c some.left some.answers some.written some.rest is second some.legal some.answered
       some.parts,
 )
 
 -- where the write of the database failed
-pub fails-last : (s : Setting) (n : ℕ) (known : Option Cut) (q : Part) (rows : List Row) (gathered : List ℕ)
+pub fails-last : (w : Telling) (s : Setting) (n : ℕ) (known : Option Cut) (q : Part) (gathered : List ℕ)
     (held held' held'' : Option (List ℕ)) → n + 1 ≡ 2
-    → (all : AnswersAll s (n + 1) known held held' (Ok tt)) × (part_of s all.answers ≡ q) → IsByKey rows
-    → ((k : Key) → contents_of rows k ≡ left_by q k) → gathered ≡ database_text rows → AppendsPart held' held'' gathered
-    → Fails s known held held''
-fails-last s n None q rows gathered held held' held'' second answered by_key contents is part = tt
-fails-last s n (Some c) q rows gathered held held' held'' second (all, present) by_key contents is part = (
+    → (all : AnswersAll w s (n + 1) known held held' (Ok tt)) × (part_of s all.answers ≡ q) → Last w (left_by q) gathered
+    → AppendsPart held' held'' gathered
+    → Fails w s known held held''
+fails-last w s n None q gathered held held' held'' second answered is part = tt
+fails-last w s n (Some c) q gathered held held' held'' second (all, present) is part = (
   all.answers,
-  replies all.answers ++ part.written,
-  appends-trans held held' held'' (replies all.answers) part.written all.written part.appends,
+  answers_text w all.answers ++ part.written,
+  appends-trans held held' held'' (answers_text w all.answers) part.written all.written part.appends,
   record {
     run = record { setting = s; answers = all.answers };
     newer = [];
@@ -340,8 +343,8 @@ fails-last s n (Some c) q rows gathered held held' held'' second (all, present) 
         legal = all.legal;
         lines_are = sym all.all.0 ∙ ap (λ k. spelled script_line_at k c.given) second;
         end_is = sym all.all.1 ∙ ap (λ k. end_of script_line_at k c.given c.ending) second;
-        closing = closes-part (part_of s all.answers) q rows gathered present by_key contents is;
-        text = append_assoc (replies all.answers) part.written part.rest ∙ ap (λ l. replies all.answers ++ l) (sym part.parts);
+        closing = closes-part w (part_of s all.answers) q gathered present is;
+        text = append_assoc (answers_text w all.answers) part.written part.rest ∙ ap (λ l. answers_text w all.answers ++ l) (sym part.parts);
       },
     );
   },
@@ -350,73 +353,73 @@ fails-last s n (Some c) q rows gathered held held' held'' second (all, present) 
 -- from the first line
 
 -- a whole run behind an opening is one of the script
-of-script : (s : Setting) (bytes line : List ℕ) (c : Cut) (o : Opening) (answered : List Answer) (out : List ℕ)
+of-script : (w : Telling) (s : Setting) (bytes line : List ℕ) (c : Cut) (o : Opening) (answered : List Answer) (out : List ℕ)
     → Gives (cut_left before_input (Some bytes)) line (Some c) → Opens 1 line o → s ≡ opened_setting o
-    → Begins (LineRuns s c) answered out → Begins (ScriptRuns bytes) answered out
-of-script s bytes line c o answered out gives opens is begun = record {
+    → Begins (LineRuns w s c) answered out → Begins (ScriptRuns w bytes) answered out
+of-script w s bytes line c o answered out gives opens is begun = record {
   run = begun.run;
   newer = begun.newer;
   begins = begun.begins;
   rest = begun.rest;
   end = begun.end;
-  whole = subst (λ (ls : List (List ℕ)). ScriptOf ls (cut bytes).ending (Some begun.run) (out ++ begun.rest) begun.end) (sym gives.0)
+  whole = subst (λ (ls : List (List ℕ)). ScriptOf w ls (cut bytes).ending (Some begun.run) (out ++ begun.rest) begun.end) (sym gives.0)
       (record {
         opening = o;
         opens = opens;
         setting = begun.whole.0 ∙ is;
-        output = subst (λ (e : Ending). RunOutput begun.run c.given e (out ++ begun.rest) begun.end) (sym gives.1) begun.whole.1;
+        output = subst (λ (e : Ending). RunOutput w begun.run c.given e (out ++ begun.rest) begun.end) (sym gives.1) begun.whole.1;
       });
 }
 
 -- what a script's run wrote that stopped, or whose write failed
-abbrev pub ScriptStops : (rest to old new : Option (List ℕ)) → End → Type 0
-ScriptStops rest to old new end = IfSome rest (λ bytes. (answered : List Answer) × Appends old new (replies answered)
-    × ((answered ≡ []) ⊎ Begins (ScriptRuns bytes) answered (replies answered))
+abbrev pub ScriptStops : Telling → (rest to old new : Option (List ℕ)) → End → Type 0
+ScriptStops w rest to old new end = IfSome rest (λ bytes. (answered : List Answer) × Appends old new (answers_text w answered)
+    × ((answered ≡ []) ⊎ Begins (ScriptRuns w bytes) answered (answers_text w answered))
     × (end ≡ Err fault.Reading → AnswersScriptRead rest to answered))
 
-abbrev pub ScriptFails : Option (List ℕ) → Option (List ℕ) → Option (List ℕ) → Type 0
-ScriptFails rest old new = IfSome rest (λ bytes. (answered : List Answer) × (out : List ℕ) × Appends old new out
-    × Begins (ScriptRuns bytes) answered out)
+abbrev pub ScriptFails : Telling → Option (List ℕ) → Option (List ℕ) → Option (List ℕ) → Type 0
+ScriptFails w rest old new = IfSome rest (λ bytes. (answered : List Answer) × (out : List ℕ) × Appends old new out
+    × Begins (ScriptRuns w bytes) answered out)
 
 -- before an opening nothing is written
-pub stops-nothing : (rest to held : Option (List ℕ)) (end : End) → (end ≡ Err fault.Reading → AnswersScriptRead rest to [])
-    → ScriptStops rest to held held end
-stops-nothing None to held end read = tt
-stops-nothing (Some bytes) to held end read = ([], appends-none held, inl refl, read)
+pub stops-nothing : (w : Telling) (rest to held : Option (List ℕ)) (end : End) → (end ≡ Err fault.Reading → AnswersScriptRead rest to [])
+    → ScriptStops w rest to held held end
+stops-nothing w None to held end read = tt
+stops-nothing w (Some bytes) to held end read = ([], appends-none held, inl refl, read)
 
 -- behind an opening, where the lines left are known so
-stops-behind : (i i' : Intake) (s : Setting) (bytes : List ℕ) (rest' to old new : Option (List ℕ)) (known : Option Cut) (o : Opening)
+stops-behind : (w : Telling) (i i' : Intake) (s : Setting) (bytes : List ℕ) (rest' to old new : Option (List ℕ)) (known : Option Cut) (o : Opening)
     (end : End) → i ≡ before_input → Gives (cut_left i (Some bytes)) i'.line known → Opens 1 i'.line o → s ≡ opened_setting o
     → Consumes (bytes_left i (Some bytes)) (bytes_left i' rest') (taken i') → has_break i'.line ≡ false
-    → (end ≡ Err fault.Reading → i'.ended ≡ false) → Stops s known (bytes_left i' rest') to old new end
-    → ScriptStops (Some bytes) to old new end
-stops-behind i i' s bytes rest' to old new None o end start gives opens is took unbroken going stops =
+    → (end ≡ Err fault.Reading → i'.ended ≡ false) → Stops w s known (bytes_left i' rest') to old new end
+    → ScriptStops w (Some bytes) to old new end
+stops-behind w i i' s bytes rest' to old new None o end start gives opens is took unbroken going stops =
     absurd (subst (λ (j : Intake). Gives (cut_left j (Some bytes)) i'.line None) start gives)
-stops-behind i i' s bytes rest' to old new (Some c) o end start gives opens is took unbroken going (answered, wrote, begun, read) =
+stops-behind w i i' s bytes rest' to old new (Some c) o end start gives opens is took unbroken going (answered, wrote, begun, read) =
     let gives' : Gives (cut_left before_input (Some bytes)) i'.line (Some c) =
     subst (λ (j : Intake). Gives (cut_left j (Some bytes)) i'.line (Some c)) start gives in (
       answered,
       wrote,
-      inr (of-script s bytes i'.line c o answered (replies answered) gives' opens is begun),
+      inr (of-script w s bytes i'.line c o answered (answers_text w answered) gives' opens is begun),
       λ reading. read-opened i i' (Some bytes) rest' to answered start took unbroken (going reading) (read reading),
     )
 
-pub stops-opened : (i i' : Intake) (s : Setting) (rest rest' to old new : Option (List ℕ)) (o : Opening) (end : End) → i ≡ before_input
+pub stops-opened : (w : Telling) (i i' : Intake) (s : Setting) (rest rest' to old new : Option (List ℕ)) (o : Opening) (end : End) → i ≡ before_input
     → Gives (cut_left i rest) i'.line (cut_left i' rest') → Opens 1 i'.line o → s ≡ opened_setting o
     → Consumes (bytes_left i rest) (bytes_left i' rest') (taken i') → has_break i'.line ≡ false
-    → (end ≡ Err fault.Reading → i'.ended ≡ false) → Stops s (cut_left i' rest') (bytes_left i' rest') to old new end
-    → ScriptStops rest to old new end
-stops-opened i i' s None rest' to old new o end start gives opens is took unbroken going stops = tt
-stops-opened i i' s (Some bytes) rest' to old new o end start gives opens is took unbroken going stops =
-    stops-behind i i' s bytes rest' to old new (cut_left i' rest') o end start gives opens is took unbroken going stops
+    → (end ≡ Err fault.Reading → i'.ended ≡ false) → Stops w s (cut_left i' rest') (bytes_left i' rest') to old new end
+    → ScriptStops w rest to old new end
+stops-opened w i i' s None rest' to old new o end start gives opens is took unbroken going stops = tt
+stops-opened w i i' s (Some bytes) rest' to old new o end start gives opens is took unbroken going stops =
+    stops-behind w i i' s bytes rest' to old new (cut_left i' rest') o end start gives opens is took unbroken going stops
 
-pub fails-opened : (i : Intake) (s : Setting) (rest old new : Option (List ℕ)) (line : List ℕ) (known : Option Cut) (o : Opening)
-    → i ≡ before_input → Gives (cut_left i rest) line known → Opens 1 line o → s ≡ opened_setting o → Fails s known old new
-    → ScriptFails rest old new
-fails-opened i s None old new line known o start gives opens is fails = tt
-fails-opened i s (Some bytes) old new line None o start gives opens is fails =
+pub fails-opened : (w : Telling) (i : Intake) (s : Setting) (rest old new : Option (List ℕ)) (line : List ℕ) (known : Option Cut) (o : Opening)
+    → i ≡ before_input → Gives (cut_left i rest) line known → Opens 1 line o → s ≡ opened_setting o → Fails w s known old new
+    → ScriptFails w rest old new
+fails-opened w i s None old new line known o start gives opens is fails = tt
+fails-opened w i s (Some bytes) old new line None o start gives opens is fails =
     absurd (subst (λ (j : Intake). Gives (cut_left j (Some bytes)) line None) start gives)
-fails-opened i s (Some bytes) old new line (Some c) o start gives opens is (answered, out, wrote, begun) =
+fails-opened w i s (Some bytes) old new line (Some c) o start gives opens is (answered, out, wrote, begun) =
     let gives' : Gives (cut_left before_input (Some bytes)) line (Some c) =
     subst (λ (j : Intake). Gives (cut_left j (Some bytes)) line (Some c)) start gives in
-    (answered, out, wrote, of-script s bytes line c o answered out gives' opens is begun)
+    (answered, out, wrote, of-script w s bytes line c o answered out gives' opens is begun)

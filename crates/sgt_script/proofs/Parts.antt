@@ -16,10 +16,9 @@ use Rattle.sgt_model.specs.declared.entry.Entry.{Entry}
 use Rattle.sgt_model.specs.declared.event.Event.{Event}
 use Rattle.sgt_engine.specs.Cuts.{GoesOn, NobodyLive, setting_behind}
 use Rattle.sgt_engine.specs.EngineView.{EngineView, setting_of}
-use Rattle.sgt_format.specs.CutText.{cut_text}
-use Rattle.sgt_format.specs.ReplyText.{text}
 use Rattle.sgt_script.specs.Answering.{AnswersLine}
-use Rattle.sgt_script.specs.Parts.{Answer, Replied, WasCut, StillLive, LegalAnswer, LegalRun, Part, answer_text, asked, lines_of, part_at, part_of, replies}
+use Rattle.sgt_script.specs.declared.telling.Telling.{Telling}
+use Rattle.sgt_script.specs.Parts.{Answer, Replied, WasCut, StillLive, LegalAnswer, LegalRun, Part, answer_text, asked, lines_of, part_at, part_of, answers_text}
 
 -- the history of the present part is legal
 pub legal-part : (s : Setting) (answers : List Answer) → LegalRun s answers → Legal (part_of s answers).setting (part_of s answers).past
@@ -51,10 +50,10 @@ answer-to some p (script_line.Event e) =
 answer-to some p script_line.Cut = cut-answer p (live_ones p.past) refl
 
 -- the text of answers with newer ones
-pub replies-newer : (newer answers : List Answer) → replies (newer ++ answers) ≡ replies answers ++ replies newer
-replies-newer [] answers = sym (append-nil (replies answers))
-replies-newer (a ∷ newer) answers = ap (λ l. l ++ answer_text a) (replies-newer newer answers)
-    ∙ append_assoc (replies answers) (replies newer) (answer_text a)
+pub replies-newer : (w : Telling) (newer answers : List Answer) → answers_text w (newer ++ answers) ≡ answers_text w answers ++ answers_text w newer
+replies-newer w [] answers = sym (append-nil (answers_text w answers))
+replies-newer w (a ∷ newer) answers = ap (λ l. l ++ answer_text w a) (replies-newer w newer answers)
+    ∙ append_assoc (answers_text w answers) (answers_text w newer) (answer_text w a)
 
 -- and the lines
 pub lines-newer : (newer answers : List Answer) → lines_of (newer ++ answers) ≡ lines_of answers ++ lines_of newer
@@ -74,10 +73,10 @@ runs-go-on some s answers (line ∷ lines) legal =
 
 -- what an engine does with a line is an answer to it
 
-pub replied : (e : Entry) (event : Event) (old new : EngineView) (before after : List ℕ) → setting_of new ≡ setting_of old
-    → new.past ≡ e ∷ old.past → e.event ≡ event → after ≡ before ++ text e.reply → Legal (setting_of new) new.past
-    → AnswersLine (script_line.Event event) (part_at old) (part_at new) before after
-replied e event old new before after same more is told legal =
+pub replied : (w : Telling) (e : Entry) (event : Event) (old new : EngineView) (before after : List ℕ) → setting_of new ≡ setting_of old
+    → new.past ≡ e ∷ old.past → e.event ≡ event → after ≡ before ++ answer_text w (Replied e) → Legal (setting_of new) new.past
+    → AnswersLine w (script_line.Event event) (part_at old) (part_at new) before after
+replied w e event old new before after same more is told legal =
     let legal' : Legal (setting_of old) (e ∷ old.past) =
     subst (λ (es : List Entry). Legal (setting_of old) es) more (subst (λ (s : Setting). Legal s new.past) same legal) in record {
       answer = Replied e;
@@ -92,10 +91,10 @@ nobody : (lives : List ℕ) → ¬ ¬ (lives ≡ []) → lives ≡ []
 nobody [] not = refl
 nobody (t ∷ ts) not = absurd (not (λ none. absurd (cc none)))
 
-pub was-cut : (old new : EngineView) (items : List Entry) (n : ℕ) (before after : List ℕ) → GoesOn old new → reverse items ≡ old.past
-    → n ≡ length items → ¬ ¬ NobodyLive old.past → after ≡ before ++ cut_text n
-    → AnswersLine script_line.Cut (part_at old) (part_at new) before after
-was-cut old new items n before after goes entries counted not told = record {
+pub was-cut : (w : Telling) (old new : EngineView) (items : List Entry) (n : ℕ) (before after : List ℕ) → GoesOn old new → reverse items ≡ old.past
+    → n ≡ length items → ¬ ¬ NobodyLive old.past → after ≡ before ++ answer_text w (WasCut n)
+    → AnswersLine w script_line.Cut (part_at old) (part_at new) before after
+was-cut w old new items n before after goes entries counted not told = record {
   answer = WasCut n;
   of_line = refl;
   legal = (nobody (live_ones old.past) not, counted ∙ sym (length-reverse items) ∙ ap length entries);

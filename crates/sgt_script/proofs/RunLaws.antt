@@ -1,8 +1,9 @@
 -- The laws of a script's run: of each part, since its history is legal, and of what was written.
-use Rattle.std.proofs.Common.{◌≡◌, refl, sym, ap, ◌∙◌, subst, List, [], ◌∷◌, ◌++◌}
+use Rattle.std.proofs.Common.{◌≡◌, refl, sym, ap, ◌∙◌, subst, List, [], ◌∷◌, ◌++◌, append_assoc, append-nil}
 use Rattle.std.proofs.Math.Path.{fun_ext}
-use Rattle.std.specs.Prelude.{ℕ, Option, None, Some, IfSome, Ok, Err}
+use Rattle.std.specs.Prelude.{ℕ, length, Option, None, Some, IfSome, Ok, Err}
 use Rattle.std.specs.Io.KnownBytes.{Appends}
+use Rattle.sgt_model.specs.declared.entry.Entry.{Entry}
 use Rattle.sgt_model.specs.declared.limits.Limits.{Limits}
 use Rattle.sgt_model.specs.declared.reply.Reply.{Reply}
 use Rattle.sgt_model.specs.declared.reply.Reply.TheVariants as reply
@@ -19,9 +20,13 @@ use Rattle.sgt_program.specs.Openings.{OpenedHoldValues}
 use Rattle.sgt_format.specs.ReplyText.{text}
 use Rattle.sgt_stream.specs.Lines.{Ending, cut}
 use Rattle.sgt_stream.specs.Ends.{End}
-use Rattle.sgt_script.specs.Parts.{Answer, Replied, WasCut, StillLive, LegalRun, answer_text, cut_off, left_by, part_of, replies}
-use Rattle.sgt_script.specs.Scripts.{Execution, Closing, RunOutput, Script, ScriptOf}
-use Rattle.sgt_script.specs.RunLaws.{InEachPart, IsSerialText, PartLaws, RunLaws, carried, chained, line_telling, opened_on, replies_telling, results_left}
+use Rattle.sgt_textbook.specs.Laws.{AreCommitOrdered, AreSerializable, AreRecoverable, TextbookLaws}
+use Rattle.sgt_transcript.specs.Transcripts.{TranscriptsSpellTextbooks, cut_comment, operations_text, transcript}
+use Rattle.sgt_script.specs.declared.telling.Telling.{Telling}
+use Rattle.sgt_script.specs.declared.telling.Telling.TheVariants.{Replies, Operations}
+use Rattle.sgt_script.specs.Parts.{Answer, Replied, WasCut, StillLive, LegalRun, Part, answer_text, answers_text, cut_off, left_by, part_of, parts_of}
+use Rattle.sgt_script.specs.Scripts.{Execution, Closing, Opened, RunOutput, Script, ScriptOf}
+use Rattle.sgt_script.specs.RunLaws.{HistoryLaws, InEachPart, InEachTextbook, IsSerialText, PartLaws, RunLaws, behind_cut, transcripts, carried, chained, line_telling, opened_on, replies_telling, results_left}
 use Rattle.sgt_script.proofs.Parts.{legal-part}
 
 -- one more reply, which tells what it tells, behind a text
@@ -44,9 +49,42 @@ tells-one (reply.Waits t) results before telling is = ap (λ l. l ++ text (reply
 tells-one (reply.Aborted why fell) results before telling is = ap (λ l. l ++ text (reply.Aborted why fell)) is
 
 -- contents that are the same, at the end
-closing-same : (m n : Contents) (end : End) (last : List ℕ) → ((k : Key) → n k ≡ m k) → Closing m end last → Closing n end last
+closing-same : (m n : Contents) (end : End) (last : List ℕ) → ((k : Key) → n k ≡ m k) → Closing Replies m end last → Closing Replies n end last
 closing-same m n (Ok done) last same (rows, by_key, contents, is) = (rows, by_key, (λ k. contents k ∙ sym (same k)), is)
 closing-same m n (Err fault) last same is = is
+
+-- a run told by its operations writes the transcripts of its parts
+
+-- one more entry of the present part
+transcript-more : (s : Setting) (e : Entry) (past : List Entry) (parts : List Part)
+    → behind_cut (record { setting = s; past = past }) parts ++ operations_text e.event e.reply
+    ≡ behind_cut (record { setting = s; past = e ∷ past }) parts
+transcript-more s e past [] = refl
+transcript-more s e past (q ∷ parts) =
+    append_assoc (behind_cut q parts ++ cut_comment (length q.past)) (transcript past) (operations_text e.event e.reply)
+
+transcribed : (s : Setting) (answers : List Answer) → LegalRun s answers → answers_text Operations answers ≡ transcripts (parts_of s answers)
+transcribed s [] legal = refl
+transcribed s (Replied e ∷ answers) legal =
+    let p = part_of s answers in
+    ap (λ l. l ++ operations_text e.event e.reply) (transcribed s answers legal.0)
+    ∙ transcript-more p.setting e p.past (cut_off s answers)
+transcribed s (WasCut entries ∷ answers) legal =
+    let p = part_of s answers in
+    ap (λ l. l ++ cut_comment entries) (transcribed s answers legal.0)
+    ∙ ap (λ n. transcripts (parts_of s answers) ++ cut_comment n) legal.1.1
+    ∙ sym (append-nil (transcripts (parts_of s answers) ++ cut_comment (length p.past)))
+transcribed s (StillLive ∷ answers) legal = append-nil (answers_text Operations answers) ∙ transcribed s answers legal.0
+
+closes-nothing : (m : Contents) (end : End) (last : List ℕ) → Closing Operations m end last → last ≡ []
+closes-nothing m (Ok done) last is = is
+closes-nothing m (Err fault) last is = is
+
+transcribed-run : (run : Execution) (later : List (List ℕ)) (ending : Ending) (out : List ℕ) (end : End)
+    → RunOutput Operations run later ending out end → out ≡ transcripts (parts_of run.setting run.answers)
+transcribed-run run later ending out end output =
+    output.text ∙ ap (λ l. answers_text Operations run.answers ++ l) (closes-nothing (left_by (part_of run.setting run.answers)) end output.last output.closing)
+    ∙ append-nil (answers_text Operations run.answers) ∙ transcribed run.setting run.answers output.legal
 
 module _ (headline : HeadlineHolds) where
   -- each part starts from what the serial run of those before it leaves
@@ -79,17 +117,17 @@ module _ (headline : HeadlineHolds) where
       ∙ (headline p.setting p.past (legal-part s answers legal)).replay.database k
 
   tells : (s : Setting) (answers : List Answer) → LegalRun s answers
-      → replies_telling s (told (part_of s answers).past) answers ≡ replies answers
+      → replies_telling s (told (part_of s answers).past) answers ≡ answers_text Replies answers
   tells s [] legal = refl
   tells s (Replied e ∷ answers) legal =
-      tells-one e.reply (told (part_of s answers).past) (replies answers) (λ results. replies_telling s results answers)
+      tells-one e.reply (told (part_of s answers).past) (answers_text Replies answers) (λ results. replies_telling s results answers)
       (tells s answers legal.0)
-  tells s (WasCut entries ∷ answers) legal = ap (λ l. l ++ answer_text (WasCut entries))
+  tells s (WasCut entries ∷ answers) legal = ap (λ l. l ++ answer_text Replies (WasCut entries))
       (ap (λ results. replies_telling s results answers) (chain-tells s answers legal.0) ∙ tells s answers legal.0)
-  tells s (StillLive ∷ answers) legal = ap (λ l. l ++ answer_text StillLive) (tells s answers legal.0)
+  tells s (StillLive ∷ answers) legal = ap (λ l. l ++ answer_text Replies StillLive) (tells s answers legal.0)
 
   serial-text : (run : Execution) (later : List (List ℕ)) (ending : Ending) (out : List ℕ) (end : End)
-      → RunOutput run later ending out end → IsSerialText run out end
+      → RunOutput Replies run later ending out end → IsSerialText run out end
   serial-text run later ending out end output = record {
     last = output.last;
     closing = closing-same _ _ end output.last (chain-leaves run.setting run.answers output.legal) output.closing;
@@ -141,29 +179,72 @@ module _ (headline : HeadlineHolds) where
           (part-laws s answers is values legal.0, cut-laws s answers is values legal.0)
       cut-laws s (StillLive ∷ answers) is values legal = cut-laws s answers is values legal.0
 
-    run-laws : (ls : List (List ℕ)) (ending : Ending) (run : Option Execution) (out : List ℕ) (end : End)
-        → ScriptOf ls ending run out end → IfSome run (λ r. RunLaws r out end)
-    run-laws [] ending None out end s = tt
-    run-laws [] ending (Some run) out end s = absurd s
-    run-laws (l ∷ ls) ending None out end s = tt
-    run-laws (l ∷ ls) ending (Some run) out end s =
+    parts-laws : (w : Telling) (l : List ℕ) (ls : List (List ℕ)) (ending : Ending) (run : Execution) (out : List ℕ) (end : End)
+        → Opened w l ls ending run out end → InEachPart (parts_of run.setting run.answers)
+    parts-laws w l ls ending run out end s =
         let rules = ap (λ (t : Setting). t.rules) s.setting in
         let values = subst (λ (t : Setting). HoldValues t.opening) (sym s.setting) (opened 1 l s.opening s.opens) in
         let others = s.opening.procedures.items in
-        let limits = s.opening.limits in
-        record {
-          parts = (
-            part-laws others limits run.setting run.answers rules values s.output.legal,
-            cut-laws others limits run.setting run.answers rules values s.output.legal,
-          );
-          written = serial-text run ls ending out end s.output;
-        }
+        let limits = s.opening.limits in (
+          part-laws others limits run.setting run.answers rules values s.output.legal,
+          cut-laws others limits run.setting run.answers rules values s.output.legal,
+        )
+
+    run-laws : (ls : List (List ℕ)) (ending : Ending) (run : Option Execution) (out : List ℕ) (end : End)
+        → ScriptOf Replies ls ending run out end → IfSome run (λ r. RunLaws r out end)
+    run-laws [] ending None out end s = tt
+    run-laws [] ending (Some run) out end s = absurd s
+    run-laws (l ∷ ls) ending None out end s = tt
+    run-laws (l ∷ ls) ending (Some run) out end s = record {
+      parts = parts-laws Replies l ls ending run out end s;
+      written = serial-text run ls ending out end s.output;
+    }
 
     -- what a run wrote, with its laws beside it
     pub with-laws : (rest held held' : Option (List ℕ)) (end : End)
-        → IfSome rest (λ bytes. (run : Option Execution) × (out : List ℕ) × Appends held held' out × Script bytes run out end)
-        → IfSome rest (λ bytes. (run : Option Execution) × (out : List ℕ) × Appends held held' out × Script bytes run out end
+        → IfSome rest (λ bytes. (run : Option Execution) × (out : List ℕ) × Appends held held' out × Script Replies bytes run out end)
+        → IfSome rest (λ bytes. (run : Option Execution) × (out : List ℕ) × Appends held held' out × Script Replies bytes run out end
         × IfSome run (λ r. RunLaws r out end))
     with-laws None held held' end wrote = tt
     with-laws (Some bytes) held held' end (run, out, appended, script) =
         (run, out, appended, script, run-laws (cut bytes).given (cut bytes).ending run out end script)
+
+    -- the same of a run that is told by its operations
+    module _ (ordered : AreCommitOrdered) (serializable : AreSerializable) (recoverable : AreRecoverable)
+        (spell : TranscriptsSpellTextbooks) where
+      textbook-laws : (s : Setting) (answers : List Answer) → LegalRun s answers → TextbookLaws (part_of s answers).past
+      textbook-laws s answers legal =
+          let p = part_of s answers in record {
+            commit_ordered = λ number numbers. ordered number numbers p.setting p.past (legal-part s answers legal);
+            serializable = λ number numbers. serializable number numbers p.setting p.past (legal-part s answers legal);
+            recoverable = λ number numbers. recoverable number numbers p.setting p.past (legal-part s answers legal);
+          }
+
+      cut-textbooks : (s : Setting) (answers : List Answer) → LegalRun s answers → InEachTextbook (cut_off s answers)
+      cut-textbooks s [] legal = tt
+      cut-textbooks s (Replied e ∷ answers) legal = cut-textbooks s answers legal.0
+      cut-textbooks s (WasCut entries ∷ answers) legal = (textbook-laws s answers legal.0, cut-textbooks s answers legal.0)
+      cut-textbooks s (StillLive ∷ answers) legal = cut-textbooks s answers legal.0
+
+      history-laws : (ls : List (List ℕ)) (ending : Ending) (run : Option Execution) (out : List ℕ) (end : End)
+          → ScriptOf Operations ls ending run out end → IfSome run (λ r. HistoryLaws r out)
+      history-laws [] ending None out end s = tt
+      history-laws [] ending (Some run) out end s = absurd s
+      history-laws (l ∷ ls) ending None out end s = tt
+      history-laws (l ∷ ls) ending (Some run) out end s = record {
+        parts = parts-laws Operations l ls ending run out end s;
+        textbooks = (
+          textbook-laws run.setting run.answers s.output.legal,
+          cut-textbooks run.setting run.answers s.output.legal,
+        );
+        written = transcribed-run run ls ending out end s.output;
+        spelled = spell;
+      }
+
+      pub with-history-laws : (rest held held' : Option (List ℕ)) (end : End)
+          → IfSome rest (λ bytes. (run : Option Execution) × (out : List ℕ) × Appends held held' out × Script Operations bytes run out end)
+          → IfSome rest (λ bytes. (run : Option Execution) × (out : List ℕ) × Appends held held' out × Script Operations bytes run out end
+          × IfSome run (λ r. HistoryLaws r out))
+      with-history-laws None held held' end wrote = tt
+      with-history-laws (Some bytes) held held' end (run, out, appended, script) =
+          (run, out, appended, script, history-laws (cut bytes).given (cut bytes).ending run out end script)

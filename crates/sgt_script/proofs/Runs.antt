@@ -10,6 +10,7 @@ use Rattle.sgt_format.specs.declared.errors.OpeningError.TheVariants as opening_
 use Rattle.sgt_stream.specs.Lines.{Cut, Ending, cut}
 use Rattle.sgt_stream.specs.Intake.{Intake, before_input, cut_left, Gives, EndsAs, Explains}
 use Rattle.sgt_stream.specs.Ends.{End, no_opening, fault_of_opening, IsExact}
+use Rattle.sgt_script.specs.declared.telling.Telling.{Telling}
 use Rattle.sgt_script.specs.Scripts.{Execution, Script, ScriptOf, RunOutput}
 use Rattle.sgt_program.specs.Openings.{opened_setting}
 use Rattle.sgt_script.proofs.Answers.{Output}
@@ -19,9 +20,9 @@ use Rattle.sgt_stream.specs.Lines.{AtLongLine, AtLimit}
 use Rattle.std.specs.Prelude.{Err, ◌+◌}
 
 -- what a run wrote over bytes that are known
-abbrev pub Wrote : Option (List ℕ) → Option (List ℕ) → Option (List ℕ) → End → Type 0
-Wrote rest held held' r =
-    IfSome rest (λ bytes. (run : Option Execution) × (out : List ℕ) × Appends held held' out × Script bytes run out r)
+abbrev pub Wrote : Telling → Option (List ℕ) → Option (List ℕ) → Option (List ℕ) → End → Type 0
+Wrote w rest held held' r =
+    IfSome rest (λ bytes. (run : Option Execution) × (out : List ℕ) × Appends held held' out × Script w bytes run out r)
 
 -- nothing written
 pub appends-none : (held : Option (List ℕ)) → Appends held held []
@@ -29,80 +30,80 @@ appends-none None = tt
 appends-none (Some xs) = sym (append-nil xs)
 
 -- there is no line 1
-pub wrote-nothing : (i : Intake) (rest held : Option (List ℕ)) (ending : Ending) (r : End) → i ≡ before_input
-    → EndsAs ending (cut_left i rest) → r ≡ no_opening ending → Wrote rest held held r
-wrote-nothing i None held ending r start ends is = tt
-wrote-nothing i (Some bytes) held ending r start ends is = (
+pub wrote-nothing : (w : Telling) (i : Intake) (rest held : Option (List ℕ)) (ending : Ending) (r : End) → i ≡ before_input
+    → EndsAs ending (cut_left i rest) → r ≡ no_opening ending → Wrote w rest held held r
+wrote-nothing w i None held ending r start ends is = tt
+wrote-nothing w i (Some bytes) held ending r start ends is = (
   None,
   [],
   appends-none held,
-  subst (λ (c : Cut). ScriptOf c.given c.ending None [] r)
+  subst (λ (c : Cut). ScriptOf w c.given c.ending None [] r)
       (sym (subst (λ (j : Intake). EndsAs ending (cut_left j (Some bytes))) start ends)) (refl, is),
 )
 
 -- line 1 is refused
-pub wrote-refused : (i : Intake) (rest held : Option (List ℕ)) (line : List ℕ) (new : Option Cut) (e : OpeningError) (r : End)
+pub wrote-refused : (w : Telling) (i : Intake) (rest held : Option (List ℕ)) (line : List ℕ) (new : Option Cut) (e : OpeningError) (r : End)
     → i ≡ before_input → Gives (cut_left i rest) line new → Refuses 1 line e → e ≢ opening_error.NoMemory
-    → r ≡ Err (fault_of_opening e) → Wrote rest held held r
-wrote-refused i None held line new e r start gives refuses known is = tt
-wrote-refused i (Some bytes) held line None e r start gives refuses known is =
+    → r ≡ Err (fault_of_opening e) → Wrote w rest held held r
+wrote-refused w i None held line new e r start gives refuses known is = tt
+wrote-refused w i (Some bytes) held line None e r start gives refuses known is =
     absurd (subst (λ (j : Intake). Gives (cut_left j (Some bytes)) line None) start gives)
-wrote-refused i (Some bytes) held line (Some c) e r start gives refuses known is =
+wrote-refused w i (Some bytes) held line (Some c) e r start gives refuses known is =
     let gives' : Gives (cut_left before_input (Some bytes)) line (Some c) =
     subst (λ (j : Intake). Gives (cut_left j (Some bytes)) line (Some c)) start gives in (
       None,
       [],
       appends-none held,
-      subst (λ (ls : List (List ℕ)). ScriptOf ls (cut bytes).ending None [] r) (sym gives'.0)
+      subst (λ (ls : List (List ℕ)). ScriptOf w ls (cut bytes).ending None [] r) (sym gives'.0)
           (record { error = e; refuses = refuses; known = known; nothing = refl; end_is = is }),
     )
 
 -- line 1 opens
-pub wrote-opened : (i : Intake) (s : Setting) (rest held held' : Option (List ℕ)) (line : List ℕ) (new : Option Cut) (o : Opening)
+pub wrote-opened : (w : Telling) (i : Intake) (s : Setting) (rest held held' : Option (List ℕ)) (line : List ℕ) (new : Option Cut) (o : Opening)
     (r : End) → i ≡ before_input → Gives (cut_left i rest) line new → Opens 1 line o → s ≡ opened_setting o
-    → Output s new held held' r → Wrote rest held held' r
-wrote-opened i s None held held' line new o r start gives opens is output = tt
-wrote-opened i s (Some bytes) held held' line None o r start gives opens is output =
+    → Output w s new held held' r → Wrote w rest held held' r
+wrote-opened w i s None held held' line new o r start gives opens is output = tt
+wrote-opened w i s (Some bytes) held held' line None o r start gives opens is output =
     absurd (subst (λ (j : Intake). Gives (cut_left j (Some bytes)) line None) start gives)
-wrote-opened i s (Some bytes) held held' line (Some c) o r start gives opens is (run, from, out, wrote, output) =
+wrote-opened w i s (Some bytes) held held' line (Some c) o r start gives opens is (run, from, out, wrote, output) =
     let gives' : Gives (cut_left before_input (Some bytes)) line (Some c) =
     subst (λ (j : Intake). Gives (cut_left j (Some bytes)) line (Some c)) start gives in (
       Some run,
       out,
       wrote,
-      subst (λ (ls : List (List ℕ)). ScriptOf ls (cut bytes).ending (Some run) out r) (sym gives'.0)
+      subst (λ (ls : List (List ℕ)). ScriptOf w ls (cut bytes).ending (Some run) out r) (sym gives'.0)
           (record {
             opening = o;
             opens = opens;
             setting = from ∙ is;
-            output = subst (λ (e : Ending). RunOutput run c.given e out r)
+            output = subst (λ (e : Ending). RunOutput w run c.given e out r)
                 (sym gives'.1) output;
           }),
     )
 
 -- line 1 is too long, or the input is
-wrote-fault : (i : Intake) (rest held : Option (List ℕ)) (f : Fault) → i ≡ before_input → Explains f i.number (cut_left i rest)
-    → IsExact (Err f) → Wrote rest held held (Err f)
-wrote-fault i rest held (fault.LongLine n) start explained exact =
+wrote-fault : (w : Telling) (i : Intake) (rest held : Option (List ℕ)) (f : Fault) → i ≡ before_input → Explains f i.number (cut_left i rest)
+    → IsExact (Err f) → Wrote w rest held held (Err f)
+wrote-fault w i rest held (fault.LongLine n) start explained exact =
     let one : n ≡ 1 = explained.0 ∙ ap (λ (j : Intake). j.number + 1) start in
-    wrote-nothing i rest held AtLongLine (Err (fault.LongLine n)) start explained.1 (ap (λ k. Err (fault.LongLine k)) one)
-wrote-fault i rest held fault.TooLong start explained exact = wrote-nothing i rest held AtLimit (Err fault.TooLong) start explained refl
-wrote-fault i rest held fault.Reading start explained exact = absurd exact
-wrote-fault i rest held fault.Writing start explained exact = absurd exact
-wrote-fault i rest held fault.NoMemory start explained exact = absurd exact
-wrote-fault i rest held fault.NoOpening start explained exact = absurd explained
-wrote-fault i rest held (fault.NotJson n) start explained exact = absurd explained
-wrote-fault i rest held (fault.BadLine n) start explained exact = absurd explained
-wrote-fault i rest held fault.BadLimits start explained exact = absurd explained
-wrote-fault i rest held (fault.BadOpening k) start explained exact = absurd explained
-wrote-fault i rest held (fault.ProcShape n place) start explained exact = absurd explained
-wrote-fault i rest held (fault.ProcFlaw n k) start explained exact = absurd explained
-wrote-fault i rest held fault.TooManyJobs start explained exact = absurd explained
-wrote-fault i rest held fault.Spawn start explained exact = absurd explained
-wrote-fault i rest held fault.Mismatch start explained exact = absurd explained
+    wrote-nothing w i rest held AtLongLine (Err (fault.LongLine n)) start explained.1 (ap (λ k. Err (fault.LongLine k)) one)
+wrote-fault w i rest held fault.TooLong start explained exact = wrote-nothing w i rest held AtLimit (Err fault.TooLong) start explained refl
+wrote-fault w i rest held fault.Reading start explained exact = absurd exact
+wrote-fault w i rest held fault.Writing start explained exact = absurd exact
+wrote-fault w i rest held fault.NoMemory start explained exact = absurd exact
+wrote-fault w i rest held fault.NoOpening start explained exact = absurd explained
+wrote-fault w i rest held (fault.NotJson n) start explained exact = absurd explained
+wrote-fault w i rest held (fault.BadLine n) start explained exact = absurd explained
+wrote-fault w i rest held fault.BadLimits start explained exact = absurd explained
+wrote-fault w i rest held (fault.BadOpening k) start explained exact = absurd explained
+wrote-fault w i rest held (fault.ProcShape n place) start explained exact = absurd explained
+wrote-fault w i rest held (fault.ProcFlaw n k) start explained exact = absurd explained
+wrote-fault w i rest held fault.TooManyJobs start explained exact = absurd explained
+wrote-fault w i rest held fault.Spawn start explained exact = absurd explained
+wrote-fault w i rest held fault.Mismatch start explained exact = absurd explained
 
 -- where the first line was not given
-pub wrote-no-line : (i : Intake) (rest held : Option (List ℕ)) (f : Fault) (r : End) → i ≡ before_input → r ≡ Err f
-    → Explains f i.number (cut_left i rest) → IsExact r → Wrote rest held held r
-wrote-no-line i rest held f r start is explained exact =
-    subst (Wrote rest held held) (sym is) (wrote-fault i rest held f start explained (subst IsExact is exact))
+pub wrote-no-line : (w : Telling) (i : Intake) (rest held : Option (List ℕ)) (f : Fault) (r : End) → i ≡ before_input → r ≡ Err f
+    → Explains f i.number (cut_left i rest) → IsExact r → Wrote w rest held held r
+wrote-no-line w i rest held f r start is explained exact =
+    subst (Wrote w rest held held) (sym is) (wrote-fault w i rest held f start explained (subst IsExact is exact))

@@ -7,7 +7,8 @@ use Rattle.sgt_stream.specs.Lines.{Cut, AtEnd, whole_lines}
 use Rattle.sgt_stream.specs.Intake.{Intake, bytes_left}
 use Rattle.sgt_stream.specs.Ends.{End}
 use Rattle.sgt_stream.specs.Spelled.{spelled, end_of}
-use Rattle.sgt_script.specs.Parts.{Answer, LegalAnswer, LegalRun, Part, answer_text, asked, lines_of, part_behind, replies}
+use Rattle.sgt_script.specs.declared.telling.Telling.{Telling}
+use Rattle.sgt_script.specs.Parts.{Answer, LegalAnswer, LegalRun, Part, answer_text, asked, lines_of, part_behind, answers_text}
 use Rattle.sgt_script.specs.Scripts.{script_line_at}
 
 -- known lines from number n on begin with those that ask for this; behind them, from number m on, are these
@@ -48,23 +49,23 @@ abbrev pub NoLineCame : Intake → Option (List ℕ) → Intake → Option (List
 NoLineCame i rest i' rest' = Keeps (bytes_left i rest) (bytes_left i' rest') × (whole_lines i'.held ≡ []) × (i'.ended ≡ false)
 
 -- what a line asks for was answered: the present part has become the one behind that answer, whose text was added
-pub record AnswersLine (line : ScriptLine) (old new : Part) (before after : List ℕ) : Type 0 where
+pub record AnswersLine (w : Telling) (line : ScriptLine) (old new : Part) (before after : List ℕ) : Type 0 where
   pub answer : Answer
   pub of_line : asked answer ≡ line
   pub legal : LegalAnswer old answer
   pub part : new ≡ part_behind answer old
-  pub text : after ≡ before ++ answer_text answer
+  pub text : after ≡ before ++ answer_text w answer
 
 -- of known lines from number n on, all were answered, up to this end: the answers are legal, and their text was written
-pub record AnswersAll (s : Setting) (n : ℕ) (known : Option Cut) (old new : Option (List ℕ)) (end : End) : Type 0 where
+pub record AnswersAll (w : Telling) (s : Setting) (n : ℕ) (known : Option Cut) (old new : Option (List ℕ)) (end : End) : Type 0 where
   pub answers : List Answer
   pub legal : LegalRun s answers
   pub all : AllAnswered n known answers end
-  pub written : Appends old new (replies answers)
+  pub written : Appends old new (answers_text w answers)
 
 -- of known lines from number n on, the first were answered: the answers are legal, and what is written is their text but for the
 -- rest, which is none where no write failed; and where a read failed, these are all whole lines read
-pub record AnswersSome (s : Setting) (n : ℕ) (known : Option Cut) (from to old new : Option (List ℕ)) (wrote unread : Type 0) : Type 0 where
+pub record AnswersSome (w : Telling) (s : Setting) (n : ℕ) (known : Option Cut) (from to old new : Option (List ℕ)) (wrote unread : Type 0) : Type 0 where
   pub answers : List Answer
   pub next : ℕ
   pub left : Option Cut
@@ -73,6 +74,6 @@ pub record AnswersSome (s : Setting) (n : ℕ) (known : Option Cut) (from to old
   pub written : List ℕ
   pub appends : Appends old new written
   pub rest : List ℕ
-  pub parts : replies answers ≡ written ++ rest
+  pub parts : answers_text w answers ≡ written ++ rest
   pub all : wrote → rest ≡ []
   pub read : unread → AnswersRead n from to answers

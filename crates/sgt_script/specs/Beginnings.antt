@@ -6,6 +6,7 @@ use Rattle.sgt_stream.specs.declared.fault.Fault.{Fault}
 use Rattle.sgt_stream.specs.declared.fault.Fault.TheVariants as fault
 use Rattle.sgt_stream.specs.Lines.{Cut}
 use Rattle.sgt_stream.specs.Ends.{End}
+use Rattle.sgt_script.specs.declared.telling.Telling.{Telling}
 use Rattle.sgt_script.specs.Parts.{Answer}
 use Rattle.sgt_script.specs.Scripts.{Execution, RunOutput, Script}
 
@@ -30,12 +31,12 @@ pub record Begins (Whole : Wholes) (answered : List Answer) (out : List ℕ) : T
   pub whole : Whole run (out ++ rest) end
 
 -- the whole runs of a script over these bytes, whose line 1 opens
-abbrev pub ScriptRuns : List ℕ → Wholes
-ScriptRuns bytes run out end = Script bytes (Some run) out end
+abbrev pub ScriptRuns : Telling → List ℕ → Wholes
+ScriptRuns w bytes run out end = Script w bytes (Some run) out end
 
 -- the whole runs behind an opening, over these lines
-abbrev pub LineRuns : Setting → Cut → Wholes
-LineRuns s c run out end = (run.setting ≡ s) × RunOutput run c.given c.ending out end
+abbrev pub LineRuns : Telling → Setting → Cut → Wholes
+LineRuns w s c run out end = (run.setting ≡ s) × RunOutput w run c.given c.ending out end
 
 -- these bytes are written; where not all of them could be, the first are, and the fault is that and not this one
 abbrev pub WritesAt : Fault → Fault → Option (List ℕ) → Option (List ℕ) → List ℕ → Type 0

@@ -9,6 +9,9 @@ use Rattle.sgt_engine.specs.Cuts.{NobodyLive, setting_behind}
 use Rattle.sgt_engine.specs.EngineView.{EngineView, setting_of}
 use Rattle.sgt_format.specs.ReplyText.{text}
 use Rattle.sgt_format.specs.CutText.{cut_text, still_live_text}
+use Rattle.sgt_transcript.specs.Transcripts.{operations_text, cut_comment}
+use Rattle.sgt_script.specs.declared.telling.Telling.{Telling}
+use Rattle.sgt_script.specs.declared.telling.Telling.TheVariants.{Replies, Operations}
 use Rattle.sgt_format.specs.declared.script_line.ScriptLine.{ScriptLine}
 use Rattle.sgt_format.specs.declared.script_line.ScriptLine.TheVariants as script_line
 
@@ -31,16 +34,20 @@ asked StillLive = script_line.Cut
 abbrev pub lines_of : List Answer → List ScriptLine
 lines_of answers = map asked (reverse answers)
 
--- the text of an answer
-abbrev pub answer_text : Answer → List ℕ
-answer_text (Replied e) = text e.reply
-answer_text (WasCut entries) = cut_text entries
-answer_text StillLive = still_live_text
+-- the text of an answer: the line that replies to it, or the operations that it is as a history has them, with a comment where
+-- one history ends and another begins
+abbrev pub answer_text : Telling → Answer → List ℕ
+answer_text Replies (Replied e) = text e.reply
+answer_text Replies (WasCut entries) = cut_text entries
+answer_text Replies StillLive = still_live_text
+answer_text Operations (Replied e) = operations_text e.event e.reply
+answer_text Operations (WasCut entries) = cut_comment entries
+answer_text Operations StillLive = []
 
 -- the text of these answers, the oldest first
-abbrev pub replies : List Answer → List ℕ
-replies [] = []
-replies (a ∷ answers) = replies answers ++ answer_text a
+abbrev pub answers_text : Telling → List Answer → List ℕ
+answers_text w [] = []
+answers_text w (a ∷ answers) = answers_text w answers ++ answer_text w a
 
 -- ---- parts
 

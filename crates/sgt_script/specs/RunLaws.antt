@@ -1,5 +1,5 @@
 -- What is true of every run of a script: the headline, each part by itself, and on what was written.
-use Rattle.std.specs.Prelude.{◌≡◌, ℕ, List, [], ◌∷◌, ◌++◌, ⊤}
+use Rattle.std.specs.Prelude.{◌≡◌, ℕ, List, [], ◌∷◌, ◌++◌, ⊤, length}
 use Rattle.sgt_model.specs.declared.reply.Reply.{Reply}
 use Rattle.sgt_model.specs.declared.reply.Reply.TheVariants as reply
 use Rattle.sgt_model.specs.Walks.{Acyclic}
@@ -10,8 +10,11 @@ use Rattle.sgt_model.specs.Settings.{Setting}
 use Rattle.sgt_model.specs.Aborts.{AbortsHaveCause}
 use Rattle.sgt_model.specs.CommitOrder.{CommitsInOrder}
 use Rattle.sgt_smallbank.specs.Replays.{CommitsAreBank}
+use Rattle.sgt_textbook.specs.Laws.{TextbookLaws}
+use Rattle.sgt_transcript.specs.Transcripts.{TranscriptsSpellTextbooks, cut_comment, transcript}
 use Rattle.sgt_format.specs.ReplyText.{text}
 use Rattle.sgt_stream.specs.Ends.{End}
+use Rattle.sgt_script.specs.declared.telling.Telling.TheVariants.{Replies}
 use Rattle.sgt_script.specs.Parts.{Answer, Replied, WasCut, StillLive, Part, answer_text, part_of, parts_of}
 use Rattle.sgt_script.specs.Scripts.{Execution, Closing}
 
@@ -91,15 +94,15 @@ chained s answers = folded (opened_on (carried s answers) s) (part_of s answers)
 abbrev pub replies_telling : Setting → List RunResult → List Answer → List ℕ
 replies_telling s results [] = []
 replies_telling s results (Replied e ∷ answers) = replies_telling s (results_left results e.reply) answers ++ line_telling results e.reply
-replies_telling s results (WasCut entries ∷ answers) = replies_telling s (chained s answers).results answers ++ answer_text (WasCut entries)
-replies_telling s results (StillLive ∷ answers) = replies_telling s results answers ++ answer_text StillLive
+replies_telling s results (WasCut entries ∷ answers) = replies_telling s (chained s answers).results answers ++ answer_text Replies (WasCut entries)
+replies_telling s results (StillLive ∷ answers) = replies_telling s results answers ++ answer_text Replies StillLive
 
 -- what was written is what the serial run of all parts tells, one after another: each `committed` line has the answers that it
 -- gives there, each `refused` line the code that it asks there, and the lines at the end, where the run ends well, are the
 -- database that it leaves
 pub record IsSerialText (run : Execution) (out : List ℕ) (end : End) : Type 0 where
   pub last : List ℕ
-  pub closing : Closing (chained run.setting run.answers).last end last
+  pub closing : Closing Replies (chained run.setting run.answers).last end last
   pub text : out ≡ replies_telling run.setting (chained run.setting run.answers).results run.answers ++ last
 
 -- ---- the laws
@@ -121,3 +124,28 @@ InEachPart (p ∷ parts) = PartLaws p × InEachPart parts
 pub record RunLaws (run : Execution) (out : List ℕ) (end : End) : Type 0 where
   pub parts : InEachPart (parts_of run.setting run.answers)
   pub written : IsSerialText run out end
+
+-- ---- of a run told by its operations
+
+-- what the textbook says holds of the history of each of these parts
+abbrev pub InEachTextbook : List Part → Type 0
+InEachTextbook [] = ⊤
+InEachTextbook (p ∷ parts) = TextbookLaws p.past × InEachTextbook parts
+
+-- the transcript of a part, behind a comment that so many entries were cut off before it
+abbrev pub behind_cut : Part → List Part → List ℕ
+behind_cut p [] = transcript p.past
+behind_cut p (q ∷ parts) = behind_cut q parts ++ cut_comment (length q.past) ++ transcript p.past
+
+-- the transcripts of the parts, the present one's last, with a comment wherever a history was cut off
+abbrev pub transcripts : List Part → List ℕ
+transcripts [] = []
+transcripts (p ∷ parts) = behind_cut p parts
+
+-- The laws hold of each part of a run, and the textbook's too, and what was written are the transcripts of the parts, which spell
+-- the operations of the textbook's histories.
+pub record HistoryLaws (run : Execution) (out : List ℕ) : Type 0 where
+  pub parts : InEachPart (parts_of run.setting run.answers)
+  pub textbooks : InEachTextbook (parts_of run.setting run.answers)
+  pub written : out ≡ transcripts (parts_of run.setting run.answers)
+  pub spelled : TranscriptsSpellTextbooks

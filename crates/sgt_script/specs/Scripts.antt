@@ -15,16 +15,24 @@ use Rattle.sgt_stream.specs.declared.fault.Fault.{Fault}
 use Rattle.sgt_stream.specs.Lines.{Ending, cut}
 use Rattle.sgt_stream.specs.Ends.{End, fault_of_opening, no_opening}
 use Rattle.sgt_stream.specs.Spelled.{at_line, spelled, end_of}
-use Rattle.sgt_script.specs.Parts.{Answer, LegalRun, left_by, lines_of, part_of, replies}
+use Rattle.sgt_script.specs.declared.telling.Telling.{Telling}
+use Rattle.sgt_script.specs.declared.telling.Telling.TheVariants.{Replies, Operations}
+use Rattle.sgt_script.specs.Parts.{Answer, LegalRun, left_by, lines_of, part_of, answers_text}
 
 -- what line n asks for, or its fault
 abbrev pub script_line_at : ℕ → List ℕ → Result ScriptLine Fault
 script_line_at n line = at_line n (script_line_of line)
 
--- what stands behind the replies: the database of these contents where the run ends well, and nothing at a fault
-abbrev pub Closing : Contents → End → List ℕ → Type 0
-Closing m (Ok _) last = (rows : List Row) × IsByKey rows × ((k : Key) → contents_of rows k ≡ m k) × (last ≡ database_text rows)
-Closing m (Err fault) last = last ≡ []
+-- what stands behind the answers of a run that ended well: behind replies the database of these contents, and nothing behind
+-- operations
+abbrev pub Last : Telling → Contents → List ℕ → Type 0
+Last Replies m last = (rows : List Row) × IsByKey rows × ((k : Key) → contents_of rows k ≡ m k) × (last ≡ database_text rows)
+Last Operations m last = last ≡ []
+
+-- what stands behind the answers; nothing at a fault
+abbrev pub Closing : Telling → Contents → End → List ℕ → Type 0
+Closing w m (Ok _) last = Last w m last
+Closing w m (Err fault) last = last ≡ []
 
 -- the execution of a script: what it started from, and what its lines were answered, the newest answer first
 pub record Execution : Type 0 where
@@ -33,20 +41,20 @@ pub record Execution : Type 0 where
 
 -- what a run over these lines behind the opening writes: the text of legal answers to them, and the closing text, of what the
 -- last part leaves
-pub record RunOutput (run : Execution) (later : List (List ℕ)) (ending : Ending) (out : List ℕ) (end : End) : Type 0 where
+pub record RunOutput (w : Telling) (run : Execution) (later : List (List ℕ)) (ending : Ending) (out : List ℕ) (end : End) : Type 0 where
   pub last : List ℕ
   pub legal : LegalRun run.setting run.answers
   pub lines_are : lines_of run.answers ≡ spelled script_line_at 2 later
   pub end_is : end ≡ end_of script_line_at 2 later ending
-  pub closing : Closing (left_by (part_of run.setting run.answers)) end last
-  pub text : out ≡ replies run.answers ++ last
+  pub closing : Closing w (left_by (part_of run.setting run.answers)) end last
+  pub text : out ≡ answers_text w run.answers ++ last
 
 -- line 1 is an opening, and the later lines are answered
-pub record Opened (line : List ℕ) (later : List (List ℕ)) (ending : Ending) (run : Execution) (out : List ℕ) (end : End) : Type 0 where
+pub record Opened (w : Telling) (line : List ℕ) (later : List (List ℕ)) (ending : Ending) (run : Execution) (out : List ℕ) (end : End) : Type 0 where
   pub opening : Opening
   pub opens : Opens 1 line opening
   pub setting : run.setting ≡ opened_setting opening
-  pub output : RunOutput run later ending out end
+  pub output : RunOutput w run later ending out end
 
 -- line 1 is refused as an opening
 pub record Refused (line out : List ℕ) (end : End) : Type 0 where
@@ -61,12 +69,12 @@ abbrev pub Unopened : Ending → List ℕ → End → Type 0
 Unopened ending out end = (out ≡ []) × (end ≡ no_opening ending)
 
 -- what a run over these lines writes: with an execution where line 1 opens, and without one where it does not
-abbrev pub ScriptOf : List (List ℕ) → Ending → Option Execution → List ℕ → End → Type 0
-ScriptOf [] ending None out end = Unopened ending out end
-ScriptOf [] ending (Some run) out end = ⊥
-ScriptOf (line ∷ later) ending None out end = Refused line out end
-ScriptOf (line ∷ later) ending (Some run) out end = Opened line later ending run out end
+abbrev pub ScriptOf : Telling → List (List ℕ) → Ending → Option Execution → List ℕ → End → Type 0
+ScriptOf w [] ending None out end = Unopened ending out end
+ScriptOf w [] ending (Some run) out end = ⊥
+ScriptOf w (line ∷ later) ending None out end = Refused line out end
+ScriptOf w (line ∷ later) ending (Some run) out end = Opened w line later ending run out end
 
 -- what a script's run over these bytes writes, and how it ends
-abbrev pub Script : List ℕ → Option Execution → List ℕ → End → Type 0
-Script bytes run out end = ScriptOf (cut bytes).given (cut bytes).ending run out end
+abbrev pub Script : Telling → List ℕ → Option Execution → List ℕ → End → Type 0
+Script w bytes run out end = ScriptOf w (cut bytes).given (cut bytes).ending run out end

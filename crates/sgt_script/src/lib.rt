@@ -12,5 +12,6 @@
 
 mod run;
 mod script;
+mod telling;
 
-pub use run::run_script;
+pub use run::{run_history, run_script};

@@ -3,23 +3,24 @@ ghost use Rattle.std.specs.Io.KnownBytes.{Appends, Consumes};
 ghost use Rattle.sgt_model.specs.declared.entry.Entry.{Entry as Filed};
 ghost use Rattle.sgt_model.specs.Legality.{Legal};
 ghost use Rattle.sgt_engine.specs.EngineView.{setting_of};
-ghost use Rattle.sgt_format.specs.ReplyText.{text};
 ghost use Rattle.sgt_stream.specs.Lines.{has_break};
 ghost use Rattle.sgt_stream.specs.Intake.{bytes_left, come, cut_left, has_whole_line, taken};
 ghost use Rattle.sgt_stream.specs.Ends.{IsOfInput, IsExact};
-ghost use Rattle.sgt_script.specs.Parts.{Answer, part_at, part_of, replies};
-ghost use Rattle.sgt_script.specs.Scripts.{Execution, RunOutput, Script, script_line_at};
+ghost use Rattle.sgt_script.specs.Parts.{Answer, Replied, StillLive, WasCut, answer_text, answers_text, left_by, part_at, part_of};
+ghost use Rattle.sgt_script.specs.Scripts.{Execution, Last, RunOutput, Script, script_line_at};
 ghost use Rattle.sgt_script.specs.Answering.{AnswersAll, AnswersLine, AnswersRead, AnswersScriptRead, AnswersSome, BeginWith, NoLine, NoLineCame};
 ghost use Rattle.sgt_script.specs.Beginnings.{AppendsPart, Begins, IsStop, LineRuns, ScriptRuns, WritesAt};
 
+use crate::telling::Telling;
 use json::Scratch;
 use sgt_engine::CutError;
 use sgt_format::{
     ScriptLine, append_cut, append_database, append_reply, append_still_live, read_script_line,
 };
-use sgt_model::{Event, NoMemory, histories_go_on, some_reply_is_legal};
+use sgt_model::{Entry, Event, NoMemory, histories_go_on, some_reply_is_legal};
 use sgt_program::{SgtEngine, open_engine};
 use sgt_stream::{Fault, Lines, Sink, Source, at_line, opening_of, write_all};
+use sgt_transcript::{append_cut_comment, append_operations};
 use std::alloc::Global;
 
 /// What the next line asks for, if there is one.
@@ -66,18 +67,30 @@ fn next_script_line<S: Source>(
     Ok(Some(asked))
 }
 
-/// Answers an event: the text of its reply is added.
-fn answer_event(engine: &mut SgtEngine, event: Event, replies: &mut Vec<u8>) -> Result<(), NoMemory>
+/// Answers an event: the text of that is added.
+fn answer_event(
+    engine: &mut SgtEngine,
+    event: Event,
+    telling: Telling,
+    text: &mut Vec<u8>,
+) -> Result<(), NoMemory>
     ensures setting { setting_of engine.new ≡ setting_of engine.old }
     ensures answered { OnOk result ((entry : Filed) × (engine.new.past ≡ entry ∷ engine.old.past)
-        × (entry.event ≡ event) × (replies.new.items ≡ replies.old.items ++ text entry.reply)) }
+        × (entry.event ≡ event)
+        × (text.new.items ≡ text.old.items ++ answer_text telling (Replied entry))) }
     ensures legal { Legal (setting_of engine.new) engine.new.past }
-    ensures kept { OnErr result (replies.new.items ≡ replies.old.items) }
+    ensures kept { OnErr result (text.new.items ≡ text.old.items) }
 {
     engine.answer(event)?;
-    match engine.history().last_reply() {
-        Some(reply) => append_reply(replies, &reply),
-        None => unreachable!(),
+    match telling {
+        Telling::Replies => match engine.history().last_reply() {
+            Some(reply) => append_reply(text, &reply),
+            None => unreachable!(),
+        },
+        Telling::Operations => match engine.history().last() {
+            Some(Entry { event, reply }) => append_operations(text, &event, &reply),
+            None => unreachable!(),
+        },
     }
 }
 
@@ -85,23 +98,58 @@ fn answer_event(engine: &mut SgtEngine, event: Event, replies: &mut Vec<u8>) -> 
 fn answer_cut(
     alloc: Global,
     engine: SgtEngine,
-    replies: &mut Vec<u8>,
+    telling: Telling,
+    text: &mut Vec<u8>,
 ) -> Result<SgtEngine, NoMemory>
-    ensures answered { IfOk result (λ e. AnswersLine ScriptLine.Cut
-        (part_at engine) (part_at e) replies.old.items replies.new.items) }
-    ensures kept { OnErr result (replies.new.items ≡ replies.old.items) }
+    ensures answered { IfOk result (λ e. AnswersLine telling ScriptLine.Cut
+        (part_at engine) (part_at e) text.old.items text.new.items) }
+    ensures kept { OnErr result (text.new.items ≡ text.old.items) }
 {
     match engine.cut(alloc) {
         Ok((past, next)) => {
-            append_cut(replies, past.history.len())?;
+            append_was_cut(past.history.len(), telling, text)?;
             Ok(next)
         }
         Err(CutError::StillLive(engine)) => {
-            append_still_live(replies)?;
+            append_was_not_cut(telling, text)?;
             Ok(engine)
         }
         Err(CutError::NoMemory(_)) => Err(NoMemory),
     }
+}
+
+/// Adds that so many entries were cut off.
+fn append_was_cut(entries: usize, telling: Telling, text: &mut Vec<u8>) -> Result<(), NoMemory>
+    ensures text { OnOk result
+        (text.new.items ≡ text.old.items ++ answer_text telling (WasCut entries)) }
+    ensures kept { OnErr result (text.new.items ≡ text.old.items) }
+{
+    match telling {
+        Telling::Replies => append_cut(text, entries),
+        Telling::Operations => append_cut_comment(text, entries),
+    }
+}
+
+/// Adds that nothing was cut off, as a transaction is live. Among operations that is nothing.
+fn append_was_not_cut(telling: Telling, text: &mut Vec<u8>) -> Result<(), NoMemory>
+    ensures text { OnOk result (text.new.items ≡ text.old.items ++ answer_text telling StillLive) }
+    ensures kept { OnErr result (text.new.items ≡ text.old.items) }
+{
+    match telling {
+        Telling::Replies => append_still_live(text),
+        Telling::Operations => Ok(()),
+    }
+}
+
+/// What is written behind the answers of a run that ends well.
+fn last_text(alloc: Global, engine: SgtEngine, telling: Telling) -> Result<Vec<u8>, NoMemory>
+    ensures { IfOk result (λ text. Last telling (left_by (part_at engine)) text.items) }
+{
+    let mut text = Vec::new(alloc);
+    if telling == Telling::Replies {
+        append_database(&mut text, &engine.database(alloc)?)?;
+    }
+    Ok(text)
 }
 
 /// Writes out what was gathered.
@@ -164,6 +212,7 @@ fn answer_lines<S: Source, T: Sink>(
     source: &mut S,
     sink: &mut T,
     mut engine: SgtEngine,
+    telling: Telling,
 ) -> Result<SgtEngine, Fault>
     requires reading { S.failures source.old + 1 < 2 ^ 64 }
     requires writing { T.failures sink.old + 1 < 2 ^ 64 }
@@ -171,13 +220,13 @@ fn answer_lines<S: Source, T: Sink>(
     requires few { come lines.old ≤ 16777217 }
     ensures bounded { S.given source.new + come lines.old ≤ S.given source.old + 16777217 }
     ensures all { IfOk result (λ e.
-        (all : AnswersAll (setting_of engine) (lines.old.number + 1)
+        (all : AnswersAll telling (setting_of engine) (lines.old.number + 1)
         (cut_left lines.old (S.rest source.old)) (T.held sink.old) (T.held sink.new) (Ok tt))
         × (part_of (setting_of engine) all.answers ≡ part_at e)) }
     ensures fault { IfErr result (λ f. IsOfInput f →
-        AnswersAll (setting_of engine) (lines.old.number + 1)
+        AnswersAll telling (setting_of engine) (lines.old.number + 1)
         (cut_left lines.old (S.rest source.old)) (T.held sink.old) (T.held sink.new) (Err f)) }
-    ensures some { AnswersSome (setting_of engine) (lines.old.number + 1)
+    ensures some { AnswersSome telling (setting_of engine) (lines.old.number + 1)
         (cut_left lines.old (S.rest source.old))
         (bytes_left lines.old (S.rest source.old)) (S.rest source.new)
         (T.held sink.old) (T.held sink.new)
@@ -201,12 +250,13 @@ fn answer_lines<S: Source, T: Sink>(
             Ok(Some(ScriptLine::Event(event))) => match answer_event(
                 &mut engine,
                 event,
+                telling,
                 &mut gathered,
             ) {
                 Ok(()) => (),
                 Err(_) => return Err(stop(sink, &mut gathered, Fault::NoMemory)),
             },
-            Ok(Some(ScriptLine::Cut)) => match answer_cut(alloc, engine, &mut gathered) {
+            Ok(Some(ScriptLine::Cut)) => match answer_cut(alloc, engine, telling, &mut gathered) {
                 Ok(next) => engine = next,
                 Err(_) => return Err(stop(sink, &mut gathered, Fault::NoMemory)),
             },
@@ -233,6 +283,7 @@ pub(crate) fn run_opened<S: Source, T: Sink>(
     source: &mut S,
     sink: &mut T,
     engine: SgtEngine,
+    telling: Telling,
 ) -> Result<(), Fault>
     requires reading { S.failures source.old + 1 < 2 ^ 64 }
     requires writing { T.failures sink.old + 1 < 2 ^ 64 }
@@ -242,17 +293,17 @@ pub(crate) fn run_opened<S: Source, T: Sink>(
     ensures output { IsExact result → IfSome (cut_left lines.old (S.rest source.old)) (λ c.
         (run : Execution) × (run.setting ≡ setting_of engine)
         × (out : List ℕ) × Appends (T.held sink.old) (T.held sink.new) out
-        × RunOutput run c.given c.ending out result) }
+        × RunOutput telling run c.given c.ending out result) }
     ensures stops { IsStop result → IfSome (cut_left lines.old (S.rest source.old)) (λ c.
-        (answered : List Answer) × Appends (T.held sink.old) (T.held sink.new) (replies answered)
-        × Begins (LineRuns (setting_of engine) c) answered (replies answered)
+        (answered : List Answer) × Appends (T.held sink.old) (T.held sink.new) (answers_text telling answered)
+        × Begins (LineRuns telling (setting_of engine) c) answered (answers_text telling answered)
         × (result ≡ Err Fault.Reading → AnswersRead 2
         (bytes_left lines.old (S.rest source.old)) (S.rest source.new) answered)) }
     ensures going { result ≡ Err Fault.Reading → lines.old.ended ≡ false }
     ensures part { result ≡ Err Fault.Writing →
         IfSome (cut_left lines.old (S.rest source.old)) (λ c.
         (answered : List Answer) × (out : List ℕ) × Appends (T.held sink.old) (T.held sink.new) out
-        × Begins (LineRuns (setting_of engine) c) answered out) }
+        × Begins (LineRuns telling (setting_of engine) c) answered out) }
     ensures bounded { S.given source.new + come lines.old ≤ S.given source.old + 16777217 }
     ensures read_well { IsExact result → S.failures source.new ≡ S.failures source.old }
     ensures read_failed { result ≡ Err Fault.Reading →
@@ -265,10 +316,8 @@ pub(crate) fn run_opened<S: Source, T: Sink>(
     // Whatever was answered by then, some whole run goes on from there.
     some_reply_is_legal();
     histories_go_on();
-    let engine = answer_lines(alloc, lines, source, sink, engine)?;
-    let database = engine.database(alloc)?;
-    let mut text = Vec::new(alloc);
-    append_database(&mut text, &database)?;
+    let engine = answer_lines(alloc, lines, source, sink, engine, telling)?;
+    let mut text = last_text(alloc, engine, telling)?;
     flush(sink, &mut text)
 }
 
@@ -283,20 +332,21 @@ pub(crate) fn run_with<S: Source, T: Sink>(
     alloc: Global,
     source: &mut S,
     sink: &mut T,
+    telling: Telling,
 ) -> Result<(), Fault>
     requires reading { S.failures source.old + 1 < 2 ^ 64 }
     requires writing { T.failures sink.old + 1 < 2 ^ 64 }
     ensures script { IsExact result → IfSome (S.rest source.old) (λ bytes.
         (run : Option Execution) × (out : List ℕ) × Appends (T.held sink.old) (T.held sink.new) out
-        × Script bytes run out result) }
+        × Script telling bytes run out result) }
     ensures stops { IsStop result → IfSome (S.rest source.old) (λ bytes. (answered : List Answer)
-        × Appends (T.held sink.old) (T.held sink.new) (replies answered)
-        × ((answered ≡ []) ⊎ Begins (ScriptRuns bytes) answered (replies answered))
+        × Appends (T.held sink.old) (T.held sink.new) (answers_text telling answered)
+        × ((answered ≡ []) ⊎ Begins (ScriptRuns telling bytes) answered (answers_text telling answered))
         × (result ≡ Err Fault.Reading →
         AnswersScriptRead (S.rest source.old) (S.rest source.new) answered)) }
     ensures part { result ≡ Err Fault.Writing → IfSome (S.rest source.old) (λ bytes.
         (answered : List Answer) × (out : List ℕ) × Appends (T.held sink.old) (T.held sink.new) out
-        × Begins (ScriptRuns bytes) answered out) }
+        × Begins (ScriptRuns telling bytes) answered out) }
     ensures bounded { S.given source.new ≤ S.given source.old + 16777217 }
     ensures read_well { IsExact result → S.failures source.new ≡ S.failures source.old }
     ensures read_failed { result ≡ Err Fault.Reading →
@@ -312,5 +362,5 @@ pub(crate) fn run_with<S: Source, T: Sink>(
     }
     let opening = opening_of(alloc, 1, &lines)?;
     let engine = open_engine(alloc, opening)?;
-    run_opened(alloc, &mut lines, source, sink, engine)
+    run_opened(alloc, &mut lines, source, sink, engine, telling)
 }

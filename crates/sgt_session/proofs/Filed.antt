@@ -1,8 +1,10 @@
 -- Receipts as numbers beside entries.
 use Rattle.std.proofs.Common.{◌≡◌, ℕ, zero, suc, ◌+◌, List, [], ◌∷◌, ◌++◌, length, Some, slice_get, reverse, refl, sym, ap, ◌∙◌, arith}
 use Rattle.std.proofs.lemmas.List.{reverse-reverse, reverse-append, length-reverse}
+use Rattle.std.specs.Option.{option_map}
 use Rattle.sgt_model.specs.declared.entry.Entry.{Entry}
-use Rattle.sgt_session.specs.Receipts.{receipt_of, receipts_of}
+use Rattle.sgt_session.specs.declared.receipt.Receipt.{Receipt}
+use Rattle.sgt_session.specs.Receipts.{receipt_of, receipts_of, entry_of}
 
 -- there are as many receipts as numbers
 pub receipts-length : (ns : List ℕ) (es : List Entry) → length ns ≡ length es → length (receipts_of ns es) ≡ length ns
@@ -20,6 +22,23 @@ receipts-at (m ∷ ns) (d ∷ es) zero n e number entry =
     let two : d ≡ e = cc in
     rw (one, two) refl
 receipts-at (m ∷ ns) (d ∷ es) (suc place) n e number entry = receipts-at ns es place n e number entry
+
+-- the entry of the receipt at a place
+pub receipts-entry : (ns : List ℕ) (es : List Entry) (place : ℕ) → length ns ≡ length es
+    → option_map entry_of (slice_get (receipts_of ns es) place) ≡ slice_get es place
+receipts-entry [] [] place same = refl
+receipts-entry [] (e ∷ es) place same = absurd (omega (arith, same))
+receipts-entry (n ∷ ns) [] place same = absurd (omega (arith, same))
+receipts-entry (n ∷ ns) (e ∷ es) zero same = refl
+receipts-entry (n ∷ ns) (e ∷ es) (suc place) same = receipts-entry ns es place (omega (arith, same))
+
+-- the number of the receipt at a place
+pub receipts-number : (ns : List ℕ) (es : List Entry) (place n : ℕ) → length ns ≡ length es → slice_get ns place ≡ Some n
+    → option_map (λ (r : Receipt). r.number) (slice_get (receipts_of ns es) place) ≡ Some n
+receipts-number [] es place n same number = absurd cc
+receipts-number (m ∷ ns) [] place n same number = absurd (omega (arith, same))
+receipts-number (m ∷ ns) (e ∷ es) zero n same number = number
+receipts-number (m ∷ ns) (e ∷ es) (suc place) n same number = receipts-number ns es place n (omega (arith, same)) number
 
 -- one receipt more
 pub receipts-more : (ns : List ℕ) (es : List Entry) (n : ℕ) (e : Entry) → length ns ≡ length es

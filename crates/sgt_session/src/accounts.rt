@@ -6,8 +6,7 @@ ghost use Rattle.sgt_session.specs.Receipts.{receipt_of};
 use crate::named::Named;
 use crate::receipts::Receipts;
 use crate::session::Session;
-use sgt_entries::History;
-use sgt_model::Entry;
+use sgt_entries::{EntryRef, History};
 
 /// Whether the receipts are the entries, each once, in the order of each session's calls.
 pub fn accounts<N: Named>(history: &History, sessions: &[Session<N>]) -> bool
@@ -16,7 +15,7 @@ pub fn accounts<N: Named>(history: &History, sessions: &[Session<N>]) -> bool
 {
     let mut at = [0usize; 64];
     for p in 0..history.len() {
-        match owner(sessions, &at, p as u64, &history.at(p)) {
+        match owner(sessions, &at, p as u64, &history.entry(p)) {
             Some(i) => at[i] += 1,
             None => return false,
         }
@@ -29,7 +28,7 @@ fn owner<N: Named>(
     sessions: &[Session<N>],
     at: &[usize; 64],
     number: u64,
-    entry: &Entry,
+    entry: &EntryRef<'_>,
 ) -> Option<usize>
     requires { length sessions.now ≤ 64 }
     ensures index { IfSome result (λ i. i < length sessions.now) }
@@ -46,7 +45,7 @@ fn owner<N: Named>(
 }
 
 /// Whether the receipt of this index is the entry's.
-fn is_next(receipts: &Receipts, at: usize, number: u64, entry: &Entry) -> bool
+fn is_next(receipts: &Receipts, at: usize, number: u64, entry: &EntryRef<'_>) -> bool
     ensures receipt { IsTrue result → slice_get receipts.now.receipts at ≡ Some (receipt_of number entry.now) }
     ensures fits { IsTrue result → at + 1 < 2 ^ 64 }
 {

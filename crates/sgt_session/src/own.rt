@@ -6,8 +6,8 @@ ghost use Rattle.sgt_model.specs.declared.reply.Reply.{Reply as Answer};
 ghost use Rattle.sgt_model.specs.Questions.{started_in, over_in};
 ghost use Rattle.sgt_session.specs.Own.{with_one, open_without, open_by, is_open, room_needed};
 
-use crate::receipt::Receipt;
 use crate::receipts::Receipts;
+use sgt_entries::EntryRef;
 use sgt_model::{Event, NoMemory, Tid};
 
 /// Takes the room that a call of this event needs, whatever it is answered: for its receipt, and for the receipt of one end of
@@ -53,31 +53,31 @@ fn room_needed(event: &Event, own: &[Tid]) -> usize
     }
 }
 
-/// Notes what a receipt tells of the session's own transactions. This takes no memory.
-pub fn note(own: &mut Vec<Tid>, receipt: &Receipt)
-    requires { length (with_one (started_in receipt.now.event receipt.now.reply) own.old.items) ≤ vec_capacity own.old }
-    ensures own { own.new.items ≡ open_by own.old.items receipt.now.event receipt.now.reply }
-    ensures count { vec_len own.new ≡ length (open_by own.old.items receipt.now.event receipt.now.reply) }
+/// Notes what an entry tells of the session's own transactions. This takes no memory.
+pub fn note(own: &mut Vec<Tid>, entry: &EntryRef<'_>)
+    requires { length (with_one (started_in entry.now.event entry.now.reply) own.old.items) ≤ vec_capacity own.old }
+    ensures own { own.new.items ≡ open_by own.old.items entry.now.event entry.now.reply }
+    ensures count { vec_len own.new ≡ length (open_by own.old.items entry.now.event entry.now.reply) }
 {
-    add_started(own, receipt);
-    drop_ended(own, receipt);
+    add_started(own, entry);
+    drop_ended(own, entry);
 }
 
-/// Adds the transaction that a receipt starts, if it does.
-fn add_started(own: &mut Vec<Tid>, receipt: &Receipt)
-    requires { length (with_one (started_in receipt.now.event receipt.now.reply) own.old.items) ≤ vec_capacity own.old }
-    ensures { own.new.items ≡ with_one (started_in receipt.now.event receipt.now.reply) own.old.items }
+/// Adds the transaction that an entry starts, if it does.
+fn add_started(own: &mut Vec<Tid>, entry: &EntryRef<'_>)
+    requires { length (with_one (started_in entry.now.event entry.now.reply) own.old.items) ≤ vec_capacity own.old }
+    ensures { own.new.items ≡ with_one (started_in entry.now.event entry.now.reply) own.old.items }
 {
-    if let Some(t) = receipt.event.started(&receipt.reply) {
+    if let Some(t) = entry.started() {
         own.push_reserved(t);
     }
 }
 
-/// Takes out the transaction that a receipt tells to have ended, if it does.
-fn drop_ended(own: &mut Vec<Tid>, receipt: &Receipt)
-    ensures { own.new.items ≡ open_without (over_in receipt.now.event receipt.now.reply) own.old.items }
+/// Takes out the transaction that an entry tells to have ended, if it does.
+fn drop_ended(own: &mut Vec<Tid>, entry: &EntryRef<'_>)
+    ensures { own.new.items ≡ open_without (over_in entry.now.event entry.now.reply) own.old.items }
 {
-    if let Some(t) = receipt.event.over(&receipt.reply) {
+    if let Some(t) = entry.over() {
         own.retain(|u| *u != t);
     }
 }

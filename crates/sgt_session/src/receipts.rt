@@ -1,13 +1,14 @@
 //! The receipts of a session.
 ghost use Rattle.std.specs.Prelude.{◌≡◌, ◌+◌, ◌≤◌, ◌<◌, ◌^◌, ◌↔◌, [], ◌∷◌, ◌++◌, List, length, reverse, IsTrue, Some, OnOk, slice_get};
 ghost use Rattle.std.specs.Result.{IsOk};
+ghost use Rattle.std.specs.Option.{option_map};
 ghost use Rattle.sgt_model.specs.declared.entry.Entry.{Entry as E};
 ghost use Rattle.sgt_session.specs.declared.receipt.Receipt.{Receipt as Told};
-ghost use Rattle.sgt_session.specs.Receipts.{receipt_of};
+ghost use Rattle.sgt_session.specs.Receipts.{receipt_of, entry_of};
 
 use crate::receipt::Receipt;
-use sgt_entries::{History, touch_ahead};
-use sgt_model::{Entry, NoMemory};
+use sgt_entries::{EntryRef, History, touch_ahead};
+use sgt_model::NoMemory;
 use std::alloc::Global;
 use std::marker::Model;
 
@@ -92,14 +93,29 @@ impl Receipts {
         }
     }
 
+    /// The number of the receipt at a place.
+    fn number(&self, place: usize) -> u64
+        requires { place < length self.now.receipts }
+        ensures { option_map (λ (r : Told). r.number) (slice_get self.now.receipts place) ≡ Some result }
+    {
+        self.numbers[place]
+    }
+
+    /// The entry of the receipt at a place, read where it stands.
+    fn entry(&self, place: usize) -> EntryRef<'_>
+        requires { place < length self.now.receipts }
+        ensures { option_map entry_of (slice_get self.now.receipts place) ≡ Some result }
+    {
+        self.calls.entry(place)
+    }
+
     /// Whether at a place there is the receipt of this entry, whose number is this.
-    pub(crate) fn is_at(&self, place: usize, number: u64, entry: &Entry) -> bool
+    pub(crate) fn is_at(&self, place: usize, number: u64, entry: &EntryRef<'_>) -> bool
         ensures receipt { IsTrue result → slice_get self.now.receipts place ≡ Some (receipt_of number entry.now) }
         ensures fits { IsTrue result → place + 1 < 2 ^ 64 }
     {
         if place < self.len() && self.numbers[place] == number {
-            let call = self.calls.at(place);
-            call.event.is_same(&entry.event) && call.reply.is_same(&entry.reply)
+            self.calls.entry(place).is_same(entry)
         } else {
             false
         }
@@ -111,6 +127,22 @@ impl Receipts {
         ensures { (rs : List Told) (r : Told) → self.now.receipts ≡ rs ++ r ∷ [] → result ≡ r }
     {
         self.at(self.len() - 1)
+    }
+
+    /// The number of the newest receipt, of some.
+    pub fn last_number(&self) -> u64
+        requires { 0 < length self.now.receipts }
+        ensures { (rs : List Told) (r : Told) → self.now.receipts ≡ rs ++ r ∷ [] → result ≡ r.number }
+    {
+        self.number(self.len() - 1)
+    }
+
+    /// The entry of the newest receipt, of some, read where it stands.
+    pub fn last_entry(&self) -> EntryRef<'_>
+        requires { 0 < length self.now.receipts }
+        ensures { (rs : List Told) (r : Told) → self.now.receipts ≡ rs ++ r ∷ [] → result ≡ entry_of r }
+    {
+        self.entry(self.len() - 1)
     }
 
     /// Makes room for so many more receipts, whatever they are. It is not lessened where there was more. Receipts stay.
@@ -157,8 +189,7 @@ impl Receipts {
         ensures room { self.new.room + 1 ≡ self.old.room }
     {
         let place = history.len() - 1;
-        let entry = history.at(place);
         self.numbers.push_reserved(place as u64);
-        self.calls.push(&entry.event, &entry.reply);
+        self.calls.push_entry(&history.entry(place));
     }
 }

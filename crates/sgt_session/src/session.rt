@@ -3,7 +3,7 @@ ghost use Rattle.std.specs.List.{sum_by};
 ghost use Rattle.sgt_model.specs.declared.event.Event.TheVariants.{Commit};
 ghost use Rattle.sgt_session.specs.declared.receipt.Receipt.{Receipt};
 ghost use Rattle.sgt_model.specs.Questions.{is_wait};
-ghost use Rattle.sgt_session.specs.Receipts.{IsWaitOf};
+ghost use Rattle.sgt_session.specs.Receipts.{entry_of, IsWaitOf};
 
 use crate::named::Named;
 use crate::own::{make_receipt_room, note};
@@ -11,6 +11,7 @@ use crate::receipt::Receipt;
 use crate::receipts::Receipts;
 use crate::shared::Shared;
 use sgt_access::Accesses;
+use sgt_entries::EntryRef;
 use sgt_graph::Graph;
 use sgt_model::{Event, NoMemory, Tid};
 use sgt_records::Records;
@@ -81,6 +82,22 @@ impl<N: Named> Session<N> {
         ensures { (rs : List Receipt) (r : Receipt) → self.now ≡ rs ++ r ∷ [] → result ≡ r }
     {
         self.receipts.last()
+    }
+
+    /// The number of the entry of the last call.
+    pub fn last_number(&self) -> u64
+        requires { 0 < length self.now }
+        ensures { (rs : List Receipt) (r : Receipt) → self.now ≡ rs ++ r ∷ [] → result ≡ r.number }
+    {
+        self.receipts.last_number()
+    }
+
+    /// The entry of the last call, read where it stands.
+    pub fn last_entry(&self) -> EntryRef<'_>
+        requires { 0 < length self.now }
+        ensures { (rs : List Receipt) (r : Receipt) → self.now ≡ rs ++ r ∷ [] → result ≡ entry_of r }
+    {
+        self.receipts.last_entry()
     }
 
     /// One event of the engine, under one hold of the lock. Its receipt is filed in that hold, and handed out. A reply that
@@ -157,7 +174,7 @@ impl<N: Named> Session<N> {
     {
         for _ in rt.forever() {
             self.make_one(rt, shared, Event::Commit(t), true)?;
-            if !self.last().reply.is_wait() {
+            if !self.last_entry().is_wait() {
                 return Ok(());
             }
         }
@@ -180,15 +197,15 @@ impl<N: Named> Session<N> {
         make_receipt_room(&mut self.receipts, &mut self.own, &event)?;
         let (turn, mut round) = shared.lock_policy.lock(rt, &shared.round, &event);
         round.apply(event, &mut self.share, &mut self.receipts)?;
-        let receipt = self.receipts.last();
-        if may_wait && receipt.reply.is_wait() {
+        let entry = self.receipts.last_entry();
+        if may_wait && entry.is_wait() {
             drop(shared.waiters.wait(rt, round));
         } else {
             drop(round);
         }
         drop(turn);
-        note(&mut self.own, &receipt);
-        shared.waiters.wake_after(&receipt.reply);
+        note(&mut self.own, &entry);
+        shared.waiters.wake_after(&entry);
         Ok(())
     }
 

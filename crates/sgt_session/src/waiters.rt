@@ -1,7 +1,7 @@
 ghost use Rattle.std.specs.Prelude.{◌≡◌};
 ghost use Rattle.sgt_model.specs.Questions.{is_ending};
 
-use sgt_model::Reply;
+use sgt_entries::EntryRef;
 use std::sync::{Condvar, MutexGuard, Wait};
 
 /// Where commits wait until a live transaction ends.
@@ -23,12 +23,12 @@ impl Waiters {
         self.ended.wait(rt, guard)
     }
 
-    /// Wakes all who wait where the reply ends a live transaction, and tells whether it did. No other reply lets a commit go
+    /// Wakes all who wait where the entry ends a live transaction, and tells whether it did. No other entry lets a commit go
     /// on.
-    pub fn wake_after(&self, reply: &Reply) -> bool
-        ensures { result ≡ is_ending reply.now }
+    pub fn wake_after(&self, entry: &EntryRef<'_>) -> bool
+        ensures { result ≡ is_ending entry.now.reply }
     {
-        let ends = reply.is_ending();
+        let ends = entry.is_ending();
         if ends {
             self.ended.notify_all();
         }

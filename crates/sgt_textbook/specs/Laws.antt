@@ -17,6 +17,12 @@ use Rattle.sgt_textbook.specs.Textbook.{IsNumbering, textbook, commit_order}
 abbrev pub OfEachTextbook : (List Operation → Type 0) → Type 0
 OfEachTextbook P = (number : Key → ℕ) → IsNumbering number → InEach (λ s past. P (textbook number past))
 
+-- what the textbook says of these entries, whatever numbers the keys get
+pub record TextbookLaws (past : List Entry) : Type 0 where
+  pub commit_ordered : (number : Key → ℕ) → IsNumbering number → IsCommitOrdered (textbook number past)
+  pub serializable : (number : Key → ℕ) → IsNumbering number → IsSerializable (textbook number past)
+  pub recoverable : (number : Key → ℕ) → IsNumbering number → IsRecoverable (textbook number past)
+
 -- it is commit ordered: where operations of two committed transactions conflict, that of the earlier one commits first
 abbrev pub AreCommitOrdered : Type 0
 AreCommitOrdered = OfEachTextbook IsCommitOrdered

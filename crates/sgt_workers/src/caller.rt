@@ -1,12 +1,15 @@
 //! The calls that a worker makes for a job.
+ghost use Rattle.std.specs.Prelude.{◌<◌, length, OnOk};
+
 use crate::gate::{Gate, Pass};
 use sgt_access::Accesses;
 use sgt_audit::Outcome;
 use sgt_dispatch::Job;
+use sgt_entries::EntryRef;
 use sgt_graph::Graph;
-use sgt_model::{Cause, Event, Fate, NoMemory, Reply, Tid};
+use sgt_model::{Event, NoMemory, Tid};
 use sgt_records::Records;
-use sgt_session::{Named, Receipt, Session, Shared};
+use sgt_session::{Named, Session, Shared};
 use std::alloc::Global;
 use std::sync::Wait;
 
@@ -89,9 +92,9 @@ impl<'a, N: Named, R: Records, A: Accesses, G: Graph, T: Gate, W: Wait> Caller<
             args: job.args.copied(),
         };
         match self.call(start) {
-            Ok(receipt) => match receipt.reply.started() {
+            Ok(()) => match self.session.last_entry().started() {
                 Some(t) => self.attempt_with(t),
-                None => Attempt::Final(Outcome::Refused(receipt.number)),
+                None => Attempt::Final(Outcome::Refused(self.session.last_number())),
             },
             Err(halt) => Attempt::Final(halt.into_outcome()),
         }
@@ -111,23 +114,27 @@ impl<'a, N: Named, R: Records, A: Accesses, G: Graph, T: Gate, W: Wait> Caller<
     /// Steps until the procedure is at its end, and commits.
     fn run_transaction(&mut self, t: Tid) -> Result<Attempt<T::Note>, Halt<T::Note>> {
         for _ in self.rt.forever() {
-            let receipt = self.call(Event::Step(t))?;
-            match &receipt.reply {
-                Reply::Looked { .. } | Reply::Wrote { .. } => (),
-                Reply::Ended => break,
-                _ => return attempt_of(t, &receipt),
+            self.call(Event::Step(t))?;
+            let entry = self.session.last_entry();
+            if entry.is_at_end() {
+                break;
+            }
+            if !entry.is_access() {
+                return attempt_of(t, self.session.last_number(), &entry);
             }
         }
         self.pass()?;
         self.session.make_commit(self.rt, self.shared, t)?;
-        attempt_of(t, &self.session.last())
+        attempt_of(t, self.session.last_number(), &self.session.last_entry())
     }
 
-    /// One call, where the gate lets it go.
-    fn call(&mut self, event: Event) -> Result<Receipt, Halt<T::Note>> {
+    /// One call, where the gate lets it go. Its entry is the session's last.
+    fn call(&mut self, event: Event) -> Result<(), Halt<T::Note>>
+        ensures { OnOk result (0 < length self.new.session) }
+    {
         self.pass()?;
         self.session.make(self.rt, self.shared, event)?;
-        Ok(self.session.last())
+        Ok(())
     }
 
     /// Asks the gate. It is told how many calls the session has made: as many as it has receipts.
@@ -148,20 +155,16 @@ impl<'a, N: Named, R: Records, A: Accesses, G: Graph, T: Gate, W: Wait> Caller<
     }
 }
 
-/// What the last reply to a transaction makes of the attempt.
-fn attempt_of<X>(t: Tid, receipt: &Receipt) -> Result<Attempt<X>, Halt<X>> {
-    match &receipt.reply {
-        Reply::Committed(_) => Ok(Attempt::Final(Outcome::Done(receipt.number))),
-        Reply::Aborted {
-            cause: Cause::Asked(_),
-            ..
-        }
-        | Reply::Refused { .. } => Ok(Attempt::Final(Outcome::Asked(receipt.number))),
-        Reply::Aborted {
-            cause: Cause::Cycle(_),
-            ..
-        }
-        | Reply::Over(Fate::Fell(_)) => Ok(Attempt::Failed(t)),
-        _ => Err(Halt::Astray(receipt.number)),
+/// What the last entry of a transaction, whose number is this, makes of the attempt.
+fn attempt_of<X>(t: Tid, number: u64, entry: &EntryRef<'_>) -> Result<Attempt<X>, Halt<X>> {
+    if entry.is_commit() {
+        return Ok(Attempt::Final(Outcome::Done(number)));
     }
+    if entry.is_ask() {
+        return Ok(Attempt::Final(Outcome::Asked(number)));
+    }
+    if entry.is_by_cycle() || entry.tells_fall() {
+        return Ok(Attempt::Failed(t));
+    }
+    Err(Halt::Astray(number))
 }

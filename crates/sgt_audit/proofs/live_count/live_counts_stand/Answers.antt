@@ -9,28 +9,28 @@ pub live_after-live-requires-clause-enough : goal.live_after-live-requires-claus
 live_after-live-requires-clause-enough c =
     let h = c.args.history.now.entries in
     let i = c.loop-place.place in
-    let n = ends_live c.requires.0 (reverse (take i h)) c.at.result
-    (legal_next c.requires.0 h i c.at.result c.at.ensures.next c.requires.1) in
+    let n = ends_live c.requires.0 (reverse (take i h)) c.entry.result
+    (legal_next c.requires.0 h i c.entry.result c.entry.ensures.next c.requires.1) in
     omega arith
 
 pub returns-then-live-workers : goal.returns-then-live-workers
 returns-then-live-workers c =
     let h = c.args.history.now.entries in
     let i = c.loop-place.place in
-    let e = c.at.result in
+    let e = c.entry.result in
     let n = live_count c.requires.0 (reverse (take i h)) e
-    (legal_next c.requires.0 h i e c.at.ensures.next c.requires.1) in
-    let longer = ap (λ past. length (live_ones past)) (one_more h i e c.at.ensures.next) in
+    (legal_next c.requires.0 h i e c.entry.ensures.next c.requires.1) in
+    let longer = ap (λ past. length (live_ones past)) (one_more h i e c.entry.ensures.next) in
     ((λ t. absurd (false≢true t)), λ both. let f = both.0 (i + 1) in absurd (omega arith))
 
 pub loop-place-preserved : goal.loop-place-preserved
 loop-place-preserved c =
     let h = c.args.history.now.entries in
     let i = c.loop-place.place in
-    let e = c.at.result in
+    let e = c.entry.result in
     let n = live_count c.requires.0 (reverse (take i h)) e
-    (legal_next c.requires.0 h i e c.at.ensures.next c.requires.1) in
-    let longer = ap (λ past. length (live_ones past)) (one_more h i e c.at.ensures.next) in
+    (legal_next c.requires.0 h i e c.entry.ensures.next c.requires.1) in
+    let longer = ap (λ past. length (live_ones past)) (one_more h i e c.entry.ensures.next) in
     let now : c.live_after-live.result ≡ length (live_ones (reverse (take (i + 1) h))) = omega arith in
     record {
       live = now;

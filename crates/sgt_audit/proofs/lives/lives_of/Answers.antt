@@ -7,9 +7,9 @@ pub loop-number-preserved : goal.loop-number-preserved
 loop-number-preserved c =
     let h = c.args.history.now.entries in
     let i = c.loop-number.number in
-    let e = c.at.result in
-    let legal = legal_next c.requires.0 h i e c.at.ensures.next c.requires.1 in
+    let e = c.entry.result in
+    let legal = legal_next c.requires.0 h i e c.entry.ensures.next c.requires.1 in
     subst (λ past. AreLives past c.add_entry.new.lives.items)
-    (sym (one_more h i e c.at.ensures.next))
+    (sym (one_more h i e c.entry.ensures.next))
     (c.in_ok-add_entry.ensures c.requires.0 (reverse (take i h)) legal.1 legal.0
     (first_length h i (omega arith)) c.loop-number.invariant)

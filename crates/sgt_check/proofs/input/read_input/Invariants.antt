@@ -1,4 +1,4 @@
-use Rattle.std.proofs.Common.{◌≡◌, ◌≤◌, ◌-◌, length}
+use Rattle.std.proofs.Common.{◌≡◌, ◌≤◌, ◌-◌, ◌+◌, length}
 use Rattle.std.specs.Io.KnownBytes.{Consumes}
 use Rattle.sgt_check.proofs.input.read_input.Given as goal
 
@@ -7,6 +7,7 @@ invariant-loop-count g l = record {
   taken : Consumes (g.S.Source.rest l.fn.source) (g.S.Source.rest l.source) l.text.items;
   short : length l.text.items ≤ 268435456;
   room : length l.room.items ≡ 65536;
+  given : g.S.Source.given l.source ≤ g.S.Source.given l.fn.source + length l.text.items;
   well : g.S.Source.failures l.source ≡ g.S.Source.failures l.fn.source;
 }
 

@@ -4,5 +4,6 @@ use Rattle.sgt_script.proofs.script.answer_cut.Goals as goal
 
 pub returns-in-Ok-clause-answered : goal.returns-in-Ok-clause-answered
 returns-in-Ok-clause-answered c =
-    was-cut c.args.engine c.in-Ok.next c.in-Ok.past.history.entries c.len.result c.args.replies.now.items c.append_cut.new.lines.items
-    c.in-Ok.ensures.goes_on c.in-Ok.ensures.entries (search rules) (λ not. c.in-Ok.ensures.still_live.1 not) (search rules)
+    was-cut c.args.telling c.args.engine c.in-Ok.next c.in-Ok.past.history.entries c.len.result c.args.text.now.items
+    c.append_was_cut.new.text.items c.in-Ok.ensures.goes_on c.in-Ok.ensures.entries (search rules)
+    (λ not. c.in-Ok.ensures.still_live.1 not) (search rules)

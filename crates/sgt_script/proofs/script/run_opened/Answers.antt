@@ -1,5 +1,4 @@
 use Rattle.std.proofs.Common.{rules, ◌≡◌, ◌≢◌, ◌+◌, ◌++◌, ℕ, List, ap, refl, sym, ◌∙◌, Err}
-use Rattle.sgt_format.specs.DatabaseText.{database_text}
 use Rattle.sgt_stream.specs.Intake.{bytes_left, cut_left}
 use Rattle.sgt_stream.specs.declared.fault.Fault.TheVariants as fault
 use Rattle.sgt_engine.specs.EngineView.{setting_of}
@@ -10,22 +9,21 @@ use Rattle.sgt_script.proofs.script.run_opened.Goals as goal
 
 pub returns-in_err-engine-clause-output : goal.returns-in_err-engine-clause-output
 returns-in_err-engine-clause-output g c = λ exact.
-    output-fault (setting_of c.args.engine) c.args.lines.now.number (cut_left c.args.lines.now (g.S.Source.rest c.args.source.now))
+    output-fault c.args.telling (setting_of c.args.engine) c.args.lines.now.number (cut_left c.args.lines.now (g.S.Source.rest c.args.source.now))
     c.from_residual.result c.in_err-engine.field-0.0 (g.T.Sink.held c.args.sink.now) (g.T.Sink.held c.answer_lines.new.sink)
     (ap (λ n. n + 1) c.requires.second) (search rules) (search rules) exact
 
 pub returns-clause-output : goal.returns-clause-output
 returns-clause-output g c = λ exact.
-    output-well (setting_of c.args.engine) c.args.lines.now.number (cut_left c.args.lines.now (g.S.Source.rest c.args.source.now))
-    (part_at c.in_ok-engine.engine) c.flush.result c.in_ok-database.database c.append_database.new.text.items
+    output-well c.args.telling (setting_of c.args.engine) c.args.lines.now.number (cut_left c.args.lines.now (g.S.Source.rest c.args.source.now))
+    (part_at c.in_ok-engine.engine) c.flush.result c.in_ok-text.text.items
     (g.T.Sink.held c.args.sink.now) (g.T.Sink.held c.answer_lines.new.sink) (g.T.Sink.held c.flush.new.sink)
     (ap (λ n. n + 1) c.requires.second) (exact-flush c.flush.result c.flush.ensures.err exact) c.in_ok-engine.ensures.all
-    c.in_ok-database.ensures.by_key c.in_ok-database.ensures.values
-    (c.in_ok-append_database.ensures.ok ∙ ap (λ (l : List ℕ). l ++ database_text c.in_ok-database.database) c.new-text.ensures.items) c.flush.ensures.bytes
+    c.in_ok-text.ensures c.flush.ensures.bytes
 
 pub returns-in_err-engine-clause-stops : goal.returns-in_err-engine-clause-stops
 returns-in_err-engine-clause-stops g c = λ stop.
-    stops-from c.some_reply_is_legal.ensures c.histories_go_on.ensures.rows (setting_of c.args.engine) c.args.engine.opening
+    stops-from c.args.telling c.some_reply_is_legal.ensures c.histories_go_on.ensures.rows (setting_of c.args.engine) c.args.engine.opening
     c.args.lines.now.number (cut_left c.args.lines.now (g.S.Source.rest c.args.source.now))
     (bytes_left c.args.lines.now (g.S.Source.rest c.args.source.now)) (g.S.Source.rest c.answer_lines.new.source)
     (g.T.Sink.held c.args.sink.now) (g.T.Sink.held c.answer_lines.new.sink)
@@ -35,36 +33,26 @@ returns-in_err-engine-clause-stops g c = λ stop.
 
 pub returns-in_err-engine-clause-part : goal.returns-in_err-engine-clause-part
 returns-in_err-engine-clause-part g c = λ failed.
-    fails-from c.some_reply_is_legal.ensures c.histories_go_on.ensures.rows (setting_of c.args.engine) c.args.engine.opening
+    fails-from c.args.telling c.some_reply_is_legal.ensures c.histories_go_on.ensures.rows (setting_of c.args.engine) c.args.engine.opening
     c.args.lines.now.number (cut_left c.args.lines.now (g.S.Source.rest c.args.source.now))
     (bytes_left c.args.lines.now (g.S.Source.rest c.args.source.now)) (g.S.Source.rest c.answer_lines.new.source)
     (g.T.Sink.held c.args.sink.now) (g.T.Sink.held c.answer_lines.new.sink)
     (c.answer_lines.result ≢ Err fault.Writing) (c.answer_lines.result ≡ Err fault.Reading) refl (ap (λ n. n + 1) c.requires.second) c.answer_lines.ensures.some
 
-pub returns-in_err-database-clause-stops : goal.returns-in_err-database-clause-stops
-returns-in_err-database-clause-stops g c = λ stop.
-    stops-from c.some_reply_is_legal.ensures c.histories_go_on.ensures.rows (setting_of c.args.engine) c.args.engine.opening
+pub returns-in_err-text-clause-stops : goal.returns-in_err-text-clause-stops
+returns-in_err-text-clause-stops g c = λ stop.
+    stops-from c.args.telling c.some_reply_is_legal.ensures c.histories_go_on.ensures.rows (setting_of c.args.engine) c.args.engine.opening
     c.args.lines.now.number (cut_left c.args.lines.now (g.S.Source.rest c.args.source.now))
     (bytes_left c.args.lines.now (g.S.Source.rest c.args.source.now)) (g.S.Source.rest c.answer_lines.new.source)
     (g.T.Sink.held c.args.sink.now) (g.T.Sink.held c.answer_lines.new.sink)
-    (c.answer_lines.result ≢ Err fault.Writing) (c.answer_lines.result ≡ Err fault.Reading) c.from_residual-in_err-database.result refl (ap (λ n. n + 1) c.requires.second)
-    (λ is. absurd (cc (sym c.in_ok-engine.was ∙ is))) (λ reading. search rules) c.answer_lines.ensures.some
-
-pub returns-in_err-append_database-clause-stops : goal.returns-in_err-append_database-clause-stops
-returns-in_err-append_database-clause-stops g c = λ stop.
-    stops-from c.some_reply_is_legal.ensures c.histories_go_on.ensures.rows (setting_of c.args.engine) c.args.engine.opening
-    c.args.lines.now.number (cut_left c.args.lines.now (g.S.Source.rest c.args.source.now))
-    (bytes_left c.args.lines.now (g.S.Source.rest c.args.source.now)) (g.S.Source.rest c.answer_lines.new.source)
-    (g.T.Sink.held c.args.sink.now) (g.T.Sink.held c.answer_lines.new.sink)
-    (c.answer_lines.result ≢ Err fault.Writing) (c.answer_lines.result ≡ Err fault.Reading) c.from_residual-in_err-append_database.result refl (ap (λ n. n + 1) c.requires.second)
+    (c.answer_lines.result ≢ Err fault.Writing) (c.answer_lines.result ≡ Err fault.Reading) c.from_residual-in_err-text.result refl (ap (λ n. n + 1) c.requires.second)
     (λ is. absurd (cc (sym c.in_ok-engine.was ∙ is))) (λ reading. search rules) c.answer_lines.ensures.some
 
 pub returns-clause-part : goal.returns-clause-part
 returns-clause-part g c = λ failed.
-    fails-last (setting_of c.args.engine) c.args.lines.now.number (cut_left c.args.lines.now (g.S.Source.rest c.args.source.now))
-    (part_at c.in_ok-engine.engine) c.in_ok-database.database c.append_database.new.text.items
+    fails-last c.args.telling (setting_of c.args.engine) c.args.lines.now.number (cut_left c.args.lines.now (g.S.Source.rest c.args.source.now))
+    (part_at c.in_ok-engine.engine) c.in_ok-text.text.items
     (g.T.Sink.held c.args.sink.now) (g.T.Sink.held c.answer_lines.new.sink) (g.T.Sink.held c.flush.new.sink)
     (ap (λ n. n + 1) c.requires.second) c.in_ok-engine.ensures.all
-    c.in_ok-database.ensures.by_key c.in_ok-database.ensures.values
-    (c.in_ok-append_database.ensures.ok ∙ ap (λ (l : List ℕ). l ++ database_text c.in_ok-database.database) c.new-text.ensures.items)
+    c.in_ok-text.ensures
     (on-failed c.flush.result _ failed c.flush.ensures.part)

@@ -11,27 +11,27 @@ use Rattle.sgt_script.proofs.script.run_with.Goals as goal
 
 pub returns-in_err-next_line-clause-script : goal.returns-in_err-next_line-clause-script
 returns-in_err-next_line-clause-script g c =
-    wrote-no-line c.in_ok-lines.lines (g.S.Source.rest c.args.source.now) (g.T.Sink.held c.args.sink.now)
+    wrote-no-line c.args.telling c.in_ok-lines.lines (g.S.Source.rest c.args.source.now) (g.T.Sink.held c.args.sink.now)
     c.in_err-next_line.field-0.0 c.from_residual-in_err-next_line.result c.in_ok-lines.ensures
     (search rules) c.in_err-next_line.ensures.fault
 
 pub returns-then-not-branch-clause-script : goal.returns-then-not-branch-clause-script
 returns-then-not-branch-clause-script g c = λ exact.
-    wrote-nothing c.in_ok-lines.lines (g.S.Source.rest c.args.source.now) (g.T.Sink.held c.args.sink.now)
+    wrote-nothing c.args.telling c.in_ok-lines.lines (g.S.Source.rest c.args.source.now) (g.T.Sink.held c.args.sink.now)
     AtEnd _ c.in_ok-lines.ensures (search rules) refl
 
 pub returns-in_err-opening-clause-script : goal.returns-in_err-opening-clause-script
 returns-in_err-opening-clause-script g c = λ exact.
     let failed : c.from_residual-in_err-opening.result ≡ Err c.in_err-opening.field-0.0 = search rules in
     let explained = c.in_err-opening.ensures.fault (subst IsExact failed exact) in
-    wrote-refused c.in_ok-lines.lines (g.S.Source.rest c.args.source.now) (g.T.Sink.held c.args.sink.now)
+    wrote-refused c.args.telling c.in_ok-lines.lines (g.S.Source.rest c.args.source.now) (g.T.Sink.held c.args.sink.now)
     c.next_line.new.self.line
     (cut_left c.next_line.new.self (g.S.Source.rest c.next_line.new.source)) explained.0 c.from_residual-in_err-opening.result
     c.in_ok-lines.ensures (search rules) explained.1 explained.2 (failed ∙ ap (λ f. Err f) explained.3)
 
 pub returns-clause-script : goal.returns-clause-script
 returns-clause-script g c = λ exact.
-    wrote-opened c.in_ok-lines.lines (setting_of c.in_ok-engine.engine) (g.S.Source.rest c.args.source.now)
+    wrote-opened c.args.telling c.in_ok-lines.lines (setting_of c.in_ok-engine.engine) (g.S.Source.rest c.args.source.now)
     (g.T.Sink.held c.args.sink.now) (g.T.Sink.held c.run_opened.new.sink)
     c.next_line.new.self.line
     (cut_left c.next_line.new.self (g.S.Source.rest c.next_line.new.source)) c.in_ok-opening.opening c.run_opened.result
@@ -39,7 +39,7 @@ returns-clause-script g c = λ exact.
 
 pub returns-in_err-next_line-clause-stops : goal.returns-in_err-next_line-clause-stops
 returns-in_err-next_line-clause-stops g c = λ stop.
-    stops-nothing (g.S.Source.rest c.args.source.now) (g.S.Source.rest c.next_line.new.source) (g.T.Sink.held c.args.sink.now)
+    stops-nothing c.args.telling (g.S.Source.rest c.args.source.now) (g.S.Source.rest c.next_line.new.source) (g.T.Sink.held c.args.sink.now)
     c.from_residual-in_err-next_line.result
     (λ reading.
     let failed : c.next_line.result ≡ Err fault.Reading = search rules in
@@ -48,7 +48,7 @@ returns-in_err-next_line-clause-stops g c = λ stop.
 
 pub returns-clause-stops : goal.returns-clause-stops
 returns-clause-stops g c = λ stop.
-    stops-opened c.in_ok-lines.lines c.next_line.new.self (setting_of c.in_ok-engine.engine) (g.S.Source.rest c.args.source.now)
+    stops-opened c.args.telling c.in_ok-lines.lines c.next_line.new.self (setting_of c.in_ok-engine.engine) (g.S.Source.rest c.args.source.now)
     (g.S.Source.rest c.next_line.new.source) (g.S.Source.rest c.run_opened.new.source)
     (g.T.Sink.held c.args.sink.now) (g.T.Sink.held c.run_opened.new.sink) c.in_ok-opening.opening c.run_opened.result
     c.in_ok-lines.ensures (search rules) c.in_ok-opening.ensures.opening c.in_ok-engine.ensures.setting
@@ -56,7 +56,7 @@ returns-clause-stops g c = λ stop.
 
 pub returns-clause-part : goal.returns-clause-part
 returns-clause-part g c = λ failed.
-    fails-opened c.in_ok-lines.lines (setting_of c.in_ok-engine.engine) (g.S.Source.rest c.args.source.now)
+    fails-opened c.args.telling c.in_ok-lines.lines (setting_of c.in_ok-engine.engine) (g.S.Source.rest c.args.source.now)
     (g.T.Sink.held c.args.sink.now) (g.T.Sink.held c.run_opened.new.sink)
     c.next_line.new.self.line
     (cut_left c.next_line.new.self (g.S.Source.rest c.next_line.new.source)) c.in_ok-opening.opening

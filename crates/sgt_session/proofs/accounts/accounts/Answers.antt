@@ -10,8 +10,8 @@ loop-p-preserved g c =
     let history = c.args.history.now.entries in
     let at = c.loop-p.at in (
       search rules,
-      checks_next history c.args.sessions.now c.loop-p.p at c.in-Some.i c.at.result c.loop-p.invariant.1
-          c.at.ensures.entry c.in-Some.ensures.index
+      checks_next history c.args.sessions.now c.loop-p.p at c.in-Some.i c.entry.result c.loop-p.invariant.1
+          c.entry.ensures.entry c.in-Some.ensures.index
           (omega (arith, c.requires.0, c.loop-p.invariant.0)) c.in-Some.ensures.receipt,
     )
 

@@ -29,13 +29,13 @@ returns-then-not-contains_key-clause-standing c =
     λ t does aborted. let key = (c.requires.sources.aborts_are _).1 (subst (λ u. AbortedBefore h u c.args.place)
     (sym (writer_is h i t c.args.item _ (there h i (omega (arith, top.0, c.requires.within))) does)) aborted) in search rules
 
-lower : (c : goal.After-copied-top-in-Some) → IsTopWrite c.args.history.now c.in-Some.write c.args.item c.copied-top-in-Some.result
+lower : (c : goal.After-get-top) → IsTopWrite c.args.history.now c.in-Some.write c.args.item c.get-top.result
 lower c =
     let h = c.args.history.now in
     let i : ℕ = c.in-Some.write in
     let top : IsTopWrite h c.args.place c.args.item (Some i) =
     subst (λ o. IsTopWrite h c.args.place c.args.item o) c.in-Some.is c.loop-top.invariant in
-    subst (λ o. IsTopWrite h i c.args.item o) (sym (c.copied-top-in-Some.ensures ∙ c.get-in-Some.ensures.value))
+    subst (λ o. IsTopWrite h i c.args.item o) (sym c.get-top.ensures)
     (c.requires.sources.below_are i top.1.0 c.args.item top.0 top.1.1)
 
 pub loop-top-preserved : goal.loop-top-preserved
@@ -45,9 +45,9 @@ loop-top-preserved c =
     let top : IsTopWrite h c.args.place c.args.item (Some i) =
     subst (λ o. IsTopWrite h c.args.place c.args.item o) c.in-Some.is c.loop-top.invariant in
     let does = top_write h c.args.place c.args.item i _ (there h i (omega (arith, top.0, c.requires.within))) top in
-    top_below h c.args.place c.args.item i _ c.copied-top-in-Some.result top does
+    top_below h c.args.place c.args.item i _ c.get-top.result top does
     ((c.requires.sources.aborts_are _).0 (search rules)) (lower c)
 
 pub loop-top-smaller : goal.loop-top-smaller
-loop-top-smaller c = subst (λ o. height c.copied-top-in-Some.result < height o) (sym c.in-Some.is)
-    (height_below c.args.history.now c.in-Some.write c.args.item c.copied-top-in-Some.result (lower c))
+loop-top-smaller c = subst (λ o. height c.get-top.result < height o) (sym c.in-Some.is)
+    (height_below c.args.history.now c.in-Some.write c.args.item c.get-top.result (lower c))

@@ -41,13 +41,13 @@ returns-then-not-has_committed-clause-some c =
     (λ i read. c.requires.reads.1.writers_are i _ top.0 read) (search rules)
     (λ committed. let key = (c.requires.reads.0.commits_are _).1 committed in search rules)
 
-lower : (c : goal.After-copied-read-in-Some) (t : ℕ) → Does c.args.history.now c.args.place t Commit
-    → IsLastDirtyRead c.args.history.now c.in-Some.dirty t c.copied-read-in-Some.result
+lower : (c : goal.After-get-read) (t : ℕ) → Does c.args.history.now c.args.place t Commit
+    → IsLastDirtyRead c.args.history.now c.in-Some.dirty t c.get-read.result
 lower c t does =
     let h = c.args.history.now in
     let top : AreCleanAbove h c.args.place t (Some c.in-Some.dirty) =
     subst (λ o. AreCleanAbove h c.args.place t o) c.in-Some.is (c.loop-read.invariant t does) in
-    subst (λ o. IsLastDirtyRead h c.in-Some.dirty t o) (sym (c.copied-read-in-Some.ensures ∙ c.get-in-Some-2.ensures.value))
+    subst (λ o. IsLastDirtyRead h c.in-Some.dirty t o) (sym c.get-read.ensures)
     (c.requires.reads.1.earlier_are _ t top.0 top.1)
 
 pub loop-read-preserved : goal.loop-read-preserved
@@ -56,7 +56,7 @@ loop-read-preserved c t does =
     let p = c.args.place in
     let top : AreCleanAbove h p t (Some c.in-Some.dirty) =
     subst (λ o. AreCleanAbove h p t o) c.in-Some.is (c.loop-read.invariant t does) in
-    clean_below h p t c.in-Some.dirty c.copied-read-in-Some.result top
+    clean_below h p t c.in-Some.dirty c.get-read.result top
     (clean_by h p c.in-Some.dirty c.in-Some-get.writer.now (get nat_cmp c.args.self.now.writers c.in-Some.dirty)
     (λ i read. c.requires.reads.1.writers_are i _ top.0 read) (search rules)
     ((c.requires.reads.0.commits_are _).0 (search rules))) (lower c t does)
@@ -65,8 +65,8 @@ pub loop-read-smaller : goal.loop-read-smaller
 loop-read-smaller c =
     let h = c.args.history.now in
     let own = does_at h c.args.place _ Commit (there h c.args.place c.requires.within) c.in-Commit.is in
-    subst (λ o. height c.copied-read-in-Some.result < height o) (sym c.in-Some.is)
-    (height_earlier h c.in-Some.dirty _ c.copied-read-in-Some.result (lower c _ own))
+    subst (λ o. height c.get-read.result < height o) (sym c.in-Some.is)
+    (height_earlier h c.in-Some.dirty _ c.get-read.result (lower c _ own))
 
 pub returns-clause-none : goal.returns-clause-none
 returns-clause-none c =

@@ -80,9 +80,9 @@ loop-read-smaller c =
     let own : Does h p t (Write x) = does_at h p _ (Write x) (there h p c.requires.within) c.in-Write.is in
     let top : AreFineAbove h p x t (Some c.in-Some.earlier) =
     subst (λ o. AreFineAbove h p x t o) c.in-Some.is (c.loop-read.invariant t x own) in
-    let lower : IsLastRead h c.in-Some.earlier x c.copied-read-in-Some.result = subst (λ o. IsLastRead h c.in-Some.earlier x o)
-    (sym (c.copied-read-in-Some.ensures ∙ c.get-in-Some.ensures.value)) (c.requires.uses.reads.earlier_are _ top.1.0 x top.0 top.1.1) in
-    subst (λ o. height c.copied-read-in-Some.result < height o) (sym c.in-Some.is) (height_read h c.in-Some.earlier x _ lower)
+    let lower : IsLastRead h c.in-Some.earlier x c.get-read.result = subst (λ o. IsLastRead h c.in-Some.earlier x o)
+    (sym c.get-read.ensures) (c.requires.uses.reads.earlier_are _ top.1.0 x top.0 top.1.1) in
+    subst (λ o. height c.get-read.result < height o) (sym c.in-Some.is) (height_read h c.in-Some.earlier x _ lower)
 
 pub loop-read-preserved : goal.loop-read-preserved
 loop-read-preserved c u y does =
@@ -98,16 +98,16 @@ loop-read-preserved c u y does =
     let same : r ≡ top.1.0 = ap (λ (o : Operation). o.transaction)
     (does_same h i _ top.1.0 (Read x) (there h i (omega (arith, top.0, c.requires.within))) top.1.1) in
     let read : Does h i r (Read x) = subst (λ u. Does h i u (Read x)) (sym same) top.1.1 in
-    let lower : IsLastRead h c.in-Some.earlier x c.copied-read-in-Some.result = subst (λ o. IsLastRead h c.in-Some.earlier x o)
-    (sym (c.copied-read-in-Some.ensures ∙ c.get-in-Some.ensures.value)) (c.requires.uses.reads.earlier_are _ top.1.0 x top.0 top.1.1) in
+    let lower : IsLastRead h c.in-Some.earlier x c.get-read.result = subst (λ o. IsLastRead h c.in-Some.earlier x o)
+    (sym c.get-read.ensures) (c.requires.uses.reads.earlier_are _ top.1.0 x top.0 top.1.1) in
     let fine : (r ≡ t) ⊎ EndedBefore h r p = elim c.else-reader-operation.branch [
       | else-reader-operation-via-then-reader-operation+else-not-has_ended w ↦ inr ((c.requires.uses.ends _).0 (search rules))
       | else-reader-operation-via-else-reader-operation w ↦ inl (search rules)
     ] in
     let item : x ≡ y = grind (arith, common_steps, same_action h p t u _ _ own does) in
-    subst (λ z. AreFineAbove h p z u c.copied-read-in-Some.result) item
-    (subst (λ v. AreFineAbove h p x v c.copied-read-in-Some.result) (same_doer h p t u _ _ own does)
-    (fine_below h p x t i r c.copied-read-in-Some.result top read fine lower))
+    subst (λ z. AreFineAbove h p z u c.get-read.result) item
+    (subst (λ v. AreFineAbove h p x v c.get-read.result) (same_doer h p t u _ _ own does)
+    (fine_below h p x t i r c.get-read.result top read fine lower))
 
 pub returns-clause-none : goal.returns-clause-none
 returns-clause-none c =

@@ -3,6 +3,7 @@ use Rattle.std.specs.Prelude.{length}
 use Rattle.std.specs.BTreeMap.{get}
 use Rattle.std.specs.Ordering.{nat_cmp}
 use Rattle.sgt_history.specs.declared.operation.Action.TheVariants.{Commit}
+use Rattle.sgt_history.specs.Links.{link_of}
 use Rattle.sgt_history.specs.Sorting.{AreChains}
 use Rattle.sgt_history.specs.declared.chains.End.TheVariants.{From, To}
 use Rattle.sgt_history.proofs.Places.{there, does_at}
@@ -13,9 +14,9 @@ use Rattle.sgt_history.proofs.serial.Waits.new.Goals as goal
 pub loop-place-init : goal.loop-place-init
 loop-place-init c =
     let tops = get nat_cmp c.in_ok-incoming.incoming.tops in
-    let below = get nat_cmp c.in_ok-incoming.incoming.below in
+    let below = link_of c.in_ok-incoming.incoming.below in
     let outs = get nat_cmp c.in_ok-outgoing.outgoing.tops in
-    let further = get nat_cmp c.in_ok-outgoing.outgoing.below in record {
+    let further = link_of c.in_ok-outgoing.outgoing.below in record {
       waits = first_waits c.args.history.now c.args.edges.items (get nat_cmp c.args.commits) tops below outs further
           (get nat_cmp c.new.result)
           c.requires.commits c.requires.edges

@@ -1,7 +1,5 @@
 use Rattle.std.proofs.Common.{rules, ◌≡◌, ◌∙◌, ◌<◌, ℕ, Option, Some, sym, ap, subst}
 use Rattle.std.specs.Prelude.{slice_get}
-use Rattle.std.specs.BTreeMap.{get}
-use Rattle.std.specs.Ordering.{nat_cmp}
 use Rattle.std.proofs.lemmas.Option.{slice_get-get_or, slice_get_within}
 use Rattle.sgt_history.specs.declared.graph.Edge.{Edge}
 use Rattle.sgt_history.specs.declared.chains.End.TheVariants.{From}
@@ -9,6 +7,7 @@ use Rattle.sgt_history.specs.Seen.{height}
 use Rattle.sgt_history.specs.Sorting.{IsLastEdge, AllWaitBut}
 use Rattle.sgt_history.proofs.EdgeChains.{same_at, edge_lower}
 use Rattle.sgt_history.proofs.Waiting.{ready_still, wait_below}
+use Rattle.sgt_history.specs.Links.{link_of}
 use Rattle.sgt_history.proofs.serial.Waits.release.Goals as goal
 
 -- the edge that is passed
@@ -32,7 +31,7 @@ last : (c : goal.After-edge_before-next)
     → IsLastEdge From c.loop-next.self.edges.items c.in-Some.edge c.args.transaction c.edge_before-next.result
 last c =
     let es = c.in_ok-update.ensures.edges in
-    let o : Option ℕ = get nat_cmp c.update.new.self.outgoing.below c.in-Some.edge in
+    let o : Option ℕ = link_of c.update.new.self.outgoing.below c.in-Some.edge in
     subst (λ o. IsLastEdge From c.loop-next.self.edges.items c.in-Some.edge c.args.transaction o) (sym c.edge_before-next.ensures)
     (subst (λ t. IsLastEdge From c.loop-next.self.edges.items c.in-Some.edge t o) (from c)
     (subst (λ v. IsLastEdge From v.items c.in-Some.edge c.index.result.now.from o) es

@@ -5,6 +5,7 @@ use Rattle.std.proofs.lemmas.Bool.{cases_eq}
 use Rattle.std.proofs.lemmas.Grind.{common_steps}
 use Rattle.std.proofs.lemmas.Option.{slice_get_within}
 use Rattle.sgt_history.proofs.Taking.{nothing_in, all_wait_still, waits_without, first_free}
+use Rattle.sgt_history.specs.Links.{link_of}
 use Rattle.sgt_history.proofs.serial.Waits.take_first.Goals as goal
 
 pub returns-in_default-clause-all_wait : goal.returns-in_default-clause-all_wait
@@ -15,8 +16,8 @@ returns-in_default-clause-all_wait c none =
 
 pub release-requires-clause-waits : goal.release-requires-clause-waits
 release-requires-clause-waits c = waits_without c.args.self.now.edges.items (get nat_cmp c.args.self.now.left)
-    (get nat_cmp c.args.self.now.incoming.tops) (get nat_cmp c.args.self.now.incoming.below) (get nat_cmp c.args.self.now.outgoing.tops)
-    (get nat_cmp c.args.self.now.outgoing.below) (get nat_cmp c.args.self.now.ready) (get nat_cmp c.remove.new.self)
+    (get nat_cmp c.args.self.now.incoming.tops) (link_of c.args.self.now.incoming.below) (get nat_cmp c.args.self.now.outgoing.tops)
+    (link_of c.args.self.now.outgoing.below) (get nat_cmp c.args.self.now.ready) (get nat_cmp c.remove.new.self)
     _ c.in-Some.transaction c.in-Some.field-0-0 c.requires.waits (search rules)
     (grind (arith, common_steps, c.remove.ensures.updates)) (λ u apart. grind (arith, common_steps, apart, c.remove.ensures.updates))
     (grind (arith, common_steps, c.in-Some.ensures.updates)) (λ d apart. grind (arith, common_steps, apart, c.in-Some.ensures.updates))

@@ -9,8 +9,8 @@ pub returns-clause-filed : goal.returns-clause-filed
 returns-clause-filed c e past is =
     let last = newest c.args.history.now.entries past e is in
     let place : c.len-place.result - 1 ≡ length past = omega (arith, c.len-place.ensures, last.0) in
-    let there : slice_get c.args.history.now.entries (length past) ≡ Some c.at-entry.result = rw place at c.at-entry.ensures.entry in
-    let entry : c.at-entry.result ≡ e = same_Some c.at-entry.result e (sym there ∙ last.1) in
-    ap₂ receipts_of c.push_reserved.ensures.items c.push.ensures.entries
-    ∙ receipts-more c.self.inside.numbers.items c.self.inside.calls.entries (c.len-place.result - 1) c.at-entry.result c.self.invariant
+    let there : slice_get c.args.history.now.entries (length past) ≡ Some c.entry.result = rw place at c.entry.ensures.entry in
+    let entry : c.entry.result ≡ e = same_Some c.entry.result e (sym there ∙ last.1) in
+    ap₂ receipts_of c.push_reserved.ensures.items c.push_entry.ensures.entries
+    ∙ receipts-more c.self.inside.numbers.items c.self.inside.calls.entries (c.len-place.result - 1) c.entry.result c.self.invariant
     ∙ ap₂ (λ rs r. rs ++ r ∷ []) (ap (λ r. r.receipts) c.self.view_is) (ap₂ receipt_of place entry)

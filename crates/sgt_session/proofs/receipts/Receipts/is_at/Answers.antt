@@ -10,21 +10,21 @@ index-requires c =
     let is = ap (λ r. length r.receipts) c.self.view_is in
     omega (arith, long, is, c.len.ensures, c.if-place-len.true, c.self.inside.numbers.ok.0)
 
-pub at-call-requires : goal.at-call-requires
-at-call-requires c =
+pub entry-requires : goal.entry-requires
+entry-requires c =
     let long = receipts-length c.self.inside.numbers.items c.self.inside.calls.entries c.self.invariant in
     let is = ap (λ r. length r.receipts) c.self.view_is in
     omega (arith, long, is, c.len.ensures, c.if-place-len.true, c.self.invariant)
 
-pub returns-then-is_same-clause-receipt : goal.returns-then-is_same-clause-receipt
-returns-then-is_same-clause-receipt c t =
+pub returns-then-index-number-clause-receipt : goal.returns-then-index-number-clause-receipt
+returns-then-index-number-clause-receipt c t =
     let long = receipts-length c.self.inside.numbers.items c.self.inside.calls.entries c.self.invariant in
     let is = ap (λ r. length r.receipts) c.self.view_is in
     let number : slice_get c.self.inside.numbers.items c.args.place ≡ Some c.index.result.now =
     slice_get-get_or c.self.inside.numbers.items c.args.place c.index.result.now
     (omega (arith, long, is, c.len.ensures, c.if-place-len.true)) ∙ ap Some (sym c.index.ensures) in
-    let same : receipt_of c.index.result.now c.at-call.result ≡ receipt_of c.args.number c.args.entry.now = search rules in
+    let same : receipt_of c.index.result.now c.entry.result ≡ receipt_of c.args.number c.args.entry.now = search rules in
     sym (ap (λ r. slice_get r.receipts c.args.place) c.self.view_is)
-    ∙ receipts-at c.self.inside.numbers.items c.self.inside.calls.entries c.args.place c.index.result.now c.at-call.result number
-    c.at-call.ensures.entry
+    ∙ receipts-at c.self.inside.numbers.items c.self.inside.calls.entries c.args.place c.index.result.now c.entry.result number
+    c.entry.ensures.entry
     ∙ ap Some same

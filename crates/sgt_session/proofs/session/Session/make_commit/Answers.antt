@@ -1,15 +1,15 @@
 use Rattle.std.proofs.Common.{rules, ◌≡◌, true, ◌∙◌, ◌++◌, [], ◌∷◌, ap, append_assoc}
 use Rattle.std.proofs.lemmas.List.Elements.{All-append}
 use Rattle.sgt_model.specs.Questions.{is_wait}
-use Rattle.sgt_session.specs.Receipts.{IsWaitOf}
+use Rattle.sgt_session.specs.Receipts.{entry_of, IsWaitOf}
 use Rattle.sgt_session.proofs.session.Session.make_commit.Goals as goal
 
 pub loop-preserved : goal.loop-preserved
 loop-preserved g c =
     let waits = c.loop.invariant.2 in
     let filed = c.in_ok-make_one.ensures in
-    let same : c.last.result ≡ filed.0 = c.last.ensures _ _ filed.2 in
-    let waited : is_wait c.last.result.reply ≡ true = search rules in
+    let same : c.last_entry.result ≡ entry_of filed.0 = c.last_entry.ensures _ _ filed.2 in
+    let waited : is_wait c.last_entry.result.reply ≡ true = search rules in
     let wait : is_wait filed.0.reply ≡ true = rw same at waited in (
       search rules,
       search rules,

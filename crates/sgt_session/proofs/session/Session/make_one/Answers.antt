@@ -1,12 +1,13 @@
 use Rattle.std.proofs.Common.{rules, ◌≡◌, ◌∙◌, [], ◌∷◌, length, ap, arith}
 use Rattle.std.proofs.lemmas.List.{length-append}
+use Rattle.sgt_session.specs.Receipts.{entry_of}
 use Rattle.sgt_session.proofs.Owns.{noted, fits}
 use Rattle.sgt_session.proofs.session.Session.make_one.Goals as goal
 
 pub invariant_of-self-2 : goal.invariant_of-self-2
 invariant_of-self-2 g c =
     let filed = c.in_ok-apply.ensures.filed in
-    let same : c.last-receipt.result ≡ filed.0 = c.last-receipt.ensures _ filed.0 filed.5 in
+    let same : c.last_entry-entry.result ≡ entry_of filed.0 = c.last_entry-entry.ensures _ filed.0 filed.5 in
     let longer = ap length filed.5 in
     let one = length-append c.make_receipt_room.new.receipts.receipts (filed.0 ∷ []) in
     let kept = ap length c.in_ok-make_receipt_room.ensures.receipts in (

@@ -1,0 +1,55 @@
+-- Rows, one on.
+use Rattle.std.proofs.Common.{◌≡◌, ℕ, ◌+◌, ◌<◌, true, false, cond, List, [], ◌∷◌, ◌++◌, length, map, take, drop, set, get_or, Some, refl, sym, ap, ap₂, ◌∙◌, arith}
+use Rattle.std.proofs.lemmas.List.{take_more, take_more_set, drop_more, drop-set-lt, map-set, length-map, drop-drop}
+use Rattle.sgt_model.specs.Contents.{Key, Contents, key_eq, put_in}
+use Rattle.sgt_model.specs.Databases.{Row, key_lt}
+use Rattle.sgt_c.specs.declared.rows.Row.{Row as CRow}
+use Rattle.sgt_c.specs.Rows.{row_of, rows_from, with_rows}
+
+-- ---- from a key on
+
+module _ (k : Key) (rows : List Row) (i : ℕ) (d : Row) (within : i < length rows) where
+  -- a row that comes before the key is left out
+  pub skip_row : key_lt (get_or rows i d).0 k ≡ true → rows_from k (drop i rows) ≡ rows_from k (drop (i + 1) rows)
+  skip_row before = ap (rows_from k) (drop_more rows i d within)
+      ∙ ap (λ b. cond b (rows_from k (drop (i + 1) rows)) (get_or rows i d ∷ drop (i + 1) rows)) before
+
+  -- behind one that does not, none is
+  pub stop_row : key_lt (get_or rows i d).0 k ≡ false → rows_from k (drop i rows) ≡ drop i rows
+  stop_row behind = ap (rows_from k) (drop_more rows i d within)
+      ∙ ap (λ b. cond b (rows_from k (drop (i + 1) rows)) (get_or rows i d ∷ drop (i + 1) rows)) behind
+      ∙ sym (drop_more rows i d within)
+
+-- ---- rows put in
+
+with_rows-append : (contents : Contents) (rows : List CRow) (s : CRow)
+    → with_rows contents (rows ++ s ∷ []) ≡ put_in (with_rows contents rows) (row_of s).0 s.value
+with_rows-append contents [] s = refl
+with_rows-append contents (r ∷ rows) s = with_rows-append (put_in contents (row_of r).0 r.value) rows s
+
+pub rows_next : (before after contents : Contents) (rows : List CRow) (i : ℕ) (d : CRow) → i < length rows
+    → ((k : Key) → before k ≡ with_rows contents (take i rows) k)
+    → ((k : Key) → after k ≡ put_in before (row_of (get_or rows i d)).0 (get_or rows i d).value k)
+    → (k : Key) → after k ≡ with_rows contents (take (i + 1) rows) k
+rows_next before after contents rows i d within same put k =
+    put k
+    ∙ ap (λ o. cond (key_eq (row_of (get_or rows i d)).0 k) (Some (get_or rows i d).value) o) (same k)
+    ∙ ap (λ m. m k) (sym (with_rows-append contents (take i rows) (get_or rows i d)))
+    ∙ ap (λ rows. with_rows contents rows k) (sym (take_more rows i d within))
+
+-- ---- rows told
+
+-- one row more is told
+pub tell_row : (to : List CRow) (rows : List Row) (i : ℕ) (d : Row) (x : CRow) → i < length to → i < length rows
+    → row_of x ≡ get_or rows i d
+    → take i (map row_of to) ≡ take i rows → take (i + 1) (map row_of (set to i x)) ≡ take (i + 1) rows
+tell_row to rows i d x room within is told =
+    ap (take (i + 1)) (map-set row_of to i x)
+    ∙ take_more_set (map row_of to) i (row_of x) (omega (arith, length-map to row_of, room))
+    ∙ ap₂ (λ told r. told ++ r ∷ []) told is
+    ∙ sym (take_more rows i d within)
+
+-- and those behind it are as they were
+pub rest_row : (to before : List CRow) (i : ℕ) (x : CRow) → drop i to ≡ drop i before → drop (i + 1) (set to i x) ≡ drop (i + 1) before
+rest_row to before i x same =
+    drop-set-lt (i + 1) to i x (omega arith) ∙ sym (drop-drop 1 i to) ∙ ap (drop 1) same ∙ drop-drop 1 i before

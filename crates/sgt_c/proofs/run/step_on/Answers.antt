@@ -1,0 +1,8 @@
+use Rattle.std.proofs.Common.{rules}
+use Rattle.sgt_c.proofs.Runs.{one_more}
+use Rattle.sgt_c.proofs.run.step_on.Goals as goal
+
+pub loop-preserved : goal.loop-preserved
+loop-preserved c =
+    one_more c.args.t c.args.engine.now c.loop.engine c.in_ok-reply.reply c.apply.new.self
+    c.loop.invariant c.in_ok-reply.ensures.adds (search rules)

@@ -1,0 +1,88 @@
+-- A transaction that is run from its start to its end by one call.
+use Rattle.std.specs.Prelude.{◌≡◌, ℕ, Bool, true, false, List, ◌++◌, Option, Some, None}
+use Rattle.std.specs.List.{All}
+use Rattle.sgt_model.specs.declared.entry.Entry.{Entry}
+use Rattle.sgt_model.specs.declared.event.Event.{Event}
+use Rattle.sgt_model.specs.declared.event.Event.TheVariants.{Step, Commit, Quit}
+use Rattle.sgt_model.specs.declared.reply.Reply.{Reply}
+use Rattle.sgt_model.specs.declared.reply.Reply.TheVariants as reply
+use Rattle.sgt_model.specs.Fates.{is_start, live}
+use Rattle.sgt_engine.specs.EngineView.{EngineView, with_entry}
+use Rattle.sgt_c.specs.declared.held.Held.{Held}
+use Rattle.sgt_c.specs.declared.told.Told.{Told}
+use Rattle.sgt_c.specs.Calls.{Headline}
+use Rattle.sgt_c.specs.Told.{IsTold}
+
+-- the engine with so many entries more, newest first
+abbrev pub with_entries : List Entry → EngineView → EngineView
+with_entries entries e = record { opening = e.opening; procedures = e.procedures; limits = e.limits; past = entries ++ e.past }
+
+-- the reply to a step that made its access
+abbrev pub is_access : Reply → Bool
+is_access (reply.Looked k v) = true
+is_access (reply.Wrote k v) = true
+is_access _ = false
+
+-- the reply to a step whose procedure is at its end
+abbrev pub is_end : Reply → Bool
+is_end reply.Ended = true
+is_end _ = false
+
+-- the entry is a step of the transaction
+abbrev pub IsStep : ℕ → Entry → Type 0
+IsStep t e = e.event ≡ Step t
+
+-- one that made its access
+abbrev pub IsAccess : ℕ → Entry → Type 0
+IsAccess t e = (e.event ≡ Step t) × (is_access e.reply ≡ true)
+
+-- the transaction made accesses, and then a step that made none was answered by this reply
+abbrev pub StepsOn : ℕ → Reply → EngineView → EngineView → Type 0
+StepsOn t r e after = (steps : List Entry) × All (IsAccess t) steps × (is_access r ≡ false)
+    × (after ≡ with_entry (Step t) r (with_entries steps e))
+
+-- where the procedure is at its end the commit is answered by the last reply; else the last step was
+abbrev pub CommitsIf : Bool → ℕ → Reply → Reply → EngineView → EngineView → Type 0
+CommitsIf true t r last e after = after ≡ with_entry (Commit t) last e
+CommitsIf false t r last e after = (last ≡ r) × (after ≡ e)
+
+-- the transaction was stepped to its end, and committed where it came to it
+abbrev pub RunsOn : ℕ → Reply → EngineView → EngineView → Type 0
+RunsOn t last e after = (r : Reply) × (stepped : EngineView) × StepsOn t r e stepped × CommitsIf (is_end r) t r last stepped after
+
+-- the start was refused by the last reply, or a transaction was started and runs on to it
+abbrev pub Runs : Event → Option ℕ → Reply → EngineView → EngineView → Type 0
+Runs start None last e after = (is_start last ≡ false) × (after ≡ with_entry start last e)
+Runs start (Some t) last e after = RunsOn t last (with_entry start (reply.Started t) e) after
+
+-- the number is told, where there is one
+abbrev pub IsNumberTold : Option ℕ → ℕ → Type 0
+IsNumberTold None told = Unit {0}
+IsNumberTold (Some t) told = told ≡ t
+
+-- the run is in the history, its last reply is told, and each part of the headline holds
+abbrev pub Ran : Event → Option Held → Option Held → ℕ → Told → Type 0
+Ran start None new tid told = ⊥
+Ran start (Some h) None tid told = ⊥
+Ran start (Some h) (Some h') tid told = (started : Option ℕ) × (last : Reply) × Runs start started last h.engine h'.engine
+    × IsNumberTold started tid × IsTold told last × Headline h'.engine
+
+-- the transaction made some steps, and is live
+abbrev pub StopsLive : ℕ → EngineView → EngineView → Type 0
+StopsLive t e after = (steps : List Entry) × All (IsStep t) steps × (after ≡ with_entries steps e) × (live after.past t ≡ true)
+
+-- the transaction made some steps, and was quit
+abbrev pub QuitsAfter : ℕ → EngineView → EngineView → Type 0
+QuitsAfter t e after = (steps : List Entry) × All (IsStep t) steps × (r : Reply)
+    × (after ≡ with_entry (Quit t) r (with_entries steps e))
+
+-- nothing has changed, or the transaction that was started was quit
+abbrev pub GivesUp : Event → Option ℕ → EngineView → EngineView → Type 0
+GivesUp start None e after = after ≡ e
+GivesUp start (Some t) e after = QuitsAfter t (with_entry start (reply.Started t) e) after
+
+-- the same of what a handle holds, and each part of the headline
+abbrev pub GaveUp : Event → Option Held → Option Held → Type 0
+GaveUp start None new = ⊥
+GaveUp start (Some h) None = ⊥
+GaveUp start (Some h) (Some h') = (started : Option ℕ) × GivesUp start started h.engine h'.engine × Headline h'.engine

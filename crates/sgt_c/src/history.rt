@@ -1,0 +1,84 @@
+//! The history: how many entries it has, what they say, and the room for more.
+ghost use Rattle.std.specs.Prelude.{◌≡◌, ◌≢◌, ◌≤◌, ◌↔◌, None, IfSome, length};
+ghost use Rattle.sgt_c.specs.Asked.{TellsEntry, HasNoEntry};
+
+use crate::asked::{Asked, tell_event};
+use crate::handle::Handle;
+use crate::status;
+use crate::told::{Told, tell};
+use sgt_model::NoMemory;
+use std::alloc::Global;
+
+/// How many events were answered since the opening.
+///
+/// `CLOSED`.
+#[unsafe(no_mangle)]
+pub extern "C" fn sgt_entries(alloc: Global, engine: &mut Handle, count: &mut u64) -> u32
+    ensures count { result ≡ 0 → IfSome engine.old.slot.held (λ h. count.new ≡ length h.engine.past) }
+    ensures closed { (result ≡ 2) ↔ (engine.old.slot.held ≡ None) }
+    ensures statuses { result ≢ 0 → result ≡ 2 }
+    ensures kept { result ≢ 0 → count.new ≡ count.old }
+    ensures same { engine.new.slot.held ≡ engine.old.slot.held }
+{
+    let Some(held) = engine.take(alloc) else {
+        return status::CLOSED;
+    };
+    *count = held.engine.history().len() as u64;
+    engine.put(held);
+    status::OK
+}
+
+/// The entry at a place of the history, counted from 0, oldest first: what was asked, and what was answered.
+///
+/// `CLOSED`; `NONE` where there are not so many entries.
+#[unsafe(no_mangle)]
+pub extern "C" fn sgt_entry(
+    alloc: Global,
+    engine: &mut Handle,
+    place: u64,
+    asked: &mut Asked,
+    told: &mut Told,
+) -> u32
+    ensures told { result ≡ 0 → TellsEntry engine.old.slot.held place asked.new told.new }
+    ensures none { (result ≡ 4) ↔ HasNoEntry engine.old.slot.held place }
+    ensures closed { (result ≡ 2) ↔ (engine.old.slot.held ≡ None) }
+    ensures statuses { result ≢ 0 → result ≢ 2 → result ≡ 4 }
+    ensures unasked { result ≢ 0 → asked.new ≡ asked.old }
+    ensures untold { result ≢ 0 → told.new ≡ told.old }
+    ensures same { engine.new.slot.held ≡ engine.old.slot.held }
+{
+    let Some(held) = engine.take(alloc) else {
+        return status::CLOSED;
+    };
+    let entry = held.engine.history().get(place as usize);
+    engine.put(held);
+    match entry {
+        Some(entry) => {
+            tell_event(asked, &entry.event);
+            tell(told, &entry.reply);
+            status::OK
+        }
+        None => status::NONE,
+    }
+}
+
+/// Takes memory for so many more entries, but for what their lists will hold, so that those that are there need not be moved
+/// until then. Nothing else changes.
+///
+/// `NO_MEMORY`; `CLOSED`.
+#[unsafe(no_mangle)]
+pub extern "C" fn sgt_reserve(alloc: Global, engine: &mut Handle, entries: u64) -> u32
+    ensures closed { (result ≡ 2) ↔ (engine.old.slot.held ≡ None) }
+    ensures statuses { result ≤ 2 }
+    ensures same { engine.new.slot.held ≡ engine.old.slot.held }
+{
+    let Some(mut held) = engine.take(alloc) else {
+        return status::CLOSED;
+    };
+    let reserved = held.engine.reserve(entries as usize);
+    engine.put(held);
+    match reserved {
+        Ok(()) => status::OK,
+        Err(NoMemory) => status::NO_MEMORY,
+    }
+}

@@ -1,0 +1,66 @@
+//! Opening a handle on rows of the caller's.
+ghost use Rattle.std.specs.Prelude.{◌≡◌, ◌≢◌, ◌≤◌, ◌↔◌, None, IsSome, IfSome, IfOk, IfErr};
+ghost use Rattle.std.specs.List.{All};
+ghost use Rattle.sgt_format.specs.Openings.{Refuses};
+ghost use Rattle.sgt_c.specs.Openings.{OpenedWith, RefusedAs};
+ghost use Rattle.sgt_c.specs.Rows.{IsRow};
+
+use crate::fault::{Fault, tell_fault};
+use crate::handle::Handle;
+use crate::held::Held;
+use crate::rows::{Row, are_rows, put_rows};
+use crate::status;
+use sgt_format::{OpeningError, read_opening};
+use sgt_program::open_engine;
+use std::alloc::Global;
+
+/// Opens an engine as `sgt_open` does, where these rows are put into the database that the opening's accounts make, one after
+/// another: each in place of the value that its key has, or as a new one. So an engine goes on from a database that is kept
+/// elsewhere.
+///
+/// `OPEN` where the handle is open, tested first; then `BAD_CALL` where a row is out of its range; `NO_MEMORY`; from 16 on a
+/// fault of the opening, which is told.
+#[unsafe(no_mangle)]
+pub extern "C" fn sgt_open_with(
+    alloc: Global,
+    engine: &mut Handle,
+    opening: &[u8],
+    rows: &[Row],
+    fault: &mut Fault,
+) -> u32
+    ensures opened { result ≡ 0 → IfSome engine.new.slot.held (λ h. OpenedWith opening.now rows.now h.engine) }
+    ensures is_open { result ≡ 0 → IsSome engine.new.slot.held }
+    ensures open { (result ≡ 3) ↔ IsSome engine.old.slot.held }
+    ensures bad_call { (result ≡ 5) ↔ ((engine.old.slot.held ≡ None) × (¬ All IsRow rows.now)) }
+    ensures refused { 16 ≤ result → (result ≡ fault.new.kind) × RefusedAs opening.now fault.new }
+    ensures unchanged { result ≢ 0 → engine.new.slot.held ≡ engine.old.slot.held }
+{
+    if engine.is_open {
+        return status::OPEN;
+    }
+    if !are_rows(rows) {
+        return status::BAD_CALL;
+    }
+    match make(alloc, opening, rows) {
+        Ok(held) => match Box::new(alloc, held) {
+            Ok(held) => {
+                engine.put(held);
+                status::OK
+            }
+            Err(_) => status::NO_MEMORY,
+        },
+        Err(error) => tell_fault(fault, &error),
+    }
+}
+
+/// The engine of the opening that these bytes spell, with these rows put into its database.
+fn make(alloc: Global, opening: &[u8], rows: &[Row]) -> Result<Held, OpeningError>
+    requires { All IsRow rows.now }
+    ensures opened { IfOk result (λ h. OpenedWith opening.now rows.now h.engine) }
+    ensures refused { IfErr result (Refuses 1 opening.now) }
+{
+    let mut opening = read_opening(alloc, 1, opening)?;
+    put_rows(&mut opening.database, rows)?;
+    let engine = open_engine(alloc, opening)?;
+    Ok(Held { engine })
+}

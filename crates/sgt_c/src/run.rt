@@ -1,0 +1,145 @@
+//! A transaction that is run from its start to its end by one call.
+ghost use Rattle.std.specs.Prelude.{◌≡◌, ◌≢◌, ◌≤◌, ◌<◌, ◌↔◌, ℕ, true, None, Option, IfOk, OnErr, length};
+ghost use Rattle.sgt_model.specs.declared.event.Event.TheVariants.{Start, Quit};
+ghost use Rattle.sgt_model.specs.declared.reply.Reply.{Reply as Answer};
+ghost use Rattle.sgt_model.specs.Fates.{live};
+ghost use Rattle.sgt_engine.specs.EngineView.{with_entry};
+ghost use Rattle.sgt_c.specs.Runs.{Ran, GaveUp, Runs, GivesUp, RunsOn, StepsOn, StopsLive, is_access, is_end};
+
+use crate::handle::Handle;
+use crate::status;
+use crate::told::{Told, tell};
+use sgt_model::{Args, Event, NoMemory, Reply, Tid};
+use sgt_program::SgtEngine;
+use std::alloc::Global;
+
+/// Runs a procedure from its start to its commit, for a caller whose transactions need not run side by side. The last reply is
+/// told: that to the commit, to the step at which the transaction was aborted, or to the start that was refused. Each event is
+/// an entry. The number of a transaction that was started is written to `tid`.
+///
+/// `NO_MEMORY`, where nothing has changed, or the transaction that was started is quit; `CLOSED`; `BAD_CALL` where there are over
+/// 4 arguments, tested first.
+#[unsafe(no_mangle)]
+pub extern "C" fn sgt_run(
+    alloc: Global,
+    engine: &mut Handle,
+    procedure: u16,
+    args: &[i64],
+    tid: &mut u32,
+    told: &mut Told,
+) -> u32
+    ensures ran { result ≡ 0 →
+        Ran (Start procedure args.now) engine.old.slot.held engine.new.slot.held tid.new told.new }
+    ensures gave_up { result ≡ 1 →
+        GaveUp (Start procedure args.now) engine.old.slot.held engine.new.slot.held }
+    ensures unchanged { 2 ≤ result → engine.new.slot.held ≡ engine.old.slot.held }
+    ensures untold { result ≢ 0 → (tid.new ≡ tid.old) × (told.new ≡ told.old) }
+    ensures bad_call { (result ≡ 5) ↔ (4 < length args.now) }
+    ensures closed { (result ≡ 2) ↔ ((length args.now ≤ 4) × (engine.old.slot.held ≡ None)) }
+    ensures statuses { result ≢ 5 → result ≤ 2 }
+{
+    let Some(args) = Args::from_slice(args) else {
+        return status::BAD_CALL;
+    };
+    let Some(mut held) = engine.take(alloc) else {
+        return status::CLOSED;
+    };
+    let ran = run(&mut held.engine, procedure, args);
+    let _ = held.engine.history();
+    engine.put(held);
+    match ran {
+        Ok(Outcome { started, last }) => {
+            if let Some(t) = started {
+                *tid = t.0;
+            }
+            tell(told, &last);
+            status::OK
+        }
+        Err(NoMemory) => status::NO_MEMORY,
+    }
+}
+
+/// What a run was answered: the number of its transaction, if one was started, and the last reply.
+#[derive(Drop)]
+struct Outcome {
+    started: Option<Tid>,
+    last: Reply,
+}
+
+/// Runs a procedure from its start to its commit. Where a growth is refused behind the start, the transaction is quit.
+fn run(engine: &mut SgtEngine, procedure: u16, args: Args) -> Result<Outcome, NoMemory>
+    ensures ran { IfOk result (λ r. Runs (Start procedure args) r.started r.last engine.old engine.new) }
+    ensures gave_up { OnErr result
+        ((started : Option ℕ) × GivesUp (Start procedure args) started engine.old engine.new) }
+{
+    match engine.apply(Event::Start { procedure, args })? {
+        Reply::Started(t) => match run_on(engine, t) {
+            Ok(last) => Ok(Outcome {
+                started: Some(t),
+                last,
+            }),
+            Err(NoMemory) => {
+                quit(engine, t);
+                Err(NoMemory)
+            }
+        },
+        last => Ok(Outcome {
+            started: None,
+            last,
+        }),
+    }
+}
+
+/// Steps a live transaction to its end, and commits it where it comes to it. The last reply is answered.
+fn run_on(engine: &mut SgtEngine, t: Tid) -> Result<Reply, NoMemory>
+    requires { live engine.old.past t ≡ true }
+    ensures ran { IfOk result (λ last. RunsOn t last engine.old engine.new) }
+    ensures stopped { OnErr result (StopsLive t engine.old engine.new) }
+{
+    let reply = step_on(engine, t)?;
+    if is_end(&reply) {
+        engine.apply(Event::Commit(t))
+    } else {
+        Ok(reply)
+    }
+}
+
+/// Steps a live transaction until a step makes no access, and answers what that one was answered.
+fn step_on(engine: &mut SgtEngine, t: Tid) -> Result<Reply, NoMemory>
+    requires { live engine.old.past t ≡ true }
+    ensures stepped { IfOk result (λ r. StepsOn t r engine.old engine.new) }
+    ensures at_end { IfOk result (λ r. is_end r ≡ true → live engine.new.past t ≡ true) }
+    ensures stopped { OnErr result (StopsLive t engine.old engine.new) }
+{
+    for _ in 0..u64::MAX {
+        let reply = engine.apply(Event::Step(t))?;
+        if !is_access(&reply) {
+            return Ok(reply);
+        }
+    }
+    // There is no memory for a history of so many entries.
+    Err(NoMemory)
+}
+
+/// Quits a live transaction, which takes no memory.
+fn quit(engine: &mut SgtEngine, t: Tid)
+    requires { live engine.old.past t ≡ true }
+    ensures { (r : Answer) × (engine.new ≡ with_entry (Quit t) r engine.old) }
+{
+    match engine.answer(Event::Quit(t)) {
+        Ok(()) => (),
+        Err(NoMemory) => unreachable!(),
+    }
+}
+
+fn is_access(reply: &Reply) -> bool
+    ensures { result ≡ is_access reply.now }
+{
+    matches!(reply, Reply::Looked { .. } | Reply::Wrote { .. })
+}
+
+fn is_end(reply: &Reply) -> bool
+    ensures { result ≡ is_end reply.now }
+{
+    matches!(reply, Reply::Ended)
+}

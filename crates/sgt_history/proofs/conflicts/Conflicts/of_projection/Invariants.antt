@@ -1,0 +1,13 @@
+use Rattle.std.proofs.Common.{◌≡◌}
+use Rattle.sgt_history.specs.declared.first_accesses.Kind.TheVariants.{Any, Writes}
+use Rattle.sgt_history.specs.FirstAccesses.{KnowsConflicts, KnowsFirsts}
+use Rattle.sgt_history.proofs.conflicts.Conflicts.of_projection.Given as goal
+
+abbrev pub invariant-loop-place : goal.invariant-loop-place
+invariant-loop-place l = record {
+  conflicts : KnowsConflicts l.operations l.place l.place l.conflicts;
+  any : l.accesses.kind ≡ Any;
+  accesses : KnowsFirsts l.operations l.place l.accesses;
+  writing : l.writes.kind ≡ Writes;
+  writes : KnowsFirsts l.operations l.place l.writes;
+}

@@ -1,0 +1,11 @@
+use Rattle.std.proofs.Common.{rules, ap, ◌≡◌, ◌∙◌, ◌++◌, OnOk, Ok}
+use Rattle.sgt_textbook.specs.Textbook.{stepping}
+use Rattle.sgt_transcript.specs.Transcripts.{access_lines}
+use Rattle.sgt_transcript.proofs.Lines.{access_line}
+use Rattle.sgt_transcript.proofs.operations.append_access.Goals as goal
+
+pub returns-clause-ok : goal.returns-clause-ok
+returns-clause-ok c =
+    let line = access_line c.args.letter.now c.t.inside.0 c.args.key.now c.args.text.now.items c.append_numbered.new.line.items
+    c.append_numbered-2.new.line.items c.append_numbered-3.new.line.items in
+    search (rules, line)

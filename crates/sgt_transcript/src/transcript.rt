@@ -1,0 +1,20 @@
+ghost use Rattle.std.specs.Prelude.{◌≡◌, ◌++◌, reverse, OnOk};
+ghost use Rattle.sgt_transcript.specs.Transcripts.{transcript};
+
+use crate::operations::append_operations;
+use sgt_entries::History;
+use sgt_model::{Entry, NoMemory};
+
+/// Adds the operations of a whole history, a line each.
+///
+/// `NoMemory` where a growth was refused.
+pub fn append_transcript(text: &mut Vec<u8>, history: &History) -> Result<(), NoMemory>
+    ensures { OnOk result
+        (text.new.items ≡ text.old.items ++ transcript (reverse history.now.entries)) }
+{
+    for place in 0..history.len() {
+        let Entry { event, reply } = history.at(place);
+        append_operations(text, &event, &reply)?;
+    }
+    Ok(())
+}
