@@ -1,7 +1,9 @@
 -- What the committed transactions wait for before any has a place in the order.
 use Rattle.std.proofs.Common.{◌≡◌, ◌≢◌, ◌<◌, ◌+◌, ℕ, List, Option, Some, None, IsSome, Vec, Global, inl, inr, refl, sym, ◌∙◌, subst, arith}
 use Rattle.std.specs.Prelude.{slice_get, length}
-use Rattle.std.specs.BTreeMap.{BTreeMap, get}
+use Rattle.std.specs.BTreeMap.{get}
+use Rattle.sgt_history.specs.Tables.{entry_of}
+use Rattle.sgt_history.specs.declared.table.Table.{Table}
 use Rattle.std.specs.Ordering.{nat_cmp}
 use Rattle.std.proofs.lemmas.Grind.{common_steps}
 use Rattle.std.proofs.lemmas.Option.{slice_get_within}
@@ -20,9 +22,9 @@ use Rattle.sgt_history.proofs.Places.{before_next, does_at}
 use Rattle.sgt_history.proofs.Waiting.{ready_still, wait_still}
 
 -- what is kept while those that commit are looked at in turn, of those that commit before place j
-pub record AreLookedAt (edges : Vec Edge Global) (commits : BTreeMap ℕ ℕ) (j : ℕ) (w : Waits) : Type 0 where
+pub record AreLookedAt (edges : Vec Edge Global) (commits : Table) (j : ℕ) (w : Waits) : Type 0 where
   pub waits : KnowsWaits w
-  pub ready : (u c : ℕ) → get nat_cmp commits u ≡ Some c → c < j → IsReady w u
+  pub ready : (u c : ℕ) → entry_of commits u ≡ Some c → c < j → IsReady w u
   pub wait : AllWait w
   pub edges_are : w.edges ≡ edges
   pub left_are : w.left ≡ commits
@@ -64,9 +66,9 @@ first_waits h es left tops below outs further ready are edges to from none = rec
     end u (Some i) last some = subst (λ t. Commits h t) last.1.2 (edges i last.1.0 last.1.1).commits_second
 
 -- one is looked at
-pub looked_at : (h : List Operation) (edges : Vec Edge Global) (commits : BTreeMap ℕ ℕ) (p t : ℕ) (w w' : Waits)
-    → AreFirstCommits h (length h) (get nat_cmp commits) → Does h p t Commit → AreLookedAt edges commits p w → KnowsWaits w'
-    → w'.edges ≡ w.edges → w'.left ≡ w.left → ((u : ℕ) → u ≢ t → get nat_cmp w'.incoming.tops u ≡ get nat_cmp w.incoming.tops u)
+pub looked_at : (h : List Operation) (edges : Vec Edge Global) (commits : Table) (p t : ℕ) (w w' : Waits)
+    → AreFirstCommits h (length h) (entry_of commits) → Does h p t Commit → AreLookedAt edges commits p w → KnowsWaits w'
+    → w'.edges ≡ w.edges → w'.left ≡ w.left → ((u : ℕ) → u ≢ t → entry_of w'.incoming.tops u ≡ entry_of w.incoming.tops u)
     → ((c u : ℕ) → get nat_cmp w.ready c ≡ Some u → get nat_cmp w'.ready c ≡ Some u) → IsReady w' t → WaitsForLeft w' t
     → AreLookedAt edges commits (p + 1) w'
 looked_at h edges commits p t w w' are does before waits same left others others_ready ready wait = record {
@@ -74,7 +76,7 @@ looked_at h edges commits p t w w' are does before waits same left others others
   ready = λ u c is less. elim (before_next c p less) [
     | inl earlier ↦ ready_still w w' t u left others others_ready (before.ready u c is earlier) ready
     | inr here ↦
-        let mine = (commits_at h (length h) u c (get nat_cmp commits) are is).1 in
+        let mine = (commits_at h (length h) u c (entry_of commits) are is).1 in
         subst (λ v. IsReady w' v) (same_doer h p t u Commit Commit does (subst (λ n. Does h n u Commit) here mine)) ready
   ];
   wait = wait_still w w' t same left others before.wait wait;
@@ -83,15 +85,15 @@ looked_at h edges commits p t w w' are does before waits same left others others
 }
 
 -- an operation that does not commit is passed over
-pub passed_over : (h : List Operation) (edges : Vec Edge Global) (commits : BTreeMap ℕ ℕ) (p : ℕ) (op : Operation) (w : Waits)
-    → AreFirstCommits h (length h) (get nat_cmp commits) → slice_get h p ≡ Some op → op.action ≢ Commit → AreLookedAt edges commits p w
+pub passed_over : (h : List Operation) (edges : Vec Edge Global) (commits : Table) (p : ℕ) (op : Operation) (w : Waits)
+    → AreFirstCommits h (length h) (entry_of commits) → slice_get h p ≡ Some op → op.action ≢ Commit → AreLookedAt edges commits p w
     → AreLookedAt edges commits (p + 1) w
 passed_over h edges commits p op w are at other before = record {
   waits = before.waits;
   ready = λ u c is less. elim (before_next c p less) [
     | inl earlier ↦ before.ready u c is earlier
     | inr here ↦
-        let mine = (commits_at h (length h) u c (get nat_cmp commits) are is).1 in
+        let mine = (commits_at h (length h) u c (entry_of commits) are is).1 in
         absurd (other (same_action h p op.transaction u op.action Commit (does_at h p op op.action at refl)
         (subst (λ n. Does h n u Commit) here mine)))
   ];

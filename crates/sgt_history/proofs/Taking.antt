@@ -2,6 +2,7 @@
 use Rattle.std.proofs.Common.{◌≡◌, ◌≢◌, ◌<◌, ℕ, List, [], ◌∷◌, Option, Some, None, IsSome, false, refl, sym, ◌∙◌, subst, inl, inr, arith}
 use Rattle.std.specs.Prelude.{length}
 use Rattle.std.specs.BTreeMap.{BTreeMap, get, is_at, btree_map_len}
+use Rattle.sgt_history.specs.Tables.{entry_of}
 use Rattle.std.specs.Map.{lookup}
 use Rattle.std.specs.Ordering.{nat_cmp, is_gt}
 use Rattle.std.proofs.lemmas.Bool.{cases_eq}
@@ -20,11 +21,11 @@ pub nothing_in : (m : BTreeMap ℕ ℕ) (k : ℕ) → ¬ (0 < btree_map_len m) �
 nothing_in m k empty = nothing_at m.entries k empty
 
 -- where none is ready, each that is left waits
-pub all_wait_still : (w : Waits) → AllReady w → ((d : ℕ) → get nat_cmp w.ready d ≡ None) → (u : ℕ) → IsSome (get nat_cmp w.left u)
-    → IsSome (get nat_cmp w.incoming.tops u)
-all_wait_still w ready none u is = go (get nat_cmp w.left u) (get nat_cmp w.incoming.tops u) refl refl is
+pub all_wait_still : (w : Waits) → AllReady w → ((d : ℕ) → get nat_cmp w.ready d ≡ None) → (u : ℕ) → IsSome (entry_of w.left u)
+    → IsSome (entry_of w.incoming.tops u)
+all_wait_still w ready none u is = go (entry_of w.left u) (entry_of w.incoming.tops u) refl refl is
   where
-    go : (l o : Option ℕ) → get nat_cmp w.left u ≡ l → get nat_cmp w.incoming.tops u ≡ o → IsSome l → IsSome o
+    go : (l o : Option ℕ) → entry_of w.left u ≡ l → entry_of w.incoming.tops u ≡ o → IsSome l → IsSome o
     go None o left top some = absurd (grind (arith, common_steps, some))
     go (Some c) (Some k) left top some = refl
     go (Some c) None left top some = let here : None ≡ Some u = sym (none c) ∙ ready u c left top in
@@ -67,19 +68,19 @@ waits_without es left tops below outs further ready left' ready' t c waits is go
 
 -- it is the one that committed first
 pub first_free : (w : Waits) (t c : ℕ) → KnowsWaits w → AllReady w → AllWait w → get nat_cmp w.ready c ≡ Some t
-    → ((d : ℕ) → IsSome (get nat_cmp w.ready d) → is_gt (nat_cmp c d) ≡ false) → IsFirstFree w.edges.items (get nat_cmp w.left) t
+    → ((d : ℕ) → IsSome (get nat_cmp w.ready d) → is_gt (nat_cmp c d) ≡ false) → IsFirstFree w.edges.items (entry_of w.left) t
 first_free w t c waits ready wait is least = record {
   commit = c;
   commits = (waits.ready_are c t is).0;
-  free = subst (λ o. IsTopEdge w.edges.items (get nat_cmp w.left) t o) (waits.ready_are c t is).1 (waits.tops_are t);
+  free = subst (λ o. IsTopEdge w.edges.items (entry_of w.left) t o) (waits.ready_are c t is).1 (waits.tops_are t);
   first = λ u d left free.
-      let waits_for_none = none u (get nat_cmp w.incoming.tops u) refl free in
+      let waits_for_none = none u (entry_of w.incoming.tops u) refl free in
       le_from_not_gt c d (least d (subst (λ o. IsSome o) (sym (ready u d left waits_for_none)) refl));
 }
   where
-    none : (u : ℕ) (o : Option ℕ) → get nat_cmp w.incoming.tops u ≡ o → IsFree w.edges.items (get nat_cmp w.left) u
-        → get nat_cmp w.incoming.tops u ≡ None
+    none : (u : ℕ) (o : Option ℕ) → entry_of w.incoming.tops u ≡ o → IsFree w.edges.items (entry_of w.left) u
+        → entry_of w.incoming.tops u ≡ None
     none u None top free = top
     none u (Some k) top free =
-        let here = subst (λ o. IsTopEdge w.edges.items (get nat_cmp w.left) u o) top (waits.tops_are u) in
+        let here = subst (λ o. IsTopEdge w.edges.items (entry_of w.left) u o) top (waits.tops_are u) in
         absurd (grind (arith, common_steps, wait u k here.0.0 top here.0.1, free k here.0.0 here.0.1 here.0.2))

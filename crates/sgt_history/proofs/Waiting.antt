@@ -2,6 +2,7 @@
 use Rattle.std.proofs.Common.{◌≡◌, ◌≢◌, ◌<◌, ◌≤◌, ◌⊎◌, ℕ, List, Option, Some, None, IsSome, sym, ap, ◌∙◌, subst, inl, inr, arith}
 use Rattle.std.specs.Prelude.{slice_get}
 use Rattle.std.specs.BTreeMap.{get}
+use Rattle.sgt_history.specs.Tables.{entry_of}
 use Rattle.std.specs.Ordering.{nat_cmp}
 use Rattle.std.proofs.lemmas.Bool.{cases_eq, cases_lt}
 use Rattle.sgt_history.specs.declared.graph.Edge.{Edge}
@@ -13,47 +14,47 @@ use Rattle.sgt_history.proofs.EdgeChains.{same_at, not_after_last}
 
 -- one that waits for none stays ready, after another is looked at
 pub ready_still : (w w' : Waits) (t u : ℕ) → w'.left ≡ w.left
-    → ((v : ℕ) → v ≢ t → get nat_cmp w'.incoming.tops v ≡ get nat_cmp w.incoming.tops v)
+    → ((v : ℕ) → v ≢ t → entry_of w'.incoming.tops v ≡ entry_of w.incoming.tops v)
     → ((c v : ℕ) → get nat_cmp w.ready c ≡ Some v → get nat_cmp w'.ready c ≡ Some v) → IsReady w u → IsReady w' t → IsReady w' u
 ready_still w w' t u left tops ready before here = elim (cases_eq u t) [
   | inl same ↦ subst (λ v. IsReady w' v) (sym same) here
-  | inr apart ↦ λ c is none. ready c u (before c (ap (λ m. get nat_cmp m u) (sym left) ∙ is) (sym (tops u apart) ∙ none))
+  | inr apart ↦ λ c is none. ready c u (before c (ap (λ m. entry_of m u) (sym left) ∙ is) (sym (tops u apart) ∙ none))
 ]
 
 -- each that waits waits for one that is left, after another is looked at
 pub wait_still : (w w' : Waits) (t : ℕ) → w'.edges ≡ w.edges → w'.left ≡ w.left
-    → ((u : ℕ) → u ≢ t → get nat_cmp w'.incoming.tops u ≡ get nat_cmp w.incoming.tops u) → AllWait w → WaitsForLeft w' t → AllWait w'
+    → ((u : ℕ) → u ≢ t → entry_of w'.incoming.tops u ≡ entry_of w.incoming.tops u) → AllWait w → WaitsForLeft w' t → AllWait w'
 wait_still w w' t edges left tops before here u = elim (cases_eq u t) [
   | inl same ↦ subst (λ v. WaitsForLeft w' v) (sym same) here
-  | inr apart ↦ λ k e top at. subst (λ m. IsSome (get nat_cmp m e.from)) (sym left)
+  | inr apart ↦ λ k e top at. subst (λ m. IsSome (entry_of m e.from)) (sym left)
       (before u k e (sym (tops u apart) ∙ top) (subst (λ v. slice_get v.items k ≡ Some e) edges at))
 ]
 
 -- the edge by which one waits leads to it
-leads_to : (w : Waits) (u k : ℕ) (e : Edge) → KnowsWaits w → get nat_cmp w.incoming.tops u ≡ Some k
+leads_to : (w : Waits) (u k : ℕ) (e : Edge) → KnowsWaits w → entry_of w.incoming.tops u ≡ Some k
     → slice_get w.edges.items k ≡ Some e → e.to ≡ u
 leads_to w u k e waits top at =
-    let here = subst (λ o. IsTopEdge w.edges.items (get nat_cmp w.left) u o) top (waits.tops_are u) in
+    let here = subst (λ o. IsTopEdge w.edges.items (entry_of w.left) u o) top (waits.tops_are u) in
     ap (λ (f : Edge). f.to) (same_at w.edges.items k e here.0.0 at here.0.1) ∙ here.0.2
 
 -- after the one is looked at to which an edge from t leads, the others wait but for t by a lower one
 pub wait_below : (w w' : Waits) (t i : ℕ) (e : Edge) (o : Option ℕ) → w'.edges ≡ w.edges → w'.left ≡ w.left
-    → ((u : ℕ) → u ≢ e.to → get nat_cmp w'.incoming.tops u ≡ get nat_cmp w.incoming.tops u) → KnowsWaits w
+    → ((u : ℕ) → u ≢ e.to → entry_of w'.incoming.tops u ≡ entry_of w.incoming.tops u) → KnowsWaits w
     → slice_get w.edges.items i ≡ Some e → AllWaitBut w t (height (Some i)) → WaitsForLeft w' e.to
     → IsLastEdge From w.edges.items i t o → AllWaitBut w' t (height o)
 wait_below w w' t i e o edges left tops waits here before looked last u k f top at = elim (cases_eq u e.to) [
-  | inl same ↦ inl (looked k f (ap (λ v. get nat_cmp w'.incoming.tops v) (sym same) ∙ top) at)
+  | inl same ↦ inl (looked k f (ap (λ v. entry_of w'.incoming.tops v) (sym same) ∙ top) at)
   | inr apart ↦ other apart
 ]
   where
     at_old : slice_get w.edges.items k ≡ Some f
     at_old = subst (λ v. slice_get v.items k ≡ Some f) edges at
 
-    other : u ≢ e.to → IsSome (get nat_cmp w'.left f.from) ⊎ ((f.from ≡ t) × (k < height o))
+    other : u ≢ e.to → IsSome (entry_of w'.left f.from) ⊎ ((f.from ≡ t) × (k < height o))
     other apart =
         let old = sym (tops u apart) ∙ top in
         elim (before u k f old at_old) [
-          | inl is ↦ inl (subst (λ m. IsSome (get nat_cmp m f.from)) (sym left) is)
+          | inl is ↦ inl (subst (λ m. IsSome (entry_of m f.from)) (sym left) is)
           | inr out ↦ elim (cases_eq k i) [
             | inl same ↦ absurd (apart (sym (leads_to w u k f waits old at_old)
                 ∙ ap (λ (g : Edge). g.to) (same_at w.edges.items i f e (subst (λ n. slice_get w.edges.items n ≡ Some f) same at_old) here)))

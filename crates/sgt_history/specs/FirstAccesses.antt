@@ -15,6 +15,7 @@ use Rattle.sgt_history.specs.Histories.{Does, Uses, item_of}
 use Rattle.sgt_history.specs.Serializability.{Conflict}
 use Rattle.sgt_history.specs.Seen.{IsConflictBy, HasEdge}
 use Rattle.sgt_history.specs.Links.{link_of}
+use Rattle.sgt_history.specs.Tables.{entry_of}
 use Rattle.sgt_history.specs.FirstConflicts.{IsNoLater, IsToldBefore}
 
 -- two numbers, in the order of the first, and of the second where the first are the same
@@ -58,7 +59,7 @@ pub record AreFirsts (kind : Kind) (h : List Operation) (j : ℕ) (tops below : 
 
 -- the same, of its maps
 abbrev pub KnowsFirsts : List Operation → ℕ → FirstAccesses → Type 0
-KnowsFirsts h j s = AreFirsts s.kind h j (get nat_cmp s.tops) (link_of s.below) (get pair_cmp s.latest)
+KnowsFirsts h j s = AreFirsts s.kind h j (entry_of s.tops) (link_of s.below) (get pair_cmp s.latest)
 
 -- the operation at place j conflicts with just those that access x, by this kind
 abbrev pub AreRivals : List Operation → ℕ → ℕ → Kind → Type 0

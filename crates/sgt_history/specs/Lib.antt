@@ -1,5 +1,6 @@
 pub mod Histories
 pub mod Links
+pub mod Tables
 pub mod Classes
 pub mod Seen
 pub mod Serializability

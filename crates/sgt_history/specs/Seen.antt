@@ -14,6 +14,7 @@ use Rattle.sgt_history.specs.declared.operation.Action.{Action}
 use Rattle.sgt_history.specs.declared.operation.Action.TheVariants.{Read, Write, Commit, Abort}
 use Rattle.sgt_history.specs.Histories.{Does, Uses, AbortedBefore, CommittedBefore, EndedBefore}
 use Rattle.sgt_history.specs.Links.{link_of}
+use Rattle.sgt_history.specs.Tables.{entry_of}
 use Rattle.sgt_history.specs.Classes.{BreaksStrictness, BreaksAvoidance, BreaksRecoverability, BreaksRigorousness}
 use Rattle.sgt_history.specs.Serializability.{BreaksCommitOrder, Conflict}
 
@@ -58,7 +59,7 @@ pub record AreSources (h : List Operation) (j : ℕ) (tops below commits aborts 
 
 -- what the checker of the avoidance of cascading aborts keeps of the operations before place j
 abbrev pub KnowsSources : List Operation → ℕ → Sources → Type 0
-KnowsSources h j s = AreSources h j (get nat_cmp s.tops) (link_of s.below) (get nat_cmp s.commits) (get nat_cmp s.aborts)
+KnowsSources h j s = AreSources h j (entry_of s.tops) (link_of s.below) (entry_of s.commits) (entry_of s.aborts)
 
 -- how far down a place is
 abbrev pub height : Option ℕ → ℕ
@@ -87,7 +88,7 @@ pub record AreDirtyReads (h : List Operation) (j : ℕ) (lasts earlier writers :
 
 -- the dirty reads before place j, of what the checker of recoverability keeps
 abbrev pub KeepsDirtyReads : List Operation → ℕ → DirtyReads → Type 0
-KeepsDirtyReads h j s = AreDirtyReads h j (get nat_cmp s.lasts) (link_of s.earlier) (get nat_cmp s.writers)
+KeepsDirtyReads h j s = AreDirtyReads h j (entry_of s.lasts) (link_of s.earlier) (get nat_cmp s.writers)
 
 -- what the checker of recoverability keeps of the operations before place j
 abbrev pub KnowsDirtyReads : List Operation → ℕ → DirtyReads → Type 0
@@ -125,9 +126,9 @@ pub record AreReads (h : List Operation) (j : ℕ) (lasts earlier : ℕ → Opti
 
 -- what the checker of rigorousness keeps of the operations before place j
 pub record KnowsAccesses (h : List Operation) (j : ℕ) (s : Accesses) : Type 0 where
-  pub last : AreLastWrites h j (get nat_cmp s.writes.writers)
-  pub ends : AreEnded h j (get nat_cmp s.writes.ended)
-  pub reads : AreReads h j (get nat_cmp s.lasts) (link_of s.earlier)
+  pub last : AreLastWrites h j (entry_of s.writes.writers)
+  pub ends : AreEnded h j (entry_of s.writes.ended)
+  pub reads : AreReads h j (entry_of s.lasts) (link_of s.earlier)
 
 -- The reads of the item before place j, and after the given place, are overwritten, by t, or of an ended transaction.
 abbrev pub AreFineAbove : List Operation → ℕ → ℕ → ℕ → Option ℕ → Type 0
@@ -163,8 +164,8 @@ pub record AreLatestUses (h : List Operation) (commits : ℕ → Option ℕ) (j 
 
 -- what the checker of the commit order keeps of the operations before place j
 pub record KnowsLatestUses (h : List Operation) (j : ℕ) (s : LatestUses) : Type 0 where
-  pub commits_are : AreFirstCommits h (length h) (get nat_cmp s.commits)
-  pub uses_are : AreLatestUses h (get nat_cmp s.commits) j (get nat_cmp s.reads) (get nat_cmp s.writes)
+  pub commits_are : AreFirstCommits h (length h) (entry_of s.commits)
+  pub uses_are : AreLatestUses h (entry_of s.commits) j (get nat_cmp s.reads) (get nat_cmp s.writes)
 
 -- the one of two uses that commits later
 abbrev pub later_use : Option LatestUse → LatestUse → LatestUse

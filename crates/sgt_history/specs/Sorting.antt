@@ -8,6 +8,7 @@ use Rattle.sgt_history.specs.declared.chains.End.{End}
 use Rattle.sgt_history.specs.declared.chains.End.TheVariants.{From, To}
 use Rattle.sgt_history.specs.declared.serial.Waits.{Waits}
 use Rattle.sgt_history.specs.Links.{link_of}
+use Rattle.sgt_history.specs.Tables.{entry_of}
 use Rattle.sgt_history.specs.Serializability.{IsCycle, IsEdgeBy}
 
 -- the transaction at an end of an edge
@@ -45,12 +46,12 @@ pub record AreWaits (es : List Edge) (left tops below outs further ready : ℕ �
 
 -- what is kept, of its maps
 abbrev pub KnowsWaits : Waits → Type 0
-KnowsWaits w = AreWaits w.edges.items (get nat_cmp w.left) (get nat_cmp w.incoming.tops) (link_of w.incoming.below)
-    (get nat_cmp w.outgoing.tops) (link_of w.outgoing.below) (get nat_cmp w.ready)
+KnowsWaits w = AreWaits w.edges.items (entry_of w.left) (entry_of w.incoming.tops) (link_of w.incoming.below)
+    (entry_of w.outgoing.tops) (link_of w.outgoing.below) (get nat_cmp w.ready)
 
 -- if the transaction is left and waits for none, it is among those
 abbrev pub IsReady : Waits → ℕ → Type 0
-IsReady w u = (c : ℕ) → get nat_cmp w.left u ≡ Some c → get nat_cmp w.incoming.tops u ≡ None → get nat_cmp w.ready c ≡ Some u
+IsReady w u = (c : ℕ) → entry_of w.left u ≡ Some c → entry_of w.incoming.tops u ≡ None → get nat_cmp w.ready c ≡ Some u
 
 -- each that is left and waits for none is among those
 abbrev pub AllReady : Waits → Type 0
@@ -58,12 +59,12 @@ AllReady w = (u : ℕ) → IsReady w u
 
 -- the edge leads from one that is left
 abbrev pub LeadsFromLeft : Waits → ℕ → Type 0
-LeadsFromLeft w k = (e : Edge) → slice_get w.edges.items k ≡ Some e → IsSome (get nat_cmp w.left e.from)
+LeadsFromLeft w k = (e : Edge) → slice_get w.edges.items k ≡ Some e → IsSome (entry_of w.left e.from)
 
 -- the transaction waits, if at all, for one that is left
 abbrev pub WaitsForLeft : Waits → ℕ → Type 0
-WaitsForLeft w u = (k : ℕ) (e : Edge) → get nat_cmp w.incoming.tops u ≡ Some k → slice_get w.edges.items k ≡ Some e
-    → IsSome (get nat_cmp w.left e.from)
+WaitsForLeft w u = (k : ℕ) (e : Edge) → entry_of w.incoming.tops u ≡ Some k → slice_get w.edges.items k ≡ Some e
+    → IsSome (entry_of w.left e.from)
 
 -- each waits, if at all, for one that is left
 abbrev pub AllWait : Waits → Type 0
@@ -71,12 +72,12 @@ AllWait w = (u : ℕ) → WaitsForLeft w u
 
 -- each that is left waits
 abbrev pub AllLeftWait : Waits → Type 0
-AllLeftWait w = (u : ℕ) → IsSome (get nat_cmp w.left u) → IsSome (get nat_cmp w.incoming.tops u)
+AllLeftWait w = (u : ℕ) → IsSome (entry_of w.left u) → IsSome (entry_of w.incoming.tops u)
 
 -- each waits, if at all, for one that is left, or for t by an edge before place m
 abbrev pub AllWaitBut : Waits → ℕ → ℕ → Type 0
-AllWaitBut w t m = (u k : ℕ) (e : Edge) → get nat_cmp w.incoming.tops u ≡ Some k → slice_get w.edges.items k ≡ Some e
-    → IsSome (get nat_cmp w.left e.from) ⊎ ((e.from ≡ t) × (k < m))
+AllWaitBut w t m = (u k : ℕ) (e : Edge) → entry_of w.incoming.tops u ≡ Some k → slice_get w.edges.items k ≡ Some e
+    → IsSome (entry_of w.left e.from) ⊎ ((e.from ≡ t) × (k < m))
 
 -- the same of all but t
 abbrev pub AreSameBut : ℕ → (ℕ → Option ℕ) → (ℕ → Option ℕ) → Type 0

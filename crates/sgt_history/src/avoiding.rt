@@ -1,20 +1,18 @@
 //! The avoidance of cascading aborts, and from which write an operation reads.
 ghost use Rattle.std.specs.Prelude.{◌≡◌, ◌≢◌, ◌<◌, ◌+◌, ℕ, List, Some, None, length, is_some, IfSome, IfOk, OnOk, IsNone};
-ghost use Rattle.std.specs.BTreeMap.{get};
-ghost use Rattle.std.specs.Ordering.{nat_cmp};
 ghost use Rattle.sgt_history.specs.declared.operation.Operation.{Operation};
 ghost use Rattle.sgt_history.specs.declared.operation.Action.TheVariants.{Write};
 ghost use Rattle.sgt_history.specs.Histories.{Does, AbortedBefore};
 ghost use Rattle.sgt_history.specs.Links.{link_of};
+ghost use Rattle.sgt_history.specs.Tables.{entry_of};
 ghost use Rattle.sgt_history.specs.Classes.{ReadsFrom, BreaksAvoidance, IsFirstViolation};
 ghost use Rattle.sgt_history.specs.Seen.{KnowsSources, AvoidsBefore, IsTopWrite};
 
 use crate::links::Links;
 use crate::operation::{Action, Operation, Violation};
-use crate::strict::set_place;
+use crate::table::Table;
 use sgt_model::NoMemory;
 use std::alloc::Global;
-use std::collections::BTreeMap;
 
 /// The first operation that reads from another transaction that has not committed, with the write that it reads. `None` where
 /// the history avoids cascading aborts.
@@ -22,7 +20,7 @@ use std::collections::BTreeMap;
 /// Bernstein, Hadzilacos and Goodman (1987), chapter 2: avoids cascading aborts. An operation reads from the last write of its
 /// item before it whose transaction has not aborted by then.
 ///
-/// Each write of an aborted transaction is passed once in the whole; but for that an operation costs four look-ups in a map at
+/// Each write of an aborted transaction is passed once in the whole; but for that an operation costs four look-ups in a table at
 /// most, of the items and the transactions seen.
 pub fn avoidance_violation(
     alloc: Global,
@@ -30,7 +28,7 @@ pub fn avoidance_violation(
 ) -> Result<Option<Violation>, NoMemory>
     ensures { IfOk result (IsFirstViolation (BreaksAvoidance history.now)) }
 {
-    let mut seen = Sources::new(alloc);
+    let mut seen = Sources::new(alloc, history.len());
     for place in 0..history.len() {
         if let Some(earlier) = seen.uncommitted(history, place)? {
             return Ok(Some(Violation {
@@ -46,7 +44,7 @@ pub fn avoidance_violation(
 /// The write that the read at the place reads from: the last one of its item before it whose transaction has not aborted by
 /// then. `None` where there is none, and where nothing is read at the place.
 ///
-/// An operation before the place costs a look-up in a map at most.
+/// An operation before the place costs a look-up in a table at most.
 pub fn read_source(
     alloc: Global,
     history: &[Operation],
@@ -56,7 +54,7 @@ pub fn read_source(
     ensures some { IfOk result (λ source. IfSome source (λ i. (x : ℕ) × (w : ℕ) × (r : ℕ) × ReadsFrom history.now i place x w r)) }
     ensures none { IfOk result (λ source. IsNone source → (i x w r : ℕ) → ¬ ReadsFrom history.now i place x w r) }
 {
-    let mut seen = Sources::new(alloc);
+    let mut seen = Sources::new(alloc, history.len());
     for earlier in 0..place {
         seen.note(history, earlier)?;
     }
@@ -70,33 +68,33 @@ pub fn read_source(
 #[derive(Drop)]
 pub struct Sources {
     /// The place of an item's last write whose transaction is not known to have aborted.
-    tops: BTreeMap<u32, usize>,
+    tops: Table,
     /// For the place of a write that of one of its item below, which is the top once the writer has aborted.
     below: Links,
     /// Where a transaction has committed.
-    commits: BTreeMap<u32, usize>,
+    commits: Table,
     /// Where a transaction has aborted.
-    aborts: BTreeMap<u32, usize>,
+    aborts: Table,
 }
 
 impl Sources {
-    /// What is kept before the first operation.
-    pub fn new(alloc: Global) -> Self
+    /// What is kept before the first operation. The numbers of items and transactions below the bound are found at once.
+    pub fn new(alloc: Global, bound: usize) -> Self
         ensures { (h : List Operation) → KnowsSources h 0 result }
     {
         Sources {
-            tops: BTreeMap::new(alloc),
+            tops: Table::new(alloc, bound),
             below: Links::new(alloc),
-            commits: BTreeMap::new(alloc),
-            aborts: BTreeMap::new(alloc),
+            commits: Table::new(alloc, bound),
+            aborts: Table::new(alloc, bound),
         }
     }
 
     /// Whether the transaction has committed.
     pub fn has_committed(&self, transaction: u32) -> bool
-        ensures { result ≡ is_some (get nat_cmp self.now.commits transaction) }
+        ensures { result ≡ is_some (entry_of self.now.commits transaction) }
     {
-        self.commits.contains_key(&transaction)
+        self.commits.contains_key(transaction)
     }
 
     /// The write that the operation reads, where another transaction wrote it that has not committed.
@@ -134,9 +132,9 @@ impl Sources {
         ensures top { IsTopWrite history.now place item result }
         ensures standing { IfSome result (λ i. (t : ℕ) → Does history.now i t (Write item) → ¬ AbortedBefore history.now t place) }
     {
-        let mut top = self.tops.get(&item).copied();
+        let mut top = self.tops.find(item);
         while let Some(write) = top {
-            if !self.aborts.contains_key(&history[write].transaction) {
+            if !self.aborts.contains_key(history[write].transaction) {
                 return top;
             }
             top = self.below.get(write);
@@ -154,26 +152,22 @@ impl Sources {
         match operation.action {
             Action::Read(_) => (),
             Action::Write(item) => put_on_top(&mut self.tops, &mut self.below, item, place)?,
-            Action::Commit => set_place(&mut self.commits, operation.transaction, place)?,
-            Action::Abort => set_place(&mut self.aborts, operation.transaction, place)?,
+            Action::Commit => self.commits.set_place(operation.transaction, place)?,
+            Action::Abort => self.aborts.set_place(operation.transaction, place)?,
         }
         Ok(())
     }
 }
 
 /// Sets the top of an item.
-pub fn set_top(
-    tops: &mut BTreeMap<u32, usize>,
-    item: u32,
-    top: Option<usize>,
-) -> Result<(), NoMemory>
-    ensures at { OnOk result (get nat_cmp tops.new item ≡ top) }
-    ensures others { OnOk result ((x : ℕ) → x ≢ item → get nat_cmp tops.new x ≡ get nat_cmp tops.old x) }
+pub fn set_top(tops: &mut Table, item: u32, top: Option<usize>) -> Result<(), NoMemory>
+    ensures at { OnOk result (entry_of tops.new item ≡ top) }
+    ensures others { OnOk result ((x : ℕ) → x ≢ item → entry_of tops.new x ≡ entry_of tops.old x) }
 {
     match top {
-        Some(place) => set_place(tops, item, place)?,
+        Some(place) => tops.set_place(item, place)?,
         None => {
-            tops.remove(&item);
+            tops.remove(item);
         }
     }
     Ok(())
@@ -181,19 +175,19 @@ pub fn set_top(
 
 /// Puts a place on top of a number's: of the writes of an item, say.
 pub fn put_on_top(
-    tops: &mut BTreeMap<u32, usize>,
+    tops: &mut Table,
     below: &mut Links,
     item: u32,
     place: usize,
 ) -> Result<(), NoMemory>
     requires fresh { link_of below.old place ≡ None }
-    ensures top { OnOk result (get nat_cmp tops.new item ≡ Some place) }
-    ensures other_tops { OnOk result ((x : ℕ) → x ≢ item → get nat_cmp tops.new x ≡ get nat_cmp tops.old x) }
-    ensures lower { OnOk result (link_of below.new place ≡ get nat_cmp tops.old item) }
+    ensures top { OnOk result (entry_of tops.new item ≡ Some place) }
+    ensures other_tops { OnOk result ((x : ℕ) → x ≢ item → entry_of tops.new x ≡ entry_of tops.old x) }
+    ensures lower { OnOk result (link_of below.new place ≡ entry_of tops.old item) }
     ensures others_below { OnOk result ((i : ℕ) → i ≢ place → link_of below.new i ≡ link_of below.old i) }
 {
-    if let Some(lower) = tops.insert(item, place)? {
+    if let Some(lower) = tops.find(item) {
         below.set(place, lower)?;
     }
-    Ok(())
+    tops.set_place(item, place)
 }

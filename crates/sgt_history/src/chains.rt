@@ -1,16 +1,15 @@
 //! Edges by their ends.
 ghost use Rattle.std.specs.Prelude.{◌≡◌, ◌≢◌, ◌<◌, ℕ, None, length, IfOk, OnOk, IfSome};
-ghost use Rattle.std.specs.BTreeMap.{get, btree_map_len};
-ghost use Rattle.std.specs.Ordering.{nat_cmp};
 ghost use Rattle.sgt_history.specs.Links.{link_of};
+ghost use Rattle.sgt_history.specs.Tables.{entry_of, table_len};
 ghost use Rattle.sgt_history.specs.Sorting.{end_of, AreChains};
 
 use crate::avoiding::{put_on_top, set_top};
 use crate::graph::Edge;
 use crate::links::Links;
+use crate::table::Table;
 use sgt_model::NoMemory;
 use std::alloc::Global;
-use std::collections::BTreeMap;
 
 /// An end of an edge.
 #[derive(Clone, Copy, Debug, PartialEq, Eq)]
@@ -37,18 +36,18 @@ impl End {
 #[derive(Drop)]
 pub struct Chains {
     /// The edge that a transaction's begin with.
-    tops: BTreeMap<u32, usize>,
+    tops: Table,
     /// For an edge the next earlier one at the same transaction.
     below: Links,
 }
 
 impl Chains {
-    /// All edges, by one of their ends.
-    pub fn by_end(alloc: Global, edges: &[Edge], end: End) -> Result<Self, NoMemory>
-        ensures { IfOk result (λ c. AreChains end edges.now (length edges.now) (get nat_cmp c.tops) (link_of c.below)) }
+    /// All edges, by one of their ends. Those of the transactions below the bound are found at once.
+    pub fn by_end(alloc: Global, edges: &[Edge], end: End, bound: usize) -> Result<Self, NoMemory>
+        ensures { IfOk result (λ c. AreChains end edges.now (length edges.now) (entry_of c.tops) (link_of c.below)) }
     {
         let mut chains = Chains {
-            tops: BTreeMap::new(alloc),
+            tops: Table::new(alloc, bound),
             below: Links::new(alloc),
         };
         for place in 0..edges.len() {
@@ -60,9 +59,9 @@ impl Chains {
 
     /// The edge that the transaction's begin with.
     pub fn last_edge(&self, transaction: u32) -> Option<usize>
-        ensures { result ≡ get nat_cmp self.now.tops transaction }
+        ensures { result ≡ entry_of self.now.tops transaction }
     {
-        self.tops.get(&transaction).copied()
+        self.tops.find(transaction)
     }
 
     /// The next earlier edge at the same transaction.
@@ -74,8 +73,8 @@ impl Chains {
 
     /// Lets the transaction's begin with the edge.
     pub fn begin_with(&mut self, transaction: u32, edge: Option<usize>) -> Result<(), NoMemory>
-        ensures at { OnOk result (get nat_cmp self.new.tops transaction ≡ edge) }
-        ensures others { OnOk result ((u : ℕ) → u ≢ transaction → get nat_cmp self.new.tops u ≡ get nat_cmp self.old.tops u) }
+        ensures at { OnOk result (entry_of self.new.tops transaction ≡ edge) }
+        ensures others { OnOk result ((u : ℕ) → u ≢ transaction → entry_of self.new.tops u ≡ entry_of self.old.tops u) }
         ensures below { OnOk result (self.new.below ≡ self.old.below) }
     {
         set_top(&mut self.tops, transaction, edge)
@@ -83,11 +82,11 @@ impl Chains {
 
     /// Takes out the transaction's edges, and tells with which they began.
     pub fn take(&mut self, transaction: u32) -> Option<usize>
-        ensures edge { result ≡ get nat_cmp self.old.tops transaction }
-        ensures at { get nat_cmp self.new.tops transaction ≡ None }
-        ensures others { (u : ℕ) → u ≢ transaction → get nat_cmp self.new.tops u ≡ get nat_cmp self.old.tops u }
-        ensures fewer { IfSome result (λ _. btree_map_len self.new.tops < btree_map_len self.old.tops) }
+        ensures edge { result ≡ entry_of self.old.tops transaction }
+        ensures at { entry_of self.new.tops transaction ≡ None }
+        ensures others { (u : ℕ) → u ≢ transaction → entry_of self.new.tops u ≡ entry_of self.old.tops u }
+        ensures fewer { IfSome result (λ _. table_len self.new.tops < table_len self.old.tops) }
     {
-        self.tops.remove(&transaction)
+        self.tops.remove(transaction)
     }
 }

@@ -3,11 +3,12 @@ ghost use Rattle.std.specs.Prelude.{◌≡◌, ◌≢◌, ◌<◌, ◌+◌, ℕ,
 ghost use Rattle.std.specs.BTreeMap.{get};
 ghost use Rattle.std.specs.Ordering.{nat_cmp};
 ghost use Rattle.sgt_history.specs.Classes.{IsFirstViolation};
+ghost use Rattle.sgt_history.specs.Tables.{entry_of};
 ghost use Rattle.sgt_history.specs.Serializability.{BreaksCommitOrder};
 ghost use Rattle.sgt_history.specs.Seen.{AreFirstCommits, KnowsLatestUses, later_use, use_after};
 
 use crate::operation::{Action, Operation, Violation};
-use crate::strict::set_place;
+use crate::table::Table;
 use sgt_model::NoMemory;
 use std::alloc::Global;
 use std::collections::BTreeMap;
@@ -17,7 +18,7 @@ use std::collections::BTreeMap;
 ///
 /// Bernstein, Hadzilacos and Goodman (1987), chapter 2: conflict. A transaction commits where it does so first.
 ///
-/// An operation costs six look-ups in a map at most, of the items and of the committed transactions.
+/// An operation costs six look-ups in a table at most, of the items and of the committed transactions.
 pub fn commit_order_violation(
     alloc: Global,
     history: &[Operation],
@@ -42,14 +43,14 @@ pub fn commit_order_violation(
 }
 
 /// Where each committed transaction commits first.
-pub fn first_commits(alloc: Global, history: &[Operation]) -> Result<BTreeMap<u32, usize>, NoMemory>
-    ensures { IfOk result (λ commits. AreFirstCommits history.now (length history.now) (get nat_cmp commits)) }
+pub fn first_commits(alloc: Global, history: &[Operation]) -> Result<Table, NoMemory>
+    ensures { IfOk result (λ commits. AreFirstCommits history.now (length history.now) (entry_of commits)) }
 {
-    let mut commits = BTreeMap::new(alloc);
+    let mut commits = Table::new(alloc, history.len());
     for place in 0..history.len() {
         let operation = history[place];
-        if operation.action == Action::Commit && !commits.contains_key(&operation.transaction) {
-            set_place(&mut commits, operation.transaction, place)?;
+        if operation.action == Action::Commit && !commits.contains_key(operation.transaction) {
+            commits.set_place(operation.transaction, place)?;
         }
     }
     Ok(commits)
@@ -68,7 +69,7 @@ pub struct LatestUse {
 #[derive(Drop)]
 struct LatestUses {
     /// Where a transaction commits.
-    commits: BTreeMap<u32, usize>,
+    commits: Table,
     /// Of the reads of an item the one whose transaction commits last.
     reads: BTreeMap<u32, LatestUse>,
     /// Of the writes of an item the one whose transaction commits last.
@@ -85,7 +86,7 @@ impl LatestUses {
     {
         let operation = history[place];
         let item = operation.action.item()?;
-        let commit = *self.commits.get(&operation.transaction)?;
+        let commit = self.commits.find(operation.transaction)?;
         let write = committing_after(&self.writes, item, commit);
         if write.is_some() {
             return write;
@@ -103,7 +104,7 @@ impl LatestUses {
         ensures { OnOk result (KnowsLatestUses history.now (place + 1) self.new) }
     {
         let operation = history[place];
-        let Some(commit) = self.commits.get(&operation.transaction).copied() else {
+        let Some(commit) = self.commits.find(operation.transaction) else {
             return Ok(());
         };
         let latest = LatestUse { commit, place };

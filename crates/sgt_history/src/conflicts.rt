@@ -55,8 +55,8 @@ impl Conflicts {
             edges: Vec::new(alloc),
             told: BTreeMap::new(alloc),
         };
-        let mut accesses = FirstAccesses::new(alloc, Kind::Any);
-        let mut writes = FirstAccesses::new(alloc, Kind::Writes);
+        let mut accesses = FirstAccesses::new(alloc, Kind::Any, operations.len());
+        let mut writes = FirstAccesses::new(alloc, Kind::Writes, operations.len());
         for place in 0..operations.len() {
             conflicts.tell_at(operations, place, &accesses, &writes)?;
             accesses.note(operations, place)?;

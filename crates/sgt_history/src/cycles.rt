@@ -1,10 +1,9 @@
 //! A cycle of the serialization graph.
 ghost use Rattle.std.specs.Prelude.{◌≡◌, ℕ, List, Some, slice_get, IsSome, IfOk};
-ghost use Rattle.std.specs.BTreeMap.{get};
-ghost use Rattle.std.specs.Ordering.{nat_cmp};
 ghost use Rattle.sgt_history.specs.declared.operation.Operation.{Operation};
 ghost use Rattle.sgt_history.specs.declared.graph.Edge.{Edge};
 ghost use Rattle.sgt_history.specs.Serializability.{IsCycle, IsEdgeBy};
+ghost use Rattle.sgt_history.specs.Tables.{entry_of};
 ghost use Rattle.sgt_history.specs.Sorting.{LeadBack, IsWalkBack, Passes, AreAmong, IsCycleOf};
 
 use crate::chains::Chains;
@@ -22,8 +21,8 @@ pub fn cycle_back(
     incoming: &mut Chains,
     start: u32,
 ) -> Result<Vec<Edge>, NoMemory>
-    requires back { LeadBack edges.now (get nat_cmp incoming.old.tops) }
-    requires start { IsSome (get nat_cmp incoming.old.tops start) }
+    requires back { LeadBack edges.now (entry_of incoming.old.tops) }
+    requires start { IsSome (entry_of incoming.old.tops start) }
     ensures { IfOk result (λ cycle. IsCycleOf edges.now cycle.items) }
 {
     let (walk, met) = walk_back(alloc, edges, incoming, start)?;
@@ -37,8 +36,8 @@ fn walk_back(
     incoming: &mut Chains,
     start: u32,
 ) -> Result<(Vec<Edge>, u32), NoMemory>
-    requires back { LeadBack edges.now (get nat_cmp incoming.old.tops) }
-    requires start { IsSome (get nat_cmp incoming.old.tops start) }
+    requires back { LeadBack edges.now (entry_of incoming.old.tops) }
+    requires start { IsSome (entry_of incoming.old.tops start) }
     ensures among { IfOk result (λ r. AreAmong r.0.items edges.now) }
     ensures walk { IfOk result (λ r. IsWalkBack r.0.items r.1) }
     ensures met { IfOk result (λ r. Passes r.0.items r.1) }

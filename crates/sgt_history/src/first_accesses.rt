@@ -1,14 +1,15 @@
 //! The first access of each transaction to each item.
 ghost use Rattle.std.specs.Prelude.{◌≡◌, ◌≢◌, ◌<◌, ◌+◌, ℕ, List, Some, length, IfOk, OnOk};
 ghost use Rattle.std.specs.BTreeMap.{get};
-ghost use Rattle.std.specs.Ordering.{nat_cmp};
 ghost use Rattle.sgt_history.specs.declared.operation.Operation.{Operation};
 ghost use Rattle.sgt_history.specs.Links.{link_of};
+ghost use Rattle.sgt_history.specs.Tables.{entry_of};
 ghost use Rattle.sgt_history.specs.FirstAccesses.{accessed, pair_cmp, KnowsFirsts};
 
 use crate::avoiding::put_on_top;
 use crate::links::Links;
 use crate::operation::{Action, Operation};
+use crate::table::Table;
 use sgt_model::NoMemory;
 use std::alloc::Global;
 use std::collections::BTreeMap;
@@ -41,7 +42,7 @@ pub struct FirstAccesses {
     /// Which accesses count.
     kind: Kind,
     /// The last first access to an item.
-    tops: BTreeMap<u32, usize>,
+    tops: Table,
     /// For a first access the next earlier one to its item.
     below: Links,
     /// The latest access of a transaction to an item.
@@ -49,14 +50,14 @@ pub struct FirstAccesses {
 }
 
 impl FirstAccesses {
-    /// What there is before the first operation.
-    pub fn new(alloc: Global, kind: Kind) -> Self
+    /// What there is before the first operation. The numbers of items below the bound are found at once.
+    pub fn new(alloc: Global, kind: Kind, bound: usize) -> Self
         ensures kind { result.kind ≡ kind }
         ensures knows { (q : List Operation) → KnowsFirsts q 0 result }
     {
         FirstAccesses {
             kind,
-            tops: BTreeMap::new(alloc),
+            tops: Table::new(alloc, bound),
             below: Links::new(alloc),
             latest: BTreeMap::new(alloc),
         }
@@ -64,9 +65,9 @@ impl FirstAccesses {
 
     /// The last first access to the item.
     pub fn last(&self, item: u32) -> Option<usize>
-        ensures { result ≡ get nat_cmp self.now.tops item }
+        ensures { result ≡ entry_of self.now.tops item }
     {
-        self.tops.get(&item).copied()
+        self.tops.find(item)
     }
 
     /// The first access to the same item next before the one at the place.

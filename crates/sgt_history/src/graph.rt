@@ -1,20 +1,19 @@
 //! The serialization graph, by few of its edges.
 ghost use Rattle.std.specs.Prelude.{◌≡◌, ◌≢◌, ◌<◌, ◌+◌, ℕ, List, length, IfOk, OnOk};
-ghost use Rattle.std.specs.BTreeMap.{get};
-ghost use Rattle.std.specs.Ordering.{nat_cmp};
 ghost use Rattle.sgt_history.specs.declared.operation.Operation.{Operation};
 ghost use Rattle.sgt_history.specs.declared.operation.Action.{Action};
 ghost use Rattle.sgt_history.specs.declared.operation.Action.TheVariants.{Write};
 ghost use Rattle.sgt_history.specs.Histories.{Does, Uses};
 ghost use Rattle.sgt_history.specs.Serializability.{Conflict, IsProjection, ReachAll};
+ghost use Rattle.sgt_history.specs.Tables.{entry_of};
 ghost use Rattle.sgt_history.specs.Seen.{AreFirstCommits, KnowsAccesses, IsGraph, HasEdge, HasConflicts, HasWriteConflicts, HasReadConflicts};
 
 use crate::commit_order::first_commits;
 use crate::operation::{Action, Operation};
 use crate::rigorous::Accesses;
+use crate::table::Table;
 use sgt_model::NoMemory;
 use std::alloc::Global;
-use std::collections::BTreeMap;
 
 /// An edge of the serialization graph, by two operations that conflict.
 ///
@@ -36,7 +35,7 @@ pub struct Edge {
 ///
 /// Bernstein, Hadzilacos and Goodman (1987), chapter 2: serialization graph, of the committed projection.
 ///
-/// At most two edges for each operation. An operation costs six look-ups in a map at most.
+/// At most two edges for each operation. An operation costs six look-ups in a table at most.
 pub fn serialization_edges(alloc: Global, history: &[Operation]) -> Result<Vec<Edge>, NoMemory>
     ensures { IfOk result (λ edges. ReachAll history.now edges.items) }
 {
@@ -62,7 +61,7 @@ impl Graph {
         let mut graph = Graph {
             edges: Vec::new(alloc),
         };
-        let mut seen = Accesses::new(alloc);
+        let mut seen = Accesses::new(alloc, operations.len());
         for place in 0..operations.len() {
             graph.connect_write(operations, place, &seen)?;
             graph.connect_reads(operations, place, &seen)?;
@@ -156,16 +155,16 @@ impl Graph {
 pub fn committed_projection(
     alloc: Global,
     history: &[Operation],
-    commits: &BTreeMap<u32, usize>,
+    commits: &Table,
 ) -> Result<Vec<Operation>, NoMemory>
-    requires { AreFirstCommits history.now (length history.now) (get nat_cmp commits.now) }
+    requires { AreFirstCommits history.now (length history.now) (entry_of commits.now) }
     ensures same_length { IfOk result (λ q. length q.items ≡ length history.now) }
     ensures projection { IfOk result (λ q. IsProjection history.now q.items) }
 {
     let mut projection = Vec::new(alloc);
     for place in 0..history.len() {
         let mut operation = history[place];
-        if !commits.contains_key(&operation.transaction) {
+        if !commits.contains_key(operation.transaction) {
             operation.action = Action::Abort;
         }
         projection.push(operation)?;

@@ -29,6 +29,7 @@ mod recoverable;
 mod rigorous;
 mod serial;
 mod strict;
+mod table;
 
 pub use avoiding::{avoidance_violation, read_source};
 pub use commit_order::commit_order_violation;
@@ -43,3 +44,4 @@ pub use recoverable::recoverable_violation;
 pub use rigorous::rigorous_violation;
 pub use serial::{Serializability, serial_order_or_cycle};
 pub use strict::strict_violation;
+pub use table::Table;

@@ -1,6 +1,6 @@
 //! For places of a list earlier ones.
-ghost use Rattle.std.specs.Prelude.{◌≡◌, ◌≢◌, ◌<◌, ◌+◌, ◌^◌, ℕ, Some, None, length, OnOk};
-ghost use Rattle.sgt_history.specs.Links.{link_of};
+ghost use Rattle.std.specs.Prelude.{◌≡◌, ◌≢◌, ◌<◌, ◌+◌, ◌^◌, ℕ, Some, None, length, IfSome, OnOk};
+ghost use Rattle.sgt_history.specs.Links.{link_of, links_len};
 
 use sgt_model::NoMemory;
 use std::alloc::Global;
@@ -45,6 +45,22 @@ impl Links {
         self.make_room(place)?;
         self.earlier[place] = Some(earlier);
         Ok(())
+    }
+
+    /// Takes out the earlier place.
+    #[tactic(auto, unfolding(crate::specs::Links::link_of, crate::specs::Links::links_len))]
+    pub fn remove(&mut self, place: usize) -> Option<usize>
+        ensures earlier { result ≡ link_of self.old place }
+        ensures at { link_of self.new place ≡ None }
+        ensures others { (i : ℕ) → i ≢ place → link_of self.new i ≡ link_of self.old i }
+        ensures fewer { IfSome result (λ _. links_len self.new < links_len self.old) }
+    {
+        if place >= self.earlier.len() {
+            return None;
+        }
+        let earlier = self.earlier[place];
+        self.earlier[place] = None;
+        earlier
     }
 
     /// Makes room for that of the place.

@@ -6,6 +6,7 @@ ghost use Rattle.sgt_history.specs.Seen.{KnowsSources, KnowsDirtyReads, KeepsDir
 use crate::avoiding::{Sources, put_on_top};
 use crate::links::Links;
 use crate::operation::{Action, Operation, Violation};
+use crate::table::Table;
 use sgt_model::NoMemory;
 use std::alloc::Global;
 use std::collections::BTreeMap;
@@ -15,7 +16,7 @@ use std::collections::BTreeMap;
 ///
 /// Bernstein, Hadzilacos and Goodman (1987), chapter 2: recoverable.
 ///
-/// It costs what `avoidance_violation` costs, a look-up in a map for each commit, and for each read from one that has not
+/// It costs what `avoidance_violation` costs, a look-up in a table for each commit, and for each read from one that has not
 /// committed two at the read and two at the commit of its reader.
 pub fn recoverable_violation(
     alloc: Global,
@@ -24,8 +25,8 @@ pub fn recoverable_violation(
     ensures { IfOk result (IsFirstViolation (BreaksRecoverability history.now)) }
 {
     let mut seen = DirtyReads {
-        sources: Sources::new(alloc),
-        lasts: BTreeMap::new(alloc),
+        sources: Sources::new(alloc, history.len()),
+        lasts: Table::new(alloc, history.len()),
         earlier: Links::new(alloc),
         writers: BTreeMap::new(alloc),
     };
@@ -47,7 +48,7 @@ struct DirtyReads {
     /// From which write the next operation reads.
     sources: Sources,
     /// The place of a transaction's last dirty read.
-    lasts: BTreeMap<u32, usize>,
+    lasts: Table,
     /// For the place of a dirty read that of its transaction's next earlier one.
     earlier: Links,
     /// For the place of a dirty read the transaction that it reads from.
@@ -66,7 +67,7 @@ impl DirtyReads {
         let Action::Commit = operation.action else {
             return None;
         };
-        let mut read = self.lasts.get(&operation.transaction).copied();
+        let mut read = self.lasts.find(operation.transaction);
         while let Some(dirty) = read {
             let Some(writer) = self.writers.get(&dirty) else {
                 unreachable!()

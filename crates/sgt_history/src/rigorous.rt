@@ -1,19 +1,18 @@
 //! Rigorousness.
 ghost use Rattle.std.specs.Prelude.{◌≡◌, ◌<◌, ◌+◌, ℕ, List, length, IfSome, IfOk, OnOk, IsNone};
-ghost use Rattle.std.specs.BTreeMap.{get};
-ghost use Rattle.std.specs.Ordering.{nat_cmp};
 ghost use Rattle.sgt_history.specs.declared.operation.Operation.{Operation};
 ghost use Rattle.sgt_history.specs.Classes.{BreaksStrictness, OverwritesReader, BreaksRigorousness, IsFirstViolation};
 ghost use Rattle.sgt_history.specs.Links.{link_of};
+ghost use Rattle.sgt_history.specs.Tables.{entry_of};
 ghost use Rattle.sgt_history.specs.Seen.{KnowsAccesses, AreReads, IsRigorousBefore};
 
 use crate::avoiding::put_on_top;
 use crate::links::Links;
 use crate::operation::{Action, Operation, Violation};
 use crate::strict::Writes;
+use crate::table::Table;
 use sgt_model::NoMemory;
 use std::alloc::Global;
-use std::collections::BTreeMap;
 
 /// The first operation that breaks strictness, or overwrites what another transaction has read that has not ended, with the
 /// write or the read that it breaks it by. `None` where the history is rigorous.
@@ -21,14 +20,14 @@ use std::collections::BTreeMap;
 /// Breitbart and others (1991): rigorous.
 ///
 /// Each read is passed once more in the whole, at the next write of its item; but for that an operation costs four look-ups in
-/// a map at most.
+/// a table at most.
 pub fn rigorous_violation(
     alloc: Global,
     history: &[Operation],
 ) -> Result<Option<Violation>, NoMemory>
     ensures { IfOk result (IsFirstViolation (BreaksRigorousness history.now)) }
 {
-    let mut seen = Accesses::new(alloc);
+    let mut seen = Accesses::new(alloc, history.len());
     for place in 0..history.len() {
         if let Some(earlier) = seen.unended(history, place) {
             return Ok(Some(Violation {
@@ -47,35 +46,35 @@ pub struct Accesses {
     /// The last writes, and who has ended.
     writes: Writes,
     /// The place of an item's last read since its last write.
-    lasts: BTreeMap<u32, usize>,
+    lasts: Table,
     /// For the place of a read that of the item's next earlier one since the write before.
     earlier: Links,
 }
 
 impl Accesses {
-    /// What is kept before the first operation.
-    pub fn new(alloc: Global) -> Self
+    /// What is kept before the first operation. The numbers of items and transactions below the bound are found at once.
+    pub fn new(alloc: Global, bound: usize) -> Self
         ensures { (h : List Operation) → KnowsAccesses h 0 result }
     {
         Accesses {
-            writes: Writes::new(alloc),
-            lasts: BTreeMap::new(alloc),
+            writes: Writes::new(alloc, bound),
+            lasts: Table::new(alloc, bound),
             earlier: Links::new(alloc),
         }
     }
 
     /// The last write of the item.
     pub fn last_write(&self, item: u32) -> Option<usize>
-        ensures { result ≡ get nat_cmp self.now.writes.writers item }
+        ensures { result ≡ entry_of self.now.writes.writers item }
     {
         self.writes.last_write(item)
     }
 
     /// The last read of the item since its last write.
     pub fn last_read(&self, item: u32) -> Option<usize>
-        ensures { result ≡ get nat_cmp self.now.lasts item }
+        ensures { result ≡ entry_of self.now.lasts item }
     {
-        self.lasts.get(&item).copied()
+        self.lasts.find(item)
     }
 
     /// The next earlier one since the write before.
@@ -113,7 +112,7 @@ impl Accesses {
         let Action::Write(item) = operation.action else {
             return None;
         };
-        let mut read = self.lasts.get(&item).copied();
+        let mut read = self.lasts.find(item);
         while let Some(earlier) = read {
             let reader = history[earlier].transaction;
             if reader != operation.transaction && !self.writes.has_ended(reader) {
@@ -138,15 +137,15 @@ impl Accesses {
     /// Notes the operation if it is a read, and takes the reads of its item out if it is a write.
     fn note_read(&mut self, history: &[Operation], place: usize) -> Result<(), NoMemory>
         requires within { place < length history.now }
-        requires reads { AreReads history.now place (get nat_cmp self.old.lasts) (link_of self.old.earlier) }
+        requires reads { AreReads history.now place (entry_of self.old.lasts) (link_of self.old.earlier) }
         ensures same { OnOk result (self.new.writes ≡ self.old.writes) }
-        ensures reads { OnOk result (AreReads history.now (place + 1) (get nat_cmp self.new.lasts) (link_of self.new.earlier)) }
+        ensures reads { OnOk result (AreReads history.now (place + 1) (entry_of self.new.lasts) (link_of self.new.earlier)) }
     {
         let operation = history[place];
         match operation.action {
             Action::Read(item) => put_on_top(&mut self.lasts, &mut self.earlier, item, place)?,
             Action::Write(item) => {
-                self.lasts.remove(&item);
+                self.lasts.remove(item);
             }
             Action::Commit | Action::Abort => (),
         }

@@ -1,11 +1,14 @@
 //! Whether a history is serializable, with a serial order or a cycle that shows it.
 ghost use Rattle.std.specs.Prelude.{◌≡◌, ◌<◌, ◌↔◌, ℕ, List, Some, None, slice_get, length, IsSome, IfSome, IfOk, OnOk, IsNone};
-ghost use Rattle.std.specs.BTreeMap.{get, btree_map_len};
+ghost use Rattle.std.specs.BTreeMap.{get};
 ghost use Rattle.std.specs.Ordering.{nat_cmp};
 ghost use Rattle.sgt_history.specs.declared.graph.Edge.{Edge};
+ghost use Rattle.sgt_history.specs.declared.operation.Action.TheVariants.{Commit};
+ghost use Rattle.sgt_history.specs.Histories.{Does};
 ghost use Rattle.sgt_history.specs.Serializability.{IsEdgeBy, IsSerializable};
 ghost use Rattle.sgt_history.specs.Seen.{AreFirstCommits};
 ghost use Rattle.sgt_history.specs.SerialOrders.{IsShown, IsSerial};
+ghost use Rattle.sgt_history.specs.Tables.{entry_of, table_len};
 ghost use Rattle.sgt_history.specs.Sorting.{KnowsWaits, AllReady, AllWait, AllWaitBut, AllLeftWait, IsReady, WaitsForLeft, LeadsFromLeft, IsTopEdge, IsFirstFree, AreSameBut, IsCycleOf};
 
 use crate::chains::{Chains, End};
@@ -13,6 +16,7 @@ use crate::commit_order::first_commits;
 use crate::cycles::cycle_back;
 use crate::graph::{Edge, serialization_edges};
 use crate::operation::{Action, Operation};
+use crate::table::Table;
 use sgt_model::NoMemory;
 use std::alloc::Global;
 use std::collections::BTreeMap;
@@ -33,7 +37,7 @@ pub enum Serializability {
 ///
 /// Bernstein, Hadzilacos and Goodman (1987), chapter 2: serialization graph, of the committed projection.
 ///
-/// It costs what `serialization_edges` costs, and for each of those edges and each commit fifteen look-ups in a map at most.
+/// It costs what `serialization_edges` costs, and for each of those edges and each commit fifteen look-ups in a table at most.
 pub fn serial_order_or_cycle(
     alloc: Global,
     history: &[Operation],
@@ -48,7 +52,7 @@ pub fn serial_order_or_cycle(
     while let Some(transaction) = waits.take_first()? {
         order.push(transaction)?;
     }
-    match waits.first_left() {
+    match waits.first_left(history) {
         Some(transaction) => Ok(Serializability::Cycle(waits.cycle(alloc, transaction)?)),
         None => Ok(Serializability::Serial(order)),
     }
@@ -60,7 +64,7 @@ pub struct Waits {
     /// Edges of the serialization graph.
     edges: Vec<Edge>,
     /// Where those commit that have no place yet.
-    left: BTreeMap<u32, usize>,
+    left: Table,
     /// The edges by the transaction that they lead to. Of one that has no place yet it begins with the last that leads from
     /// another such, for which it waits.
     incoming: Chains,
@@ -76,9 +80,9 @@ impl Waits {
         alloc: Global,
         history: &[Operation],
         edges: Vec<Edge>,
-        commits: BTreeMap<u32, usize>,
+        commits: Table,
     ) -> Result<Self, NoMemory>
-        requires commits { AreFirstCommits history.now (length history.now) (get nat_cmp commits) }
+        requires commits { AreFirstCommits history.now (length history.now) (entry_of commits) }
         requires edges { (k : ℕ) (e : Edge) → slice_get edges.items k ≡ Some e → IsEdgeBy history.now e }
         ensures waits { IfOk result KnowsWaits }
         ensures ready { IfOk result AllReady }
@@ -86,8 +90,8 @@ impl Waits {
         ensures edges { IfOk result (λ w. w.edges ≡ edges) }
         ensures left { IfOk result (λ w. w.left ≡ commits) }
     {
-        let incoming = Chains::by_end(alloc, edges.as_slice(), End::To)?;
-        let outgoing = Chains::by_end(alloc, edges.as_slice(), End::From)?;
+        let incoming = Chains::by_end(alloc, edges.as_slice(), End::To, history.len())?;
+        let outgoing = Chains::by_end(alloc, edges.as_slice(), End::From, history.len())?;
         let mut waits = Waits {
             edges,
             left: commits,
@@ -113,17 +117,17 @@ impl Waits {
         ensures ready { OnOk result (AllReady self.new) }
         ensures wait { OnOk result (AllWait self.new) }
         ensures edges { OnOk result (self.new.edges ≡ self.old.edges) }
-        ensures first { IfOk result (λ taken. IfSome taken (IsFirstFree self.old.edges.items (get nat_cmp self.old.left))) }
-        ensures taken { IfOk result (λ taken. IfSome taken (λ t. get nat_cmp self.new.left t ≡ None)) }
-        ensures others { IfOk result (λ taken. IfSome taken (λ t. AreSameBut t (get nat_cmp self.old.left) (get nat_cmp self.new.left))) }
-        ensures fewer { IfOk result (λ taken. IfSome taken (λ _. btree_map_len self.new.left < btree_map_len self.old.left)) }
+        ensures first { IfOk result (λ taken. IfSome taken (IsFirstFree self.old.edges.items (entry_of self.old.left))) }
+        ensures taken { IfOk result (λ taken. IfSome taken (λ t. entry_of self.new.left t ≡ None)) }
+        ensures others { IfOk result (λ taken. IfSome taken (λ t. AreSameBut t (entry_of self.old.left) (entry_of self.new.left))) }
+        ensures fewer { IfOk result (λ taken. IfSome taken (λ _. table_len self.new.left < table_len self.old.left)) }
         ensures none { IfOk result (λ taken. IsNone taken → self.new.left ≡ self.old.left) }
         ensures all_wait { IfOk result (λ taken. IsNone taken → AllLeftWait self.new) }
     {
         let Some((_, transaction)) = self.ready.pop_first() else {
             return Ok(None);
         };
-        self.left.remove(&transaction);
+        self.left.remove(transaction);
         self.release(transaction)?;
         Ok(Some(transaction))
     }
@@ -154,12 +158,12 @@ impl Waits {
         ensures waits { OnOk result (KnowsWaits self.new) }
         ensures edges { OnOk result (self.new.edges ≡ self.old.edges) }
         ensures left { OnOk result (self.new.left ≡ self.old.left) }
-        ensures others { OnOk result (AreSameBut transaction (get nat_cmp self.old.incoming.tops) (get nat_cmp self.new.incoming.tops)) }
+        ensures others { OnOk result (AreSameBut transaction (entry_of self.old.incoming.tops) (entry_of self.new.incoming.tops)) }
         ensures others_ready { OnOk result ((c u : ℕ) → get nat_cmp self.old.ready c ≡ Some u → get nat_cmp self.new.ready c ≡ Some u) }
         ensures ready { OnOk result (IsReady self.new transaction) }
         ensures wait { OnOk result (WaitsForLeft self.new transaction) }
     {
-        let Some(commit) = self.left.get(&transaction).copied() else {
+        let Some(commit) = self.left.find(transaction) else {
             return Ok(());
         };
         let top = self.awaited(transaction);
@@ -173,13 +177,13 @@ impl Waits {
     /// The last edge to the transaction from one that has no place yet.
     fn awaited(&self, transaction: u32) -> Option<usize>
         requires { KnowsWaits self.now }
-        ensures top { IsTopEdge self.now.edges.items (get nat_cmp self.now.left) transaction result }
+        ensures top { IsTopEdge self.now.edges.items (entry_of self.now.left) transaction result }
         ensures left { IfSome result (LeadsFromLeft self.now) }
-        ensures stays { get nat_cmp self.now.incoming.tops transaction ≡ None → result ≡ None }
+        ensures stays { entry_of self.now.incoming.tops transaction ≡ None → result ≡ None }
     {
         let mut top = self.incoming.last_edge(transaction);
         while let Some(edge) = top {
-            if self.left.contains_key(&self.edges[edge].from) {
+            if self.left.contains_key(self.edges[edge].from) {
                 return top;
             }
             top = self.incoming.edge_before(edge);
@@ -188,12 +192,18 @@ impl Waits {
     }
 
     /// One that has no place yet.
-    fn first_left(&self) -> Option<u32>
-        ensures some { IfSome result (λ t. IsSome (get nat_cmp self.now.left t)) }
-        ensures none { IsNone result → (t : ℕ) → get nat_cmp self.now.left t ≡ None }
+    fn first_left(&self, history: &[Operation]) -> Option<u32>
+        requires { (t c : ℕ) → entry_of self.now.left t ≡ Some c → Does history.now c t Commit }
+        ensures some { IfSome result (λ t. IsSome (entry_of self.now.left t)) }
+        ensures none { IsNone result → (t : ℕ) → entry_of self.now.left t ≡ None }
     {
-        let (transaction, _) = self.left.first_key_value()?;
-        Some(*transaction)
+        for place in 0..history.len() {
+            let transaction = history[place].transaction;
+            if self.left.contains_key(transaction) {
+                return Some(transaction);
+            }
+        }
+        None
     }
 
     /// A cycle, where all that have no place wait for another. It is looked for from the given one on.
@@ -201,7 +211,7 @@ impl Waits {
         requires waits { KnowsWaits self.old }
         requires wait { AllWait self.old }
         requires all_wait { AllLeftWait self.old }
-        requires start { IsSome (get nat_cmp self.old.left start) }
+        requires start { IsSome (entry_of self.old.left start) }
         ensures { IfOk result (λ cycle. IsCycleOf self.old.edges.items cycle.items) }
     {
         cycle_back(alloc, self.edges.as_slice(), &mut self.incoming, start)

@@ -2,13 +2,10 @@
 use Rattle.std.proofs.Common.{◌≡◌, ◌↔◌, ◌⊎◌, ◌++◌, ℕ, Bool, true, false, List, [], ◌∷◌, length, Option, Some, None, ap, sym, ◌∙◌, subst, inl, inr}
 use Rattle.std.specs.Prelude.{slice_get, map, bytes_eq}
 use Rattle.std.specs.Global.{Vec}
-use Rattle.std.specs.BTreeMap.{BTreeMap, UpdatesBy, get_by}
+use Rattle.std.specs.HashMap.{HashMap, UpdatesBy, get_by}
 use Rattle.std.specs.Map.{lookup, IsKeyTest, AreApart, KeepsOthers}
-use Rattle.std.specs.Ordering.{is_eq, nat_cmp}
-use Rattle.std.specs.Cmp.{eq_by_cmp_equiv}
-use Rattle.std.specs.Cmp.Lexicographic.{slice_cmp, bytes_decides, nat_list_eq_equiv, nat_list_cmp_total}
+use Rattle.std.specs.Cmp.Lexicographic.{bytes_decides, nat_list_eq_equiv}
 use Rattle.std.proofs.lemmas.Bool.{cases_Bool}
-use Rattle.std.proofs.lemmas.Map.Text.{is_eq-slice_cmp}
 use Rattle.sgt_notation.specs.declared.items.Items.{Items}
 use Rattle.sgt_notation.specs.Numbering.{texts_of, number_of, KnowsItems}
 use Rattle.sgt_notation.proofs.Gets.{get_before, get_seam, got_append}
@@ -19,23 +16,22 @@ module _ {K X : Type 0} (eq : K → K → Bool) (test : K → Bool) where
   unfolding KeepsOthers
   other_entries old new h = h
 
-apart_in_order : (bs cs ks : List ℕ) → bytes_eq bs cs ≡ false → is_eq (slice_cmp nat_cmp bs ks) ≡ true → is_eq (slice_cmp nat_cmp cs ks) ≡ false
-apart_in_order bs cs ks n y = is_eq-slice_cmp cs ks ∙ nat_list_eq_equiv.symm cs ks
-    ∙ sym (nat_list_eq_equiv.congr bs ks cs (sym (is_eq-slice_cmp bs ks) ∙ y)) ∙ n
+apart : (bs cs ks : List ℕ) → bytes_eq bs cs ≡ false → bytes_eq bs ks ≡ true → bytes_eq cs ks ≡ false
+apart bs cs ks n y = nat_list_eq_equiv.symm cs ks ∙ sym (nat_list_eq_equiv.congr bs ks cs y) ∙ n
 
 -- what a change at one text leaves at another
-other_number : (bs cs : List ℕ) (m n : BTreeMap (Vec ℕ) ℕ) (w : Option ℕ)
-    → UpdatesBy (λ x y. slice_cmp nat_cmp x.items y.items) (λ k. slice_cmp nat_cmp bs k.items) m n w → bytes_eq bs cs ≡ false
-    → get_by (λ k. slice_cmp nat_cmp cs k.items) n ≡ get_by (λ k. slice_cmp nat_cmp cs k.items) m
+other_number : {S : Type 0} (bs cs : List ℕ) (m n : HashMap (Vec ℕ) ℕ S) (w : Option ℕ)
+    → UpdatesBy (λ x y. bytes_eq x.items y.items) (λ k. bytes_eq bs k.items) m n w → bytes_eq bs cs ≡ false
+    → get_by (λ k. bytes_eq cs k.items) n ≡ get_by (λ k. bytes_eq cs k.items) m
 other_number bs cs m n w h differ = other_entries _ _ _ _ h.3 _
-    (λ x y. (eq_by_cmp_equiv nat_list_cmp_total).congr cs x.items y.items) (λ k. apart_in_order bs cs k.items differ)
+    (λ x y. nat_list_eq_equiv.congr cs x.items y.items) (λ k. apart bs cs k.items differ)
 
 some_inj : {A : Type 0} {x y : A} → Some x ≡ Some y → x ≡ y
 some_inj e = cc
 
 -- one item more, where its text had no number
 pub knows_more : (old new : Items) (text : List ℕ) (n : ℕ) → n ≡ length (texts_of old) → KnowsItems old → number_of old text ≡ None
-    → UpdatesBy (λ x y. slice_cmp nat_cmp x.items y.items) (λ k. slice_cmp nat_cmp text k.items) old.numbers new.numbers
+    → UpdatesBy (λ x y. bytes_eq x.items y.items) (λ k. bytes_eq text k.items) old.numbers new.numbers
     (Some n)
     → texts_of new ≡ texts_of old ++ text ∷ [] → KnowsItems new
 knows_more old new text n count known absent updates grown other x = elim (cases_Bool (bytes_eq text other)) [

@@ -1,12 +1,11 @@
 -- What is kept while a text is read: the numbers of its items, and who has ended.
-use Rattle.std.specs.Prelude.{◌≡◌, ◌↔◌, ℕ, Bool, true, false, List, [], ◌∷◌, ◌++◌, Option, Some, IsSome, map, length, slice_get}
-use Rattle.std.specs.BTreeMap.{get, get_by}
-use Rattle.std.specs.Cmp.Lexicographic.{slice_cmp}
-use Rattle.std.specs.Ordering.{nat_cmp}
+use Rattle.std.specs.Prelude.{◌≡◌, ◌↔◌, ℕ, Bool, true, false, List, [], ◌∷◌, ◌++◌, Option, Some, IsSome, map, length, slice_get, bytes_eq}
+use Rattle.std.specs.HashMap.{get_by}
 use Rattle.sgt_history.specs.declared.operation.Operation.{Operation}
 use Rattle.sgt_history.specs.declared.operation.Action.{Action}
 use Rattle.sgt_history.specs.declared.operation.Action.TheVariants.{Read, Write, Commit, Abort}
 use Rattle.sgt_history.specs.Histories.{EndedBefore}
+use Rattle.sgt_history.specs.Tables.{entry_of}
 use Rattle.sgt_notation.specs.Spellings.{IsSpelled}
 use Rattle.sgt_notation.specs.declared.items.Items.{Items}
 use Rattle.sgt_notation.specs.declared.reader.HistoryReader.{HistoryReader}
@@ -17,7 +16,7 @@ texts_of items = map (λ text. text.items) items.texts.items
 
 -- the number that is kept for the text
 abbrev pub number_of : Items → List ℕ → Option ℕ
-number_of items text = get_by (λ k. slice_cmp nat_cmp text k.items) items.numbers
+number_of items text = get_by (λ k. bytes_eq text k.items) items.numbers
 
 -- the number that is kept for a text is that of its item
 abbrev pub KnowsItems : Items → Type 0
@@ -37,7 +36,7 @@ KnowsEnds ops ends = (t : ℕ) → IsSome (ends t) ↔ EndedBefore ops t (length
 -- what the reader knows of what it has read
 pub record KnowsHistory (r : HistoryReader) : Type 0 where
   pub items : KnowsItems r.items
-  pub ends : KnowsEnds r.operations.items (get nat_cmp r.ended)
+  pub ends : KnowsEnds r.operations.items (entry_of r.ended)
 
 -- the word is the operation that has come behind the others, of a transaction that had not ended
 pub record TakesWord (old new : HistoryReader) (word : List ℕ) : Type 0 where

@@ -5,13 +5,13 @@ ghost use Rattle.sgt_notation.specs.Spellings.{text_at};
 
 use sgt_model::NoMemory;
 use std::alloc::Global;
-use std::collections::BTreeMap;
+use std::collections::HashMap;
 
 /// The items of a history, each with a number of its own.
 #[derive(Drop)]
 pub(crate) struct Items {
     /// The number of an item, by its text.
-    numbers: BTreeMap<Vec<u8>, u32>,
+    numbers: HashMap<Vec<u8>, u32>,
     /// The texts of the items, by number.
     pub texts: Vec<Vec<u8>>,
 }
@@ -23,7 +23,7 @@ impl Items {
         ensures none { texts_of result ≡ [] }
     {
         Items {
-            numbers: BTreeMap::new(alloc),
+            numbers: HashMap::new(alloc),
             texts: Vec::new(alloc),
         }
     }

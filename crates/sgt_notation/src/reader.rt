@@ -1,9 +1,8 @@
 //! A text as a history.
 ghost use Rattle.std.specs.Prelude.{◌≡◌, ◌<◌, ◌≤◌, ◌+◌, ◌^◌, ◌∷◌, ◌++◌, [], ℕ, List, length, IfOk, IfErr, OnOk};
-ghost use Rattle.std.specs.BTreeMap.{get};
-ghost use Rattle.std.specs.Ordering.{nat_cmp};
 ghost use Rattle.sgt_history.specs.declared.operation.Operation.{Operation};
 ghost use Rattle.sgt_history.specs.Histories.{EndedBefore};
+ghost use Rattle.sgt_history.specs.Tables.{entry_of};
 ghost use Rattle.sgt_notation.specs.Words.{words_of};
 ghost use Rattle.sgt_notation.specs.Spellings.{IsSpelled};
 ghost use Rattle.sgt_notation.specs.Readings.{AreRead, IsFaultAt, IsFirstFault, texts};
@@ -14,14 +13,17 @@ use crate::history::History;
 use crate::items::Items;
 use crate::spelled::{Spelled, read_word};
 use crate::words::{Place, next_word, word_end};
-use sgt_history::{Action, Operation};
+use sgt_history::{Action, Operation, Table};
 use sgt_model::NoMemory;
 use std::alloc::Global;
-use std::collections::BTreeMap;
+
+/// About how many bytes an operation has. It bounds nothing but the memory that the numbers of transactions take.
+const BYTES: usize = 8;
 
 /// The history that the text spells. Each item has a number of its own.
 ///
-/// An operation costs a look-up among the items' texts and two among the transactions that have ended.
+/// An operation costs a look-up among the items' texts, by a hash, and two among the transactions that have ended. The hash has no
+/// secret: whoever writes the text can choose items whose look-ups are long.
 ///
 /// # Errors
 ///
@@ -32,7 +34,7 @@ pub fn read_history(alloc: Global, text: &[u8]) -> Result<History, NotationFault
     ensures ok { IfOk result (λ h. AreRead (words_of text.now) (texts h) h.operations.items) }
     ensures err { IfErr result (IsFirstFault (words_of text.now)) }
 {
-    let mut reader = HistoryReader::new(alloc);
+    let mut reader = HistoryReader::new(alloc, text.len() / BYTES);
     let mut place = next_word(text, Place { at: 0, line: 1 });
     while place.at < text.len() {
         let end = word_end(text, place.at, place.line);
@@ -57,12 +59,12 @@ pub(crate) struct HistoryReader {
     operations: Vec<Operation>,
     items: Items,
     /// Where a transaction has ended.
-    ended: BTreeMap<u32, usize>,
+    ended: Table,
 }
 
 impl HistoryReader {
-    /// Nothing has been read.
-    pub fn new(alloc: Global) -> Self
+    /// Nothing has been read. The transactions whose numbers are below the bound are found at once.
+    pub fn new(alloc: Global, bound: usize) -> Self
         ensures known { KnowsHistory result }
         ensures no_operations { result.operations.items ≡ [] }
         ensures no_items { texts_of result.items ≡ [] }
@@ -70,7 +72,7 @@ impl HistoryReader {
         HistoryReader {
             operations: Vec::new(alloc),
             items: Items::new(alloc),
-            ended: BTreeMap::new(alloc),
+            ended: Table::new(alloc, bound),
         }
     }
 
@@ -91,7 +93,7 @@ impl HistoryReader {
             return Err(NotationFault::NoOperation(line, Shown::of(alloc, word)?));
         };
         let transaction = spelled.operation.transaction;
-        if self.ended.contains_key(&transaction) {
+        if self.ended.contains_key(transaction) {
             return Err(NotationFault::Ended(line, transaction));
         }
         let action = self.numbered(alloc, &spelled)?;
@@ -123,10 +125,10 @@ impl HistoryReader {
 
     /// Notes the operation, and that its transaction has ended where it is an end.
     fn note(&mut self, operation: Operation) -> Result<(), NoMemory>
-        requires ends { KnowsEnds self.old.operations.items (get nat_cmp self.old.ended) }
+        requires ends { KnowsEnds self.old.operations.items (entry_of self.old.ended) }
         ensures operations { OnOk result (self.new.operations.items ≡ self.old.operations.items ++ operation ∷ []) }
         ensures items { self.new.items ≡ self.old.items }
-        ensures ends { OnOk result (KnowsEnds self.new.operations.items (get nat_cmp self.new.ended)) }
+        ensures ends { OnOk result (KnowsEnds self.new.operations.items (entry_of self.new.ended)) }
     {
         note_end(&mut self.ended, operation, self.operations.len())?;
         self.operations.push(operation)?;
@@ -142,17 +144,13 @@ fn is_end(action: &Action) -> bool
 }
 
 /// Notes that the operation's transaction has ended at the place, where the operation is an end.
-fn note_end(
-    ended: &mut BTreeMap<u32, usize>,
-    operation: Operation,
-    place: usize,
-) -> Result<(), NoMemory>
-    ensures { OnOk result ((before : List Operation) → KnowsEnds before (get nat_cmp ended.old)
-        → KnowsEnds (before ++ operation ∷ []) (get nat_cmp ended.new)) }
+fn note_end(ended: &mut Table, operation: Operation, place: usize) -> Result<(), NoMemory>
+    ensures { OnOk result ((before : List Operation) → KnowsEnds before (entry_of ended.old)
+        → KnowsEnds (before ++ operation ∷ []) (entry_of ended.new)) }
 {
     if !is_end(&operation.action) {
         return Ok(());
     }
-    ended.insert(operation.transaction, place)?;
+    ended.set_place(operation.transaction, place)?;
     Ok(())
 }

@@ -1,7 +1,6 @@
 use Rattle.std.proofs.Common.{rules, ◌≡◌, ◌<◌, ◌+◌, ◌++◌, [], ◌∷◌, ℕ, List, Some, ◌∙◌, sym, ap, subst, arith}
 use Rattle.std.specs.Prelude.{length, slice_get, slice_index_or}
-use Rattle.std.specs.BTreeMap.{get}
-use Rattle.std.specs.Ordering.{nat_cmp}
+use Rattle.sgt_history.specs.Tables.{entry_of}
 use Rattle.std.proofs.lemmas.Option.{slice_get_within}
 use Rattle.sgt_history.specs.declared.operation.Operation.{Operation}
 use Rattle.sgt_history.specs.declared.operation.Action.TheVariants.{Read}
@@ -17,7 +16,7 @@ loop-place-preserved c =
     let h = c.args.history.now in
     let q = c.loop-place.projection.items in
     let p = c.loop-place.place in
-    let commits = get nat_cmp c.args.commits.now in
+    let commits = entry_of c.args.commits.now in
     let new : Operation = c.if-not-contains_key.operation in
     let items : c.push.new.self.items ≡ q ++ new ∷ [] = c.in_ok-push.ensures.items in
     let here : Operation = slice_index_or h p (record { transaction = 0; action = Read 0 }) in
@@ -35,7 +34,7 @@ pub returns-clause-projection : goal.returns-clause-projection
 returns-clause-projection c =
     let h = c.args.history.now in
     let counted = c.loop-place.invariant.counted in
-    projection_of h c.loop-place.projection.items (get nat_cmp c.args.commits.now) c.requires
+    projection_of h c.loop-place.projection.items (entry_of c.args.commits.now) c.requires
     (omega (arith, counted, c.loop-place-test.false, c.loop-place.auto.place-end))
     (λ i op at. c.loop-place.invariant.each i op
     (let within = slice_get_within h i op at in omega (arith, within, c.loop-place-test.false)) at)

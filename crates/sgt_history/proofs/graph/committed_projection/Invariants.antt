@@ -1,7 +1,6 @@
 use Rattle.std.proofs.Common.{◌≡◌, ◌<◌, ℕ, Some}
 use Rattle.std.specs.Prelude.{length, slice_get}
-use Rattle.std.specs.BTreeMap.{get}
-use Rattle.std.specs.Ordering.{nat_cmp}
+use Rattle.sgt_history.specs.Tables.{entry_of}
 use Rattle.sgt_history.specs.declared.operation.Operation.{Operation}
 use Rattle.sgt_history.specs.Seen.{projected}
 use Rattle.sgt_history.proofs.graph.committed_projection.Given as goal
@@ -10,5 +9,5 @@ abbrev pub invariant-loop-place : goal.invariant-loop-place
 invariant-loop-place l = record {
   counted : length l.projection.items ≡ l.place;
   each : (i : ℕ) (op : Operation) → i < l.place → slice_get l.history i ≡ Some op
-      → slice_get l.projection.items i ≡ Some (projected (get nat_cmp l.commits) op);
+      → slice_get l.projection.items i ≡ Some (projected (entry_of l.commits) op);
 }

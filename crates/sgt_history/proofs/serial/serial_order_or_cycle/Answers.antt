@@ -1,7 +1,6 @@
 use Rattle.std.proofs.Common.{rules, ◌≡◌, ◌≢◌, ℕ, [], Some, None, IfSome, length, sym, subst}
 use Rattle.std.specs.Prelude.{slice_get}
-use Rattle.std.specs.BTreeMap.{get}
-use Rattle.std.specs.Ordering.{nat_cmp}
+use Rattle.sgt_history.specs.Tables.{entry_of}
 use Rattle.sgt_history.specs.Serializability.{IsCycle, IsSerialOrder, ReachAll}
 use Rattle.sgt_history.specs.Seen.{AreFirstCommits}
 use Rattle.sgt_history.specs.Sorting.{IsFirstFree}
@@ -16,13 +15,13 @@ loop-order-init c =
     let edges : c.in_ok-edges.edges.items ≡ made.edges.items = search rules in
     let empty : c.new-order.result.items ≡ [] = search rules in
     let left = sym c.in_ok-waits.ensures.left in
-    let first = subst (λ m. AreFirstCommits h (length h) (get nat_cmp m)) left c.in_ok-commits.ensures in record {
+    let first = subst (λ m. AreFirstCommits h (length h) (entry_of m)) left c.in_ok-commits.ensures in record {
       waits = c.in_ok-waits.ensures.waits;
       ready = c.in_ok-waits.ensures.ready;
       wait = c.in_ok-waits.ensures.wait;
       reach = subst (λ l. ReachAll h l) edges c.in_ok-edges.ensures;
-      ordered = subst (λ l. AreOrdered h made.edges.items l (get nat_cmp made.left)) (sym empty)
-          (none_ordered h made.edges.items (get nat_cmp made.left) first);
+      ordered = subst (λ l. AreOrdered h made.edges.items l (entry_of made.left)) (sym empty)
+          (none_ordered h made.edges.items (entry_of made.left) first);
     }
 
 pub loop-order-preserved : goal.loop-order-preserved
@@ -33,20 +32,20 @@ loop-order-preserved c =
     let new = c.take_first.new.self in
     let inv = c.loop-order.invariant in
     let edges : old.edges.items ≡ new.edges.items = search rules in
-    let free : IsFirstFree old.edges.items (get nat_cmp old.left) t =
-    subst (λ o. IfSome o (IsFirstFree old.edges.items (get nat_cmp old.left))) c.in-Some.is c.in_ok-transaction.ensures.first in
-    let none : get nat_cmp new.left t ≡ None =
-    subst (λ o. IfSome o (λ u. get nat_cmp new.left u ≡ None)) c.in-Some.is c.in_ok-transaction.ensures.taken in
-    let others : (u : ℕ) → u ≢ t → get nat_cmp new.left u ≡ get nat_cmp old.left u =
-    subst (λ o. IfSome o (λ v. (u : ℕ) → u ≢ v → get nat_cmp new.left u ≡ get nat_cmp old.left u)) c.in-Some.is
+    let free : IsFirstFree old.edges.items (entry_of old.left) t =
+    subst (λ o. IfSome o (IsFirstFree old.edges.items (entry_of old.left))) c.in-Some.is c.in_ok-transaction.ensures.first in
+    let none : entry_of new.left t ≡ None =
+    subst (λ o. IfSome o (λ u. entry_of new.left u ≡ None)) c.in-Some.is c.in_ok-transaction.ensures.taken in
+    let others : (u : ℕ) → u ≢ t → entry_of new.left u ≡ entry_of old.left u =
+    subst (λ o. IfSome o (λ v. (u : ℕ) → u ≢ v → entry_of new.left u ≡ entry_of old.left u)) c.in-Some.is
     c.in_ok-transaction.ensures.others in record {
       waits = c.in_ok-transaction.ensures.waits;
       ready = c.in_ok-transaction.ensures.ready;
       wait = c.in_ok-transaction.ensures.wait;
       reach = subst (λ l. ReachAll h l) edges inv.reach;
-      ordered = subst (λ l. AreOrdered h l c.push.new.self.items (get nat_cmp new.left)) edges
-          (subst (λ l. AreOrdered h old.edges.items l (get nat_cmp new.left)) (sym c.in_ok-push.ensures.items)
-          (one_ordered h old.edges.items c.loop-order.order.items (get nat_cmp old.left) (get nat_cmp new.left) t inv.reach.are_edges
+      ordered = subst (λ l. AreOrdered h l c.push.new.self.items (entry_of new.left)) edges
+          (subst (λ l. AreOrdered h old.edges.items l (entry_of new.left)) (sym c.in_ok-push.ensures.items)
+          (one_ordered h old.edges.items c.loop-order.order.items (entry_of old.left) (entry_of new.left) t inv.reach.are_edges
           inv.ordered free none others));
     }
 
@@ -67,19 +66,19 @@ returns-in-Some-first_left-clause-exact c =
 pub returns-clause-shown : goal.returns-clause-shown
 returns-clause-shown c =
     let h = c.args.history.now in
-    let gone : (t : ℕ) → get nat_cmp c.take_first.new.self.left t ≡ None = search rules in
+    let gone : (t : ℕ) → entry_of c.take_first.new.self.left t ≡ None = search rules in
     let same : c.take_first.new.self.left ≡ c.loop-order.waits.left = search rules in
     let serial : IsSerialOrder h c.loop-order.order.items =
-    all_ordered h c.loop-order.waits.edges.items c.loop-order.order.items (get nat_cmp c.loop-order.waits.left)
-    c.loop-order.invariant.reach c.loop-order.invariant.ordered (subst (λ m. (t : ℕ) → get nat_cmp m t ≡ None) same gone) in
+    all_ordered h c.loop-order.waits.edges.items c.loop-order.order.items (entry_of c.loop-order.waits.left)
+    c.loop-order.invariant.reach c.loop-order.invariant.ordered (subst (λ m. (t : ℕ) → entry_of m t ≡ None) same gone) in
     (serial, c.loop-order.invariant.ordered.takes_first)
 
 pub returns-clause-exact : goal.returns-clause-exact
 returns-clause-exact c =
     let h = c.args.history.now in
-    let gone : (t : ℕ) → get nat_cmp c.take_first.new.self.left t ≡ None = search rules in
+    let gone : (t : ℕ) → entry_of c.take_first.new.self.left t ≡ None = search rules in
     let same : c.take_first.new.self.left ≡ c.loop-order.waits.left = search rules in
     let serial : IsSerialOrder h c.loop-order.order.items =
-    all_ordered h c.loop-order.waits.edges.items c.loop-order.order.items (get nat_cmp c.loop-order.waits.left)
-    c.loop-order.invariant.reach c.loop-order.invariant.ordered (subst (λ m. (t : ℕ) → get nat_cmp m t ≡ None) same gone) in
+    all_ordered h c.loop-order.waits.edges.items c.loop-order.order.items (entry_of c.loop-order.waits.left)
+    c.loop-order.invariant.reach c.loop-order.invariant.ordered (subst (λ m. (t : ℕ) → entry_of m t ≡ None) same gone) in
     (λ _. serial_order_enough h c.loop-order.order.items serial, λ _. tt)

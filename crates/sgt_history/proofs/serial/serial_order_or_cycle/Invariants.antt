@@ -1,5 +1,4 @@
-use Rattle.std.specs.BTreeMap.{get, btree_map_len}
-use Rattle.std.specs.Ordering.{nat_cmp}
+use Rattle.sgt_history.specs.Tables.{entry_of, table_len}
 use Rattle.sgt_history.specs.Serializability.{ReachAll}
 use Rattle.sgt_history.specs.Sorting.{KnowsWaits, AllReady, AllWait}
 use Rattle.sgt_history.proofs.Orderings.{AreOrdered}
@@ -11,8 +10,8 @@ invariant-loop-order l = record {
   ready : AllReady l.waits;
   wait : AllWait l.waits;
   reach : ReachAll l.history l.waits.edges.items;
-  ordered : AreOrdered l.history l.waits.edges.items l.order.items (get nat_cmp l.waits.left);
+  ordered : AreOrdered l.history l.waits.edges.items l.order.items (entry_of l.waits.left);
 }
 
 abbrev pub decreases-loop-order : goal.decreases-loop-order
-decreases-loop-order l = btree_map_len l.waits.left
+decreases-loop-order l = table_len l.waits.left

@@ -1,4 +1,4 @@
-use Rattle.std.proofs.Common.{rules, ℕ, ◌<◌, ◌∙◌, Some, sym, subst, arith}
+use Rattle.std.proofs.Common.{rules, ℕ, ◌<◌, Some, sym, subst, arith}
 use Rattle.std.specs.Prelude.{length}
 use Rattle.sgt_history.specs.Histories.{AbortedBefore}
 use Rattle.sgt_history.specs.Seen.{IsTopWrite, height}
@@ -6,19 +6,21 @@ use Rattle.sgt_history.proofs.Places.{there}
 use Rattle.sgt_history.proofs.Sources.{writer_is, top_below, top_write, height_below}
 use Rattle.sgt_history.proofs.avoiding.Sources.standing.Goals as goal
 
-at_top : (c : goal.In-Some) → IsTopWrite c.args.history.now c.args.place c.args.item (Some c.in-Some.write)
-at_top c = subst (λ o. IsTopWrite c.args.history.now c.args.place c.args.item o) c.in-Some.is c.loop-top.invariant
-
 pub loop-top-init : goal.loop-top-init
 loop-top-init c = subst (λ o. IsTopWrite c.args.history.now c.args.place c.args.item o)
-    (sym (c.copied-top.ensures ∙ c.get.ensures.value)) (c.requires.sources.tops_are c.args.item)
+    (sym c.find-top.ensures) (c.requires.sources.tops_are c.args.item)
 
 pub offset_bounds-history-write : goal.offset_bounds-history-write
 offset_bounds-history-write c =
-    let less : c.in-Some.write < length c.args.history.now = omega (arith, (at_top c).0, c.requires.within) in search rules
+    let top : IsTopWrite c.args.history.now c.args.place c.args.item (Some c.in-Some.write) =
+    subst (λ o. IsTopWrite c.args.history.now c.args.place c.args.item o) c.in-Some.is c.loop-top.invariant in
+    let less : c.in-Some.write < length c.args.history.now = omega (arith, top.0, c.requires.within) in search rules
 
 pub bounds-history-write : goal.bounds-history-write
-bounds-history-write c = omega (arith, (at_top c).0, c.requires.within)
+bounds-history-write c =
+    let top : IsTopWrite c.args.history.now c.args.place c.args.item (Some c.in-Some.write) =
+    subst (λ o. IsTopWrite c.args.history.now c.args.place c.args.item o) c.in-Some.is c.loop-top.invariant in
+    omega (arith, top.0, c.requires.within)
 
 pub returns-then-not-contains_key-clause-standing : goal.returns-then-not-contains_key-clause-standing
 returns-then-not-contains_key-clause-standing c =

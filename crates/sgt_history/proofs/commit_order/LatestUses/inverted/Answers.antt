@@ -11,7 +11,7 @@ returns-then-is_some-clause-some c =
     let p = c.args.place in
     let x : ℕ = c.in_ok-item.item in
     let does = does_at h p _ _ (there h p c.requires.within) refl in
-    after_write h _ p _ x _ _ _ c.requires.uses.commits_are (sym c.in_ok-commit.ensures.value)
+    after_write h _ p _ x _ _ _ c.requires.uses.commits_are (sym c.in_ok-commit.ensures)
     (item_uses h p _ x _ (sym c.in_ok-item.ensures) does) (c.requires.uses.uses_are.writes_are x) c.committing_after-write.ensures
 
 pub returns-in_default : goal.returns-in_default
@@ -21,7 +21,7 @@ returns-in_default c =
     let x : ℕ = c.in_ok-item.item in
     let does = does_at h p _ _ (there h p c.requires.within) refl in record {
       some = tt;
-      none = λ _. ordered_here h _ p _ x _ _ _ _ c.requires.uses.commits_are (sym c.in_ok-commit.ensures.value)
+      none = λ _. ordered_here h _ p _ x _ _ _ _ c.requires.uses.commits_are (sym c.in_ok-commit.ensures)
           (item_uses h p _ x _ (sym c.in_ok-item.ensures) does) (c.requires.uses.uses_are.writes_are x)
           (c.requires.uses.uses_are.reads_are x) c.committing_after-write.ensures (search rules)
           (λ writes. absurd (c.in_default.not-Write x (same_action h p _ _ _ _ does writes)));
@@ -33,7 +33,7 @@ returns-clause-some c =
     let p = c.args.place in
     let x : ℕ = c.in_ok-item.item in
     let writes = does_at h p _ (Write x) (there h p c.requires.within) (search rules) in
-    after_read h _ p _ x _ _ _ c.requires.uses.commits_are (sym c.in_ok-commit.ensures.value) writes
+    after_read h _ p _ x _ _ _ c.requires.uses.commits_are (sym c.in_ok-commit.ensures) writes
     (c.requires.uses.uses_are.reads_are x) c.committing_after.ensures
 
 pub returns-clause-none : goal.returns-clause-none
@@ -42,7 +42,7 @@ returns-clause-none c =
     let p = c.args.place in
     let x : ℕ = c.in_ok-item.item in
     let does = does_at h p _ _ (there h p c.requires.within) refl in
-    λ none. ordered_here h _ p _ x _ _ _ _ c.requires.uses.commits_are (sym c.in_ok-commit.ensures.value)
+    λ none. ordered_here h _ p _ x _ _ _ _ c.requires.uses.commits_are (sym c.in_ok-commit.ensures)
     (item_uses h p _ x _ (sym c.in_ok-item.ensures) does) (c.requires.uses.uses_are.writes_are x)
     (c.requires.uses.uses_are.reads_are x) c.committing_after-write.ensures (search rules)
     (λ writes. sym c.committing_after.ensures ∙ none_of _ none)

@@ -1,6 +1,7 @@
-use Rattle.std.proofs.Common.{rules, ◌<◌, ◌∙◌, ℕ, Some, sym, subst}
+use Rattle.std.proofs.Common.{rules, ◌<◌, ℕ, Some, sym, subst}
 use Rattle.std.specs.Prelude.{slice_index_or}
 use Rattle.std.specs.BTreeMap.{get}
+use Rattle.sgt_history.specs.Tables.{entry_of}
 use Rattle.std.specs.Ordering.{nat_cmp}
 use Rattle.sgt_history.specs.declared.operation.Action.TheVariants.{Read, Commit}
 use Rattle.sgt_history.specs.Histories.{Does}
@@ -15,8 +16,8 @@ loop-read-init c t does =
     let h = c.args.history.now in
     let p = c.args.place in
     let own = does_at h p _ Commit (there h p c.requires.within) c.in-Commit.is in
-    clean_above h p t _ (subst (λ o. IsLastDirtyRead h p t o) (sym (c.copied-read.ensures ∙ c.get.ensures.value))
-    (subst (λ u. IsLastDirtyRead h p t (get nat_cmp c.args.self.now.lasts u)) (same_doer h p t _ _ _ does own)
+    clean_above h p t _ (subst (λ o. IsLastDirtyRead h p t o) (sym c.find-read.ensures)
+    (subst (λ u. IsLastDirtyRead h p t (entry_of c.args.self.now.lasts u)) (same_doer h p t _ _ _ does own)
     (c.requires.reads.1.lasts_are t)))
 
 pub unreachable-requires : goal.unreachable-requires

@@ -1,7 +1,6 @@
 use Rattle.std.proofs.Common.{rules, ◌≡◌, ◌≢◌, ℕ, None, inl, inr, arith}
 use Rattle.std.proofs.lemmas.Grind.{common_steps}
-use Rattle.std.specs.BTreeMap.{get}
-use Rattle.std.specs.Ordering.{nat_cmp}
+use Rattle.sgt_history.specs.Tables.{entry_of}
 use Rattle.sgt_history.proofs.Places.{there, does_at}
 use Rattle.sgt_history.proofs.Rigorousness.{end_reads, write_reads, read_reads}
 use Rattle.sgt_history.proofs.rigorous.Accesses.note_read.Goals as goal
@@ -17,8 +16,8 @@ pub returns-in-Write-clause-reads : goal.returns-in-Write-clause-reads
 returns-in-Write-clause-reads c =
     let does = does_at c.args.history.now c.args.place _ _ (there c.args.history.now c.args.place c.requires.within) c.in-Write.is in
     let x : ℕ = c.in-Write.item in
-    let none : get nat_cmp c.remove.new.self x ≡ None = search rules in
-    let others : (y : ℕ) → y ≢ x → get nat_cmp c.remove.new.self y ≡ get nat_cmp c.args.self.now.lasts y = (λ y apart. search rules) in
+    let none : entry_of c.remove.new.self x ≡ None = search rules in
+    let others : (y : ℕ) → y ≢ x → entry_of c.remove.new.self y ≡ entry_of c.args.self.now.lasts y = (λ y apart. search rules) in
     write_reads _ _ _ _ _ _ _ does c.requires.reads none others
 
 pub returns-in-Commit-clause-reads : goal.returns-in-Commit-clause-reads

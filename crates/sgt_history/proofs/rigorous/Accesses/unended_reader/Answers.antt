@@ -1,8 +1,7 @@
-use Rattle.std.proofs.Common.{rules, ◌≡◌, ◌<◌, ◌⊎◌, ◌∙◌, ℕ, Some, sym, ap, subst, inl, inr, arith}
+use Rattle.std.proofs.Common.{rules, ◌≡◌, ◌<◌, ◌⊎◌, ℕ, Some, sym, ap, subst, inl, inr, arith}
 use Rattle.std.specs.Prelude.{slice_index_or, length}
 use Rattle.std.proofs.lemmas.Grind.{common_steps}
-use Rattle.std.specs.BTreeMap.{get}
-use Rattle.std.specs.Ordering.{nat_cmp}
+use Rattle.sgt_history.specs.Tables.{entry_of}
 use Rattle.sgt_history.specs.declared.operation.Operation.{Operation}
 use Rattle.sgt_history.specs.declared.operation.Action.TheVariants.{Read, Write}
 use Rattle.sgt_history.specs.Histories.{Does, EndedBefore}
@@ -21,8 +20,8 @@ loop-read-init c u y does =
     let t : ℕ = (slice_index_or h p (record { transaction = 0; action = Read 0 })).transaction in
     let own : Does h p t (Write x) = does_at h p _ (Write x) (there h p c.requires.within) c.in-Write.is in
     let item : x ≡ y = grind (arith, common_steps, same_action h p t u _ _ own does) in
-    fine_above h p y u _ (subst (λ o. IsLastRead h p y o) (sym (c.copied-read.ensures ∙ c.get.ensures.value))
-    (subst (λ z. IsLastRead h p z (get nat_cmp c.args.self.now.lasts x)) item (c.requires.uses.reads.lasts_are x)))
+    fine_above h p y u _ (subst (λ o. IsLastRead h p y o) (sym c.find-read.ensures)
+    (subst (λ z. IsLastRead h p z (entry_of c.args.self.now.lasts x)) item (c.requires.uses.reads.lasts_are x)))
 
 pub offset_bounds-history-earlier : goal.offset_bounds-history-earlier
 offset_bounds-history-earlier c =

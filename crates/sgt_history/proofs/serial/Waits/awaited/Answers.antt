@@ -1,7 +1,6 @@
 use Rattle.std.proofs.Common.{rules, ◌≡◌, Some, ap, sym, subst, ◌∙◌, arith}
 use Rattle.std.specs.Prelude.{slice_get}
-use Rattle.std.specs.BTreeMap.{get}
-use Rattle.std.specs.Ordering.{nat_cmp}
+use Rattle.sgt_history.specs.Tables.{entry_of}
 use Rattle.std.proofs.lemmas.Grind.{common_steps}
 use Rattle.std.proofs.lemmas.Option.{slice_get-get_or, slice_get_within}
 use Rattle.sgt_history.specs.declared.graph.Edge.{Edge}
@@ -15,7 +14,7 @@ use Rattle.sgt_history.proofs.serial.Waits.awaited.Goals as goal
 pub loop-top-preserved : goal.loop-top-preserved
 loop-top-preserved c =
     let es = c.args.self.now.edges.items in
-    let left = get nat_cmp c.args.self.now.left in
+    let left = entry_of c.args.self.now.left in
     let u = c.args.transaction in
     let i = c.in-Some.edge in
     let e : Edge = c.index.result.now in

@@ -1,7 +1,6 @@
 use Rattle.std.proofs.Common.{rules, ◌≡◌, ℕ, List, Some, IfOk, subst}
 use Rattle.std.specs.Prelude.{slice_get}
-use Rattle.std.specs.BTreeMap.{get}
-use Rattle.std.specs.Ordering.{nat_cmp}
+use Rattle.sgt_history.specs.Tables.{entry_of}
 use Rattle.sgt_history.specs.declared.operation.Operation.{Operation}
 use Rattle.sgt_history.specs.declared.graph.Edge.{Edge}
 use Rattle.sgt_history.specs.Serializability.{IsCycle, IsEdgeBy}
@@ -12,9 +11,9 @@ pub cycle_back-requires-clause-back : goal.cycle_back-requires-clause-back
 cycle_back-requires-clause-back c =
     let es = c.args.self.now.edges.items in
     let same : es ≡ c.as_slice.result.now = search rules in
-    subst (λ l. LeadBack l (get nat_cmp c.args.self.now.incoming.tops)) same (λ u k is.
-    let top : IsTopEdge es (get nat_cmp c.args.self.now.left) u (Some k) =
-    subst (λ o. IsTopEdge es (get nat_cmp c.args.self.now.left) u o) is (c.requires.waits.tops_are u) in
+    subst (λ l. LeadBack l (entry_of c.args.self.now.incoming.tops)) same (λ u k is.
+    let top : IsTopEdge es (entry_of c.args.self.now.left) u (Some k) =
+    subst (λ o. IsTopEdge es (entry_of c.args.self.now.left) u o) is (c.requires.waits.tops_are u) in
     (top.0.0, top.0.1, top.0.2, c.requires.all_wait _ (c.requires.wait u k top.0.0 is top.0.1)))
 
 pub returns : goal.returns

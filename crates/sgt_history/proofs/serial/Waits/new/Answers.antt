@@ -2,6 +2,7 @@ use Rattle.std.proofs.Common.{rules, ◌+◌, sym, subst, arith}
 use Rattle.std.specs.Prelude.{length}
 use Rattle.std.specs.BTreeMap.{get}
 use Rattle.std.specs.Ordering.{nat_cmp}
+use Rattle.sgt_history.specs.Tables.{entry_of}
 use Rattle.sgt_history.specs.declared.operation.Action.TheVariants.{Commit}
 use Rattle.sgt_history.specs.Links.{link_of}
 use Rattle.sgt_history.specs.Sorting.{AreChains}
@@ -13,17 +14,17 @@ use Rattle.sgt_history.proofs.serial.Waits.new.Goals as goal
 
 pub loop-place-init : goal.loop-place-init
 loop-place-init c =
-    let tops = get nat_cmp c.in_ok-incoming.incoming.tops in
+    let tops = entry_of c.in_ok-incoming.incoming.tops in
     let below = link_of c.in_ok-incoming.incoming.below in
-    let outs = get nat_cmp c.in_ok-outgoing.outgoing.tops in
+    let outs = entry_of c.in_ok-outgoing.outgoing.tops in
     let further = link_of c.in_ok-outgoing.outgoing.below in record {
-      waits = first_waits c.args.history.now c.args.edges.items (get nat_cmp c.args.commits) tops below outs further
+      waits = first_waits c.args.history.now c.args.edges.items (entry_of c.args.commits) tops below outs further
           (get nat_cmp c.new.result)
           c.requires.commits c.requires.edges
           (subst (λ es. AreChains To es (length es) tops below) c.as_slice.ensures.value c.in_ok-incoming.ensures)
           (subst (λ es. AreChains From es (length es) outs further) c.as_slice-2.ensures.value c.in_ok-outgoing.ensures) (search rules);
       ready = λ u d is less. absurd (omega (arith, less));
-      wait = λ u k e top at. first_wait c.args.history.now (get nat_cmp c.args.commits) e c.requires.commits (c.requires.edges k e at);
+      wait = λ u k e top at. first_wait c.args.history.now (entry_of c.args.commits) e c.requires.commits (c.requires.edges k e at);
       edges_are = search rules;
       left_are = search rules;
     }

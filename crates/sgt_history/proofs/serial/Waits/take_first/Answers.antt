@@ -1,5 +1,6 @@
 use Rattle.std.proofs.Common.{rules, ◌≡◌, ◌<◌, IsSome, inl, inr, sym, subst, arith}
 use Rattle.std.specs.BTreeMap.{get, btree_map_len}
+use Rattle.sgt_history.specs.Tables.{entry_of}
 use Rattle.std.specs.Ordering.{nat_cmp}
 use Rattle.std.proofs.lemmas.Bool.{cases_eq}
 use Rattle.std.proofs.lemmas.Grind.{common_steps}
@@ -15,19 +16,19 @@ returns-in_default-clause-all_wait c none =
     all_wait_still c.args.self.now c.requires.ready (λ d. nothing_in c.args.self.now.ready d empty)
 
 pub release-requires-clause-waits : goal.release-requires-clause-waits
-release-requires-clause-waits c = waits_without c.args.self.now.edges.items (get nat_cmp c.args.self.now.left)
-    (get nat_cmp c.args.self.now.incoming.tops) (link_of c.args.self.now.incoming.below) (get nat_cmp c.args.self.now.outgoing.tops)
-    (link_of c.args.self.now.outgoing.below) (get nat_cmp c.args.self.now.ready) (get nat_cmp c.remove.new.self)
+release-requires-clause-waits c = waits_without c.args.self.now.edges.items (entry_of c.args.self.now.left)
+    (entry_of c.args.self.now.incoming.tops) (link_of c.args.self.now.incoming.below) (entry_of c.args.self.now.outgoing.tops)
+    (link_of c.args.self.now.outgoing.below) (get nat_cmp c.args.self.now.ready) (entry_of c.remove.new.self)
     _ c.in-Some.transaction c.in-Some.field-0-0 c.requires.waits (search rules)
-    (grind (arith, common_steps, c.remove.ensures.updates)) (λ u apart. grind (arith, common_steps, apart, c.remove.ensures.updates))
+    c.remove.ensures.at c.remove.ensures.others
     (grind (arith, common_steps, c.in-Some.ensures.updates)) (λ d apart. grind (arith, common_steps, apart, c.in-Some.ensures.updates))
 
 pub release-requires-clause-wait : goal.release-requires-clause-wait
 release-requires-clause-wait c u k e top at = elim (cases_eq e.from c.in-Some.transaction) [
   | inl same ↦ inr (same, slice_get_within c.args.self.now.edges.items k e at)
   | inr apart ↦
-      let still : get nat_cmp c.remove.new.self e.from ≡ get nat_cmp c.args.self.now.left e.from =
-      grind (arith, common_steps, apart, c.remove.ensures.updates) in
+      let still : entry_of c.remove.new.self e.from ≡ entry_of c.args.self.now.left e.from =
+      c.remove.ensures.others e.from apart in
       inl (subst (λ o. IsSome o) (sym still) (c.requires.wait u k e top at))
 ]
 

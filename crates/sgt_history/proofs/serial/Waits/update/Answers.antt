@@ -13,7 +13,6 @@ returns-in_ok-insert-clause-others_ready c d u is =
       c.requires.ready_are d u is,
       c.requires.apart u c.args.transaction d,
       c.in-Some.is,
-      c.copied.ensures,
-      c.get.ensures.value,
+      c.find.ensures,
       c.in_ok-insert.ensures.updates,
     )

@@ -12,15 +12,15 @@ returns-in_err-item-clause-none c = λ _.
 pub returns-in_err-earlier-clause-none : goal.returns-in_err-earlier-clause-none
 returns-in_err-earlier-clause-none c = λ _.
     strict_no_write _ _ _ c.in_ok-item.item (there c.args.history.now c.args.place c.requires.within) (sym c.in_ok-item.ensures)
-    (subst (λ o. IsLastWrite c.args.history.now c.args.place c.in_ok-item.item o) (sym c.in_err-earlier.ensures.value)
+    (subst (λ o. IsLastWrite c.args.history.now c.args.place c.in_ok-item.item o) (sym c.in_err-earlier.ensures)
     (c.requires.last c.in_ok-item.item)) c.requires.strict
 
 pub returns-then-writer-operation-clause-none : goal.returns-then-writer-operation-clause-none
 returns-then-writer-operation-clause-none c =
     let h = c.args.history.now in
-    let i : ℕ = c.in_ok-earlier.field-0.now in
+    let i : ℕ = c.in_ok-earlier.earlier in
     let last : IsLastWrite h c.args.place c.in_ok-item.item (Some i) =
-    subst (λ o. IsLastWrite h c.args.place c.in_ok-item.item o) (sym c.in_ok-earlier.ensures.value) (c.requires.last c.in_ok-item.item) in
+    subst (λ o. IsLastWrite h c.args.place c.in_ok-item.item o) (sym c.in_ok-earlier.ensures) (c.requires.last c.in_ok-item.item) in
     λ _. strict_ended _ _ _ _ _ c.in_ok-item.item (there h c.args.place c.requires.within) (sym c.in_ok-item.ensures)
     (there h i (omega (arith, last.0, c.requires.within))) last
     (elim c.then-writer-operation.branch [
@@ -31,9 +31,9 @@ returns-then-writer-operation-clause-none c =
 pub returns-clause-some : goal.returns-clause-some
 returns-clause-some c =
     let h = c.args.history.now in
-    let i : ℕ = c.in_ok-earlier.field-0.now in
+    let i : ℕ = c.in_ok-earlier.earlier in
     let last : IsLastWrite h c.args.place c.in_ok-item.item (Some i) =
-    subst (λ o. IsLastWrite h c.args.place c.in_ok-item.item o) (sym c.in_ok-earlier.ensures.value) (c.requires.last c.in_ok-item.item) in
+    subst (λ o. IsLastWrite h c.args.place c.in_ok-item.item o) (sym c.in_ok-earlier.ensures) (c.requires.last c.in_ok-item.item) in
     strict_broken _ _ _ _ _ c.in_ok-item.item (there h c.args.place c.requires.within) (sym c.in_ok-item.ensures)
     (there h i (omega (arith, last.0, c.requires.within))) last
     (search rules)
