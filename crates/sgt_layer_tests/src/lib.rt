@@ -7,6 +7,8 @@
 #[cfg(test)]
 mod accesses;
 #[cfg(test)]
+mod arithmetic;
+#[cfg(test)]
 mod cascades;
 #[cfg(test)]
 mod cursor;

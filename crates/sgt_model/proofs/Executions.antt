@@ -1,15 +1,15 @@
 -- The run of a procedure does what its statements mean: by induction on the statements, for whatever comes behind them.
-use Rattle.std.specs.Prelude.{◌≡◌, ℕ, ℤ, ◌+ℤ◌, ◌-ℤ◌, int_lt, int_le, Bool, true, false, cond, nat_lt, List, length, Option, Some, None, Ok, Err, ok_or, slice_get, slice_index_or}
+use Rattle.std.specs.Prelude.{◌≡◌, ℕ, ℤ, ◌+ℤ◌, ◌-ℤ◌, ◌*ℤ◌, pos, int_div, int_lt, int_le, Bool, true, false, cond, nat_lt, List, length, Option, Some, None, Ok, Err, ok_or, slice_get, slice_index_or}
 use Rattle.std.specs.Ordering.{int_eq}
 use Rattle.std.proofs.Common.{refl, ◌∙◌}
 use Rattle.sgt_model.specs.Numbers.{is_value}
 use Rattle.sgt_model.specs.Contents.{Key, Contents}
-use Rattle.sgt_model.specs.Syntax.{Term, num, arg, reg, sum, diff, Test, less, at_most, equal, Block, empty, look, put, save, ask, choose, answer}
+use Rattle.sgt_model.specs.Syntax.{Term, num, arg, reg, sum, diff, product, quotient, Test, less, at_most, equal, Block, empty, look, put, save, ask, choose, answer}
 use Rattle.sgt_model.specs.Runs.{Run, Outcome, Asked, serial}
 use Rattle.sgt_model.specs.Ways.{Way, onto}
 use Rattle.sgt_model.specs.Ways as way
-use Rattle.sgt_model.specs.Meaning.{Got, is, over, missing, got, bounded, both, value_of, Truth, holds, too_far, unknown, compared, truth_of, wrong, with_value, with_test, is_key, if_found, run}
-use Rattle.sgt_model.specs.Executions.{OrCode, and_then, provided, Workspace, workspace_of, in_turn, value_or_overflow, evaluate, decide, look_at_record, put_record, let_register, give_answer, execute, outcome_of, SerialIsExecution}
+use Rattle.sgt_model.specs.Meaning.{Got, is, over, missing, got, bounded, divided, both, value_of, Truth, holds, too_far, unknown, compared, truth_of, wrong, with_value, with_test, is_key, if_found, run}
+use Rattle.sgt_model.specs.Executions.{OrCode, and_then, provided, Workspace, workspace_of, in_turn, value_or_overflow, quotient_or_overflow, evaluate, decide, look_at_record, put_record, let_register, give_answer, execute, outcome_of, SerialIsExecution}
 
 -- expressions
 
@@ -27,13 +27,23 @@ ranged : (fits : Bool) (v : ℤ) → provided fits v 1000 ≡ got_or_code (cond 
 ranged true v = refl
 ranged false v = refl
 
-both_are : (f : ℤ → ℤ → ℤ) (a b : Got) → in_turn (got_or_code a) (got_or_code b) (λ x y. value_or_overflow (f x y)) ≡ got_or_code
-    (both (λ x y. bounded (f x y)) a b)
-both_are f (is a) (is b) = ranged (is_value (f a b)) (f a b)
-both_are f (is a) over = refl
-both_are f (is a) missing = refl
-both_are f over b = refl
-both_are f missing b = refl
+bounded_is : (v : ℤ) → value_or_overflow v ≡ got_or_code (bounded v)
+bounded_is v = ranged (is_value v) v
+
+by_zero : (none : Bool) (v : ℤ) → cond none (Err 1000) (value_or_overflow v) ≡ got_or_code (cond none over (bounded v))
+by_zero true v = refl
+by_zero false v = bounded_is v
+
+divided_is : (x y : ℤ) → quotient_or_overflow x y ≡ got_or_code (divided x y)
+divided_is x y = by_zero (int_eq y (pos 0)) (int_div x y)
+
+both_are : (f : ℤ → ℤ → OrCode ℤ) (g : ℤ → ℤ → Got) → ((x y : ℤ) → f x y ≡ got_or_code (g x y)) → (a b : Got)
+    → in_turn (got_or_code a) (got_or_code b) (λ x y. f x y) ≡ got_or_code (both (λ x y. g x y) a b)
+both_are f g same (is a) (is b) = same a b
+both_are f g same (is a) over = refl
+both_are f g same (is a) missing = refl
+both_are f g same over b = refl
+both_are f g same missing b = refl
 
 compared_are : (f : ℤ → ℤ → Bool) (a b : Got) → in_turn (got_or_code a) (got_or_code b) (λ x y. Ok (f x y)) ≡ test_or_code (compared f a b)
 compared_are f (is a) (is b) = refl
@@ -50,10 +60,14 @@ value_is : (t : Term) (args : List ℤ) (w : Workspace) → evaluate t args w �
 value_is (num n) args w = refl
 value_is (arg n) args w = found_is (slice_get args n)
 value_is (reg n) args w = found_is (slice_index_or w.registers n None)
-value_is (sum a b) args w = rw (value_is a args w, value_is b args w) (both_are (λ x y. x +ℤ y) (value_of a args w.registers)
-    (value_of b args w.registers))
-value_is (diff a b) args w = rw (value_is a args w, value_is b args w) (both_are (λ x y. x -ℤ y) (value_of a args w.registers)
-    (value_of b args w.registers))
+value_is (sum a b) args w = rw (value_is a args w, value_is b args w)
+    (both_are _ _ (λ x y. bounded_is (x +ℤ y)) (value_of a args w.registers) (value_of b args w.registers))
+value_is (diff a b) args w = rw (value_is a args w, value_is b args w)
+    (both_are _ _ (λ x y. bounded_is (x -ℤ y)) (value_of a args w.registers) (value_of b args w.registers))
+value_is (product a b) args w = rw (value_is a args w, value_is b args w)
+    (both_are _ _ (λ x y. bounded_is (x *ℤ y)) (value_of a args w.registers) (value_of b args w.registers))
+value_is (quotient a b) args w = rw (value_is a args w, value_is b args w)
+    (both_are _ _ divided_is (value_of a args w.registers) (value_of b args w.registers))
 
 test_is : (t : Test) (args : List ℤ) (w : Workspace) → decide t args w ≡ test_or_code (truth_of t args w.registers)
 test_is (less a b) args w = rw (value_is a args w, value_is b args w) (compared_are int_lt (value_of a args w.registers)

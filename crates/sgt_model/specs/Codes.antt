@@ -5,7 +5,7 @@ use Rattle.std.proofs.Common.{refl}
 use Rattle.std.specs.Coded.{Coded, code_by, coded×, coded_ℕ}
 use base.Stored.{Gv, gnil, gnum, gcons}
 use denote.Struct.Codes.{itself}
-use Rattle.sgt_model.specs.Syntax.{Program, Block, empty, look, put, save, ask, choose, answer, Term, num, arg, reg, sum, diff, Test, less, at_most, equal}
+use Rattle.sgt_model.specs.Syntax.{Program, Block, empty, look, put, save, ask, choose, answer, Term, num, arg, reg, sum, diff, product, quotient, Test, less, at_most, equal}
 
 -- a number with sign: 0 or 1 for the sign, and its size
 abbrev pub int_tree : ℤ → Gv
@@ -35,6 +35,8 @@ term_tree (arg n) = gcons (gnum 1) (gnum n)
 term_tree (reg n) = gcons (gnum 2) (gnum n)
 term_tree (sum a b) = gcons (gnum 3) (gcons (term_tree a) (term_tree b))
 term_tree (diff a b) = gcons (gnum 4) (gcons (term_tree a) (term_tree b))
+term_tree (product a b) = gcons (gnum 5) (gcons (term_tree a) (term_tree b))
+term_tree (quotient a b) = gcons (gnum 6) (gcons (term_tree a) (term_tree b))
 
 -- the expression that a tree is
 abbrev pub term_in : Gv → Term
@@ -43,6 +45,8 @@ term_in (gcons (gnum (suc zero)) n) = arg (num_in n)
 term_in (gcons (gnum (suc (suc zero))) n) = reg (num_in n)
 term_in (gcons (gnum (suc (suc (suc zero)))) (gcons a b)) = sum (term_in a) (term_in b)
 term_in (gcons (gnum (suc (suc (suc (suc zero))))) (gcons a b)) = diff (term_in a) (term_in b)
+term_in (gcons (gnum (suc (suc (suc (suc (suc zero)))))) (gcons a b)) = product (term_in a) (term_in b)
+term_in (gcons (gnum (suc (suc (suc (suc (suc (suc zero))))))) (gcons a b)) = quotient (term_in a) (term_in b)
 term_in _ = reg 0
 
 -- it is read back
@@ -52,6 +56,8 @@ term_back (arg n) = refl
 term_back (reg n) = refl
 term_back (sum a b) = λ i. sum (term_back a i) (term_back b i)
 term_back (diff a b) = λ i. diff (term_back a i) (term_back b i)
+term_back (product a b) = λ i. product (term_back a i) (term_back b i)
+term_back (quotient a b) = λ i. quotient (term_back a i) (term_back b i)
 
 -- a condition: the number of its form, and both sides
 abbrev pub test_tree : Test → Gv

@@ -1,11 +1,11 @@
 -- The meaning of the procedure language, statement by statement: a procedure is executed at once and alone, over a working
 -- copy of the database. This is a denotational semantics of a small language whose statements may end it early, by recursion
 -- on its text. It knows no accesses, no runs and no histories; the law at the end joins it to the runs that these are read from.
-use Rattle.std.specs.Prelude.{◌≡◌, ℕ, ℤ, ◌+ℤ◌, ◌-ℤ◌, int_lt, int_le, Bool, ◌&&◌, cond, nat_le, nat_lt, List, [], ◌∷◌, ◌++◌, length, Option, Some, None, Result, Ok, Err, ok_or, slice_get, slice_index_or, slice_set, replicate}
+use Rattle.std.specs.Prelude.{◌≡◌, ℕ, ℤ, ◌+ℤ◌, ◌-ℤ◌, ◌*ℤ◌, pos, int_div, int_lt, int_le, Bool, ◌&&◌, cond, nat_le, nat_lt, List, [], ◌∷◌, ◌++◌, length, Option, Some, None, Result, Ok, Err, ok_or, slice_get, slice_index_or, slice_set, replicate}
 use Rattle.std.specs.Ordering.{int_eq}
 use Rattle.sgt_model.specs.Numbers.{is_value}
 use Rattle.sgt_model.specs.Contents.{Key, Contents, put_in}
-use Rattle.sgt_model.specs.Syntax.{Term, num, arg, reg, sum, diff, Test, less, at_most, equal, Block, empty, look, put, save, ask, choose, answer, Program}
+use Rattle.sgt_model.specs.Syntax.{Term, num, arg, reg, sum, diff, product, quotient, Test, less, at_most, equal, Block, empty, look, put, save, ask, choose, answer, Program}
 use Rattle.sgt_model.specs.Runs.{Outcome, Done, Asked, serial}
 use Rattle.sgt_model.specs.Meaning.{run_with}
 
@@ -24,7 +24,7 @@ and_then (Err code) next = Err code
 abbrev pub provided : {A : Type 0} → Bool → A → ℕ → OrCode A
 provided condition a code = cond condition (Ok a) (Err code)
 
--- the code of a sum or difference that is no value
+-- the code of a sum, difference, product or quotient that is no value, and of a quotient by 0
 abbrev pub overflow : ℕ
 overflow = 1000
 
@@ -67,6 +67,10 @@ in_turn left right make = and_then left (λ x. and_then right (λ y. make x y))
 abbrev pub value_or_overflow : ℤ → OrCode ℤ
 value_or_overflow v = provided (is_value v) v overflow
 
+-- the quotient, rounded towards zero, where it is a value; there is none by 0
+abbrev pub quotient_or_overflow : ℤ → ℤ → OrCode ℤ
+quotient_or_overflow x y = cond (int_eq y (pos 0)) (Err overflow) (value_or_overflow (int_div x y))
+
 -- the value of an expression
 abbrev pub evaluate : Term → List ℤ → Workspace → OrCode ℤ
 evaluate (num n) args w = Ok n
@@ -74,6 +78,8 @@ evaluate (arg n) args w = ok_or (slice_get args n) stuck
 evaluate (reg n) args w = ok_or (slice_index_or w.registers n None) stuck
 evaluate (sum a b) args w = in_turn (evaluate a args w) (evaluate b args w) (λ x y. value_or_overflow (x +ℤ y))
 evaluate (diff a b) args w = in_turn (evaluate a args w) (evaluate b args w) (λ x y. value_or_overflow (x -ℤ y))
+evaluate (product a b) args w = in_turn (evaluate a args w) (evaluate b args w) (λ x y. value_or_overflow (x *ℤ y))
+evaluate (quotient a b) args w = in_turn (evaluate a args w) (evaluate b args w) (λ x y. quotient_or_overflow x y)
 
 -- whether a condition holds
 abbrev pub decide : Test → List ℤ → Workspace → OrCode Bool

@@ -1,15 +1,15 @@
 -- What a procedure means: what its run does, one access after another.
-use Rattle.std.specs.Prelude.{ℕ, ℤ, ◌+ℤ◌, ◌-ℤ◌, int_lt, int_le, Bool, ◌&&◌, cond, nat_le, nat_lt, List, [], ◌∷◌, ◌++◌, length, Option, Some, None, slice_get, slice_index_or, slice_set, replicate}
+use Rattle.std.specs.Prelude.{ℕ, ℤ, ◌+ℤ◌, ◌-ℤ◌, ◌*ℤ◌, pos, int_div, int_lt, int_le, Bool, ◌&&◌, cond, nat_le, nat_lt, List, [], ◌∷◌, ◌++◌, length, Option, Some, None, slice_get, slice_index_or, slice_set, replicate}
 use Rattle.std.specs.Ordering.{int_eq}
 use Rattle.sgt_model.specs.Numbers.{is_value}
 use Rattle.sgt_model.specs.Contents.{Key}
-use Rattle.sgt_model.specs.Syntax.{Term, num, arg, reg, sum, diff, Test, less, at_most, equal, Program}
+use Rattle.sgt_model.specs.Syntax.{Term, num, arg, reg, sum, diff, product, quotient, Test, less, at_most, equal, Program}
 use Rattle.sgt_model.specs.Ways.{Way, onto}
 use Rattle.sgt_model.specs.Ways as way
 use Rattle.sgt_model.specs.Runs.{Run, looks, puts, ends, asks}
 
--- what an expression gives: a number, or a sum or difference that is no value, or nothing, as it names a register that is
--- not set or an argument that is not there
+-- what an expression gives: a number, or what arithmetic gives is no value, or nothing, as it names a register that is not set
+-- or an argument that is not there
 pub data Got : Type 0 where
   is : ℤ → Got
   over : Got
@@ -23,6 +23,10 @@ got (Some v) = is v
 -- a number, if it is a value
 abbrev pub bounded : ℤ → Got
 bounded v = cond (is_value v) (is v) over
+
+-- the quotient, rounded towards zero, if it is a value; there is none by 0
+abbrev pub divided : ℤ → ℤ → Got
+divided x y = cond (int_eq y (pos 0)) over (bounded (int_div x y))
 
 -- what two parts give together: the left part is evaluated first
 abbrev pub both : (ℤ → ℤ → Got) → Got → Got → Got
@@ -47,6 +51,8 @@ value_of (arg n) args regs = got (slice_get args n)
 value_of (reg n) args regs = got (slice_index_or regs n None)
 value_of (sum a b) args regs = both (λ x y. bounded (x +ℤ y)) (value_of a args regs) (value_of b args regs)
 value_of (diff a b) args regs = both (λ x y. bounded (x -ℤ y)) (value_of a args regs) (value_of b args regs)
+value_of (product a b) args regs = both (λ x y. bounded (x *ℤ y)) (value_of a args regs) (value_of b args regs)
+value_of (quotient a b) args regs = both (λ x y. divided x y) (value_of a args regs) (value_of b args regs)
 
 -- what a condition gives: it holds or not, or a part of it is over or missing
 pub data Truth : Type 0 where

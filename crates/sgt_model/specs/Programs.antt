@@ -1,13 +1,13 @@
 -- The text that a stored procedure is.
 use Rattle.std.specs.Prelude.{List, [], ◌∷◌}
 use Rattle.sgt_model.specs.declared.procedure.Expr.{Expr}
-use Rattle.sgt_model.specs.declared.procedure.Expr.TheVariants.{Num, Arg, Reg, Sum', Diff'}
+use Rattle.sgt_model.specs.declared.procedure.Expr.TheVariants.{Num, Arg, Reg, Sum', Diff', Product', Quotient'}
 use Rattle.sgt_model.specs.declared.procedure.Cond.{Cond}
 use Rattle.sgt_model.specs.declared.procedure.Cond.TheVariants.{Less, AtMost, Equal}
 use Rattle.sgt_model.specs.declared.procedure.Statement.{Statement, Row_of-Statement, end_of-Statement, more_of-Statement}
 use Rattle.sgt_model.specs.declared.procedure.Statement.TheVariants.{Look, Put, Let, Ask, If', Answer}
 use Rattle.sgt_model.specs.declared.procedure.Procedure.{Procedure}
-use Rattle.sgt_model.specs.Syntax.{Term, num, arg, reg, sum, diff, Test, less, at_most, equal, Block, empty, look, put, save, ask, choose, answer, Program}
+use Rattle.sgt_model.specs.Syntax.{Term, num, arg, reg, sum, diff, product, quotient, Test, less, at_most, equal, Block, empty, look, put, save, ask, choose, answer, Program}
 
 -- the text of an expression
 abbrev pub term_of : Expr → Term
@@ -16,6 +16,8 @@ term_of (Arg n) = arg n
 term_of (Reg n) = reg n
 term_of (Sum' p a q b) = sum (term_of a) (term_of b)
 term_of (Diff' p a q b) = diff (term_of a) (term_of b)
+term_of (Product' p a q b) = product (term_of a) (term_of b)
+term_of (Quotient' p a q b) = quotient (term_of a) (term_of b)
 
 -- the text of a condition
 abbrev pub test_of : Cond → Test

@@ -1,13 +1,15 @@
 -- What the text of a procedure says, with nothing of how it is stored: two procedures are equal here where their texts are.
 use Rattle.std.specs.Prelude.{ℕ, ℤ}
 
--- an expression: a literal, an argument, a register, a sum or a difference
+-- an expression: a literal, an argument, a register, a sum, a difference, a product or a quotient
 pub data Term : Type 0 where
   num : ℤ → Term
   arg : ℕ → Term
   reg : ℕ → Term
   sum : Term → Term → Term
   diff : Term → Term → Term
+  product : Term → Term → Term
+  quotient : Term → Term → Term
 
 -- a condition
 pub data Test : Type 0 where

@@ -47,8 +47,8 @@ pub enum Statement {
     },
 }
 
-/// An expression, of which the left part is evaluated first. A sum or difference that is no value ends the procedure, which
-/// asks code 1000.
+/// An expression, of which the left part is evaluated first. A sum, difference, product or quotient that is no value ends the
+/// procedure, which asks code 1000; so does a quotient by 0.
 #[derive(Drop)]
 pub enum Expr {
     /// A literal, which is a value.
@@ -61,6 +61,10 @@ pub enum Expr {
     Sum(Box<Expr>, Box<Expr>),
     /// The left part less the right part.
     Diff(Box<Expr>, Box<Expr>),
+    /// The left part times the right part.
+    Product(Box<Expr>, Box<Expr>),
+    /// The left part divided by the right part, rounded towards zero.
+    Quotient(Box<Expr>, Box<Expr>),
 }
 
 /// A condition between two expressions, of which the left one is evaluated first.

@@ -12,7 +12,7 @@ pub enum Cause {
     /// Its step would close a cycle of conflicts. The walk begins with the transaction itself, follows conflict pairs, and
     /// ends with one that has an earlier access that conflicts with the step's. It names none twice.
     Cycle(Tids),
-    /// Its procedure asked this code: 1 to 999 by its text, 1000 by a sum or difference that is no value.
+    /// Its procedure asked this code: 1 to 999 by its text, 1000 by arithmetic that gives no value.
     Asked(u16),
     /// Its caller quit it.
     Quit,

@@ -53,6 +53,8 @@ term_nothing (text.arg n) = refl
 term_nothing (text.reg n) = refl
 term_nothing (text.sum a b) = or_none _ _ (term_nothing a) (term_nothing b)
 term_nothing (text.diff a b) = or_none _ _ (term_nothing a) (term_nothing b)
+term_nothing (text.product a b) = or_none _ _ (term_nothing a) (term_nothing b)
+term_nothing (text.quotient a b) = or_none _ _ (term_nothing a) (term_nothing b)
 
 test_nothing : (t : Test) → in_test (λ n. false) t ≡ false
 test_nothing (text.less a b) = or_none _ _ (term_nothing a) (term_nothing b)

@@ -1,6 +1,7 @@
 -- A procedure without a flaw never goes wrong.
 use Rattle.std.proofs.Common.{◌≡◌, refl, sym, ◌∙◌, subst, inl, inr, ℕ, ◌+◌, ◌<◌, ◌≤◌, ℤ, Bool, true, false, not, ◌&&◌, ◌||◌, cond, List, [], ◌∷◌, ◌++◌, length, get_or, set, max, Option, Some, None, arith, length-append, IsTrue}
-use Rattle.std.specs.Prelude.{nat_eq, nat_lt, nat_le, slice_get, slice_set, slice_index_or, pos, ◌+ℤ◌, ◌-ℤ◌, All}
+use Rattle.std.specs.Prelude.{nat_eq, nat_lt, nat_le, slice_get, slice_set, slice_index_or, pos, ◌+ℤ◌, ◌-ℤ◌, ◌*ℤ◌, int_div, All}
+use Rattle.std.specs.Ordering.{int_eq}
 use Rattle.std.proofs.lemmas.Bool.{eq-eqb, or_left, or_right, or_parts, and_from}
 use Rattle.std.proofs.lemmas.Bool.Decides.{eqb_tells, nat_tests}
 use Rattle.std.proofs.lemmas.List.{get_or-set_same, get_or-set_other}
@@ -9,11 +10,11 @@ use Rattle.std.proofs.lemmas.Option.{slice_get-get_or}
 use Rattle.std.proofs.Math.ListN.{length-set}
 use Rattle.sgt_model.specs.Numbers.{IsValue, is_value}
 use Rattle.sgt_model.specs.Contents.{Key}
-use Rattle.sgt_model.specs.Syntax.{Term, num, arg, reg, sum, diff, Test, less, at_most, equal, Program}
+use Rattle.sgt_model.specs.Syntax.{Term, num, arg, reg, sum, diff, product, quotient, Test, less, at_most, equal, Program}
 use Rattle.sgt_model.specs.Ways.{Way, onto}
 use Rattle.sgt_model.specs.Ways as way
 use Rattle.sgt_model.specs.Runs.{Run, looks, puts}
-use Rattle.sgt_model.specs.Meaning.{Got, is, over, missing, got, bounded, both, Registers, fresh, value_of, Truth, holds, too_far, unknown, compared, truth_of, with_value, with_test, with_key, with_stored, if_found, with_room, run}
+use Rattle.sgt_model.specs.Meaning.{Got, is, over, missing, got, bounded, divided, both, Registers, fresh, value_of, Truth, holds, too_far, unknown, compared, truth_of, with_value, with_test, with_key, with_stored, if_found, with_room, run}
 use Rattle.sgt_proc.specs.declared.flaw.Flaw.{Flaw}
 use Rattle.sgt_proc.specs.declared.flaw.Flaw.TheVariants.{HighRegister, UnsetRegister, NoArgument, HighTable, TooLong, TooDeep, ManyAnswers, BadCode, ManyArguments, BadLiteral}
 use Rattle.sgt_proc.specs.declared.numbers.Number.{Number}
@@ -42,12 +43,22 @@ bounded_if : (v : ℤ) (b : Bool) → is_value v ≡ b → IsFine (cond b (is v)
 bounded_if v true e = value_from v e
 bounded_if v false e = tt
 
-both_fine : (op : ℤ → ℤ → ℤ) (g h : Got) → IsFine g → IsFine h → IsFine (both (λ x y. bounded (op x y)) g h)
-both_fine op (is a) (is b) f f' = bounded_if (op a b) (is_value (op a b)) refl
-both_fine op (is a) over f f' = tt
-both_fine op (is a) missing f f' = absurd f'
-both_fine op over h f f' = tt
-both_fine op missing h f f' = absurd f
+bounded_fine : (v : ℤ) → IsFine (bounded v)
+bounded_fine v = bounded_if v (is_value v) refl
+
+divided_if : (v : ℤ) (none : Bool) → IsFine (cond none over (bounded v))
+divided_if v true = tt
+divided_if v false = bounded_fine v
+
+divided_fine : (x y : ℤ) → IsFine (divided x y)
+divided_fine x y = divided_if (int_div x y) (int_eq y (pos 0))
+
+both_fine : (op : ℤ → ℤ → Got) → ((x y : ℤ) → IsFine (op x y)) → (g h : Got) → IsFine g → IsFine h → IsFine (both (λ x y. op x y) g h)
+both_fine op fine (is a) (is b) f f' = fine a b
+both_fine op fine (is a) over f f' = tt
+both_fine op fine (is a) missing f f' = absurd f'
+both_fine op fine over h f f' = tt
+both_fine op fine missing h f f' = absurd f
 
 compared_known : (op : ℤ → ℤ → Bool) (g h : Got) → IsFine g → IsFine h → IsKnown (compared op g h)
 compared_known op (is a) (is b) f f' = tt
@@ -124,11 +135,19 @@ module _ (args : List ℤ) (all_values : All IsValue args) where
   value_fine regs (reg n) c assigned =
       got_fine (slice_index_or regs n None) (assigned n (allowed_number (length args) (Register n) c) (eq-eqb n n refl))
   value_fine regs (sum a b) c assigned =
-      both_fine (λ x y. x +ℤ y) (value_of a args regs) (value_of b args regs)
+      both_fine _ (λ x y. bounded_fine (x +ℤ y)) (value_of a args regs) (value_of b args regs)
       (value_fine regs a (λ f. (or_parts _ _ (c f)).0) (λ r h e. assigned r h (or_left (uses r a) (uses r b) e)))
       (value_fine regs b (λ f. (or_parts _ _ (c f)).1) (λ r h e. assigned r h (or_right (uses r a) (uses r b) e)))
   value_fine regs (diff a b) c assigned =
-      both_fine (λ x y. x -ℤ y) (value_of a args regs) (value_of b args regs)
+      both_fine _ (λ x y. bounded_fine (x -ℤ y)) (value_of a args regs) (value_of b args regs)
+      (value_fine regs a (λ f. (or_parts _ _ (c f)).0) (λ r h e. assigned r h (or_left (uses r a) (uses r b) e)))
+      (value_fine regs b (λ f. (or_parts _ _ (c f)).1) (λ r h e. assigned r h (or_right (uses r a) (uses r b) e)))
+  value_fine regs (product a b) c assigned =
+      both_fine _ (λ x y. bounded_fine (x *ℤ y)) (value_of a args regs) (value_of b args regs)
+      (value_fine regs a (λ f. (or_parts _ _ (c f)).0) (λ r h e. assigned r h (or_left (uses r a) (uses r b) e)))
+      (value_fine regs b (λ f. (or_parts _ _ (c f)).1) (λ r h e. assigned r h (or_right (uses r a) (uses r b) e)))
+  value_fine regs (quotient a b) c assigned =
+      both_fine _ divided_fine (value_of a args regs) (value_of b args regs)
       (value_fine regs a (λ f. (or_parts _ _ (c f)).0) (λ r h e. assigned r h (or_left (uses r a) (uses r b) e)))
       (value_fine regs b (λ f. (or_parts _ _ (c f)).1) (λ r h e. assigned r h (or_right (uses r a) (uses r b) e)))
 

@@ -1,7 +1,7 @@
 -- The flaws that a procedure's text can have.
 use Rattle.std.specs.Prelude.{ℕ, ◌+◌, ◌<◌, max, Bool, false, not, ◌&&◌, ◌||◌, nat_eq, nat_lt, nat_le, IsTrue}
 use Rattle.sgt_model.specs.Numbers.{is_value}
-use Rattle.sgt_model.specs.Syntax.{Term, num, arg, reg, sum, diff, Test, less, at_most, equal, Block, empty, look, put, save, ask, choose, answer, Program}
+use Rattle.sgt_model.specs.Syntax.{Term, num, arg, reg, sum, diff, product, quotient, Test, less, at_most, equal, Block, empty, look, put, save, ask, choose, answer, Program}
 use Rattle.sgt_model.specs.Ways.{Way, onto}
 use Rattle.sgt_model.specs.Ways as way
 use Rattle.sgt_proc.specs.declared.flaw.Flaw.{Flaw}
@@ -16,6 +16,8 @@ in_term so (arg n) = so (Argument n)
 in_term so (reg n) = so (Register n)
 in_term so (sum a b) = in_term so a || in_term so b
 in_term so (diff a b) = in_term so a || in_term so b
+in_term so (product a b) = in_term so a || in_term so b
+in_term so (quotient a b) = in_term so a || in_term so b
 
 -- some number in a condition is so
 abbrev pub in_test : (Number → Bool) → Test → Bool
@@ -65,6 +67,8 @@ uses r (arg n) = false
 uses r (reg n) = nat_eq n r
 uses r (sum a b) = uses r a || uses r b
 uses r (diff a b) = uses r a || uses r b
+uses r (product a b) = uses r a || uses r b
+uses r (quotient a b) = uses r a || uses r b
 
 -- a condition uses the register
 abbrev pub test_uses : ℕ → Test → Bool
@@ -113,6 +117,8 @@ term_depth (arg n) = 1
 term_depth (reg n) = 1
 term_depth (sum a b) = 1 + max (term_depth a) (term_depth b)
 term_depth (diff a b) = 1 + max (term_depth a) (term_depth b)
+term_depth (product a b) = 1 + max (term_depth a) (term_depth b)
+term_depth (quotient a b) = 1 + max (term_depth a) (term_depth b)
 
 -- how deep the deeper expression of a condition is
 abbrev pub test_depth : Test → ℕ

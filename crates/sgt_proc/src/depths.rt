@@ -66,9 +66,10 @@ fn term_depth(expr: &Expr) -> u8
 {
     match expr {
         Expr::Num(_) | Expr::Arg(_) | Expr::Reg(_) => 1,
-        Expr::Sum(left, right) | Expr::Diff(left, right) => {
-            one_deeper(term_depth(left), term_depth(right))
-        }
+        Expr::Sum(left, right)
+        | Expr::Diff(left, right)
+        | Expr::Product(left, right)
+        | Expr::Quotient(left, right) => { one_deeper(term_depth(left), term_depth(right)) }
     }
 }
 

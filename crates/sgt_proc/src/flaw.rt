@@ -26,8 +26,8 @@ pub enum Flaw {
     HighTable,
     /// There are over 64 statements. Those inside an If count, and so does the If itself.
     TooLong,
-    /// A statement or an expression is over 16 deep. Statements in an If are one deeper than it, and a sum or difference is
-    /// one deeper than its deeper part.
+    /// A statement or an expression is over 16 deep. Statements in an If are one deeper than it, and a sum, difference,
+    /// product or quotient is one deeper than its deeper part.
     TooDeep,
     /// Some way has more than 8 answers.
     ManyAnswers,

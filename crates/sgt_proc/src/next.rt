@@ -11,7 +11,7 @@ pub enum Next {
     Put(Key, i64),
     /// It is at its end, with these answers.
     Ends(Answers),
-    /// It asks the code: one of its own from 1 to 999, or 1000 where a sum or difference is no value.
+    /// It asks the code: one of its own from 1 to 999, or 1000 of arithmetic.
     Asks(u16),
 }
 

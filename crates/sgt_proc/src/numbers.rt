@@ -45,9 +45,10 @@ impl Rule {
             Expr::Num(n) => self.is_broken(Number::Literal(*n)),
             Expr::Arg(n) => self.is_broken(Number::Argument(*n)),
             Expr::Reg(n) => self.is_broken(Number::Register(*n)),
-            Expr::Sum(left, right) | Expr::Diff(left, right) => {
-                self.is_broken_in(left) || self.is_broken_in(right)
-            }
+            Expr::Sum(left, right)
+            | Expr::Diff(left, right)
+            | Expr::Product(left, right)
+            | Expr::Quotient(left, right) => { self.is_broken_in(left) || self.is_broken_in(right) }
         }
     }
 

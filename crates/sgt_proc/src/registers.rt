@@ -56,9 +56,10 @@ fn uses(expr: &Expr, register: u8) -> bool
     match expr {
         Expr::Num(_) | Expr::Arg(_) => false,
         Expr::Reg(n) => *n == register,
-        Expr::Sum(left, right) | Expr::Diff(left, right) => {
-            uses(left, register) || uses(right, register)
-        }
+        Expr::Sum(left, right)
+        | Expr::Diff(left, right)
+        | Expr::Product(left, right)
+        | Expr::Quotient(left, right) => { uses(left, register) || uses(right, register) }
     }
 }
 

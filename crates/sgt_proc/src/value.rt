@@ -1,12 +1,12 @@
-ghost use Rattle.std.specs.Prelude.{◌≡◌, ◌+ℤ◌, ◌-ℤ◌, None, slice_get, slice_index_or};
+ghost use Rattle.std.specs.Prelude.{◌≡◌, ◌+ℤ◌, ◌-ℤ◌, ◌*ℤ◌, None, slice_get, slice_index_or};
 ghost use Rattle.sgt_model.specs.Programs.{term_of, test_of};
-ghost use Rattle.sgt_model.specs.Meaning.{got, bounded, value_of, truth_of};
+ghost use Rattle.sgt_model.specs.Meaning.{got, bounded, divided, value_of, truth_of};
 ghost use Rattle.sgt_model.specs.Executions.{key_of};
 ghost use Rattle.sgt_model.specs.Left.{number_or_code, choice_or_code};
 
 use sgt_model::{Cond, Expr, Key, is_value};
 
-/// The code that is asked where a sum or difference is no value.
+/// The code that is asked where what arithmetic gives is no value, and where a number is divided by 0.
 const OVER: u16 = 1000;
 
 /// The code that stands for what no checked procedure does.
@@ -22,11 +22,13 @@ pub fn value(expr: &Expr, args: &[i64], registers: &[Option<i64>; 16]) -> Result
         Expr::Num(number) => Ok(*number),
         Expr::Arg(n) => argument(args, *n),
         Expr::Reg(n) => register(registers, *n),
-        Expr::Sum(..) | Expr::Diff(..) => value_by_parts(expr, args, registers),
+        Expr::Sum(..) | Expr::Diff(..) | Expr::Product(..) | Expr::Quotient(..) => {
+            value_by_parts(expr, args, registers)
+        }
     }
 }
 
-// The same, by recursion through the parts of a sum or difference.
+// The same, by recursion through the parts of arithmetic.
 #[cycle(value)]
 fn value_by_parts(expr: &Expr, args: &[i64], registers: &[Option<i64>; 16]) -> Result<i64, u16>
     ensures { result ≡ number_or_code (value_of (term_of expr.now) args.now registers.now) }
@@ -45,6 +47,14 @@ fn value_by_parts(expr: &Expr, args: &[i64], registers: &[Option<i64>; 16]) -> R
                 value(right, args, registers)?,
             )
         }
+        Expr::Product(left, right) => product(
+            value(left, args, registers)?,
+            value(right, args, registers)?,
+        ),
+        Expr::Quotient(left, right) => quotient(
+            value(left, args, registers)?,
+            value(right, args, registers)?,
+        ),
     }
 }
 
@@ -109,6 +119,24 @@ fn difference(left: i64, right: i64) -> Result<i64, u16>
 {
     match left.checked_sub(right) {
         Some(rest) if is_value(rest) => Ok(rest),
+        _ => Err(OVER),
+    }
+}
+
+fn product(left: i64, right: i64) -> Result<i64, u16>
+    ensures { result ≡ number_or_code (bounded (left *ℤ right)) }
+{
+    match left.checked_mul(right) {
+        Some(whole) if is_value(whole) => Ok(whole),
+        _ => Err(OVER),
+    }
+}
+
+fn quotient(left: i64, right: i64) -> Result<i64, u16>
+    ensures { result ≡ number_or_code (divided left right) }
+{
+    match left.checked_div(right) {
+        Some(part) if is_value(part) => Ok(part),
         _ => Err(OVER),
     }
 }

@@ -4,7 +4,7 @@ use Rattle.std.specs.Prelude.{codes, cond, option_and_then}
 use Rattle.std.proofs.lemmas.Slice.Eq.{bytes_eq-Decides}
 use Rattle.serde_json.specs.Data.{Data, null, boolean, number, array, string, object, Items, no_items, item}
 use Rattle.serde_json.specs.Find.{as_str}
-use Rattle.sgt_model.specs.Syntax.{Term, num, arg, reg, sum, diff, Test, less, at_most, equal, Block, empty, look, put, save, ask, choose, answer, Program}
+use Rattle.sgt_model.specs.Syntax.{Term, num, arg, reg, sum, diff, product, quotient, Test, less, at_most, equal, Block, empty, look, put, save, ask, choose, answer, Program}
 use Rattle.sgt_proc_json.specs.Trees.{whole, natural}
 use Rattle.sgt_proc_json.specs.Spelling.{WordAnd, Byte, Short, SpellsTerm, SpellsTest, Listed, SpellsBlock, Spells}
 use Rattle.sgt_proc_json.specs.Readings.{Reading, here, at, one, two, three, four, or_here, is_word, byte, short, expression, condition, statement, block, statements, reading, one_item, two_items, three_items, four_items}
@@ -108,14 +108,22 @@ term_read (array no_items) e is = absurd (cc)
 term_read (array (item w no_items)) e is = absurd (cc)
 term_read (array (item w (item n no_items))) e is = name_read w n e is
 term_read (array (item w (item a (item b no_items)))) e is =
-    elim (chosen (is_word (as_str w) (codes "sum")) (two sum (at 1 (expression a)) (at 2 (expression b)))
-    (cond (is_word (as_str w) (codes "diff")) (two diff (at 1 (expression a)) (at 2 (expression b))) here) e is) [
-      | inl h ↦ pair_read sum (codes "sum") w a b e (λ x y. refl) (the_word w (codes "sum") h.0) (term_read a) (term_read b) h.1
-      | inr other ↦ elim (chosen (is_word (as_str w) (codes "diff")) (two diff (at 1 (expression a)) (at 2 (expression b)))
-          here e other) [
-            | inl h ↦ pair_read diff (codes "diff") w a b e (λ x y. refl) (the_word w (codes "diff") h.0) (term_read a) (term_read b) h.1
-            | inr none ↦ absurd (cc)
-          ]
+    let left = term_read a in
+    let right = term_read b in
+    elim (chosen (is_word (as_str w) (codes "sum")) (two sum (at 1 (expression a)) (at 2 (expression b))) _ e is) [
+      | inl h ↦ pair_read sum (codes "sum") w a b e (λ x y. refl) (the_word w (codes "sum") h.0) left right h.1
+      | inr other ↦ elim (chosen (is_word (as_str w) (codes "diff")) (two diff (at 1 (expression a)) (at 2 (expression b))) _ e other) [
+        | inl h ↦ pair_read diff (codes "diff") w a b e (λ x y. refl) (the_word w (codes "diff") h.0) left right h.1
+        | inr third ↦ elim (chosen (is_word (as_str w) (codes "product")) (two product (at 1 (expression a)) (at 2 (expression b)))
+            _ e third) [
+              | inl h ↦ pair_read product (codes "product") w a b e (λ x y. refl) (the_word w (codes "product") h.0) left right h.1
+              | inr fourth ↦ elim (chosen (is_word (as_str w) (codes "quotient"))
+                  (two quotient (at 1 (expression a)) (at 2 (expression b))) here e fourth) [
+                    | inl h ↦ pair_read quotient (codes "quotient") w a b e (λ x y. refl) (the_word w (codes "quotient") h.0) left right h.1
+                    | inr none ↦ absurd (cc)
+                  ]
+            ]
+      ]
     ]
 term_read (array (item w (item a (item b (item c rest))))) e is = absurd (cc)
 

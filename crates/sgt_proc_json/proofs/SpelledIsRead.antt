@@ -2,7 +2,7 @@
 use Rattle.std.proofs.Common.{◌≡◌, refl, ap, ◌∙◌, ℕ, ◌+◌, List, [], ◌∷◌, Ok}
 use Rattle.std.specs.Prelude.{codes}
 use Rattle.serde_json.specs.Data.{Data, null, boolean, number, array, string, object, Items, no_items, item}
-use Rattle.sgt_model.specs.Syntax.{Term, num, arg, reg, sum, diff, Test, less, at_most, equal, Block, empty, look, put, save, ask, choose, answer, Program}
+use Rattle.sgt_model.specs.Syntax.{Term, num, arg, reg, sum, diff, product, quotient, Test, less, at_most, equal, Block, empty, look, put, save, ask, choose, answer, Program}
 use Rattle.sgt_proc_json.specs.Spelling.{Shape, Each, WordAnd, Byte, Short, SpellsTerm, SpellsTest, Listed, SpellsBlock, Spells}
 use Rattle.sgt_proc_json.specs.Readings.{at, one, or_here, byte, short, expression, condition, statement, block, statements, reading}
 
@@ -122,6 +122,12 @@ read_term (sum a b) d is =
     rw r.2 (rw (read_term a r.0 r.3, read_term b r.1 r.4) refl)
 read_term (diff a b) d is =
     let r = two_are (codes "diff") (SpellsTerm a) (SpellsTerm b) d is in
+    rw r.2 (rw (read_term a r.0 r.3, read_term b r.1 r.4) refl)
+read_term (product a b) d is =
+    let r = two_are (codes "product") (SpellsTerm a) (SpellsTerm b) d is in
+    rw r.2 (rw (read_term a r.0 r.3, read_term b r.1 r.4) refl)
+read_term (quotient a b) d is =
+    let r = two_are (codes "quotient") (SpellsTerm a) (SpellsTerm b) d is in
     rw r.2 (rw (read_term a r.0 r.3, read_term b r.1 r.4) refl)
 
 -- a condition

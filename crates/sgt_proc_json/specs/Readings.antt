@@ -4,7 +4,7 @@ use Rattle.std.specs.Prelude.{ℕ, ◌+◌, take, Bool, false, cond, List, [], �
 use Rattle.std.specs.Str.{bytes_eq}
 use Rattle.serde_json.specs.Data.{Data, array, Items, no_items, item}
 use Rattle.serde_json.specs.Find.{as_str}
-use Rattle.sgt_model.specs.Syntax.{Term, num, arg, reg, sum, diff, Test, less, at_most, equal, Block, empty, look, put, save, ask, choose, answer, Program}
+use Rattle.sgt_model.specs.Syntax.{Term, num, arg, reg, sum, diff, product, quotient, Test, less, at_most, equal, Block, empty, look, put, save, ask, choose, answer, Program}
 use Rattle.sgt_proc_json.specs.Trees.{whole, natural}
 
 -- a thing that is spelled, or the place of a misfit: positions from the top, counted from 0
@@ -64,16 +64,18 @@ arg_or_reg word n =
     cond (is_word word (codes "arg")) (one arg n)
     (cond (is_word word (codes "reg")) (one reg n) here)
 
--- the sum or difference that a word and the two expressions behind it spell
-abbrev pub sum_or_diff : Option (List ℕ) → Reading Term → Reading Term → Reading Term
-sum_or_diff word a b =
+-- the arithmetic that a word and the two expressions behind it spell
+abbrev pub arithmetic : Option (List ℕ) → Reading Term → Reading Term → Reading Term
+arithmetic word a b =
     cond (is_word word (codes "sum")) (two sum a b)
-    (cond (is_word word (codes "diff")) (two diff a b) here)
+    (cond (is_word word (codes "diff")) (two diff a b)
+    (cond (is_word word (codes "product")) (two product a b)
+    (cond (is_word word (codes "quotient")) (two quotient a b) here)))
 
 -- the expression that a tree spells
 abbrev pub expression : Data → Reading Term
 expression (array (item w (item n no_items))) = arg_or_reg (as_str w) (at 1 (byte n))
-expression (array (item w (item a (item b no_items)))) = sum_or_diff (as_str w) (at 1 (expression a)) (at 2 (expression b))
+expression (array (item w (item a (item b no_items)))) = arithmetic (as_str w) (at 1 (expression a)) (at 2 (expression b))
 expression tree = one num (or_here (whole tree))
 
 -- the comparison that a word and the two expressions behind it spell

@@ -2,7 +2,7 @@
 -- expression.
 use Rattle.std.specs.Prelude.{◌≡◌, ⊤, ℕ, ℤ, List, [], ◌∷◌, Some, option_and_then, codes}
 use Rattle.serde_json.specs.Data.{Data, array, string, Items, no_items, item}
-use Rattle.sgt_model.specs.Syntax.{Term, num, arg, reg, sum, diff, Test, less, at_most, equal, Block, empty, look, put, save, ask, choose, answer, Program}
+use Rattle.sgt_model.specs.Syntax.{Term, num, arg, reg, sum, diff, product, quotient, Test, less, at_most, equal, Block, empty, look, put, save, ask, choose, answer, Program}
 use Rattle.sgt_proc_json.specs.Trees.{whole, natural}
 
 -- what a tree may be
@@ -40,6 +40,8 @@ SpellsTerm (arg n) = WordAnd (codes "arg") (Byte n ∷ [])
 SpellsTerm (reg n) = WordAnd (codes "reg") (Byte n ∷ [])
 SpellsTerm (sum a b) = WordAnd (codes "sum") (SpellsTerm a ∷ SpellsTerm b ∷ [])
 SpellsTerm (diff a b) = WordAnd (codes "diff") (SpellsTerm a ∷ SpellsTerm b ∷ [])
+SpellsTerm (product a b) = WordAnd (codes "product") (SpellsTerm a ∷ SpellsTerm b ∷ [])
+SpellsTerm (quotient a b) = WordAnd (codes "quotient") (SpellsTerm a ∷ SpellsTerm b ∷ [])
 
 -- the tree spells the condition
 abbrev pub SpellsTest : Test → Shape

@@ -38,6 +38,8 @@ fn read_row(alloc: Global, items: &[Value]) -> Result<Expr, ReadError>
         [word, a, b] => match word.as_str() {
             Some("sum") => Ok(Expr::Sum(boxed_at(alloc, 1, a)?, boxed_at(alloc, 2, b)?)),
             Some("diff") => Ok(Expr::Diff(boxed_at(alloc, 1, a)?, boxed_at(alloc, 2, b)?)),
+            Some("product") => Ok(Expr::Product(boxed_at(alloc, 1, a)?, boxed_at(alloc, 2, b)?)),
+            Some("quotient") => Ok(Expr::Quotient(boxed_at(alloc, 1, a)?, boxed_at(alloc, 2, b)?)),
             _ => Err(ReadError::here()),
         },
         _ => Err(ReadError::here()),

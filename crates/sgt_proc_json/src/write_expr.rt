@@ -35,6 +35,18 @@ pub(crate) fn write_expr(alloc: Global, expr: &Expr) -> Result<Value, NoMemory>
             write_expr(alloc, left)?,
             write_expr(alloc, right)?,
         ),
+        Expr::Product(left, right) => two_exprs(
+            alloc,
+            "product",
+            write_expr(alloc, left)?,
+            write_expr(alloc, right)?,
+        ),
+        Expr::Quotient(left, right) => two_exprs(
+            alloc,
+            "quotient",
+            write_expr(alloc, left)?,
+            write_expr(alloc, right)?,
+        ),
     }
 }
 

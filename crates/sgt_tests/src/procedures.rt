@@ -53,7 +53,9 @@ shape at 0: [300,[]]
 shape at 1: [0,5]
 shape at 1 0: [0,[["jump"]]]
 shape at 1 1 2: [0,[["ask",1],["let",0,"x"]]]
-shape at 1 0 1: [0,[["answer",["sum",1]]]]"#,
+shape at 1 0 1: [0,[["answer",["sum",1]]]]
+shape at 1 0 1: [0,[["answer",["product",1,2,3]]]]
+shape at 1 0 1 2: [0,[["answer",["quotient",1,"x"]]]]"#,
     )
 }
 
@@ -71,6 +73,8 @@ shape at 1 0: [0,[["look",0,0,0,1,1]]]
 shape at 1 0: [0,[["if",["less",0,1],[]]]]
 shape at 1 0 1: [0,[["answer",["less",0,1]]]]
 shape at 1 0 1: [0,[["if",["sum",0,1],[],[]]]]
+shape at 1 0 1: [0,[["if",["product",0,1],[],[]]]]
+shape at 1 0: [0,[["quotient",0,1]]]
 shape at 1 0 1: [0,[["if",["less",0],[],[]]]]"#,
     )
 }
@@ -191,7 +195,12 @@ flaw 9: [5,[]]
 flaw 10: [0,[["answer",1000000000000000]]]
 flaw 1: [5,[["let",16,1000000000000000]]]
 flaw 3: [0,[["answer",["arg",0]]]]
-flaw 4: [0,[["put",8,1,1]]]"#,
+flaw 4: [0,[["put",8,1,1]]]
+flaw 1: [0,[["let",0,["product",1,["reg",16]]]]]
+flaw 2: [0,[["let",0,["product",["reg",0],1]]]]
+flaw 3: [0,[["let",0,["quotient",["arg",0],1]]]]
+flaw 10: [0,[["let",0,["quotient",1,1000000000000000]]]]
+no flaw: [0,[["let",0,["quotient",1,0]]]]"#,
     )
 }
 
@@ -226,6 +235,23 @@ fn statements_are_16_deep_at_most(rt: HostRuntime) -> Result<(), Fail> {
     let ifs = (r#"["if",["less",0,1],["#, r#"["let",0,1]"#, "],[]]");
     body_says(&rt, ifs, 15, "no flaw")?;
     body_says(&rt, ifs, 16, "flaw 6")
+}
+
+#[test]
+fn expressions_are_16_deep_at_most(rt: HostRuntime) -> Result<(), Fail> {
+    for (before, behind) in [
+        (r#"["sum",0,"#, "]"),
+        (r#"["diff","#, ",0]"),
+        (r#"["product",0,"#, "]"),
+        (r#"["quotient","#, ",1]"),
+    ] {
+        for (times, want) in [(15, "no flaw"), (16, "flaw 6")] {
+            let value = around(rt.alloc(), before, "1", behind, times)?;
+            let procedure = format!(in rt.alloc(); "[0,[[\"answer\",{value}]]]")?;
+            says(&rt, procedure.as_str(), want)?;
+        }
+    }
+    Ok(())
 }
 
 /// Behind the look at the customer, Balance looks at the saving.

@@ -38,14 +38,15 @@ fn numbers_are_read_to_the_ends_of_their_ranges(rt: HostRuntime) -> Result<(), F
     )
 }
 
-/// The last of them has each kind of statement, condition and expression.
+/// The last two have each kind of statement, condition and expression.
 #[test]
 fn what_is_read_is_written_as_it_was(rt: HostRuntime) -> Result<(), Fail> {
     come_back(
         &rt,
         r#"[0,[]]
 [1,[["look",0,2,["arg",0],5],["answer",["reg",0]]]]
-[2,[["look",1,2,["arg",0],5],["let",3,["diff",["reg",1],["sum",["arg",1],-4]]],["if",["less",["reg",3],0],[["ask",6],["answer",7]],[]],["if",["most",8,["reg",3]],[],[["if",["same",9,10],[["ask",11]],[["ask",12]]]]],["put",13,14,["reg",15]],["answer",16]]]"#,
+[2,[["look",1,2,["arg",0],5],["let",3,["diff",["reg",1],["sum",["arg",1],-4]]],["if",["less",["reg",3],0],[["ask",6],["answer",7]],[]],["if",["most",8,["reg",3]],[],[["if",["same",9,10],[["ask",11]],[["ask",12]]]]],["put",13,14,["reg",15]],["answer",16]]]
+[2,[["let",0,["product",["arg",0],["quotient",["sum",["arg",1],3],100]]],["put",3,["reg",0],["quotient",-7,["product",2,["diff",4,5]]]]]]"#,
     )
 }
 
