@@ -25,6 +25,15 @@ class Bank:
     def table(self, number):
         return {int(key.split("/")[1]): value for key, value in self.records.items() if key.startswith(f"{number}/")}
 
+    def opened(self, number):
+        """This table of the accounts, as the opening has it."""
+        if number == 0:
+            return {account[0]: account[1] for account in self.accounts}
+        return {account[1]: account[number + 1] for account in self.accounts}
+
+    def kept(self, number):
+        same(f"table {number}, which nobody puts into", self.opened(number), self.table(number))
+
 
 def holds(what, held):
     if not held:
@@ -33,7 +42,9 @@ def holds(what, held):
 
 def ledger(bank):
     """Each transfer that committed is in the journal and moved its amount, and no other one is or did."""
-    balances = {customer: checking for _, customer, _, checking in bank.accounts}
+    bank.kept(0)
+    bank.kept(1)
+    balances = bank.opened(2)
     journal = {}
     for (payer, payee, amount, number), outcome in bank.of(5):
         wanted = "asked 10" if amount < 1 else "asked 11" if payer not in balances else None
@@ -53,7 +64,8 @@ def ledger(bank):
 
 def inventory(bank):
     """What is reserved is what the open orders have, and what left the stock is what was shipped."""
-    stock = {item: pieces for _, item, pieces, _ in bank.accounts}
+    bank.kept(0)
+    stock = bank.opened(1)
     orders = {}
     for (order, item, count), outcome in bank.of(5):
         wanted = "asked 20" if count < 1 else "asked 21" if item not in stock else None
@@ -84,7 +96,9 @@ def inventory(bank):
 
 def queue_of_payments(bank):
     """Each key has one place in the queue, the first places are paid or refused, and money and fees are kept."""
-    balances = {customer: checking for _, customer, _, checking in bank.accounts}
+    bank.kept(0)
+    bank.kept(1)
+    balances = bank.opened(2)
     place_of, payments = bank.table(3), bank.table(5)
     first, behind = bank.records.get("4/0", 0), bank.records.get("4/1", 0)
     same("places", list(range(behind)), sorted(place_of.values()))
@@ -122,13 +136,14 @@ def drawn(name, opening, seed, jobs):
     """A longer input of this program: its opening, and jobs that are drawn."""
     draw = random.Random(seed)
     customers = [account[1] for account in json.loads(opening)["accounts"]] + [99]
-    lines = [opening]
+    lines, orders = [opening], []
     for n in range(jobs):
         if name == "ledger":
             job = 5, [draw.choice(customers), draw.choice(customers), draw.randint(0, 900), n]
         elif name == "inventory":
-            procedure = draw.choice((5, 6, 7))
-            job = procedure, [n, draw.choice(customers), draw.randint(0, 2)] if procedure == 5 else [draw.randint(0, n)]
+            procedure = draw.choice((5, 6, 6, 7))
+            job = procedure, [n, draw.choice(customers), draw.randint(0, 2)] if procedure == 5 else [draw.choice(orders or [n])]
+            orders += [n] if procedure == 5 else []
         elif draw.random() < 0.5:
             job = 5, [draw.randint(0, jobs // 2), draw.choice(customers), draw.choice(customers), draw.randint(0, 300)]
         else:
