@@ -13,6 +13,8 @@ mod cascades;
 #[cfg(test)]
 mod cursor;
 #[cfg(test)]
+mod finds;
+#[cfg(test)]
 mod graphs;
 #[cfg(test)]
 mod records;

@@ -1,5 +1,5 @@
 -- Worked arithmetic: products and quotients, on either side of 0 and at the ends of what is a value.
-use Rattle.std.specs.Prelude.{◌≡◌, ℤ, pos, negsuc, [], ◌∷◌, Ok, Err, refl}
+use Rattle.std.specs.Prelude.{◌≡◌, ℤ, pos, negsuc, [], Ok, Err, refl}
 use Rattle.sgt_model.specs.Syntax.{num, product, quotient}
 use Rattle.sgt_model.specs.Meaning.{Got, is, over, value_of, fresh}
 use Rattle.sgt_model.specs.Executions.{evaluate, workspace_of}

@@ -1,10 +1,10 @@
 -- Worked examples of what is left of a procedure.
 use Rattle.std.specs.Prelude.{◌≡◌, pos, [], ◌∷◌, Some, None, replicate, refl}
 use Rattle.sgt_model.specs.Syntax as text
-use Rattle.sgt_model.specs.Syntax.{Program, num, arg, reg, diff, at_most}
+use Rattle.sgt_model.specs.Syntax.{Program, num, arg, reg, sum, diff, at_most}
 use Rattle.sgt_model.specs.Traces.{Puts, Ends}
 use Rattle.sgt_model.specs.Left.{ToRun, ToAsk, left, left_at_start, next_left}
-use Rattle.sgt_model.proofs.ExamplesTexts.{draw}
+use Rattle.sgt_model.proofs.ExamplesTexts.{draw, count}
 
 -- tell what record 7 holds where the argument is at most 5, and store it into record 8 in every case: the If has statements
 -- behind its look, and more stand behind the If
@@ -49,6 +49,18 @@ in_branch-absent = refl
 -- the other branch is empty: the store is the first access
 past_branch-next : next_left (left_at_start tell_and_store (pos 6 ∷ [])) ≡ Puts (3, pos 8) (pos 6)
 past_branch-next = refl
+
+-- behind a find the procedure goes on, whether there was a record or not
+finds-left : left count (pos 40 ∷ []) (Some (pos 8) ∷ []) 1 ≡ ToRun (record {
+  statements = text.put 3 (num (pos 7)) (sum (reg 0) (num (pos 1))) (text.answer (sum (reg 0) (num (pos 1))) text.empty);
+  args = pos 40 ∷ [];
+  registers = Some (pos 8) ∷ replicate 15 None;
+  answers = [];
+})
+finds-left = refl
+
+finds_none-next : next_left (left count (pos 40 ∷ []) (None ∷ []) 1) ≡ Puts (3, pos 7) (pos 41)
+finds_none-next = refl
 
 -- an If that stands behind the look is not entered yet
 draws-left : left draw (pos 101 ∷ pos 1000 ∷ []) (Some (pos 1000) ∷ []) 1 ≡ ToRun (record {

@@ -1,5 +1,5 @@
 -- A worked example over a text of the procedure language: its trace, its run at once, and a history of two transactions of it.
-use Rattle.std.specs.Prelude.{◌≡◌, pos, List, [], ◌∷◌, Some, refl}
+use Rattle.std.specs.Prelude.{◌≡◌, pos, List, [], ◌∷◌, Some, None, refl}
 use Rattle.std.proofs.Common.{inl, inr}
 use Rattle.sgt_model.specs.declared.event.Event.TheVariants.{Start, Step, Commit}
 use Rattle.sgt_model.specs.declared.reply.Reply.TheVariants as reply
@@ -7,7 +7,7 @@ use Rattle.sgt_model.specs.declared.entry.Entry.{Entry}
 use Rattle.sgt_model.specs.declared.limits.Asks.TheVariants.{AtStep}
 use Rattle.sgt_model.specs.Contents.{put_in}
 use Rattle.sgt_model.specs.Syntax as text
-use Rattle.sgt_model.specs.Syntax.{Program, num, arg, reg, diff, at_most}
+use Rattle.sgt_model.specs.Syntax.{Program, num, arg, reg, sum, diff, at_most}
 use Rattle.sgt_model.specs.Runs.{Done, Asked, serial}
 use Rattle.sgt_model.specs.Traces.{look, put, ended, trace}
 use Rattle.sgt_model.specs.Meaning.{run_with}
@@ -56,6 +56,30 @@ draws_nothing-execution = refl
 -- where there is no checking, nothing behind the look is done
 draws_nowhere-execution : execution draw (pos 103 ∷ pos 1 ∷ []) opening ≡ Asked 5
 draws_nowhere-execution = refl
+
+-- count: one more than what a record holds, or than the argument where it is not there, is stored and answered
+abbrev pub count : Program
+count = record {
+  args = 1;
+  body =
+      text.find 0 3 (num (pos 7)) (arg 0)
+      (text.put 3 (num (pos 7)) (sum (reg 0) (num (pos 1)))
+      (text.answer (sum (reg 0) (num (pos 1)))
+      text.empty));
+}
+
+-- where there is none, a look is made and no code is asked
+counts_none-trace : trace (run_with count (pos 40 ∷ [])) (None ∷ [])
+    ≡ record { accesses = look (3, pos 7) ∷ put (3, pos 7) (pos 41) ∷ []; ending = ended (pos 41 ∷ []) }
+counts_none-trace = refl
+
+counts_none-execution : execution count (pos 40 ∷ []) opening ≡ Done (pos 41 ∷ []) (put_in opening (3, pos 7) (pos 41))
+counts_none-execution = refl
+
+-- where there is one, it counts, and the argument does not
+counts_on-execution : execution count (pos 40 ∷ []) (put_in opening (3, pos 7) (pos 8))
+    ≡ Done (pos 9 ∷ []) (put_in (put_in opening (3, pos 7) (pos 8)) (3, pos 7) (pos 9))
+counts_on-execution = refl
 
 -- a store is looked at by the procedure itself, before anyone else sees it
 abbrev pub put_and_look : Program

@@ -3,20 +3,21 @@ use Rattle.std.specs.Prelude.{◌≡◌, ℕ, zero, suc, ◌+◌, ℤ, Bool, tru
 use Rattle.std.proofs.Common.{refl, sym, ap, ◌∙◌, arith}
 use Rattle.sgt_model.specs.Numbers.{is_value}
 use Rattle.sgt_model.specs.Contents.{Key}
-use Rattle.sgt_model.specs.Syntax.{Block, empty, look, put, save, ask, choose, answer}
+use Rattle.sgt_model.specs.Syntax.{Block, empty, look, find, put, save, ask, choose, answer}
 use Rattle.sgt_model.specs.Runs.{Run, looks, puts, ends, asks}
 use Rattle.sgt_model.specs.Traces.{Used, Next, Looks, Puts, Ends, Asks, trace, next_at}
 use Rattle.sgt_model.specs.Ways.{Way, onto}
 use Rattle.sgt_model.specs.Ways as way
-use Rattle.sgt_model.specs.Meaning.{Got, is, over, missing, Truth, holds, too_far, unknown, Registers, value_of, truth_of, wrong, with_value, with_test, is_key, if_found, run, run_with}
+use Rattle.sgt_model.specs.Meaning.{Got, is, over, missing, Truth, holds, too_far, unknown, Registers, value_of, truth_of, wrong, with_value, with_test, is_key, if_found, found_or, run, run_with}
 use Rattle.sgt_model.specs.Executions.{OrCode, and_then, provided}
-use Rattle.sgt_model.specs.Left.{Rest, Left, ToRun, ToAsk, left_at_start, followed_by, Reached, AtLook, AtStore, AtEnd, then_behind, number_or_code, choice_or_code, reach, reached, next_of_reached, next_left, with_found, behind_look, after_look, behind_store, after_store, after_next, left_after, NextIsOfLeft, LeftAfterLook, LeftAfterStore}
+use Rattle.sgt_model.specs.Left.{Rest, Left, ToRun, ToAsk, left_at_start, followed_by, Reached, AtLook, AtFind, AtStore, AtEnd, then_behind, number_or_code, choice_or_code, reach, reached, next_of_reached, next_left, with_found, behind_look, after_look, behind_store, after_store, after_next, left_after, NextIsOfLeft, LeftAfterLook, LeftAfterStore}
 
 -- up to the next access
 
 onto_followed : (b more : Block) (behind : Way) → onto b (onto more behind) ≡ onto (followed_by b more) behind
 onto_followed empty more behind = refl
 onto_followed (look to table id absent b) more behind = ap (way.look to table id absent) (onto_followed b more behind)
+onto_followed (find to table id absent b) more behind = ap (way.find to table id absent) (onto_followed b more behind)
 onto_followed (put table id value b) more behind = ap (way.put table id value) (onto_followed b more behind)
 onto_followed (save to value b) more behind = ap (way.save to value) (onto_followed b more behind)
 onto_followed (ask code b) more behind = refl
@@ -27,6 +28,8 @@ onto_followed (answer value b) more behind = ap (way.answer value) (onto_followe
 abbrev run_reached : List ℤ → Way → OrCode Reached → Run
 run_reached args behind (Ok (AtLook key to absent r)) =
     looks key (λ found. if_found absent found (λ v. run r.args (onto r.statements behind) (slice_set r.registers to (Some v)) r.answers))
+run_reached args behind (Ok (AtFind key to absent r)) =
+    looks key (λ found. run r.args (onto r.statements behind) (slice_set r.registers to (Some (found_or absent found))) r.answers)
 run_reached args behind (Ok (AtStore key v r)) = puts key v (run r.args (onto r.statements behind) r.registers r.answers)
 run_reached args behind (Ok (AtEnd registers answers)) = run args behind registers answers
 run_reached args behind (Err code) = asks code
@@ -64,6 +67,9 @@ if_step : (args : List ℤ) (b : Block) (behind : Way) (o : OrCode Reached) → 
 if_step args b behind (Ok (AtLook key to absent r)) same =
     ap (λ w. looks key (λ found. if_found absent found (λ v. run r.args w (slice_set r.registers to (Some v)) r.answers)))
     (onto_followed r.statements b behind)
+if_step args b behind (Ok (AtFind key to absent r)) same =
+    ap (λ w. looks key (λ found. run r.args w (slice_set r.registers to (Some (found_or absent found))) r.answers))
+    (onto_followed r.statements b behind)
 if_step args b behind (Ok (AtStore key v r)) same = ap (λ w. puts key v (run r.args w r.registers r.answers))
     (onto_followed r.statements b behind)
 if_step args b behind (Ok (AtEnd registers answers)) same = same registers answers
@@ -74,6 +80,10 @@ reach_is : (args : List ℤ) (b : Block) (behind : Way) (registers : Registers) 
 reach_is args empty behind registers answers = refl
 reach_is args (look to table id absent b) behind registers answers =
     value_step args behind (value_of id args registers) _ _ (λ n. provided_step args behind (is_key table n) (table, n) _ _ refl)
+reach_is args (find to table id absent b) behind registers answers =
+    value_step args behind (value_of id args registers) _ _
+    (λ n. value_step args behind (value_of absent args registers) _ _
+    (λ v. provided_step args behind (is_key table n) (table, n) _ _ refl))
 reach_is args (put table id value b) behind registers answers =
     value_step args behind (value_of id args registers) _ _
     (λ n. value_step args behind (value_of value args registers) _ _
@@ -99,6 +109,7 @@ run_left (ToAsk code) = asks code
 -- at the end nothing depends on the arguments
 at_end : (args : List ℤ) (o : OrCode Reached) → run_reached args way.end o ≡ run_reached [] way.end o
 at_end args (Ok (AtLook key to absent r)) = refl
+at_end args (Ok (AtFind key to absent r)) = refl
 at_end args (Ok (AtStore key v r)) = refl
 at_end args (Ok (AtEnd registers answers)) = refl
 at_end args (Err code) = refl
@@ -124,6 +135,7 @@ next_of_trace (asks code) = refl
 
 next_reached : (o : OrCode Reached) → next_of_reached o ≡ next_of_run (run_reached [] way.end o)
 next_reached (Ok (AtLook key to absent r)) = refl
+next_reached (Ok (AtFind key to absent r)) = refl
 next_reached (Ok (AtStore key v r)) = refl
 next_reached (Ok (AtEnd registers answers)) = refl
 next_reached (Err code) = refl
@@ -149,6 +161,7 @@ found_is (Some v) to absent r = refl
 look_reached : (found : Option ℤ) (o : OrCode Reached) (l : Left) → run_left l ≡ run_reached [] way.end o
     → run_left (behind_look found o l) ≡ behind_first_look found (run_reached [] way.end o)
 look_reached found (Ok (AtLook key to absent r)) l same = found_is found to absent r
+look_reached found (Ok (AtFind key to absent r)) l same = refl
 look_reached found (Ok (AtStore key v r)) l same = same
 look_reached found (Ok (AtEnd registers answers)) l same = same
 look_reached found (Err code) l same = same
@@ -156,6 +169,7 @@ look_reached found (Err code) l same = same
 store_reached : (o : OrCode Reached) (l : Left) → run_left l ≡ run_reached [] way.end o
     → run_left (behind_store o l) ≡ behind_first_store (run_reached [] way.end o)
 store_reached (Ok (AtLook key to absent r)) l same = same
+store_reached (Ok (AtFind key to absent r)) l same = same
 store_reached (Ok (AtStore key v r)) l same = refl
 store_reached (Ok (AtEnd registers answers)) l same = same
 store_reached (Err code) l same = same

@@ -1,5 +1,5 @@
 -- A procedure's run stores values only, so the contents of a replay hold values.
-use Rattle.std.proofs.Common.{◌≡◌, refl, sym, subst, T, ℕ, ℤ, pos, negsuc, Bool, true, false, cond, List, [], ◌∷◌, length, Option, Some, None, nat_lt}
+use Rattle.std.proofs.Common.{◌≡◌, refl, sym, subst, T, ℕ, ℤ, pos, negsuc, Bool, true, false, cond, List, [], ◌∷◌, length, Option, Some, None, nat_lt, slice_set}
 use Rattle.std.specs.Prelude.{int_le, IfSome, slice_get}
 use Rattle.std.proofs.lemmas.Bool.{and_parts}
 use Rattle.sgt_model.specs.Numbers.{IsValue, is_value}
@@ -8,7 +8,7 @@ use Rattle.sgt_model.specs.Syntax.{Program}
 use Rattle.sgt_model.specs.Ways.{Way, onto}
 use Rattle.sgt_model.specs.Ways as way
 use Rattle.sgt_model.specs.Runs.{Run, looks, puts, ends, asks, serial, contents_after}
-use Rattle.sgt_model.specs.Meaning.{Got, is, over, missing, Registers, fresh, value_of, Truth, holds, too_far, unknown, truth_of, wrong, with_value, with_test, is_key, with_key, with_stored, if_found, run}
+use Rattle.sgt_model.specs.Meaning.{Got, is, over, missing, Registers, fresh, value_of, Truth, holds, too_far, unknown, truth_of, wrong, with_value, with_test, is_key, with_key, with_stored, if_found, found_or, run}
 use Rattle.sgt_model.specs.Settings.{setting, run_if}
 use Rattle.sgt_model.specs.StoredValues.{HoldValues, StoresValues, RunsStoreValues, ReplaysHoldValues, CommittedAreValues}
 use Rattle.sgt_model.proofs.Replays.{is_serializable}
@@ -49,6 +49,12 @@ stores_along : (args : List ℤ) (w : Way) (regs : Registers) (answers : List �
 stores_along args way.end regs answers = tt
 stores_along args (way.look to table id absent rest) regs answers =
     stores_with _ _ (λ n. stores_where (is_key table n) _ (λ e found. stores_found absent found _ (λ v. stores_along args rest _ answers)))
+stores_along args (way.find to table id absent rest) regs answers =
+    let find_at : ℤ → ℤ → Run = λ n v. with_key table n
+    (λ k. looks k (λ found. run args rest (slice_set regs to (Some (found_or v found))) answers)) in
+    stores_with (value_of id args regs) (λ n. with_value (value_of absent args regs) (find_at n))
+    (λ n. stores_with (value_of absent args regs) (find_at n)
+    (λ v. stores_where (is_key table n) _ (λ e found. stores_along args rest (slice_set regs to (Some (found_or v found))) answers)))
 stores_along args (way.put table id value rest) regs answers =
     let onwards : Run = run args rest regs answers in
     stores_with (value_of id args regs) (λ n. with_value (value_of value args regs)

@@ -5,7 +5,7 @@ use Rattle.std.proofs.Common.{refl}
 use Rattle.std.specs.Coded.{Coded, code_by, coded×, coded_ℕ}
 use base.Stored.{Gv, gnil, gnum, gcons}
 use denote.Struct.Codes.{itself}
-use Rattle.sgt_model.specs.Syntax.{Program, Block, empty, look, put, save, ask, choose, answer, Term, num, arg, reg, sum, diff, product, quotient, Test, less, at_most, equal}
+use Rattle.sgt_model.specs.Syntax.{Program, Block, empty, look, find, put, save, ask, choose, answer, Term, num, arg, reg, sum, diff, product, quotient, Test, less, at_most, equal}
 
 -- a number with sign: 0 or 1 for the sign, and its size
 abbrev pub int_tree : ℤ → Gv
@@ -87,6 +87,7 @@ block_tree (save to value b) = gcons (gnum 2) (gcons (gcons (gnum to) (term_tree
 block_tree (ask code b) = gcons (gnum 3) (gcons (gnum code) (block_tree b))
 block_tree (choose test ys ns b) = gcons (gnum 4) (gcons (gcons (test_tree test) (gcons (block_tree ys) (block_tree ns))) (block_tree b))
 block_tree (answer value b) = gcons (gnum 5) (gcons (term_tree value) (block_tree b))
+block_tree (find to table id absent b) = gcons (gnum 6) (gcons (gcons (gcons (gnum to) (gnum table)) (gcons (term_tree id) (term_tree absent))) (block_tree b))
 
 -- the statements that a tree is
 abbrev pub block_in : Gv → Block
@@ -96,6 +97,7 @@ block_in (gcons (gnum (suc (suc zero))) (gcons (gcons (gnum to) value) b)) = sav
 block_in (gcons (gnum (suc (suc (suc zero)))) (gcons (gnum code) b)) = ask code (block_in b)
 block_in (gcons (gnum (suc (suc (suc (suc zero))))) (gcons (gcons test (gcons ys ns)) b)) = choose (test_in test) (block_in ys) (block_in ns) (block_in b)
 block_in (gcons (gnum (suc (suc (suc (suc (suc zero)))))) (gcons value b)) = answer (term_in value) (block_in b)
+block_in (gcons (gnum (suc (suc (suc (suc (suc (suc zero))))))) (gcons (gcons (gcons (gnum to) (gnum table)) (gcons id absent)) b)) = find to table (term_in id) (term_in absent) (block_in b)
 block_in _ = empty
 
 -- they are read back
@@ -107,6 +109,7 @@ block_back (save to value b) = λ i. save to (term_back value i) (block_back b i
 block_back (ask code b) = λ i. ask code (block_back b i)
 block_back (choose test ys ns b) = λ i. choose (test_back test i) (block_back ys i) (block_back ns i) (block_back b i)
 block_back (answer value b) = λ i. answer (term_back value i) (block_back b i)
+block_back (find to table id absent b) = λ i. find to table (term_back id i) (term_back absent i) (block_back b i)
 
 -- statements, stored and read back
 abbrev pub coded_block : Coded Block

@@ -5,9 +5,9 @@ use Rattle.std.specs.Prelude.{◌≡◌, ℕ, ℤ, ◌+ℤ◌, ◌-ℤ◌, ◌*�
 use Rattle.std.specs.Ordering.{int_eq}
 use Rattle.sgt_model.specs.Numbers.{is_value}
 use Rattle.sgt_model.specs.Contents.{Key, Contents, put_in}
-use Rattle.sgt_model.specs.Syntax.{Term, num, arg, reg, sum, diff, product, quotient, Test, less, at_most, equal, Block, empty, look, put, save, ask, choose, answer, Program}
+use Rattle.sgt_model.specs.Syntax.{Term, num, arg, reg, sum, diff, product, quotient, Test, less, at_most, equal, Block, empty, look, find, put, save, ask, choose, answer, Program}
 use Rattle.sgt_model.specs.Runs.{Outcome, Done, Asked, serial}
-use Rattle.sgt_model.specs.Meaning.{run_with}
+use Rattle.sgt_model.specs.Meaning.{found_or, run_with}
 
 -- codes, which end a procedure
 
@@ -101,6 +101,14 @@ look_at_record args to table id absent w =
     and_then (ok_or (w.working key) absent) (λ v.
     Ok (into_register to v w))))
 
+-- Find: the value of the record in the working map goes into the register, or `absent` where there is no record
+abbrev pub find_record : List ℤ → (to table : ℕ) → (id absent : Term) → Workspace → OrCode Workspace
+find_record args to table id absent w =
+    and_then (evaluate id args w) (λ n.
+    and_then (evaluate absent args w) (λ v.
+    and_then (key_of table n) (λ key.
+    Ok (into_register to (found_or v (w.working key)) w))))
+
 -- Put: the value goes into the record
 abbrev pub put_record : List ℤ → (table : ℕ) → (id value : Term) → Workspace → OrCode Workspace
 put_record args table id value w =
@@ -122,6 +130,7 @@ give_answer args value w = and_then (evaluate value args w) (λ v. provided (nat
 abbrev pub execute : List ℤ → Block → Workspace → OrCode Workspace
 execute args empty w = Ok w
 execute args (look to table id absent rest) w = and_then (look_at_record args to table id absent w) (λ next. execute args rest next)
+execute args (find to table id absent rest) w = and_then (find_record args to table id absent w) (λ next. execute args rest next)
 execute args (put table id value rest) w = and_then (put_record args table id value w) (λ next. execute args rest next)
 execute args (save to value rest) w = and_then (let_register args to value w) (λ next. execute args rest next)
 execute args (ask code rest) w = Err code

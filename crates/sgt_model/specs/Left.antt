@@ -4,9 +4,9 @@
 use Rattle.std.specs.Prelude.{◌≡◌, ℕ, zero, suc, ◌+◌, ℤ, Bool, cond, nat_lt, List, [], ◌∷◌, ◌++◌, length, Option, Some, None, Ok, Err, slice_set}
 use Rattle.sgt_model.specs.Numbers.{is_value}
 use Rattle.sgt_model.specs.Contents.{Key}
-use Rattle.sgt_model.specs.Syntax.{Block, empty, look, put, save, ask, choose, answer, Program}
+use Rattle.sgt_model.specs.Syntax.{Block, empty, look, find, put, save, ask, choose, answer, Program}
 use Rattle.sgt_model.specs.Traces.{Used, Next, Looks, Puts, Ends, Asks, trace, next_at}
-use Rattle.sgt_model.specs.Meaning.{Got, is, over, missing, Truth, holds, too_far, unknown, Registers, fresh, value_of, truth_of, run_with}
+use Rattle.sgt_model.specs.Meaning.{Got, is, over, missing, Truth, holds, too_far, unknown, Registers, fresh, value_of, truth_of, found_or, run_with}
 use Rattle.sgt_model.specs.Executions.{OrCode, and_then, provided, overflow, stuck, key_of}
 
 -- what is left
@@ -33,6 +33,7 @@ left_at_start p args = ToRun (record { statements = p.body; args = args; registe
 abbrev pub followed_by : Block → Block → Block
 followed_by empty more = more
 followed_by (look to table id absent rest) more = look to table id absent (followed_by rest more)
+followed_by (find to table id absent rest) more = find to table id absent (followed_by rest more)
 followed_by (put table id value rest) more = put table id value (followed_by rest more)
 followed_by (save to value rest) more = save to value (followed_by rest more)
 followed_by (ask code rest) more = ask code (followed_by rest more)
@@ -40,9 +41,11 @@ followed_by (choose test ys ns rest) more = choose test ys ns (followed_by rest 
 followed_by (answer value rest) more = answer value (followed_by rest more)
 
 -- where statements come to by themselves: to a look, with the register for its value and the code that is asked where there
--- is no record, or to a store, each with what is left behind it; or to their end, with the registers and the answers
+-- is no record; to a find, with the number for the register there; or to a store, each with what is left behind it; or to their
+-- end, with the registers and the answers
 pub data Reached : Type 0 where
   AtLook : Key → (to absent : ℕ) → Rest → Reached
+  AtFind : Key → (to : ℕ) → (absent : ℤ) → Rest → Reached
   AtStore : Key → ℤ → Rest → Reached
   AtEnd : Registers → List ℤ → Reached
 
@@ -54,6 +57,7 @@ with_more more r = record { statements = followed_by r.statements more; args = r
 -- and these go on
 abbrev pub then_behind : Block → (Registers → List ℤ → OrCode Reached) → Reached → OrCode Reached
 then_behind behind go_on (AtLook key to absent r) = Ok (AtLook key to absent (with_more behind r))
+then_behind behind go_on (AtFind key to absent r) = Ok (AtFind key to absent (with_more behind r))
 then_behind behind go_on (AtStore key v r) = Ok (AtStore key v (with_more behind r))
 then_behind behind go_on (AtEnd registers answers) = go_on registers answers
 
@@ -77,6 +81,11 @@ reach (look to table id absent rest) args registers answers =
     and_then (number_or_code (value_of id args registers)) (λ n.
     and_then (key_of table n) (λ key.
     Ok (AtLook key to absent (record { statements = rest; args = args; registers = registers; answers = answers }))))
+reach (find to table id absent rest) args registers answers =
+    and_then (number_or_code (value_of id args registers)) (λ n.
+    and_then (number_or_code (value_of absent args registers)) (λ v.
+    and_then (key_of table n) (λ key.
+    Ok (AtFind key to v (record { statements = rest; args = args; registers = registers; answers = answers })))))
 reach (put table id value rest) args registers answers =
     and_then (number_or_code (value_of id args registers)) (λ n.
     and_then (number_or_code (value_of value args registers)) (λ v.
@@ -105,6 +114,7 @@ reached (ToAsk code) = Err code
 -- an access, the end, or a code
 abbrev pub next_of_reached : OrCode Reached → Next
 next_of_reached (Ok (AtLook key to absent r)) = Looks key
+next_of_reached (Ok (AtFind key to absent r)) = Looks key
 next_of_reached (Ok (AtStore key v r)) = Puts key v
 next_of_reached (Ok (AtEnd registers answers)) = Ends answers
 next_of_reached (Err code) = Asks code
@@ -115,14 +125,19 @@ next_left l = next_of_reached (reached l)
 
 -- one more access
 
+-- a value goes into a register
+abbrev pub with_register : (to : ℕ) → ℤ → Rest → Rest
+with_register to v r = record { statements = r.statements; args = r.args; registers = slice_set r.registers to (Some v); answers = r.answers }
+
 -- the value of a look goes into its register; where there was no record its code is to be asked
 abbrev pub with_found : Option ℤ → (to absent : ℕ) → Rest → Left
 with_found None to absent r = ToAsk absent
-with_found (Some v) to absent r = ToRun (record { statements = r.statements; args = r.args; registers = slice_set r.registers to (Some v); answers = r.answers })
+with_found (Some v) to absent r = ToRun (with_register to v r)
 
 -- behind a look that found this; where no look is next, what was left
 abbrev pub behind_look : Option ℤ → OrCode Reached → Left → Left
 behind_look found (Ok (AtLook key to absent r)) l = with_found found to absent r
+behind_look found (Ok (AtFind key to absent r)) l = ToRun (with_register to (found_or absent found) r)
 behind_look found _ l = l
 
 -- what is left after the look that is next, if that finds this

@@ -107,6 +107,11 @@ abbrev pub if_found : ℕ → Option ℤ → (ℤ → Run) → Run
 if_found absent None go = asks absent
 if_found absent (Some v) go = go v
 
+-- what was found, or a number in its place where there is no record
+abbrev pub found_or : ℤ → Option ℤ → ℤ
+found_or absent None = absent
+found_or absent (Some v) = v
+
 -- at most eight answers
 abbrev pub with_room : List ℤ → Run → Run
 with_room answers go = cond (nat_lt (length answers) 8) go wrong
@@ -116,6 +121,8 @@ abbrev pub run : List ℤ → Way → Registers → List ℤ → Run
 run args way.end regs answers = ends answers
 run args (way.look to table id absent rest) regs answers =
     with_value (value_of id args regs) (λ n. with_key table n (λ k. looks k (λ found. if_found absent found (λ v. run args rest (slice_set regs to (Some v)) answers))))
+run args (way.find to table id absent rest) regs answers =
+    with_value (value_of id args regs) (λ n. with_value (value_of absent args regs) (λ v. with_key table n (λ k. looks k (λ found. run args rest (slice_set regs to (Some (found_or v found))) answers))))
 run args (way.put table id value rest) regs answers =
     with_value (value_of id args regs) (λ n. with_value (value_of value args regs) (λ v. with_key table n (λ k. with_stored v (puts k v (run args rest regs answers)))))
 run args (way.save to value rest) regs answers =

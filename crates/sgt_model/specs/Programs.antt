@@ -5,9 +5,9 @@ use Rattle.sgt_model.specs.declared.procedure.Expr.TheVariants.{Num, Arg, Reg, S
 use Rattle.sgt_model.specs.declared.procedure.Cond.{Cond}
 use Rattle.sgt_model.specs.declared.procedure.Cond.TheVariants.{Less, AtMost, Equal}
 use Rattle.sgt_model.specs.declared.procedure.Statement.{Statement, Row_of-Statement, end_of-Statement, more_of-Statement}
-use Rattle.sgt_model.specs.declared.procedure.Statement.TheVariants.{Look, Put, Let, Ask, If', Answer}
+use Rattle.sgt_model.specs.declared.procedure.Statement.TheVariants.{Look, Find, Put, Let, Ask, If', Answer}
 use Rattle.sgt_model.specs.declared.procedure.Procedure.{Procedure}
-use Rattle.sgt_model.specs.Syntax.{Term, num, arg, reg, sum, diff, product, quotient, Test, less, at_most, equal, Block, empty, look, put, save, ask, choose, answer, Program}
+use Rattle.sgt_model.specs.Syntax.{Term, num, arg, reg, sum, diff, product, quotient, Test, less, at_most, equal, Block, empty, look, find, put, save, ask, choose, answer, Program}
 
 -- the text of an expression
 abbrev pub term_of : Expr → Term
@@ -29,6 +29,7 @@ abbrev mutual
   -- the text of a statement before others
   pub before : Statement → Block → Block
   before (Look to table id absent) rest = look to table (term_of id) absent rest
+  before (Find to table id absent) rest = find to table (term_of id) (term_of absent) rest
   before (Put table id value) rest = put table (term_of id) (term_of value) rest
   before (Let to value) rest = save to (term_of value) rest
   before (Ask code) rest = ask code rest

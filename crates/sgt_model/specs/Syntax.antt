@@ -21,6 +21,7 @@ pub data Test : Type 0 where
 pub data Block : Type 0 where
   empty : Block
   look : (to table : ℕ) → (id : Term) → (absent : ℕ) → Block → Block
+  find : (to table : ℕ) → (id absent : Term) → Block → Block
   put : (table : ℕ) → (id value : Term) → Block → Block
   save : (to : ℕ) → (value : Term) → Block → Block
   ask : (code : ℕ) → Block → Block

@@ -7,6 +7,7 @@ use Rattle.sgt_model.specs.Syntax.{Term, Test, Block}
 pub data Way : Type 0 where
   end : Way
   look : (to table : ℕ) → (id : Term) → (absent : ℕ) → Way → Way
+  find : (to table : ℕ) → (id absent : Term) → Way → Way
   put : (table : ℕ) → (id value : Term) → Way → Way
   save : (to : ℕ) → (value : Term) → Way → Way
   ask : (code : ℕ) → Way
@@ -17,6 +18,7 @@ pub data Way : Type 0 where
 abbrev pub onto : Block → Way → Way
 onto text.empty rest = rest
 onto (text.look to table id absent b) rest = look to table id absent (onto b rest)
+onto (text.find to table id absent b) rest = find to table id absent (onto b rest)
 onto (text.put table id value b) rest = put table id value (onto b rest)
 onto (text.save to value b) rest = save to value (onto b rest)
 onto (text.ask code b) rest = ask code

@@ -20,6 +20,14 @@ pub enum Statement {
         id: Expr,
         absent: u16,
     },
+    /// Looks at the record of the table whose number is `id`, and sets the register to its value, or to `absent`, which is
+    /// evaluated before the look, where there is no such record. So it asks no code for want of a record.
+    Find {
+        reg: u8,
+        table: u8,
+        id: Expr,
+        absent: Expr,
+    },
     /// Stores the value in the record of the table whose number is `id`. A record that is not there is made.
     Put {
         table: u8,

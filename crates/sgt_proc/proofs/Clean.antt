@@ -20,6 +20,8 @@ abbrev pub in_way : (Number → Bool) → Way → Bool
 in_way so way.end = false
 in_way so (way.look to table id absent rest) =
     (so (Register to) || (so (Table table) || (in_term so id || so (Code absent)))) || in_way so rest
+in_way so (way.find to table id absent rest) =
+    (so (Register to) || (so (Table table) || (in_term so id || in_term so absent))) || in_way so rest
 in_way so (way.put table id value rest) = (so (Table table) || (in_term so id || in_term so value)) || in_way so rest
 in_way so (way.save to value rest) = (so (Register to) || in_term so value) || in_way so rest
 in_way so (way.ask code) = so (Code code)
@@ -35,6 +37,7 @@ pub in_onto : (so : Number → Bool) (b : Block) (rest : Way) → in_block so b 
     → in_way so (onto b rest) ≡ false
 in_onto so text.empty rest h r = r
 in_onto so (text.look to table id absent b) rest h r = let p = or_parts _ (in_block so b) h in or_none _ _ p.0 (in_onto so b rest p.1 r)
+in_onto so (text.find to table id absent b) rest h r = let p = or_parts _ (in_block so b) h in or_none _ _ p.0 (in_onto so b rest p.1 r)
 in_onto so (text.put table id value b) rest h r = let p = or_parts _ (in_block so b) h in or_none _ _ p.0 (in_onto so b rest p.1 r)
 in_onto so (text.save to value b) rest h r = let p = or_parts _ (in_block so b) h in or_none _ _ p.0 (in_onto so b rest p.1 r)
 in_onto so (text.ask code b) rest h r = (or_parts (so (Code code)) (in_block so b) h).0
@@ -64,6 +67,7 @@ test_nothing (text.equal a b) = or_none _ _ (term_nothing a) (term_nothing b)
 pub in_nothing : (b : Block) → in_block (λ n. false) b ≡ false
 in_nothing text.empty = refl
 in_nothing (text.look to table id absent b) = or_none _ _ (or_none _ _ (term_nothing id) refl) (in_nothing b)
+in_nothing (text.find to table id absent b) = or_none _ _ (or_none _ _ (term_nothing id) (term_nothing absent)) (in_nothing b)
 in_nothing (text.put table id value b) = or_none _ _ (or_none _ _ (term_nothing id) (term_nothing value)) (in_nothing b)
 in_nothing (text.save to value b) = or_none _ _ (term_nothing value) (in_nothing b)
 in_nothing (text.ask code b) = in_nothing b

@@ -7,7 +7,7 @@ use Rattle.sgt_model.specs.Ways.{Way, onto}
 use Rattle.sgt_model.specs.Ways as way
 use Rattle.sgt_model.specs.Runs.{Run, looks, puts, ends, asks}
 use Rattle.sgt_model.specs.Traces.{Next, Looks, Puts, Ends, Asks, trace, next_at, Used}
-use Rattle.sgt_model.specs.Meaning.{Got, is, over, missing, Truth, holds, too_far, unknown, Registers, value_of, truth_of, with_value, with_test, is_key, if_found, run, run_with, fresh}
+use Rattle.sgt_model.specs.Meaning.{Got, is, over, missing, Truth, holds, too_far, unknown, Registers, value_of, truth_of, with_value, with_test, is_key, if_found, found_or, run, run_with, fresh}
 use Rattle.sgt_proc.specs.declared.flaw.Flaw.TheVariants.{TooLong}
 use Rattle.sgt_proc.specs.declared.next.Next.{Next as DeclaredNext}
 use Rattle.sgt_proc.specs.declared.next.Next.TheVariants as declared
@@ -69,6 +69,12 @@ within_onto (text.look to table id absent b) rest n h args regs answers =
     (within_value (suc (size b + n)) (value_of id args regs) _
     (λ v. within_cond (suc (size b + n)) (is_key table v) _
     (λ found. within_found (size b + n) absent found _ (λ x. within_onto b rest n h args (slice_set regs to (Some x)) answers))))
+within_onto (text.find to table id absent b) rest n h args regs answers =
+    within_more _ (suc (size b + n)) (1 + size b + n) (omega arith)
+    (within_value (suc (size b + n)) (value_of id args regs) _
+    (λ v. within_value (suc (size b + n)) (value_of absent args regs) _
+    (λ x. within_cond (suc (size b + n)) (is_key table v) _
+    (λ found. within_onto b rest n h args (slice_set regs to (Some (found_or x found))) answers))))
 within_onto (text.put table id value b) rest n h args regs answers =
     within_more _ (suc (size b + n)) (1 + size b + n) (omega arith)
     (within_value (suc (size b + n)) (value_of id args regs) _

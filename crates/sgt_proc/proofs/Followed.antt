@@ -1,15 +1,16 @@
 -- Statements that others follow.
 use Rattle.std.proofs.Common.{◌≡◌, refl, sym, ap, ◌+◌, ℤ, Bool, true, false, cond, List, [], ◌∷◌, ◌++◌, length, nat_lt, slice_set, Some, Ok, Err, arith}
 use Rattle.sgt_model.specs.Numbers.{is_value}
-use Rattle.sgt_model.specs.Syntax.{Block, empty, look, put, save, ask, choose, answer}
+use Rattle.sgt_model.specs.Syntax.{Block, empty, look, find, put, save, ask, choose, answer}
 use Rattle.sgt_model.specs.Meaning.{Registers, value_of, truth_of}
 use Rattle.sgt_model.specs.Executions.{OrCode, and_then, provided, key_of, stuck}
-use Rattle.sgt_model.specs.Left.{Rest, Reached, AtLook, AtStore, AtEnd, followed_by, then_behind, number_or_code, choice_or_code, reach}
+use Rattle.sgt_model.specs.Left.{Rest, Reached, AtLook, AtFind, AtStore, AtEnd, followed_by, then_behind, number_or_code, choice_or_code, reach}
 use Rattle.sgt_proc.specs.Flaws.{size}
 
 pub followed_empty : (b : Block) → followed_by b empty ≡ b
 followed_empty empty = refl
 followed_empty (look to table id absent b) = ap (look to table id absent) (followed_empty b)
+followed_empty (find to table id absent b) = ap (find to table id absent) (followed_empty b)
 followed_empty (put table id value b) = ap (put table id value) (followed_empty b)
 followed_empty (save to value b) = ap (save to value) (followed_empty b)
 followed_empty (ask code b) = ap (ask code) (followed_empty b)
@@ -19,6 +20,7 @@ followed_empty (answer value b) = ap (answer value) (followed_empty b)
 pub followed_twice : (a b c : Block) → followed_by (followed_by a b) c ≡ followed_by a (followed_by b c)
 followed_twice empty b c = refl
 followed_twice (look to table id absent a) b c = ap (look to table id absent) (followed_twice a b c)
+followed_twice (find to table id absent a) b c = ap (find to table id absent) (followed_twice a b c)
 followed_twice (put table id value a) b c = ap (put table id value) (followed_twice a b c)
 followed_twice (save to value a) b c = ap (save to value) (followed_twice a b c)
 followed_twice (ask code a) b c = ap (ask code) (followed_twice a b c)
@@ -28,6 +30,7 @@ followed_twice (answer value a) b c = ap (answer value) (followed_twice a b c)
 pub followed_size : (a b : Block) → size (followed_by a b) ≡ size a + size b
 followed_size empty b = omega arith
 followed_size (look to table id absent a) b = omega (arith, followed_size a b)
+followed_size (find to table id absent a) b = omega (arith, followed_size a b)
 followed_size (put table id value a) b = omega (arith, followed_size a b)
 followed_size (save to value a) b = omega (arith, followed_size a b)
 followed_size (ask code a) b = omega (arith, followed_size a b)
@@ -58,6 +61,9 @@ if_then : (args : List ℤ) (b more : Block) (o : OrCode Reached)
 if_then args b more (Ok (AtLook key to absent r)) same = ap
     (λ s. Ok (AtLook key to absent (record { statements = s; args = r.args; registers = r.registers; answers = r.answers })))
     (sym (followed_twice r.statements b more))
+if_then args b more (Ok (AtFind key to absent r)) same = ap
+    (λ s. Ok (AtFind key to absent (record { statements = s; args = r.args; registers = r.registers; answers = r.answers })))
+    (sym (followed_twice r.statements b more))
 if_then args b more (Ok (AtStore key v r)) same = ap
     (λ s. Ok (AtStore key v (record { statements = s; args = r.args; registers = r.registers; answers = r.answers })))
     (sym (followed_twice r.statements b more))
@@ -71,6 +77,13 @@ reach_followed (look to table id absent b) more args registers answers =
     then_then (number_or_code (value_of id args registers)) _ _ _ (λ n.
     then_then (key_of table n) (λ key. Ok (AtLook key to absent (rest_with b args registers answers))) (then_behind more (reach more args))
     (λ key. Ok (AtLook key to absent (rest_with (followed_by b more) args registers answers))) (λ key. refl))
+reach_followed (find to table id absent b) more args registers answers =
+    then_then (number_or_code (value_of id args registers)) _ _ _ (λ n.
+    then_then (number_or_code (value_of absent args registers))
+    (λ v. and_then (key_of table n) (λ key. Ok (AtFind key to v (rest_with b args registers answers)))) (then_behind more (reach more args))
+    (λ v. and_then (key_of table n) (λ key. Ok (AtFind key to v (rest_with (followed_by b more) args registers answers)))) (λ v.
+    then_then (key_of table n) (λ key. Ok (AtFind key to v (rest_with b args registers answers))) (then_behind more (reach more args))
+    (λ key. Ok (AtFind key to v (rest_with (followed_by b more) args registers answers))) (λ key. refl)))
 reach_followed (put table id value b) more args registers answers =
     then_then (number_or_code (value_of id args registers)) _ _ _ (λ n.
     then_then (number_or_code (value_of value args registers))

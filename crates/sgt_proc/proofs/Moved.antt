@@ -13,6 +13,7 @@ use Rattle.sgt_proc.proofs.Followed.{followed_empty}
 
 left_to_run : (b : Block) (m : Place) (s : Stop) → HasFound s → left_behind b m s ≡ ToRun (rest_from b m m.at)
 left_to_run b m (stop.Look key to absent) h = refl
+left_to_run b m (stop.Find key to absent) h = refl
 left_to_run b m (stop.Put key v) h = refl
 left_to_run b m stop.End h = refl
 left_to_run b m (stop.Asks code) h = refl

@@ -2,8 +2,8 @@
 use Rattle.std.proofs.Common.{◌≡◌, refl, sym, ap, ◌∙◌, ℕ, zero, suc, ◌+◌, ◌<◌, ◌≤◌, Bool, true, false, cond, List, [], ◌∷◌, ◌++◌, length, get_or, drop, arith}
 use Rattle.std.proofs.lemmas.List.{drop_all}
 use Rattle.sgt_model.specs.declared.procedure.Statement.{Statement}
-use Rattle.sgt_model.specs.declared.procedure.Statement.TheVariants.{Look, Put, Let, Ask, If', Answer}
-use Rattle.sgt_model.specs.Syntax.{Block, empty, look, put, save, ask, choose, answer}
+use Rattle.sgt_model.specs.declared.procedure.Statement.TheVariants.{Look, Find, Put, Let, Ask, If', Answer}
+use Rattle.sgt_model.specs.Syntax.{Block, empty, look, find, put, save, ask, choose, answer}
 use Rattle.sgt_model.specs.Programs.{before, block_of}
 use Rattle.sgt_model.specs.Left.{followed_by}
 use Rattle.sgt_proc.specs.declared.place.Turn.{Turn}
@@ -16,6 +16,7 @@ use Rattle.sgt_proc.proofs.Followed.{followed_empty, followed_twice}
 
 behind_before : (n : ℕ) (s : Statement) (b : Block) → behind (suc n) (before s b) ≡ behind n b
 behind_before n (Look to table id absent) b = refl
+behind_before n (Find to table id absent) b = refl
 behind_before n (Put table id value) b = refl
 behind_before n (Let to value) b = refl
 behind_before n (Ask code) b = refl
@@ -29,6 +30,7 @@ behind_list (suc n) (s ∷ list) = behind_before n s (block_of list) ∙ behind_
 
 before_size : (s : Statement) (b : Block) → size b + 1 ≤ size (before s b)
 before_size (Look to table id absent) b = omega arith
+before_size (Find to table id absent) b = omega arith
 before_size (Put table id value) b = omega arith
 before_size (Let to value) b = omega arith
 before_size (Ask code) b = omega arith
@@ -37,6 +39,7 @@ before_size (Answer value) b = omega arith
 
 pub before_depth : (s : Statement) (b : Block) → 1 ≤ depth (before s b)
 before_depth (Look to table id absent) b = omega arith
+before_depth (Find to table id absent) b = omega arith
 before_depth (Put table id value) b = omega arith
 before_depth (Let to value) b = omega arith
 before_depth (Ask code) b = omega arith
@@ -62,6 +65,7 @@ behind_size : (n : ℕ) (b : Block) → size (behind n b) ≤ size b
 behind_size zero b = omega arith
 behind_size (suc n) empty = omega arith
 behind_size (suc n) (look to table id absent b) = omega (arith, behind_size n b)
+behind_size (suc n) (find to table id absent b) = omega (arith, behind_size n b)
 behind_size (suc n) (put table id value b) = omega (arith, behind_size n b)
 behind_size (suc n) (save to value b) = omega (arith, behind_size n b)
 behind_size (suc n) (ask code b) = omega (arith, behind_size n b)
@@ -71,6 +75,7 @@ behind_size (suc n) (answer value b) = omega (arith, behind_size n b)
 branch_size : (held : Bool) (b : Block) → size (branch held b) ≤ size b
 branch_size held empty = omega arith
 branch_size held (look to table id absent b) = omega arith
+branch_size held (find to table id absent b) = omega arith
 branch_size held (put table id value b) = omega arith
 branch_size held (save to value b) = omega arith
 branch_size held (ask code b) = omega arith
@@ -89,6 +94,7 @@ pub behind_depth : (n : ℕ) (b : Block) → depth (behind n b) ≤ depth b
 behind_depth zero b = omega arith
 behind_depth (suc n) empty = omega arith
 behind_depth (suc n) (look to table id absent b) = omega (arith, behind_depth n b)
+behind_depth (suc n) (find to table id absent b) = omega (arith, behind_depth n b)
 behind_depth (suc n) (put table id value b) = omega (arith, behind_depth n b)
 behind_depth (suc n) (save to value b) = omega (arith, behind_depth n b)
 behind_depth (suc n) (ask code b) = omega (arith, behind_depth n b)
@@ -98,6 +104,7 @@ behind_depth (suc n) (answer value b) = omega (arith, behind_depth n b)
 branch_depth : (held : Bool) (b : Block) → IsIf b → depth (branch held b) + 1 ≤ depth b
 branch_depth held empty h = absurd h
 branch_depth held (look to table id absent b) h = absurd h
+branch_depth held (find to table id absent b) h = absurd h
 branch_depth held (put table id value b) h = absurd h
 branch_depth held (save to value b) h = absurd h
 branch_depth held (ask code b) h = absurd h

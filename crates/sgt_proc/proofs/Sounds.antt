@@ -14,7 +14,7 @@ use Rattle.sgt_model.specs.Syntax.{Term, num, arg, reg, sum, diff, product, quot
 use Rattle.sgt_model.specs.Ways.{Way, onto}
 use Rattle.sgt_model.specs.Ways as way
 use Rattle.sgt_model.specs.Runs.{Run, looks, puts}
-use Rattle.sgt_model.specs.Meaning.{Got, is, over, missing, got, bounded, divided, both, Registers, fresh, value_of, Truth, holds, too_far, unknown, compared, truth_of, with_value, with_test, with_key, with_stored, if_found, with_room, run}
+use Rattle.sgt_model.specs.Meaning.{Got, is, over, missing, got, bounded, divided, both, Registers, fresh, value_of, Truth, holds, too_far, unknown, compared, truth_of, with_value, with_test, with_key, with_stored, if_found, found_or, with_room, run}
 use Rattle.sgt_proc.specs.declared.flaw.Flaw.{Flaw}
 use Rattle.sgt_proc.specs.declared.flaw.Flaw.TheVariants.{HighRegister, UnsetRegister, NoArgument, HighTable, TooLong, TooDeep, ManyAnswers, BadCode, ManyArguments, BadLiteral}
 use Rattle.sgt_proc.specs.declared.numbers.Number.{Number}
@@ -112,6 +112,10 @@ found_sound : (absent : ℕ) (v : Option ℤ) (f : ℤ → Run) → (1 ≤ absen
 found_sound absent None f c h s = (c.0, omega (arith, c.1))
 found_sound absent (Some v) f c h s = s v h
 
+found_or_value : (absent : ℤ) (found : Option ℤ) → IsValue absent → MayBeFound found → IsValue (found_or absent found)
+found_or_value absent None h may = h
+found_or_value absent (Some v) h may = may
+
 with_room_sound : (answers : List ℤ) (f : Run) → length answers < 8 → IsSound f → IsSound (with_room answers f)
 with_room_sound answers f h s = let e : nat_lt (length answers) 8 ≡ true = grind (arith, nat_tests) in rw e s
 
@@ -186,6 +190,26 @@ module _ (args : List ℤ) (all_values : All IsValue args) where
             (λ v h. run_sound rest (slice_set regs to (Some v)) answers behind (length_next regs to v l)
             (assigned_next (λ r. uses_unset r rest) regs to v l register h (λ r k e. assigned r k (or_right _ _ e))) m all),
       ))
+  run_sound (way.find to table id absent rest) regs answers c l assigned m all =
+      let here = (λ (f : Flaw). (or_parts _ _ (c f)).0) in
+      let behind = (λ (f : Flaw). (or_parts _ _ (c f)).1) in
+      let others = (λ (f : Flaw). (or_parts _ _ (here f)).1) in
+      let ends = (λ (f : Flaw). (or_parts _ _ (others f)).1) in
+      let register = allowed_number (length args) (Register to) (λ f. (or_parts _ _ (here f)).0) in
+      let is_table = allowed_number (length args) (Table table) (λ f. (or_parts _ _ (others f)).0) in
+      with_value_sound (value_of id args regs) _ (value_fine regs id (λ f. (or_parts _ _ (ends f)).0)
+      (λ r h e. assigned r h (or_left _ _ (or_left _ _ e))))
+      (λ n g. with_value_sound (value_of absent args regs) _ (value_fine regs absent (λ f. (or_parts _ _ (ends f)).1)
+      (λ r h e. assigned r h (or_left _ _ (or_right _ _ e))))
+      (λ v g'. with_key_sound table n
+      (λ k. looks k (λ found. run args rest (slice_set regs to (Some (found_or v found))) answers)) is_table g (
+        (is_table, g),
+        λ found may.
+            let w = found_or v found in
+            let fits = found_or_value v found g' may in
+            run_sound rest (slice_set regs to (Some w)) answers behind (length_next regs to w l)
+            (assigned_next (λ r. uses_unset r rest) regs to w l register fits (λ r k e. assigned r k (or_right _ _ e))) m all,
+      )))
   run_sound (way.put table id value rest) regs answers c l assigned m all =
       let here = (λ (f : Flaw). (or_parts _ _ (c f)).0) in
       let behind = (λ (f : Flaw). (or_parts _ _ (c f)).1) in

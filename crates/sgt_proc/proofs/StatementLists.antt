@@ -1,7 +1,7 @@
 -- What is said of a list of statements, by what is said of one of them and of those behind it.
 use Rattle.std.proofs.Common.{◌≡◌, refl, ap, ◌∙◌, ℕ, ◌+◌, ◌<◌, max, length, get_or, drop, Bool, true, false, ◌||◌, List, arith}
 use Rattle.sgt_model.specs.declared.procedure.Statement.{Statement}
-use Rattle.sgt_model.specs.declared.procedure.Statement.TheVariants.{Look, Put, Let, Ask, If', Answer}
+use Rattle.sgt_model.specs.declared.procedure.Statement.TheVariants.{Look, Find, Put, Let, Ask, If', Answer}
 use Rattle.sgt_model.specs.Syntax.{Block, empty}
 use Rattle.sgt_model.specs.Programs.{term_of, test_of, before, row_block, block_of}
 use Rattle.sgt_proc.specs.declared.numbers.Number.{Number}
@@ -16,6 +16,8 @@ or_first false b = refl
 in_before : (so : Number → Bool) (s : Statement) (b : Block) → in_block so (before s b) ≡ (in_block so (before s empty) || in_block so b)
 in_before so (Look to table id absent) b =
     or_first (so (Register to) || (so (Table table) || (in_term so (term_of id) || so (Code absent)))) (in_block so b)
+in_before so (Find to table id absent) b =
+    or_first (so (Register to) || (so (Table table) || (in_term so (term_of id) || in_term so (term_of absent)))) (in_block so b)
 in_before so (Put table id value) b = or_first (so (Table table) || (in_term so (term_of id) || in_term so (term_of value))) (in_block so b)
 in_before so (Let to value) b = or_first (so (Register to) || in_term so (term_of value)) (in_block so b)
 in_before so (Ask code) b = or_first (so (Code code)) (in_block so b)
@@ -25,6 +27,7 @@ in_before so (Answer value) b = or_first (in_term so (term_of value)) (in_block 
 
 size_before : (s : Statement) (b : Block) → size (before s b) ≡ size (before s empty) + size b
 size_before (Look to table id absent) b = omega arith
+size_before (Find to table id absent) b = omega arith
 size_before (Put table id value) b = omega arith
 size_before (Let to value) b = omega arith
 size_before (Ask code) b = omega arith
@@ -33,6 +36,7 @@ size_before (Answer value) b = omega arith
 
 depth_before : (s : Statement) (b : Block) → depth (before s b) ≡ max (depth (before s empty)) (depth b)
 depth_before (Look to table id absent) b = omega arith
+depth_before (Find to table id absent) b = omega arith
 depth_before (Put table id value) b = omega arith
 depth_before (Let to value) b = omega arith
 depth_before (Ask code) b = omega arith
@@ -41,6 +45,7 @@ depth_before (Answer value) b = omega arith
 
 terms_before : (s : Statement) (b : Block) → terms_depth (before s b) ≡ max (terms_depth (before s empty)) (terms_depth b)
 terms_before (Look to table id absent) b = omega arith
+terms_before (Find to table id absent) b = omega arith
 terms_before (Put table id value) b = omega arith
 terms_before (Let to value) b = omega arith
 terms_before (Ask code) b = omega arith

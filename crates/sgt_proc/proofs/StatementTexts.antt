@@ -3,7 +3,7 @@ use Rattle.std.proofs.Common.{◌≡◌, refl, sym, ◌∙◌, ap, ℕ, suc, ◌
 use Rattle.std.specs.declared.vec.Vec.{Vec}
 use Rattle.std.specs.declared.alloc.Global.{Global}
 use Rattle.sgt_model.specs.declared.procedure.Statement.{Statement}
-use Rattle.sgt_model.specs.declared.procedure.Statement.TheVariants.{Look, Put, Let, Ask, If', If, Answer}
+use Rattle.sgt_model.specs.declared.procedure.Statement.TheVariants.{Look, Find, Put, Let, Ask, If', If, Answer}
 use Rattle.sgt_model.specs.declared.procedure.Cond.{Cond}
 use Rattle.sgt_model.specs.Syntax.{Block, empty}
 use Rattle.sgt_model.specs.Programs.{test_of, before, block_of}
@@ -12,6 +12,7 @@ use Rattle.sgt_model.proofs.Texts.{before_if}
 
 onto_before : (s : Statement) (b : Block) (rest : Way) → onto (before s b) rest ≡ onto (before s empty) (onto b rest)
 onto_before (Look to table id absent) b rest = refl
+onto_before (Find to table id absent) b rest = refl
 onto_before (Put table id value) b rest = refl
 onto_before (Let to value) b rest = refl
 onto_before (Ask code) b rest = refl

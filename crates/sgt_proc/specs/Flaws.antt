@@ -1,7 +1,7 @@
 -- The flaws that a procedure's text can have.
 use Rattle.std.specs.Prelude.{ℕ, ◌+◌, ◌<◌, max, Bool, false, not, ◌&&◌, ◌||◌, nat_eq, nat_lt, nat_le, IsTrue}
 use Rattle.sgt_model.specs.Numbers.{is_value}
-use Rattle.sgt_model.specs.Syntax.{Term, num, arg, reg, sum, diff, product, quotient, Test, less, at_most, equal, Block, empty, look, put, save, ask, choose, answer, Program}
+use Rattle.sgt_model.specs.Syntax.{Term, num, arg, reg, sum, diff, product, quotient, Test, less, at_most, equal, Block, empty, look, find, put, save, ask, choose, answer, Program}
 use Rattle.sgt_model.specs.Ways.{Way, onto}
 use Rattle.sgt_model.specs.Ways as way
 use Rattle.sgt_proc.specs.declared.flaw.Flaw.{Flaw}
@@ -29,6 +29,7 @@ in_test so (equal a b) = in_term so a || in_term so b
 abbrev pub in_block : (Number → Bool) → Block → Bool
 in_block so empty = false
 in_block so (look to table id absent b) = (so (Register to) || (so (Table table) || (in_term so id || so (Code absent)))) || in_block so b
+in_block so (find to table id absent b) = (so (Register to) || (so (Table table) || (in_term so id || in_term so absent))) || in_block so b
 in_block so (put table id value b) = (so (Table table) || (in_term so id || in_term so value)) || in_block so b
 in_block so (save to value b) = (so (Register to) || in_term so value) || in_block so b
 in_block so (ask code b) = so (Code code) || in_block so b
@@ -80,6 +81,7 @@ test_uses r (equal a b) = uses r a || uses r b
 abbrev pub uses_unset : ℕ → Way → Bool
 uses_unset r way.end = false
 uses_unset r (way.look to table id absent rest) = uses r id || (not (nat_eq to r) && uses_unset r rest)
+uses_unset r (way.find to table id absent rest) = (uses r id || uses r absent) || (not (nat_eq to r) && uses_unset r rest)
 uses_unset r (way.put table id value rest) = (uses r id || uses r value) || uses_unset r rest
 uses_unset r (way.save to value rest) = uses r value || (not (nat_eq to r) && uses_unset r rest)
 uses_unset r (way.ask code) = false
@@ -94,6 +96,7 @@ UsesUnset w = (r : ℕ) × ((r < 16) × IsTrue (uses_unset r w))
 abbrev pub most_answers : Way → ℕ
 most_answers way.end = 0
 most_answers (way.look to table id absent rest) = most_answers rest
+most_answers (way.find to table id absent rest) = most_answers rest
 most_answers (way.put table id value rest) = most_answers rest
 most_answers (way.save to value rest) = most_answers rest
 most_answers (way.ask code) = 0
@@ -104,6 +107,7 @@ most_answers (way.answer value rest) = most_answers rest + 1
 abbrev pub size : Block → ℕ
 size empty = 0
 size (look to table id absent b) = 1 + size b
+size (find to table id absent b) = 1 + size b
 size (put table id value b) = 1 + size b
 size (save to value b) = 1 + size b
 size (ask code b) = 1 + size b
@@ -130,6 +134,7 @@ test_depth (equal a b) = max (term_depth a) (term_depth b)
 abbrev pub terms_depth : Block → ℕ
 terms_depth empty = 0
 terms_depth (look to table id absent b) = max (term_depth id) (terms_depth b)
+terms_depth (find to table id absent b) = max (max (term_depth id) (term_depth absent)) (terms_depth b)
 terms_depth (put table id value b) = max (max (term_depth id) (term_depth value)) (terms_depth b)
 terms_depth (save to value b) = max (term_depth value) (terms_depth b)
 terms_depth (ask code b) = terms_depth b
@@ -140,6 +145,7 @@ terms_depth (answer value b) = max (term_depth value) (terms_depth b)
 abbrev pub depth : Block → ℕ
 depth empty = 0
 depth (look to table id absent b) = max 1 (depth b)
+depth (find to table id absent b) = max 1 (depth b)
 depth (put table id value b) = max 1 (depth b)
 depth (save to value b) = max 1 (depth b)
 depth (ask code b) = max 1 (depth b)

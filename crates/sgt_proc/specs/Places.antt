@@ -3,7 +3,7 @@ use Rattle.std.specs.Prelude.{◌≡◌, ℕ, ℤ, ◌+◌, ◌*◌, ◌<◌, �
 use Rattle.sgt_model.specs.Numbers.{IsValue}
 use Rattle.sgt_model.specs.Syntax.{Block}
 use Rattle.sgt_model.specs.Executions.{OrCode}
-use Rattle.sgt_model.specs.Left.{Rest, Reached, AtLook, AtStore, AtEnd, reach}
+use Rattle.sgt_model.specs.Left.{Rest, Reached, AtLook, AtFind, AtStore, AtEnd, reach}
 use Rattle.sgt_model.specs.declared.procedure.Statement.{Statement}
 use Rattle.sgt_model.specs.Programs.{before}
 use Rattle.sgt_proc.specs.declared.place.Place.{Place}
@@ -32,6 +32,7 @@ reach_from b m = reach (to_come m.path.items m.at b) m.args m.registers m.answer
 -- where they led that stopped there
 abbrev pub reached_at : Block → Place → Stop → OrCode Reached
 reached_at b m (stop.Look key to absent) = Ok (AtLook key to absent (rest_from b m (m.at + 1)))
+reached_at b m (stop.Find key to absent) = Ok (AtFind key to absent (rest_from b m (m.at + 1)))
 reached_at b m (stop.Put key v) = Ok (AtStore key v (rest_from b m (m.at + 1)))
 reached_at b m stop.End = Ok (AtEnd m.registers m.answers)
 reached_at b m (stop.Asks code) = Err code
@@ -40,6 +41,7 @@ reached_at b m (stop.Absent code) = Err code
 -- an access is before a statement
 abbrev pub StopsBefore : Place → Stop → Type 0
 StopsBefore m (stop.Look key to absent) = m.at < 64
+StopsBefore m (stop.Find key to absent) = m.at < 64
 StopsBefore m (stop.Put key v) = m.at < 64
 StopsBefore m _ = Unit {0}
 

@@ -27,6 +27,9 @@ fn most_answers_from(statement: &Statement, behind: u8) -> u8
         Statement::Answer { .. } => behind.min(MOST_ANSWERS) + 1,
         Statement::Ask { .. } => 0,
         Statement::If { yes, no, .. } => most_answers(yes, behind).max(most_answers(no, behind)),
-        Statement::Look { .. } | Statement::Put { .. } | Statement::Let { .. } => behind,
+        Statement::Look { .. }
+        | Statement::Find { .. }
+        | Statement::Put { .. }
+        | Statement::Let { .. } => behind,
     }
 }

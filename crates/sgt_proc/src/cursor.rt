@@ -5,6 +5,7 @@ ghost use Rattle.sgt_proc.specs.Nexts.{seen, StoresValue};
 use crate::checked::Checked;
 use crate::next::Next;
 use crate::place::{Place, Stop};
+use crate::value::found_or;
 use arrayvec::ArrayVec;
 use sgt_model::{Answers, Args};
 use std::marker::Model;
@@ -46,7 +47,7 @@ impl Cursor {
         ensures in_range { StoresValue result }
     {
         match self.stop {
-            Stop::Look { key, .. } => Next::Look(key),
+            Stop::Look { key, .. } | Stop::Find { key, .. } => Next::Look(key),
             Stop::Put(key, value) => Next::Put(key, value),
             Stop::End => Next::Ends(self.place.answers.copied()),
             Stop::Asks(code) | Stop::Absent(code) => Next::Asks(code),
@@ -58,16 +59,25 @@ impl Cursor {
         requires same { self.old.0 ≡ procedure.now }
         ensures { self.new ≡ (self.old.0, after_look value self.old.1) }
     {
-        if let Stop::Look { reg, absent, .. } = self.stop {
-            match value {
-                Some(found) => {
-                    self.place.at += 1;
-                    self.place.set(reg, found);
-                    self.behind = Snapshot::of(&self.place);
-                    self.stop = procedure.advance(&mut self.place);
+        match self.stop {
+            Stop::Look { reg, absent, .. } => {
+                match value {
+                    Some(found) => {
+                        self.place.at += 1;
+                        self.place.set(reg, found);
+                        self.behind = Snapshot::of(&self.place);
+                        self.stop = procedure.advance(&mut self.place);
+                    }
+                    None => self.stop = Stop::Absent(absent),
                 }
-                None => self.stop = Stop::Absent(absent),
             }
+            Stop::Find { reg, absent, .. } => {
+                self.place.at += 1;
+                self.place.set(reg, found_or(absent, value));
+                self.behind = Snapshot::of(&self.place);
+                self.stop = procedure.advance(&mut self.place);
+            }
+            Stop::Put(..) | Stop::End | Stop::Asks(_) | Stop::Absent(_) => {}
         }
     }
 

@@ -27,6 +27,7 @@ fn depth_of(statement: &Statement) -> u8
     match statement {
         Statement::If { yes, no, .. } => one_deeper(depth(yes), depth(no)),
         Statement::Look { .. }
+        | Statement::Find { .. }
         | Statement::Put { .. }
         | Statement::Let { .. }
         | Statement::Ask { .. }
@@ -52,6 +53,7 @@ fn terms_depth_of(statement: &Statement) -> u8
 {
     match statement {
         Statement::Look { id, .. } => term_depth(id),
+        Statement::Find { id, absent, .. } => term_depth(id).max(term_depth(absent)),
         Statement::Put { id, value, .. } => term_depth(id).max(term_depth(value)),
         Statement::Ask { .. } => 0,
         Statement::If { cond, yes, no } => {

@@ -4,7 +4,7 @@ ghost use Rattle.sgt_proc.specs.Execution.{ExecutedStatement, ExecutedBlock};
 
 use crate::interpreter::Interpreter;
 use crate::next::Next;
-use crate::value::{key, test, value};
+use crate::value::{found_or, key, test, value};
 use sgt_model::Statement;
 
 /// Executes one statement. An error is what the procedure does next, where it does not go on behind the statement.
@@ -30,6 +30,18 @@ fn execute_statement(
                 Some(found) => interpreter.set(*reg, found),
                 None => return Err(Next::Asks(*absent)),
             }
+            Ok(())
+        }
+        Statement::Find {
+            reg,
+            table,
+            id,
+            absent,
+        } => {
+            let id = value(id, args, &interpreter.registers)?;
+            let absent = value(absent, args, &interpreter.registers)?;
+            let found = interpreter.look(key(*table, id)?, read)?;
+            interpreter.set(*reg, found_or(absent, found));
             Ok(())
         }
         Statement::Put {

@@ -18,7 +18,7 @@ const MOST_ARGS: u8 = 4;
 pub enum Flaw {
     /// A register number is over 15.
     HighRegister,
-    /// On some way an expression uses a register that no Look or Let before it on that way sets.
+    /// On some way an expression uses a register that no Look, Find or Let before it on that way sets.
     UnsetRegister,
     /// An argument number is not below the number of arguments that the procedure takes.
     NoArgument,

@@ -78,6 +78,17 @@ impl Rule {
                     || self.is_broken_in(id)
                     || self.is_broken(Number::Code(*absent))
             }
+            Statement::Find {
+                reg,
+                table,
+                id,
+                absent,
+            } => {
+                self.is_broken(Number::Register(*reg))
+                    || self.is_broken(Number::Table(*table))
+                    || self.is_broken_in(id)
+                    || self.is_broken_in(absent)
+            }
             Statement::Put { table, id, value } => {
                 self.is_broken(Number::Table(*table))
                     || self.is_broken_in(id)

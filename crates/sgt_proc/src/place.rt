@@ -27,6 +27,8 @@ pub struct Turn {
 pub enum Stop {
     /// At a look, which sets the register, or asks the code where it finds no record.
     Look { key: Key, reg: u8, absent: u16 },
+    /// At a look, which sets the register to what it finds, or to `absent` where it finds no record.
+    Find { key: Key, reg: u8, absent: i64 },
     /// At a store.
     Put(Key, i64),
     /// At its end.
@@ -103,6 +105,21 @@ impl Place {
                     key,
                     reg: *reg,
                     absent: *absent,
+                })
+            }
+            Statement::Find {
+                reg,
+                table,
+                id,
+                absent,
+            } => {
+                let id = self.value(id)?;
+                let absent = self.value(absent)?;
+                let key = key(*table, id)?;
+                Err(Stop::Find {
+                    key,
+                    reg: *reg,
+                    absent,
                 })
             }
             Statement::Put {
@@ -191,6 +208,7 @@ fn branch_of<'a>(statement: &'a Statement, held: bool) -> &'a [Statement]
     match statement {
         Statement::If { yes, no, .. } => { if held { yes.as_slice() } else { no.as_slice() } }
         Statement::Look { .. }
+        | Statement::Find { .. }
         | Statement::Put { .. }
         | Statement::Let { .. }
         | Statement::Ask { .. }

@@ -38,6 +38,12 @@ fn is_live_before(statement: &Statement, register: u8, behind: bool) -> bool
 {
     match statement {
         Statement::Look { reg, id, .. } => uses(id, register) || *reg != register && behind,
+        Statement::Find {
+            reg,
+            id,
+            absent,
+            ..
+        } => uses(id, register) || uses(absent, register) || *reg != register && behind,
         Statement::Put { id, value, .. } => uses(id, register) || uses(value, register) || behind,
         Statement::Let { reg, value } => uses(value, register) || *reg != register && behind,
         Statement::Ask { .. } => false,

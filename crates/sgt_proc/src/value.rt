@@ -1,6 +1,6 @@
 ghost use Rattle.std.specs.Prelude.{◌≡◌, ◌+ℤ◌, ◌-ℤ◌, ◌*ℤ◌, None, slice_get, slice_index_or};
 ghost use Rattle.sgt_model.specs.Programs.{term_of, test_of};
-ghost use Rattle.sgt_model.specs.Meaning.{got, bounded, divided, value_of, truth_of};
+ghost use Rattle.sgt_model.specs.Meaning.{got, bounded, divided, found_or, value_of, truth_of};
 ghost use Rattle.sgt_model.specs.Executions.{key_of};
 ghost use Rattle.sgt_model.specs.Left.{number_or_code, choice_or_code};
 
@@ -102,6 +102,16 @@ pub fn key(table: u8, id: i64) -> Result<Key, u16>
     match Key::new(table, id) {
         Some(key) => Ok(key),
         None => Err(WRONG),
+    }
+}
+
+/// What was found, or the number in its place where there is no record.
+pub fn found_or(absent: i64, found: Option<i64>) -> i64
+    ensures { result ≡ found_or absent found }
+{
+    match found {
+        Some(number) => number,
+        None => absent,
     }
 }
 

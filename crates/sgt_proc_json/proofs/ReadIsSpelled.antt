@@ -4,7 +4,7 @@ use Rattle.std.specs.Prelude.{codes, cond, option_and_then}
 use Rattle.std.proofs.lemmas.Slice.Eq.{bytes_eq-Decides}
 use Rattle.serde_json.specs.Data.{Data, null, boolean, number, array, string, object, Items, no_items, item}
 use Rattle.serde_json.specs.Find.{as_str}
-use Rattle.sgt_model.specs.Syntax.{Term, num, arg, reg, sum, diff, product, quotient, Test, less, at_most, equal, Block, empty, look, put, save, ask, choose, answer, Program}
+use Rattle.sgt_model.specs.Syntax.{Term, num, arg, reg, sum, diff, product, quotient, Test, less, at_most, equal, Block, empty, look, find, put, save, ask, choose, answer, Program}
 use Rattle.sgt_proc_json.specs.Trees.{whole, natural}
 use Rattle.sgt_proc_json.specs.Spelling.{WordAnd, Byte, Short, SpellsTerm, SpellsTest, Listed, SpellsBlock, Spells}
 use Rattle.sgt_proc_json.specs.Readings.{Reading, here, at, one, two, three, four, or_here, is_word, byte, short, expression, condition, statement, block, statements, reading, one_item, two_items, three_items, four_items}
@@ -222,7 +222,7 @@ three_found w a b c f is =
 four_found : (w a b c d : Data) (f : Block → Block) → four_items (as_str w) a b c d ≡ Ok f
     → Front f (array (item w (item a (item b (item c (item d no_items))))))
 four_found w a b c d f is =
-    elim (chosen (is_word (as_str w) (codes "look")) _ here f is) [
+    elim (chosen (is_word (as_str w) (codes "look")) _ _ f is) [
       | inl h ↦ (let o = four_read (λ to table id absent rest. look to table id absent rest) (at 1 (byte a)) (at 2 (byte b))
           (at 3 (expression c)) (at 4 (short d)) f h.1 in
           subst (λ g. Front g (array (item w (item a (item b (item c (item d no_items))))))) o.8
@@ -239,7 +239,28 @@ four_found w a b c d f is =
             ),
             others,
           )))
-      | inr none ↦ absurd (cc)
+      | inr other ↦ elim (chosen (is_word (as_str w) (codes "find")) _ here f other) [
+        | inl h ↦ (let o = four_read (λ to table id absent rest. find to table id absent rest) (at 1 (byte a)) (at 2 (byte b))
+            (at 3 (expression c)) (at 4 (expression d)) f h.1 in
+            subst (λ g. Front g (array (item w (item a (item b (item c (item d no_items))))))) o.8
+            (λ rest items others. rw (the_word w (codes "find") h.0) (
+              (
+                refl,
+                (
+                  byte_read 1 o.0 a o.4,
+                  (
+                    byte_read 2 o.1 b o.5,
+                    (
+                      term_read c o.2 (at_read 3 (expression c) o.2 o.6),
+                      (term_read d o.3 (at_read 4 (expression d) o.3 o.7), tt),
+                    ),
+                  ),
+                ),
+              ),
+              others,
+            )))
+        | inr none ↦ absurd (cc)
+      ]
     ]
 
 mutual

@@ -2,7 +2,7 @@
 use Rattle.std.proofs.Common.{◌≡◌, refl, ap, ◌∙◌, ℕ, ◌+◌, List, [], ◌∷◌, Ok}
 use Rattle.std.specs.Prelude.{codes}
 use Rattle.serde_json.specs.Data.{Data, null, boolean, number, array, string, object, Items, no_items, item}
-use Rattle.sgt_model.specs.Syntax.{Term, num, arg, reg, sum, diff, product, quotient, Test, less, at_most, equal, Block, empty, look, put, save, ask, choose, answer, Program}
+use Rattle.sgt_model.specs.Syntax.{Term, num, arg, reg, sum, diff, product, quotient, Test, less, at_most, equal, Block, empty, look, find, put, save, ask, choose, answer, Program}
 use Rattle.sgt_proc_json.specs.Spelling.{Shape, Each, WordAnd, Byte, Short, SpellsTerm, SpellsTest, Listed, SpellsBlock, Spells}
 use Rattle.sgt_proc_json.specs.Readings.{at, one, or_here, byte, short, expression, condition, statement, block, statements, reading}
 
@@ -161,6 +161,12 @@ read_block (look to table id absent b) n (item d rest) is =
     let r = four_are (codes "look") (Byte to) (Byte table) (SpellsTerm id) (Short absent) d is.0 in
     read_first n d rest (λ b. look to table id absent b) b
     (rw r.4 (rw (read_byte to 1 r.0 r.5, read_byte table 2 r.1 r.6, read_term id r.2 r.7, read_short absent 4 r.3 r.8) refl))
+    (read_block b (n + 1) rest is.1)
+read_block (find to table id absent b) n no_items is = absurd is
+read_block (find to table id absent b) n (item d rest) is =
+    let r = four_are (codes "find") (Byte to) (Byte table) (SpellsTerm id) (SpellsTerm absent) d is.0 in
+    read_first n d rest (λ b. find to table id absent b) b
+    (rw r.4 (rw (read_byte to 1 r.0 r.5, read_byte table 2 r.1 r.6, read_term id r.2 r.7, read_term absent r.3 r.8) refl))
     (read_block b (n + 1) rest is.1)
 read_block (put table id value b) n no_items is = absurd is
 read_block (put table id value b) n (item d rest) is =

@@ -4,7 +4,7 @@ use Rattle.std.specs.Prelude.{ℕ, ◌+◌, take, Bool, false, cond, List, [], �
 use Rattle.std.specs.Str.{bytes_eq}
 use Rattle.serde_json.specs.Data.{Data, array, Items, no_items, item}
 use Rattle.serde_json.specs.Find.{as_str}
-use Rattle.sgt_model.specs.Syntax.{Term, num, arg, reg, sum, diff, product, quotient, Test, less, at_most, equal, Block, empty, look, put, save, ask, choose, answer, Program}
+use Rattle.sgt_model.specs.Syntax.{Term, num, arg, reg, sum, diff, product, quotient, Test, less, at_most, equal, Block, empty, look, find, put, save, ask, choose, answer, Program}
 use Rattle.sgt_proc_json.specs.Trees.{whole, natural}
 
 -- a thing that is spelled, or the place of a misfit: positions from the top, counted from 0
@@ -108,7 +108,8 @@ three_items word a b c =
 -- the same of four
 abbrev pub four_items : Option (List ℕ) → Data → Data → Data → Data → Reading (Block → Block)
 four_items word a b c d =
-    cond (is_word word (codes "look")) (four (λ to table id absent rest. look to table id absent rest) (at 1 (byte a)) (at 2 (byte b)) (at 3 (expression c)) (at 4 (short d))) here
+    cond (is_word word (codes "look")) (four (λ to table id absent rest. look to table id absent rest) (at 1 (byte a)) (at 2 (byte b)) (at 3 (expression c)) (at 4 (short d)))
+    (cond (is_word word (codes "find")) (four (λ to table id absent rest. find to table id absent rest) (at 1 (byte a)) (at 2 (byte b)) (at 3 (expression c)) (at 4 (expression d))) here)
 
 abbrev mutual
   -- the statement that a tree spells, which is put in front of others

@@ -2,7 +2,7 @@
 -- expression.
 use Rattle.std.specs.Prelude.{◌≡◌, ⊤, ℕ, ℤ, List, [], ◌∷◌, Some, option_and_then, codes}
 use Rattle.serde_json.specs.Data.{Data, array, string, Items, no_items, item}
-use Rattle.sgt_model.specs.Syntax.{Term, num, arg, reg, sum, diff, product, quotient, Test, less, at_most, equal, Block, empty, look, put, save, ask, choose, answer, Program}
+use Rattle.sgt_model.specs.Syntax.{Term, num, arg, reg, sum, diff, product, quotient, Test, less, at_most, equal, Block, empty, look, find, put, save, ask, choose, answer, Program}
 use Rattle.sgt_proc_json.specs.Trees.{whole, natural}
 
 -- what a tree may be
@@ -64,6 +64,7 @@ abbrev pub SpellsBlock : Block → Items → Type 0
 SpellsBlock empty no_items = ⊤
 SpellsBlock empty (item tree items) = ⊥
 SpellsBlock (look to table id absent b) items = First (WordAnd (codes "look") (Byte to ∷ Byte table ∷ SpellsTerm id ∷ Short absent ∷ [])) (SpellsBlock b) items
+SpellsBlock (find to table id absent b) items = First (WordAnd (codes "find") (Byte to ∷ Byte table ∷ SpellsTerm id ∷ SpellsTerm absent ∷ [])) (SpellsBlock b) items
 SpellsBlock (put table id value b) items = First (WordAnd (codes "put") (Byte table ∷ SpellsTerm id ∷ SpellsTerm value ∷ [])) (SpellsBlock b) items
 SpellsBlock (save to value b) items = First (WordAnd (codes "let") (Byte to ∷ SpellsTerm value ∷ [])) (SpellsBlock b) items
 SpellsBlock (ask code b) items = First (WordAnd (codes "ask") (Short code ∷ [])) (SpellsBlock b) items

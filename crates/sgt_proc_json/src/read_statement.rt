@@ -110,7 +110,7 @@ fn three_items(
     }
 }
 
-/// The statement that a word and four items spell: `look`.
+/// The statement that a word and four items spell: `look` or `find`.
 fn four_items(
     alloc: Global,
     word: &Value,
@@ -131,6 +131,12 @@ fn four_items(
             table: byte_at(2, b)?,
             id: expr_at(alloc, 3, c)?,
             absent: short_at(4, d)?,
+        }),
+        Some("find") => Ok(Statement::Find {
+            reg: byte_at(1, a)?,
+            table: byte_at(2, b)?,
+            id: expr_at(alloc, 3, c)?,
+            absent: expr_at(alloc, 4, d)?,
         }),
         _ => Err(ReadError::here()),
     }

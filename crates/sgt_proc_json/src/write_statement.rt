@@ -25,6 +25,12 @@ fn write_statement(alloc: Global, statement: &Statement) -> Result<Value, NoMemo
             id,
             absent,
         } => write_look(alloc, *reg, *table, id, *absent),
+        Statement::Find {
+            reg,
+            table,
+            id,
+            absent,
+        } => write_find(alloc, *reg, *table, id, absent),
         Statement::Put { table, id, value } => Ok(Value::Array(vec![in alloc;
             Value::try_from_str(alloc, "put")?,
             write_byte(*table),
@@ -64,6 +70,26 @@ fn write_look(alloc: Global, reg: u8, table: u8, id: &Expr, absent: u16) -> Resu
         write_byte(table),
         write_expr(alloc, id)?,
         write_short(absent),
+    ]?))
+}
+
+/// The tree of a find.
+fn write_find(
+    alloc: Global,
+    reg: u8,
+    table: u8,
+    id: &Expr,
+    absent: &Expr,
+) -> Result<Value, NoMemory>
+    ensures { IfOk result (λ v. WordAnd (codes "find")
+        (Byte reg ∷ Byte table ∷ SpellsTerm (term_of id.now) ∷ SpellsTerm (term_of absent.now) ∷ []) (view v)) }
+{
+    Ok(Value::Array(vec![in alloc;
+        Value::try_from_str(alloc, "find")?,
+        write_byte(reg),
+        write_byte(table),
+        write_expr(alloc, id)?,
+        write_expr(alloc, absent)?,
     ]?))
 }
 

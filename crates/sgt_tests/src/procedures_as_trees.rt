@@ -46,7 +46,7 @@ fn what_is_read_is_written_as_it_was(rt: HostRuntime) -> Result<(), Fail> {
         r#"[0,[]]
 [1,[["look",0,2,["arg",0],5],["answer",["reg",0]]]]
 [2,[["look",1,2,["arg",0],5],["let",3,["diff",["reg",1],["sum",["arg",1],-4]]],["if",["less",["reg",3],0],[["ask",6],["answer",7]],[]],["if",["most",8,["reg",3]],[],[["if",["same",9,10],[["ask",11]],[["ask",12]]]]],["put",13,14,["reg",15]],["answer",16]]]
-[2,[["let",0,["product",["arg",0],["quotient",["sum",["arg",1],3],100]]],["put",3,["reg",0],["quotient",-7,["product",2,["diff",4,5]]]]]]"#,
+[2,[["let",0,["product",["arg",0],["quotient",["sum",["arg",1],3],100]]],["put",3,["reg",0],["quotient",-7,["product",2,["diff",4,5]]]],["find",1,3,["reg",0],["sum",["arg",0],1]],["answer",["reg",1]]]]"#,
     )
 }
 
