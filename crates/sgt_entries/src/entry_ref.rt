@@ -2,7 +2,7 @@ ghost use Rattle.std.specs.Prelude.{◌≡◌, ◌↔◌, IsTrue};
 ghost use Rattle.sgt_model.specs.Fates.{is_start};
 ghost use Rattle.sgt_model.specs.Questions.{named_by, started_in, over_in};
 ghost use Rattle.sgt_model.specs.Questions.{refuses_start, is_wait, is_commit, is_ask, is_quit, is_ending, tells_end};
-ghost use Rattle.sgt_entries.specs.EntryParts.{bare_event, bare_reply, args_in, walk_in, fell_in, answers_in, is_by_cycle, tells_fall, is_access, is_at_end};
+ghost use Rattle.sgt_entries.specs.EntryParts.{bare_event, bare_reply, args_in, walk_in, fell_in, answers_in, HasNoLists, is_by_cycle, tells_fall, is_access, is_at_end};
 
 use crate::short_cause::{ShortCause, ShortFate};
 use crate::short_entry::ShortEntry;
@@ -64,10 +64,30 @@ impl<'a> EntryRef<'a> {
     pub fn is_same(&self, other: &EntryRef<'_>) -> bool
         ensures { IsTrue result ↔ (self.now ≡ other.now) }
     {
-        self.has_same_event(other)
-            && self.has_same_reply(other)
-            && self.has_same_values(other)
-            && self.has_same_tids(other)
+        if !self.has_same_event(other) || !self.has_same_reply(other) {
+            return false;
+        }
+        // Most entries have no lists.
+        if self.has_no_lists() && other.has_no_lists() {
+            return true;
+        }
+        self.has_same_values(other) && self.has_same_tids(other)
+    }
+
+    // Whether it is of a kind that has no lists.
+    fn has_no_lists(&self) -> bool
+        ensures { IsTrue result → HasNoLists self.now }
+    {
+        if let ShortEvent::Start { .. } = self.short.event {
+            return false;
+        }
+        match self.short.reply {
+            ShortReply::Over(_)
+            | ShortReply::Committed(_)
+            | ShortReply::Aborted { .. }
+            | ShortReply::Refused { .. } => false,
+            _ => true,
+        }
     }
 
     // Whether the events are the same but for the arguments.

@@ -1,8 +1,10 @@
 -- A graph as 32 indices: the transactions at the indices that are taken, and rows of indices.
-use Rattle.std.specs.Prelude.{◌≡◌, ℕ, ◌<◌, ◌≤◌, Bool, true, false, ◌&&◌, nat_eq, nat_lt, List, length, slice_index, map, cond}
+use Rattle.std.specs.Prelude.{◌≡◌, ℕ, ◌<◌, ◌≤◌, Bool, true, false, ◌&&◌, nat_eq, nat_lt, ◌↔◌, List, length, slice_index, map, cond}
 use Rattle.std.proofs.Common.{zero, suc}
 use Rattle.sgt_cycle.specs.Indices.{is_set, is_bit, indices}
 use Rattle.sgt_cycle.specs.Walk.{IsWalk}
+use Rattle.sgt_model.specs.Walks.{Member}
+use Rattle.sgt_graph.specs.declared.verdict.Link.{Link}
 use Rattle.sgt_graph.specs.declared.verdict.Verdict.{Verdict}
 use Rattle.sgt_graph.specs.declared.verdict.Verdict.TheVariants.{Accepted, Closes}
 use Rattle.sgt_graph.specs.Closures.{IsClosure}
@@ -48,3 +50,10 @@ pub record IsLeastAt (tids : List ℕ) (set u : ℕ) : Type 0 where
 abbrev pub IsIndexVerdict : List ℕ → List ℕ → List ℕ → ℕ → ℕ → Verdict → Type 0
 IsIndexVerdict tids pairs reached index targets Accepted = (j : ℕ) → is_set targets j ≡ true → is_bit reached index j ≡ false
 IsIndexVerdict tids pairs reached index targets (Closes walk) = (path : List ℕ) × IsWalk (is_bit pairs) index (indices targets) path × (walk ≡ map (λ i. slice_index tids i) path)
+
+-- the link leads to where the transaction is, from where these are, and nothing that is reached from there is one of them
+pub record IsLinkOf (taken : ℕ) (tids reached : List ℕ) (t : ℕ) (preds : List ℕ) (link : Link) : Type 0 where
+  pub low : link.to < 32
+  pub here : is_at taken tids t link.to ≡ true
+  pub exact : (i : ℕ) → (is_set link.from i ≡ true) ↔ ((is_set taken i ≡ true) × Member (slice_index tids i) preds)
+  pub none_back : (j : ℕ) → is_set link.from j ≡ true → is_bit reached link.to j ≡ false

@@ -4,6 +4,9 @@ use Rattle.sgt_model.specs.Walks.{Member}
 pub use Rattle.sgt_cycle.specs.Walk.{Holds, Walk, IsWalk, NoWalk}
 use Rattle.sgt_graph.specs.declared.verdict.Verdict.{Verdict}
 use Rattle.sgt_graph.specs.declared.verdict.Verdict.TheVariants.{Accepted, Closes}
+use Rattle.sgt_graph.specs.declared.verdict.Link.{Link}
+use Rattle.sgt_graph.specs.declared.verdict.Plan.{Plan}
+use Rattle.sgt_graph.specs.declared.verdict.Plan.TheVariants as plan
 
 -- Accepted where no walk leads from t to one of the targets, else one that does
 abbrev pub IsVerdict : (ℕ → ℕ → Bool) → ℕ → List ℕ → Verdict → Type 0
@@ -14,3 +17,8 @@ IsVerdict pairs t targets (Closes walk) = IsWalk pairs t targets walk
 abbrev pub Inserts : (ℕ → ℕ → Bool) → (ℕ → ℕ → Bool) → ℕ → List ℕ → Verdict → Type 0
 Inserts old new t preds Accepted = (u v : ℕ) → (new u v ≡ true) ↔ ((old u v ≡ true) ⊎ ((v ≡ t) × Member u preds))
 Inserts old new t preds (Closes walk) = (u v : ℕ) → new u v ≡ old u v
+
+-- a link that is planned where no walk leads from t to one of the targets, else a walk that does
+abbrev pub IsPlan : (ℕ → ℕ → Bool) → (Link → Type 0) → ℕ → List ℕ → Plan → Type 0
+IsPlan pairs planned t targets (plan.Free link) = NoWalk pairs t targets × planned link
+IsPlan pairs planned t targets (plan.Closes walk) = IsWalk pairs t targets walk

@@ -1,11 +1,11 @@
 ghost use Rattle.std.specs.Prelude.{◌≡◌, ℕ, ◌<◌, true, false, not, ◌||◌, ◌&&◌, nat_eq, IsTrue};
 ghost use Rattle.sgt_cycle.specs.Indices.{is_set, is_bit};
-ghost use Rattle.sgt_graph.specs.BitGraphs.{is_placed, is_pair, IsIndexVerdict, IsBitGraph};
+ghost use Rattle.sgt_graph.specs.BitGraphs.{is_placed, is_pair, IsIndexVerdict, IsBitGraph, IsLinkOf};
 
 use crate::graph::Graph;
 use crate::rows::{Rows, add, closure, meeting, take_out};
 use crate::tids::{index_of, indices_of, least_at, tids_at};
-use crate::verdict::Verdict;
+use crate::verdict::{Link, Plan, Verdict};
 use sgt_cycle::indices::{complement, joined, least, meets, minus, only};
 use sgt_cycle::walk_rows;
 use sgt_model::{Tid, Tids};
@@ -37,6 +37,8 @@ impl Graph for BitGraph {
 
     ghost pairs = { λ g. is_pair g.0 g.1 g.2 };
 
+    ghost is_planned = { λ g t preds link. IsLinkOf g.0 g.1 g.3 t preds link };
+
     fn empty() -> Self {
         BitGraph {
             taken: 0,
@@ -54,32 +56,20 @@ impl Graph for BitGraph {
         self.taken = joined(self.taken, only(index));
     }
 
-    fn test(&self, t: Tid, preds: &Tids) -> Verdict {
+    fn plan(&self, t: Tid, preds: &Tids) -> Plan {
         let taken = self.taken;
-        // Most accesses have no rival.
-        if preds.is_empty() {
-            return Verdict::Accepted;
-        }
-        let Some(index) = index_of(taken, &self.tids, t) else {
-            unreachable!();
-        };
-        self.verdict(index, indices_of(taken, &self.tids, preds))
-    }
-
-    fn insert(&mut self, t: Tid, preds: &Tids) -> Verdict {
-        let taken = self.taken;
-        if preds.is_empty() {
-            return Verdict::Accepted;
-        }
-        let Some(index) = index_of(taken, &self.tids, t) else {
+        let Some(to) = index_of(taken, &self.tids, t) else {
             unreachable!();
         };
         let from = indices_of(taken, &self.tids, preds);
-        let verdict = self.verdict(index, from);
-        if let Verdict::Accepted = verdict {
-            self.add_pairs(from, index);
+        match self.verdict(to, from) {
+            Verdict::Accepted => Plan::Free(Link { to, from }),
+            Verdict::Closes(walk) => Plan::Closes(walk),
         }
-        verdict
+    }
+
+    fn link(&mut self, _t: Tid, _preds: &Tids, link: Link) {
+        self.add_pairs(link.from, link.to);
     }
 
     fn least_pred(&self, t: Tid) -> Option<Tid> {
@@ -136,6 +126,7 @@ impl BitGraph {
         ensures taken { self.new.0 ≡ self.old.0 }
         ensures tids { self.new.1 ≡ self.old.1 }
         ensures pairs { (i j : ℕ) → is_bit self.new.2 i j ≡ (is_bit self.old.2 i j || (is_set from i && nat_eq j index)) }
+        ensures before { IsBitGraph self.old.0 self.old.1 self.old.2 self.old.3 }
         ensures graph { IsBitGraph self.new.0 self.new.1 self.new.2 self.new.3 }
     {
         let to = only(index);

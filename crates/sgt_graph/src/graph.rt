@@ -1,9 +1,10 @@
-ghost use Rattle.std.specs.Prelude.{◌≡◌, ◌≢◌, ℕ, Bool, true, false, not, ◌||◌, ◌&&◌, nat_eq, IfSome, IsNone};
+ghost use Rattle.std.specs.Prelude.{◌≡◌, ◌≢◌, ℕ, List, Bool, true, false, not, ◌||◌, ◌&&◌, ◌⊎◌, ◌↔◌, nat_eq, IfSome, IsNone};
 ghost use Rattle.sgt_model.specs.Walks.{AtMost, Member};
+ghost use Rattle.sgt_graph.specs.declared.verdict.Link.{Link as L};
 ghost use Rattle.sgt_graph.specs.Graphs.{NoCycle, OfNodes, IsLeastPred};
-ghost use Rattle.sgt_graph.specs.Verdicts.{IsVerdict, Inserts};
+ghost use Rattle.sgt_graph.specs.Verdicts.{IsVerdict, IsPlan, Inserts, NoWalk};
 
-use crate::verdict::Verdict;
+use crate::verdict::{Link, Plan, Verdict};
 use sgt_model::{Tid, Tids};
 
 /// A graph of transactions without a cycle. A pair leads from a transaction to one that has to come after it. At most 32
@@ -17,6 +18,9 @@ pub trait Graph: Drop + Send {
     /// A pair leads from the first to the second.
     ghost pairs: { Self → ℕ → ℕ → Bool };
 
+    /// Pairs from these transactions to that one are linked by this.
+    ghost is_planned: { Self → ℕ → List ℕ → L → Type 0 };
+
     /// A graph of no nodes.
     fn empty() -> Self
         ensures nodes { (u : ℕ) → nodes result u ≡ false }
@@ -29,11 +33,33 @@ pub trait Graph: Drop + Send {
         ensures nodes { (u : ℕ) → nodes self.new u ≡ (nodes self.old u || nat_eq u t) }
         ensures pairs { (u v : ℕ) → pairs self.new u v ≡ pairs self.old u v };
 
+    /// Whether pairs from all the preds to t would leave the graph without a cycle, and what links them, where they would.
+    fn plan(&self, t: Tid, preds: &Tids) -> Plan
+        requires node { nodes self.now t ≡ true }
+        requires preds { (u : ℕ) → Member u preds.now → (nodes self.now u ≡ true) × (u ≢ t) }
+        ensures plan { IsPlan (pairs self.now) (is_planned self.now t preds.now) t preds.now result };
+
+    /// Adds pairs from all the preds to t, which close no cycle, by what a plan of them has told.
+    fn link(&mut self, t: Tid, preds: &Tids, link: Link)
+        requires node { nodes self.old t ≡ true }
+        requires preds { (u : ℕ) → Member u preds.now → (nodes self.old u ≡ true) × (u ≢ t) }
+        requires free { NoWalk (pairs self.old) t preds.now }
+        requires planned { is_planned self.old t preds.now link }
+        ensures nodes { (u : ℕ) → nodes self.new u ≡ nodes self.old u }
+        ensures pairs { (u v : ℕ) → (pairs self.new u v ≡ true)
+            ↔ ((pairs self.old u v ≡ true) ⊎ ((v ≡ t) × Member u preds.now)) };
+
     /// Whether pairs from all the preds to t would leave the graph without a cycle.
     fn test(&self, t: Tid, preds: &Tids) -> Verdict
         requires node { nodes self.now t ≡ true }
         requires preds { (u : ℕ) → Member u preds.now → (nodes self.now u ≡ true) × (u ≢ t) }
-        ensures verdict { IsVerdict (pairs self.now) t preds.now result };
+        ensures verdict { IsVerdict (pairs self.now) t preds.now result }
+    {
+        match self.plan(t, preds) {
+            Plan::Free(_) => Verdict::Accepted,
+            Plan::Closes(walk) => Verdict::Closes(walk),
+        }
+    }
 
     /// Adds pairs from all the preds to t, unless a cycle would come: then nothing changes.
     fn insert(&mut self, t: Tid, preds: &Tids) -> Verdict
@@ -41,7 +67,16 @@ pub trait Graph: Drop + Send {
         requires preds { (u : ℕ) → Member u preds.now → (nodes self.old u ≡ true) × (u ≢ t) }
         ensures nodes { (u : ℕ) → nodes self.new u ≡ nodes self.old u }
         ensures verdict { IsVerdict (pairs self.old) t preds.now result }
-        ensures pairs { Inserts (pairs self.old) (pairs self.new) t preds.now result };
+        ensures pairs { Inserts (pairs self.old) (pairs self.new) t preds.now result }
+    {
+        match self.plan(t, preds) {
+            Plan::Free(link) => {
+                self.link(t, preds, link);
+                Verdict::Accepted
+            }
+            Plan::Closes(walk) => Verdict::Closes(walk),
+        }
+    }
 
     /// The least transaction with a pair to t.
     fn least_pred(&self, t: Tid) -> Option<Tid>

@@ -27,4 +27,4 @@ mod verdict;
 pub use bit_graph::BitGraph;
 pub use graph::Graph;
 pub use pair_graph::PairGraph;
-pub use verdict::Verdict;
+pub use verdict::{Link, Plan, Verdict};

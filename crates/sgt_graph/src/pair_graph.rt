@@ -1,4 +1,4 @@
-ghost use Rattle.std.specs.Prelude.{◌≡◌, ℕ, true, not, ◌||◌, ◌&&◌, nat_eq, length, ◌≤◌, min, unwrap_or};
+ghost use Rattle.std.specs.Prelude.{◌≡◌, ℕ, ⊤, true, not, ◌||◌, ◌&&◌, nat_eq, length, ◌≤◌, min, unwrap_or};
 ghost use Rattle.std.specs.List.{filter};
 ghost use Rattle.sgt_model.specs.Walks.{Reaches};
 ghost use Rattle.sgt_cycle.specs.Links.{is_link};
@@ -6,7 +6,7 @@ ghost use Rattle.sgt_cycle.specs.Walk.{Holds};
 ghost use Rattle.sgt_graph.specs.PairGraphs.{is_node, is_apart};
 
 use crate::graph::Graph;
-use crate::verdict::Verdict;
+use crate::verdict::{Link, Plan};
 use sgt_cycle::walk;
 use sgt_model::{Bounded, Tid, Tids};
 use std::marker::Model;
@@ -37,6 +37,8 @@ impl Graph for PairGraph {
 
     ghost pairs = { λ g. is_link g.1 };
 
+    ghost is_planned = { λ g t preds link. ⊤ };
+
     fn empty() -> Self {
         PairGraph {
             nodes: Tids::new(),
@@ -48,21 +50,17 @@ impl Graph for PairGraph {
         self.nodes.push(t);
     }
 
-    fn test(&self, t: Tid, preds: &Tids) -> Verdict {
+    fn plan(&self, t: Tid, preds: &Tids) -> Plan {
         match walk(self.pairs.as_slice(), t, preds) {
-            Some(path) => Verdict::Closes(path),
-            None => Verdict::Accepted,
+            Some(path) => Plan::Closes(path),
+            None => Plan::Free(Link::default()),
         }
     }
 
-    fn insert(&mut self, t: Tid, preds: &Tids) -> Verdict {
-        if let Verdict::Closes(path) = self.test(t, preds) {
-            return Verdict::Closes(path);
-        }
+    fn link(&mut self, t: Tid, preds: &Tids, _link: Link) {
         for pred in preds.as_slice() {
             self.add_pair(*pred, t);
         }
-        Verdict::Accepted
     }
 
     fn least_pred(&self, t: Tid) -> Option<Tid> {

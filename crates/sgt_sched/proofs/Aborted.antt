@@ -9,7 +9,6 @@ use Rattle.std.proofs.lemmas.List.Folds.{list_any-append}
 use Rattle.sgt_model.specs.declared.reply.Cause.{Cause}
 use Rattle.sgt_model.specs.declared.reply.Fate.TheVariants as fate
 use Rattle.sgt_model.specs.declared.reply.Reply.{Reply}
-use Rattle.sgt_model.specs.declared.reply.Reply.TheVariants as reply
 use Rattle.sgt_model.specs.Contents.{Key}
 use Rattle.sgt_model.specs.State.{State, Has}
 use Rattle.sgt_model.specs.Walks.{Member, Distinct, Rising, Reaches}

@@ -1,11 +1,12 @@
 -- The list of live transactions: where one stands in it, and what changes there.
-use Rattle.std.proofs.Common.{◌≡◌, ℕ, zero, suc, ◌<◌, ◌≤◌, ◌+◌, arith, Bool, true, false, not, cond, nat_eq, nat_lt, ◌⊎◌, inl, inr, List, [], ◌∷◌, length, Some, None, refl, sym, ap, ◌∙◌, subst, slice_get, slice_set, get_or, position}
+use Rattle.std.proofs.Common.{◌≡◌, ℕ, zero, suc, ◌<◌, ◌≤◌, ◌+◌, arith, Bool, true, false, not, cond, nat_eq, nat_lt, ◌⊎◌, inl, inr, List, [], ◌∷◌, ◌++◌, take, drop, length, Some, None, refl, sym, ap, ◌∙◌, subst, slice_get, slice_set, get_or, position}
 use Rattle.std.specs.List.{position_or_len}
-use Rattle.std.proofs.lemmas.Bool.{ltb-true, ltb-false, eqb-false}
+use Rattle.std.proofs.lemmas.Bool.{false_from_ne_true, ltb-true, ltb-false, eqb-true, eqb-false}
 use Rattle.std.proofs.lemmas.Option.{same_Some, slice_get_read}
 use Rattle.sgt_sched.specs.LiveProgress.{Progress}
-use Rattle.sgt_model.specs.Walks.{Member}
-use Rattle.sgt_sched.specs.LiveList.{numbers, has_number, progress_at, changed}
+use Rattle.sgt_model.specs.Walks.{Member, Rising}
+use Rattle.sgt_model.proofs.OneReply.{rising_below, rising_rest}
+use Rattle.sgt_sched.specs.LiveList.{numbers, has_number, progress_at, changed, others_live}
 
 first_true : (b : Bool) (n : ℕ) → cond (not b) (1 + n) 0 ≡ 0 → b ≡ true
 first_true true n e = refl
@@ -17,6 +18,7 @@ later_false false n i e = (refl, omega arith)
 
 -- what the first of that number says
 pub record IsFirst (t : ℕ) (live : List (ℕ × Progress)) (i : ℕ) (r : ℕ × Progress) : Type 0 where
+  pub number : r.0 ≡ t
   pub own_progress : progress_at live t ≡ r.1
   pub change : (f : Progress → Progress) → slice_set live i (r.0, f r.1) ≡ changed t f live
 
@@ -28,6 +30,7 @@ first_at t (q ∷ rest) zero r e at =
     let b = first_true (nat_eq q.0 t) (position_or_len (has_number t) rest) e in
     let same : q ≡ r = same_Some _ _ at in
     record {
+      number = ap (λ (x : ℕ × Progress). x.0) (sym same) ∙ eqb-true q.0 t b;
       own_progress = ap (λ c. cond c q.1 (progress_at rest t)) b ∙ ap (λ (x : ℕ × Progress). x.1) same;
       change = λ f. ap (λ (x : ℕ × Progress). (x.0, f x.1) ∷ rest) (sym same)
           ∙ sym (ap (λ c. cond c ((q.0, f q.1) ∷ rest) (q ∷ changed t f rest)) b);
@@ -36,6 +39,7 @@ first_at t (q ∷ rest) (suc i) r e at =
     let b = later_false (nat_eq q.0 t) (position_or_len (has_number t) rest) i e in
     let rec = first_at t rest i r b.1 at in
     record {
+      number = rec.number;
       own_progress = ap (λ c. cond c q.1 (progress_at rest t)) b.0 ∙ rec.own_progress;
       change = λ f. ap (λ l. q ∷ l) (rec.change f) ∙ sym (ap (λ c. cond c ((q.0, f q.1) ∷ rest) (q ∷ changed t f rest)) b.0);
     }
@@ -52,6 +56,26 @@ within n len i e = both (nat_lt n len) refl where
   both : (b : Bool) → nat_lt n len ≡ b → i < len
   both true h = subst (λ m. m < len) (placed n len i e) (ltb-true n len h)
   both false h = absurd (let f : None ≡ Some i = sym (ap (λ c. cond c (Some n) None) h) ∙ e in cc)
+
+-- an index that was found is one of the list
+pub index_within : (t : ℕ) (rows seen : List (ℕ × Progress)) (i : ℕ) → rows ≡ seen → position (has_number t) seen ≡ Some i
+    → i < length rows
+index_within t rows seen i same found = subst (λ l. i < length l) (sym same)
+    (within (position_or_len (has_number t) seen) (length seen) i found)
+
+-- who has an index is live
+pub index_member : (t : ℕ) (live : List (ℕ × Progress)) (i : ℕ) → position (has_number t) live ≡ Some i → Member t (numbers live)
+index_member t live i found = below_member t live (subst (λ m. m < length live) (sym (placed _ (length live) i found))
+    (within (position_or_len (has_number t) live) (length live) i found)) where
+      below_member : (t : ℕ) (live : List (ℕ × Progress)) → position_or_len (has_number t) live < length live → Member t (numbers live)
+      below_member t [] h = absurd (omega (arith, h))
+      below_member t (q ∷ rest) h = both (nat_eq q.0 t) refl (below_member t rest) h where
+        both : (b : Bool) → nat_eq q.0 t ≡ b → (position_or_len (has_number t) rest < length rest → Member t (numbers rest))
+            → cond (not (nat_eq q.0 t)) (1 + position_or_len (has_number t) rest) 0 < suc (length rest)
+            → (t ≡ q.0) ⊎ Member t (numbers rest)
+        both true e rec h = inl (sym (eqb-true q.0 t e))
+        both false e rec h = inr (rec (let less : 1 + position_or_len (has_number t) rest < suc (length rest) = subst
+            (λ b. cond (not b) (1 + position_or_len (has_number t) rest) 0 < suc (length rest)) e h in omega (arith, less)))
 
 -- the same of a list that was seen as another
 pub found_at : (t : ℕ) (rows seen : List (ℕ × Progress)) (i : ℕ) (r : ℕ × Progress) → rows ≡ seen → Some i ≡ position (has_number t) seen
@@ -84,3 +108,38 @@ has_index t live m missing = absurd (omega (arith, before_end t live m, missed _
 pub changed_at : (t : ℕ) (rows seen : List (ℕ × Progress)) (i : ℕ) (r s : ℕ × Progress) (f : Progress → Progress) → rows ≡ seen
     → s ≡ (r.0, f r.1) → IsFirst t seen i r → slice_set rows i s ≡ changed t f seen
 changed_at t rows seen i r s f same is first = ap (λ l. slice_set l i s) same ∙ (ap (slice_set seen i) is ∙ first.change f)
+
+-- one that is dropped
+
+-- without one that is not among them they are all left
+others_all : (t : ℕ) (live : List (ℕ × Progress)) → (Member t (numbers live) → ⊥) → others_live t live ≡ live
+others_all t [] none = refl
+others_all t (q ∷ rest) none = ap (λ b. cond (not b) (q ∷ others_live t rest) (others_live t rest))
+    (false_from_ne_true (nat_eq q.0 t) (λ e. none (inl (sym (eqb-true q.0 t e)))))
+    ∙ ap (λ l. q ∷ l) (others_all t rest (λ m. none (inr m)))
+
+-- where their numbers rise, only one stands at the index of t
+removed_at : (t : ℕ) (live : List (ℕ × Progress)) (i : ℕ) → Rising (numbers live) → position_or_len (has_number t) live ≡ i
+    → i < length live → take i live ++ drop (suc i) live ≡ others_live t live
+removed_at t [] i r e h = absurd (omega (arith, h))
+removed_at t (q ∷ rest) zero r e h =
+    let b = first_true (nat_eq q.0 t) (position_or_len (has_number t) rest) e in
+    let same : q.0 ≡ t = eqb-true q.0 t b in
+    sym (ap (λ c. cond (not c) (q ∷ others_live t rest) (others_live t rest)) b
+    ∙ others_all t rest (λ m. let less : q.0 < t = rising_below q.0 (numbers rest) r t m in absurd (omega (arith, less, same))))
+removed_at t (q ∷ rest) (suc i) r e h =
+    let b = later_false (nat_eq q.0 t) (position_or_len (has_number t) rest) i e in
+    ap (λ l. q ∷ l) (removed_at t rest i (rising_rest q.0 (numbers rest) r) b.1 (omega (arith, h)))
+    ∙ sym (ap (λ c. cond (not c) (q ∷ others_live t rest) (others_live t rest)) b.0)
+
+-- the same of a list that was seen as another
+pub removed : (t : ℕ) (rows seen : List (ℕ × Progress)) (i : ℕ) → rows ≡ seen → Some i ≡ position (has_number t) seen
+    → Rising (numbers seen) → take i rows ++ drop (suc i) rows ≡ others_live t seen
+removed t rows seen i same found rising = ap (λ l. take i l ++ drop (suc i) l) same
+    ∙ removed_at t seen i rising (placed _ (length seen) i (sym found))
+    (within (position_or_len (has_number t) seen) (length seen) i (sym found))
+
+-- one that has no index is not among them
+pub none_removed : (t : ℕ) (rows seen : List (ℕ × Progress)) → rows ≡ seen → None ≡ position (has_number t) seen
+    → rows ≡ others_live t seen
+none_removed t rows seen same none = same ∙ sym (others_all t seen (λ m. has_index t seen m (sym none)))

@@ -1,9 +1,10 @@
 -- What a scheduler holds, and what its calls do, by names that contracts can say.
-use Rattle.std.specs.Prelude.{◌≡◌, ℕ, false, IsTrue, Bool, List, Result, IfOk, OnErr}
+use Rattle.std.specs.Prelude.{◌≡◌, ◌≢◌, ℕ, List, [], Option, IfSome, IsNone, Result, IfOk, OnErr}
 use Rattle.sgt_cycle.specs.Walk.{NoWalk}
 use Rattle.sgt_records.specs.declared.records.Records.{Ghosts as RecordsGhosts}
 use Rattle.sgt_access.specs.declared.accesses.Accesses.{Ghosts as AccessesGhosts}
 use Rattle.sgt_graph.specs.declared.graph.Graph.{Ghosts as GraphGhosts}
+use Rattle.sgt_graph.specs.declared.verdict.Link.{Link}
 use Rattle.sgt_model.specs.declared.limits.Asks.{Asks}
 use Rattle.sgt_model.specs.declared.errors.NoMemory.{NoMemory}
 use Rattle.sgt_model.specs.declared.reply.Reply.{Reply}
@@ -48,9 +49,11 @@ module _ {R A G : Type 0} {r : RecordsGhosts R} {a : AccessesGhosts A} {g : Grap
     pub refused : OnErr result (Same (state old) (state new))
     pub kept : Keeps old new
 
-  -- t was aborted, as a walk leads from it to one of these, and the reply placed; or none does, and nothing has changed
-  pub record AbortsInCycle (t : ℕ) (rivals : List ℕ) (old : Sched R A G r a g) (out : Reply) (aborted : Bool) (placed : Reply)
+  -- t was aborted, as a walk leads from it to one of these, and the reply placed; or none does, nothing has changed, and pairs
+  -- from these, where there are some, can be linked so
+  pub record LinksOrAborts (t : ℕ) (rivals : List ℕ) (old : Sched R A G r a g) (out : Reply) (link : Option Link) (placed : Reply)
       (new : Sched R A G r a g) : Type 0 where
-    pub closes : IsTrue aborted → AbortsByWalk t rivals (state old) placed (state new)
-    pub free : aborted ≡ false → (new ≡ old) × (placed ≡ out) × NoWalk (state old).pairs t rivals
+    pub closes : IsNone link → AbortsByWalk t rivals (state old) placed (state new)
+    pub free : IfSome link (λ l. (new ≡ old) × (placed ≡ out) × NoWalk (state old).pairs t rivals
+        × (rivals ≢ [] → g.is_planned old.graph t rivals l))
     pub kept : Keeps old new

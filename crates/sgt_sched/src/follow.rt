@@ -1,20 +1,21 @@
-ghost use Rattle.std.specs.Prelude.{◌≡◌, ◌≢◌, ℕ, true, ◌⊎◌, ◌↔◌};
+ghost use Rattle.std.specs.Prelude.{◌≡◌, ◌≢◌, ℕ, true, [], ◌⊎◌, ◌↔◌};
 ghost use Rattle.sgt_model.specs.Walks.{Member};
 ghost use Rattle.sgt_cycle.specs.Walk.{NoWalk};
 
-use sgt_graph::Graph;
+use sgt_graph::{Graph, Link};
 use sgt_model::{Tid, Tids};
 
-/// Adds pairs from the rivals of an access to t, which close no cycle. Most accesses have no rival.
-pub fn follow<G: Graph>(graph: &mut G, t: Tid, rivals: &Tids)
+/// Adds pairs from the rivals of an access to t, which close no cycle, by what a plan of them has told. Most accesses have no rival.
+pub fn follow<G: Graph>(graph: &mut G, t: Tid, rivals: &Tids, link: Link)
     requires node { G.nodes graph.old t ≡ true }
     requires others { (u : ℕ) → Member u rivals.now → (G.nodes graph.old u ≡ true) × (u ≢ t) }
     requires free { NoWalk (G.pairs graph.old) t rivals.now }
+    requires planned { rivals.now ≢ [] → G.is_planned graph.old t rivals.now link }
     ensures nodes { (u : ℕ) → G.nodes graph.new u ≡ G.nodes graph.old u }
     ensures pairs { (u v : ℕ) → (G.pairs graph.new u v ≡ true)
         ↔ ((G.pairs graph.old u v ≡ true) ⊎ ((v ≡ t) × Member u rivals.now)) }
 {
     if !rivals.is_empty() {
-        graph.insert(t, rivals);
+        graph.link(t, rivals, link);
     }
 }

@@ -1,6 +1,5 @@
-ghost use Rattle.std.specs.Prelude.{◌≡◌, ◌≤◌, [], ◌∷◌, ◌++◌, length, OnOk, OnErr, position, find};
-ghost use Rattle.std.specs.Option.{option_copied};
-ghost use Rattle.sgt_model.specs.Walks.{Member};
+ghost use Rattle.std.specs.Prelude.{◌≡◌, ◌≤◌, [], ◌∷◌, ◌++◌, length, Some, OnOk, OnErr, position};
+ghost use Rattle.sgt_model.specs.Walks.{Rising};
 ghost use Rattle.sgt_sched.specs.LiveList.{numbers, has_number, progress_at, with_look, with_store, changed, others_live};
 ghost use Rattle.sgt_sched.specs.SchedulerView.{IsAlong};
 
@@ -10,7 +9,8 @@ use sgt_proc::{Checked, Cursor};
 use std::alloc::Global;
 use std::marker::Model;
 
-/// The live transactions with how far each has come, in the order of their starts. A call searches the list once.
+/// The live transactions with how far each has come, in the order of their starts. A call searches the list at most once:
+/// what it has found is told as an index.
 #[derive(Drop)]
 pub struct Live {
     running: Vec<Running>,
@@ -59,11 +59,19 @@ impl Live {
         tids
     }
 
-    /// The transaction of this number, if it is live.
-    pub fn get(&self, t: Tid) -> Option<&Running>
-        ensures { option_copied result ≡ find (has_number t) self.now }
+    /// The index of the transaction, if it is live.
+    pub fn index(&self, t: Tid) -> Option<usize>
+        ensures { result ≡ position (has_number t) self.now }
     {
-        self.running.iter().find(|running| running.tid == t)
+        self.running.iter().position(|running| running.tid == t)
+    }
+
+    /// The transaction t, which is live and has this index.
+    pub fn at(&self, _t: Tid, index: usize) -> &Running
+        requires at { position (has_number _t) self.now ≡ Some index }
+        ensures { result.now ≡ (_t, progress_at self.now _t) }
+    {
+        &self.running[index]
     }
 
     /// Adds one that was just started, as the last. `NoMemory` where a growth was refused; then nothing has changed.
@@ -80,41 +88,32 @@ impl Live {
         Ok(())
     }
 
-    /// Goes on with t, which is live, behind a look that found this. This takes no memory.
-    pub fn look(&mut self, t: Tid, procedures: &[Checked], value: Option<i64>)
-        requires live { Member t (numbers self.old) }
-        requires along { IsAlong procedures.now (progress_at self.old t) }
-        ensures { self.new ≡ changed t (with_look value) self.old }
+    /// Goes on with t, which is live and has this index, behind a look that found this. This takes no memory.
+    pub fn look(&mut self, _t: Tid, index: usize, procedures: &[Checked], value: Option<i64>)
+        requires at { position (has_number _t) self.old ≡ Some index }
+        requires along { IsAlong procedures.now (progress_at self.old _t) }
+        ensures { self.new ≡ changed _t (with_look value) self.old }
     {
-        match self.index(t) {
-            Some(index) => self.running[index].look(procedures, value),
-            None => unreachable!(),
-        }
+        self.running[index].look(procedures, value);
     }
 
-    /// Goes on with t, which is live, behind a store. This takes no memory.
-    pub fn store(&mut self, t: Tid, procedures: &[Checked])
-        requires live { Member t (numbers self.old) }
-        requires along { IsAlong procedures.now (progress_at self.old t) }
-        ensures { self.new ≡ changed t with_store self.old }
+    /// Goes on with t, which is live and has this index, behind a store. This takes no memory.
+    pub fn store(&mut self, _t: Tid, index: usize, procedures: &[Checked])
+        requires at { position (has_number _t) self.old ≡ Some index }
+        requires along { IsAlong procedures.now (progress_at self.old _t) }
+        ensures { self.new ≡ changed _t with_store self.old }
     {
-        match self.index(t) {
-            Some(index) => self.running[index].store(procedures),
-            None => unreachable!(),
-        }
+        self.running[index].store(procedures);
     }
 
-    /// Drops the transaction, which has ended. This takes no memory.
+    /// Drops the transaction, which has ended. The others are moved at once, not each by itself. This takes no memory.
     pub fn remove(&mut self, t: Tid)
+        requires rising { Rising (numbers self.old) }
         ensures { self.new ≡ others_live t self.old }
     {
-        self.running.retain(|running| running.tid != t);
-    }
-
-    // The index of the transaction, if it is live.
-    fn index(&self, t: Tid) -> Option<usize>
-        ensures { result ≡ position (has_number t) self.now }
-    {
-        self.running.iter().position(|running| running.tid == t)
+        let Some(index) = self.index(t) else {
+            return;
+        };
+        self.running.remove(index);
     }
 }

@@ -1,4 +1,4 @@
-ghost use Rattle.std.specs.Prelude.{◌≡◌, true, length, Result, Ok, Err, IfOk, OnErr, IfSome, IsSome, IsTrue, ◌↔◌};
+ghost use Rattle.std.specs.Prelude.{◌≡◌, true, length, position, Result, Ok, Err, Some, IfOk, OnErr, IfSome, IsSome, IsTrue, ◌↔◌};
 ghost use Rattle.std.specs.Result.{IsOk};
 ghost use Rattle.sgt_model.specs.declared.reply.Reply.{Reply as Answer};
 ghost use Rattle.sgt_model.specs.AccessList.{is_listed};
@@ -13,6 +13,7 @@ ghost use Rattle.sgt_proc.specs.Nexts.{seen, StoresValue};
 ghost use Rattle.sgt_sched.specs.Briefs.{in_full, InBrief, IsShort};
 ghost use Rattle.sgt_model.specs.Questions.{is_ending};
 ghost use Rattle.sgt_sched.specs.Endings.{EndsOne};
+ghost use Rattle.sgt_sched.specs.LiveList.{has_number};
 ghost use Rattle.sgt_sched.specs.SchedulerView.{IsKept, view};
 ghost use Rattle.sgt_sched.specs.KeptProp.{IsKept-prop};
 ghost use Rattle.sgt_sched.specs.Steps.{IsNotLive, IsUnended};
@@ -168,10 +169,19 @@ impl<R: Records, A: Accesses, G: Graph> Sched<R, A, G> {
         ensures live { IsTrue result → (state self.now).nodes t ≡ true }
         ensures unended { IsTrue result ↔ IsUnended (state self.now) t }
     {
-        match self.live.get(t) {
+        match self.index(t) {
             Some(_) => true,
             None => false,
         }
+    }
+
+    // The index of the transaction among the live ones, if it is live.
+    fn index(&self, t: Tid) -> Option<usize>
+        ensures live { IsSome result → (state self.now).nodes t ≡ true }
+        ensures unended { IsSome result ↔ IsUnended (state self.now) t }
+        ensures index { result ≡ position (has_number t) (parts self.now).live }
+    {
+        self.live.index(t)
     }
 
     // What an event of a transaction that is not live is answered.
@@ -197,9 +207,19 @@ impl<R: Records, A: Accesses, G: Graph> Sched<R, A, G> {
             seen next ≡ next_left ((state self.now).left t)) }
         ensures in_range { IfSome result StoresValue }
     {
-        match self.live.get(t) {
-            Some(running) => Some(running.next(self.procedures.as_slice())),
+        match self.index(t) {
+            Some(index) => Some(self.next_at(t, index)),
             None => None,
         }
+    }
+
+    // The same, of a live transaction that has this index among the live ones.
+    fn next_at(&self, t: Tid, index: usize) -> Next
+        requires live { (state self.now).nodes t ≡ true }
+        requires at { position (has_number t) (parts self.now).live ≡ Some index }
+        ensures next { seen result ≡ next_left ((state self.now).left t) }
+        ensures in_range { StoresValue result }
+    {
+        self.live.at(t, index).next(self.procedures.as_slice())
     }
 }

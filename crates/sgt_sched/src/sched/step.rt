@@ -1,5 +1,5 @@
 //! Steps.
-ghost use Rattle.std.specs.Prelude.{◌≡◌, ◌≢◌, ℕ, true, IsTrue, OnErr, ◌↔◌};
+ghost use Rattle.std.specs.Prelude.{◌≡◌, ◌≢◌, ℕ, true, position, Some, IsTrue, OnErr, ◌↔◌};
 ghost use Rattle.std.specs.Result.{IsOk};
 ghost use Rattle.sgt_model.specs.declared.event.Event.TheVariants.{Step};
 ghost use Rattle.sgt_model.specs.declared.kind.Kind.TheVariants.{Look, Store};
@@ -9,14 +9,15 @@ ghost use Rattle.sgt_model.specs.Traces.{Looks, Puts, Asks as AsksNext};
 ghost use Rattle.sgt_model.specs.Walks.{Member};
 ghost use Rattle.sgt_sched.specs.Briefs.{InBrief};
 ghost use Rattle.sgt_sched.specs.Endings.{EndsOne, IsBlocked};
-ghost use Rattle.sgt_sched.specs.Scheduler.{state, asks_of, Turns, Tries, AbortsInCycle};
+ghost use Rattle.sgt_sched.specs.LiveList.{has_number};
+ghost use Rattle.sgt_sched.specs.Scheduler.{parts, state, asks_of, Turns, Tries, LinksOrAborts};
 
 use crate::brief::Brief;
 use crate::follow::follow;
 use crate::reads::note_read;
 use crate::sched::Sched;
 use sgt_access::Accesses;
-use sgt_graph::{Graph, Verdict};
+use sgt_graph::{Graph, Link, Plan, Verdict};
 use sgt_model::{Asks, Cause, Key, Kind, NoMemory, Reply, Tid, Tids};
 use sgt_proc::Next;
 use sgt_records::Records;
@@ -44,82 +45,95 @@ impl<R: Records, A: Accesses, G: Graph> Sched<R, A, G> {
         ensures out { OnErr result (out.new ≡ out.old) }
         ensures no_memory { EndsOne (asks_of self.old) (Step t) (state self.old) → IsOk result }
     {
-        let Some(next) = self.next(t) else {
+        let Some(index) = self.index(t) else {
             return Ok(self.answer_not_live(t, out));
         };
+        let next = self.next_at(t, index);
         match next {
-            Next::Look(key) => self.look(t, key, out),
-            Next::Put(key, value) => self.store(t, key, value, out),
+            Next::Look(key) => self.look(t, index, key, out),
+            Next::Put(key, value) => self.store(t, index, key, value, out),
             Next::Ends(_) => Ok(Brief::Ended),
             Next::Asks(code) => Ok(self.step_asked(t, code, out)),
         }
     }
 
-    // Makes a look of a live transaction, or aborts it where the look would close a cycle.
-    fn look(&mut self, t: Tid, key: Key, out: &mut Reply) -> Result<Brief, NoMemory>
+    // Makes a look of a live transaction, which has this index, or aborts it where the look would close a cycle.
+    fn look(&mut self, t: Tid, index: usize, key: Key, out: &mut Reply) -> Result<Brief, NoMemory>
         requires live { (state self.old).nodes t ≡ true }
+        requires at { position (has_number t) (parts self.old).live ≡ Some index }
         ensures done { Tries (InBrief (StepOn (asks_of self.old) t (Looks key)) out.new) self.old result self.new }
         ensures out { OnErr result (out.new ≡ out.old) }
         ensures no_memory { IsBlocked (state self.old) t key Look → IsOk result }
     {
         let writers = self.accesses.rivals(t, key, Kind::Look);
-        if self.abort_in_cycle(t, &writers, out) {
+        let Some(link) = self.link_or_abort(t, &writers, out) else {
             return Ok(Brief::Placed);
-        }
+        };
         let top = self.records.top(key);
         let value = top.value();
         self.accesses.reserve(key)?;
         self.read_from.reserve(1)?;
-        follow(&mut self.graph, t, &writers);
+        follow(&mut self.graph, t, &writers, link);
         self.accesses.note(t, key, Kind::Look);
         note_read(&mut self.read_from, &top, t);
-        self.live.look(t, self.procedures.as_slice(), value);
+        self.live.look(t, index, self.procedures.as_slice(), value);
         Ok(Brief::Looked { key, value })
     }
 
-    // Makes a store of a live transaction, or aborts it where the store would close a cycle.
-    fn store(&mut self, t: Tid, key: Key, value: i64, out: &mut Reply) -> Result<Brief, NoMemory>
+    // Makes a store of a live transaction, which has this index, or aborts it where the store would close a cycle.
+    fn store(
+        &mut self,
+        t: Tid,
+        index: usize,
+        key: Key,
+        value: i64,
+        out: &mut Reply,
+    ) -> Result<Brief, NoMemory>
         requires live { (state self.old).nodes t ≡ true }
+        requires at { position (has_number t) (parts self.old).live ≡ Some index }
         requires in_range { IsValue value }
         ensures done { Tries (InBrief (StepOn (asks_of self.old) t (Puts key value)) out.new) self.old result self.new }
         ensures out { OnErr result (out.new ≡ out.old) }
         ensures no_memory { IsBlocked (state self.old) t key Store → IsOk result }
     {
         let rivals = self.accesses.rivals(t, key, Kind::Store);
-        if self.abort_in_cycle(t, &rivals, out) {
+        let Some(link) = self.link_or_abort(t, &rivals, out) else {
             return Ok(Brief::Placed);
-        }
+        };
         self.records.reserve(key)?;
         self.accesses.reserve(key)?;
-        follow(&mut self.graph, t, &rivals);
+        follow(&mut self.graph, t, &rivals, link);
         self.records.write(t, key, value);
         self.accesses.note(t, key, Kind::Store);
-        self.live.store(t, self.procedures.as_slice());
+        self.live.store(t, index, self.procedures.as_slice());
         Ok(Brief::Wrote { key, value })
     }
 
-    // Aborts a live transaction where pairs from these rivals to it would close a cycle, and tells whether it did. Most accesses
-    // have no rival.
-    fn abort_in_cycle(&mut self, t: Tid, rivals: &Tids, out: &mut Reply) -> bool
+    // What links pairs from these rivals to a live transaction; or aborts it, where they would close a cycle. Most accesses have
+    // no rival, and nothing to be linked.
+    fn link_or_abort(&mut self, t: Tid, rivals: &Tids, out: &mut Reply) -> Option<Link>
         requires live { (state self.old).nodes t ≡ true }
         requires others { (u : ℕ) → Member u rivals.now → ((state self.old).nodes u ≡ true) × (u ≢ t) }
-        ensures { AbortsInCycle t rivals.now self.old out.old result out.new self.new }
+        ensures { LinksOrAborts t rivals.now self.old out.old result out.new self.new }
     {
-        !rivals.is_empty() && self.abort_if_closing(t, rivals, out)
+        if rivals.is_empty() {
+            return Some(Link::default());
+        }
+        self.plan_or_abort(t, rivals, out)
     }
 
     // The same, where there are rivals.
     #[inline(never)]
-    fn abort_if_closing(&mut self, t: Tid, rivals: &Tids, out: &mut Reply) -> bool
+    fn plan_or_abort(&mut self, t: Tid, rivals: &Tids, out: &mut Reply) -> Option<Link>
         requires live { (state self.old).nodes t ≡ true }
         requires others { (u : ℕ) → Member u rivals.now → ((state self.old).nodes u ≡ true) × (u ≢ t) }
-        ensures { AbortsInCycle t rivals.now self.old out.old result out.new self.new }
+        ensures { LinksOrAborts t rivals.now self.old out.old result out.new self.new }
     {
-        match self.graph.test(t, rivals) {
-            Verdict::Accepted => false,
-            Verdict::Closes(walk) => {
+        match self.graph.plan(t, rivals) {
+            Plan::Free(link) => Some(link),
+            Plan::Closes(walk) => {
                 self.abort(t, Cause::Cycle(walk), out);
-                true
+                None
             }
         }
     }

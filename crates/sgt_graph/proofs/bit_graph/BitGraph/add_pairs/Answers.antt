@@ -2,6 +2,7 @@ use Rattle.std.proofs.Common.{◌≡◌, ◌∙◌, ℕ, List, true, false, sym,
 use Rattle.std.specs.Prelude.{◌⊎◌, ◌↔◌}
 use Rattle.std.proofs.lemmas.Bool.{and_parts, and_from, or_cases, or_left, or_right}
 use Rattle.sgt_cycle.specs.Indices.{is_set, is_bit}
+use Rattle.sgt_graph.specs.BitGraphs.{IsBitGraph}
 use Rattle.sgt_graph.proofs.BitSteps.{joined_graph}
 use Rattle.sgt_graph.proofs.bit_graph.BitGraph.add_pairs.Goals as goal
 
@@ -62,3 +63,6 @@ invariant_of-self c =
 
 pub returns-clause-graph : goal.returns-clause-graph
 returns-clause-graph c = invariant_of-self c
+
+pub returns-clause-before : goal.returns-clause-before
+returns-clause-before c = subst (λ (v : ℕ × List ℕ × List ℕ × List ℕ). IsBitGraph v.0 v.1 v.2 v.3) c.self.view_is c.self.invariant

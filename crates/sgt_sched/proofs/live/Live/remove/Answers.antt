@@ -1,9 +1,15 @@
-use Rattle.std.proofs.Common.{rules, ℕ, nat_eq, not, ap, ◌∙◌}
-use Rattle.std.proofs.lemmas.Fn.{filter_same}
-use Rattle.sgt_sched.specs.LiveProgress.{Progress}
-use Rattle.sgt_sched.specs.LiveList.{others_live}
+use Rattle.std.proofs.Common.{rules, refl, sym, ◌∙◌}
+use Rattle.sgt_sched.proofs.Lives.{index_within, removed, none_removed}
 use Rattle.sgt_sched.proofs.live.Live.remove.Goals as goal
 
+pub remove-requires : goal.remove-requires
+remove-requires c =
+    let below = index_within c.args.t c.self.inside.running.items c.args.self.now c.in-Some.index c.self.view_is (sym c.in-Some.ensures) in
+    search (rules, below)
+
 pub returns : goal.returns
-returns c = filter_same _ (λ (r : ℕ × Progress). not (nat_eq r.0 c.args.t)) _ (λ x b f call. search rules) _ _ c.retain.ensures.filtered
-    ∙ ap (others_live c.args.t) c.self.view_is
+returns c = c.remove.ensures.items
+    ∙ removed c.args.t c.self.inside.running.items c.args.self.now c.in-Some.index c.self.view_is c.in-Some.ensures c.requires.rising
+
+pub returns-in_default : goal.returns-in_default
+returns-in_default c = none_removed c.args.t c.args.self.now c.args.self.now refl c.in_default.ensures

@@ -1,6 +1,9 @@
 use Rattle.sgt_sched.proofs.Ended.{kept_after, removes_after, fates_after}
 use Rattle.sgt_sched.proofs.sched.Sched.end_aborted.Goals as goal
 
+pub leave-requires : goal.leave-requires
+leave-requires g c = record { rising = c.args.self.now.kept.rising }
+
 pub invariant_of-self : goal.invariant_of-self
 invariant_of-self g c =
     record {

@@ -18,6 +18,9 @@ finish-requires g c = (
   ),
 )
 
+pub leave-requires : goal.leave-requires
+leave-requires g c = record { rising = c.args.self.now.kept.rising }
+
 pub invariant_of-self : goal.invariant_of-self
 invariant_of-self g c =
     record {

@@ -1,7 +1,7 @@
-use Rattle.std.proofs.Common.{rules, inl, inr, ap, sym, subst, ◌∙◌, ◌++◌, ◌∷◌, []}
+use Rattle.std.proofs.Common.{rules, refl, ◌≢◌, position, inl, inr, ap, sym, subst, ◌∙◌, ◌++◌, ◌∷◌, []}
 use Rattle.sgt_model.specs.declared.kind.Kind.TheVariants.{Look}
 use Rattle.sgt_records.specs.Tops.{value_of_top}
-use Rattle.sgt_sched.specs.LiveList.{progress_at}
+use Rattle.sgt_sched.specs.LiveList.{has_number, progress_at}
 use Rattle.sgt_sched.specs.Briefs.{HoldsLists}
 use Rattle.sgt_sched.specs.SchedulerView.{IsAlong}
 use Rattle.sgt_sched.specs.Steps.{with_source}
@@ -15,33 +15,33 @@ use Rattle.sgt_sched.proofs.sched.Sched.look.Goals as goal
 pub rivals-writers-requires : goal.rivals-writers-requires
 rivals-writers-requires g c = record { few = rivals_few c.args.self.now.kept }
 
-pub abort_in_cycle-requires-clause-others : goal.abort_in_cycle-requires-clause-others
-abort_in_cycle-requires-clause-others g c = λ κs lives. (rivals_are_nodes c.args.self.now.kept c.args.t c.requires.live c.args.key Look
+pub link_or_abort-requires-clause-others : goal.link_or_abort-requires-clause-others
+link_or_abort-requires-clause-others g c = λ κs lives. (rivals_are_nodes c.args.self.now.kept c.args.t c.requires.live c.args.key Look
     c.rivals-writers.result c.rivals-writers.ensures.exact)
 
 pub follow-requires-clause-others : goal.follow-requires-clause-others
 follow-requires-clause-others g c =
-    let seen = ap parts (c.abort_in_cycle.ensures.free c.if-abort_in_cycle.false).0 in
+    let seen = ap parts c.in-Some.ensures.free.0 in
     let exact = rivals_seen g.A.Accesses.list _ _ (sym seen) c.args.t c.args.key Look c.rivals-writers.result c.rivals-writers.ensures.exact
     in
-    λ κs lives. rivals_are_nodes c.abort_in_cycle.new.self.kept c.args.t
+    λ κs lives. rivals_are_nodes c.link_or_abort.new.self.kept c.args.t
     (ap (λ p. g.G.Graph.nodes p.graph c.args.t) seen ∙ c.requires.live) c.args.key Look c.rivals-writers.result exact
 
 pub look-requires-clause-along : goal.look-requires-clause-along
 look-requires-clause-along g c =
-    let seen = ap parts (c.abort_in_cycle.ensures.free c.if-abort_in_cycle.false).0 in
-    subst (λ l. IsAlong l (progress_at c.abort_in_cycle.new.self.live c.args.t)) (sym c.as_slice.ensures.value)
-    (c.abort_in_cycle.new.self.kept.along c.args.t (ap (λ p. g.G.Graph.nodes p.graph c.args.t) seen ∙ c.requires.live))
+    let seen = ap parts c.in-Some.ensures.free.0 in
+    subst (λ l. IsAlong l (progress_at c.link_or_abort.new.self.live c.args.t)) (sym c.as_slice.ensures.value)
+    (c.link_or_abort.new.self.kept.along c.args.t (ap (λ p. g.G.Graph.nodes p.graph c.args.t) seen ∙ c.requires.live))
 
 pub invariant_of-self-2 : goal.invariant_of-self-2
 invariant_of-self-2 g c =
-    let seen = ap parts (c.abort_in_cycle.ensures.free c.if-abort_in_cycle.false).0 in
+    let seen = ap parts c.in-Some.ensures.free.0 in
     let exact = rivals_seen g.A.Accesses.list _ _ (sym seen) c.args.t c.args.key Look c.rivals-writers.result c.rivals-writers.ensures.exact
     in
     let free = free_walk_seen g.G.Graph.pairs _ _ seen c.args.t c.rivals-writers.result
-    (c.abort_in_cycle.ensures.free c.if-abort_in_cycle.false).2 in
+    c.in-Some.ensures.free.2 in
     record {
-      kept = kept_look seen c.abort_in_cycle.new.self.kept c.args.t
+      kept = kept_look seen c.link_or_abort.new.self.kept c.args.t
           (ap (λ p. g.G.Graph.nodes p.graph c.args.t) seen ∙ c.requires.live) c.args.key c.rivals-writers.result free exact
           c.note.new.self c.follow.new.graph c.look.new.self c.note_read.new.read_from.items c.value-value.result
           (c.note.ensures.noted ∙ ap (λ l. l ++ record { by = c.args.t; key = c.args.key; kind = Look } ∷ []) c.reserve.ensures.same)
@@ -49,12 +49,12 @@ invariant_of-self-2 g c =
           c.follow.ensures.pairs
           (c.value-value.ensures ∙ ap value_of_top c.top-top.ensures.top) c.look.ensures
           (c.note_read.ensures ∙ ap (with_source c.top-top.result c.args.t) c.reserve-2.ensures.items
-          ∙ ap (λ top. with_source top c.args.t c.abort_in_cycle.new.self.read_from.items) c.top-top.ensures.top);
+          ∙ ap (λ top. with_source top c.args.t c.link_or_abort.new.self.read_from.items) c.top-top.ensures.top);
     }
 
-pub returns-then-abort_in_cycle-clause-done : goal.returns-then-abort_in_cycle-clause-done
-returns-then-abort_in_cycle-clause-done g c =
-    let closes = c.abort_in_cycle.ensures.closes c.if-abort_in_cycle.true in
+pub returns-in_default-clause-done : goal.returns-in_default-clause-done
+returns-in_default-clause-done g c =
+    let closes = c.in_default.ensures.closes refl in
     let live = c.requires.live in
     record {
       done = record {
@@ -69,14 +69,14 @@ returns-then-abort_in_cycle-clause-done g c =
 
 pub returns-clause-done : goal.returns-clause-done
 returns-clause-done g c =
-    let seen = ap parts (c.abort_in_cycle.ensures.free c.if-abort_in_cycle.false).0 in
+    let seen = ap parts c.in-Some.ensures.free.0 in
     let exact = rivals_seen g.A.Accesses.list _ _ (sym seen) c.args.t c.args.key Look c.rivals-writers.result c.rivals-writers.ensures.exact
     in
     let free = free_walk_seen g.G.Graph.pairs _ _ seen c.args.t c.rivals-writers.result
-    (c.abort_in_cycle.ensures.free c.if-abort_in_cycle.false).2 in
+    c.in-Some.ensures.free.2 in
     record {
       done = record {
-        does = inr (makes_look seen c.abort_in_cycle.new.self.kept c.args.t
+        does = inr (makes_look seen c.link_or_abort.new.self.kept c.args.t
             (ap (λ p. g.G.Graph.nodes p.graph c.args.t) seen ∙ c.requires.live) c.args.key c.rivals-writers.result free exact
             c.note.new.self c.follow.new.graph c.look.new.self c.note_read.new.read_from.items c.value-value.result
             (c.note.ensures.noted ∙ ap (λ l. l ++ record { by = c.args.t; key = c.args.key; kind = Look } ∷ []) c.reserve.ensures.same)
@@ -84,7 +84,7 @@ returns-clause-done g c =
             c.follow.ensures.pairs
             (c.value-value.ensures ∙ ap value_of_top c.top-top.ensures.top) c.look.ensures
             (c.note_read.ensures ∙ ap (with_source c.top-top.result c.args.t) c.reserve-2.ensures.items
-            ∙ ap (λ top. with_source top c.args.t c.abort_in_cycle.new.self.read_from.items) c.top-top.ensures.top));
+            ∙ ap (λ top. with_source top c.args.t c.link_or_abort.new.self.read_from.items) c.top-top.ensures.top));
         short = tt;
       };
       refused = search rules;
@@ -93,22 +93,29 @@ returns-clause-done g c =
 
 pub returns-in_err-reserve-clause-no_memory : goal.returns-in_err-reserve-clause-no_memory
 returns-in_err-reserve-clause-no_memory g c =
-    let seen = ap parts (c.abort_in_cycle.ensures.free c.if-abort_in_cycle.false).0 in
+    let seen = ap parts c.in-Some.ensures.free.0 in
     let exact = rivals_seen g.A.Accesses.list _ _ (sym seen) c.args.t c.args.key Look c.rivals-writers.result c.rivals-writers.ensures.exact
     in
     let free = free_walk_seen g.G.Graph.pairs _ _ seen c.args.t c.rivals-writers.result
-    (c.abort_in_cycle.ensures.free c.if-abort_in_cycle.false).2 in
-    λ b. absurd (free_seen c.abort_in_cycle.new.self.kept c.args.t
+    c.in-Some.ensures.free.2 in
+    λ b. absurd (free_seen c.link_or_abort.new.self.kept c.args.t
     (ap (λ p. g.G.Graph.nodes p.graph c.args.t) seen ∙ c.requires.live) c.args.key Look c.rivals-writers.result exact
     (parts c.args.self.now) seen free b)
 
 pub returns-in_err-reserve-2-clause-no_memory : goal.returns-in_err-reserve-2-clause-no_memory
 returns-in_err-reserve-2-clause-no_memory g c =
-    let seen = ap parts (c.abort_in_cycle.ensures.free c.if-abort_in_cycle.false).0 in
+    let seen = ap parts c.in-Some.ensures.free.0 in
     let exact = rivals_seen g.A.Accesses.list _ _ (sym seen) c.args.t c.args.key Look c.rivals-writers.result c.rivals-writers.ensures.exact
     in
     let free = free_walk_seen g.G.Graph.pairs _ _ seen c.args.t c.rivals-writers.result
-    (c.abort_in_cycle.ensures.free c.if-abort_in_cycle.false).2 in
-    λ b. absurd (free_seen c.abort_in_cycle.new.self.kept c.args.t
+    c.in-Some.ensures.free.2 in
+    λ b. absurd (free_seen c.link_or_abort.new.self.kept c.args.t
     (ap (λ p. g.G.Graph.nodes p.graph c.args.t) seen ∙ c.requires.live) c.args.key Look c.rivals-writers.result exact
     (parts c.args.self.now) seen free b)
+
+pub follow-requires-clause-planned : goal.follow-requires-clause-planned
+follow-requires-clause-planned g c = λ κs lives. subst (λ p. c.rivals-writers.result ≢ [] → g.G.Graph.is_planned p.graph c.args.t c.rivals-writers.result
+    c.in-Some.link) (sym (ap parts c.in-Some.ensures.free.0)) c.in-Some.ensures.free.3
+
+pub look-requires-clause-at : goal.look-requires-clause-at
+look-requires-clause-at g c = ap (λ p. position (has_number c.args.t) p.live) (ap parts c.in-Some.ensures.free.0) ∙ c.requires.at

@@ -1,10 +1,10 @@
-use Rattle.std.proofs.Common.{rules, refl, ◌≡◌, false, cond, inl, inr, ap, ◌∙◌, sym, subst, ◌<◌, ◌++◌, ◌∷◌, [], length, w64}
+use Rattle.std.proofs.Common.{rules, refl, ◌≡◌, ◌≢◌, position, false, cond, inl, inr, ap, ◌∙◌, sym, subst, ◌<◌, ◌++◌, ◌∷◌, [], length, w64}
 use Rattle.std.proofs.lemmas.Int.{to_z-of_z}
 use Rattle.sgt_model.specs.declared.kind.Kind.TheVariants.{Store}
 use Rattle.sgt_model.specs.Contents.{key_eq}
 use Rattle.sgt_model.specs.Chains.{write_last, writes_in}
 use Rattle.sgt_model.specs.ChainOrder.{IsLastIn}
-use Rattle.sgt_sched.specs.LiveList.{progress_at}
+use Rattle.sgt_sched.specs.LiveList.{has_number, progress_at}
 use Rattle.sgt_sched.specs.Briefs.{HoldsLists}
 use Rattle.sgt_sched.specs.SchedulerView.{IsAlong}
 use Rattle.sgt_sched.proofs.Accessed.{rivals_few, rivals_are_nodes, rivals_seen, free_walk_seen, blocks_from_walk, free_seen}
@@ -18,55 +18,55 @@ use Rattle.sgt_sched.proofs.sched.Sched.store.Goals as goal
 pub rivals-rivals-requires : goal.rivals-rivals-requires
 rivals-rivals-requires g c = record { few = rivals_few c.args.self.now.kept }
 
-pub abort_in_cycle-requires-clause-others : goal.abort_in_cycle-requires-clause-others
-abort_in_cycle-requires-clause-others g c = λ κs lives. (rivals_are_nodes c.args.self.now.kept c.args.t c.requires.live c.args.key Store
+pub link_or_abort-requires-clause-others : goal.link_or_abort-requires-clause-others
+link_or_abort-requires-clause-others g c = λ κs lives. (rivals_are_nodes c.args.self.now.kept c.args.t c.requires.live c.args.key Store
     c.rivals-rivals.result c.rivals-rivals.ensures.exact)
 
 pub follow-requires-clause-others : goal.follow-requires-clause-others
 follow-requires-clause-others g c =
-    let seen = ap parts (c.abort_in_cycle.ensures.free c.if-abort_in_cycle.false).0 in
+    let seen = ap parts c.in-Some.ensures.free.0 in
     let exact = rivals_seen g.A.Accesses.list _ _ (sym seen) c.args.t c.args.key Store c.rivals-rivals.result
     c.rivals-rivals.ensures.exact in
-    λ κs lives. rivals_are_nodes c.abort_in_cycle.new.self.kept c.args.t
+    λ κs lives. rivals_are_nodes c.link_or_abort.new.self.kept c.args.t
     (ap (λ p. g.G.Graph.nodes p.graph c.args.t) seen ∙ c.requires.live) c.args.key Store c.rivals-rivals.result exact
 
 pub write-requires-clause-last : goal.write-requires-clause-last
 write-requires-clause-last g c =
-    let seen = ap parts (c.abort_in_cycle.ensures.free c.if-abort_in_cycle.false).0 in
+    let seen = ap parts c.in-Some.ensures.free.0 in
     let exact = rivals_seen g.A.Accesses.list _ _ (sym seen) c.args.t c.args.key Store c.rivals-rivals.result
     c.rivals-rivals.ensures.exact in
     let free = free_walk_seen g.G.Graph.pairs _ _ seen c.args.t c.rivals-rivals.result
-    (c.abort_in_cycle.ensures.free c.if-abort_in_cycle.false).2 in
+    c.in-Some.ensures.free.2 in
     subst (λ l. IsLastIn c.args.t l) (sym (c.reserve.ensures.chain c.args.key))
-    (store_last seen c.abort_in_cycle.new.self.kept c.args.t
+    (store_last seen c.link_or_abort.new.self.kept c.args.t
     (ap (λ p. g.G.Graph.nodes p.graph c.args.t) seen ∙ c.requires.live) c.args.key c.rivals-rivals.result free exact)
 
 pub write-requires-clause-room : goal.write-requires-clause-room
 write-requires-clause-room g c =
-    let seen = ap parts (c.abort_in_cycle.ensures.free c.if-abort_in_cycle.false).0 in
+    let seen = ap parts c.in-Some.ensures.free.0 in
     let exact = rivals_seen g.A.Accesses.list _ _ (sym seen) c.args.t c.args.key Store c.rivals-rivals.result
     c.rivals-rivals.ensures.exact in
     let free = free_walk_seen g.G.Graph.pairs _ _ seen c.args.t c.rivals-rivals.result
-    (c.abort_in_cycle.ensures.free c.if-abort_in_cycle.false).2 in
+    c.in-Some.ensures.free.2 in
     subst (λ l. writes_in c.args.t l ≡ false → length l < 32) (sym (c.reserve.ensures.chain c.args.key))
-    (store_room seen c.abort_in_cycle.new.self.kept c.args.t
+    (store_room seen c.link_or_abort.new.self.kept c.args.t
     (ap (λ p. g.G.Graph.nodes p.graph c.args.t) seen ∙ c.requires.live) c.args.key c.rivals-rivals.result free exact)
 
 pub store-requires-clause-along : goal.store-requires-clause-along
 store-requires-clause-along g c =
-    let seen = ap parts (c.abort_in_cycle.ensures.free c.if-abort_in_cycle.false).0 in
-    subst (λ l. IsAlong l (progress_at c.abort_in_cycle.new.self.live c.args.t)) (sym c.as_slice.ensures.value)
-    (c.abort_in_cycle.new.self.kept.along c.args.t (ap (λ p. g.G.Graph.nodes p.graph c.args.t) seen ∙ c.requires.live))
+    let seen = ap parts c.in-Some.ensures.free.0 in
+    subst (λ l. IsAlong l (progress_at c.link_or_abort.new.self.live c.args.t)) (sym c.as_slice.ensures.value)
+    (c.link_or_abort.new.self.kept.along c.args.t (ap (λ p. g.G.Graph.nodes p.graph c.args.t) seen ∙ c.requires.live))
 
 pub invariant_of-self-2 : goal.invariant_of-self-2
 invariant_of-self-2 g c =
-    let seen = ap parts (c.abort_in_cycle.ensures.free c.if-abort_in_cycle.false).0 in
+    let seen = ap parts c.in-Some.ensures.free.0 in
     let exact = rivals_seen g.A.Accesses.list _ _ (sym seen) c.args.t c.args.key Store c.rivals-rivals.result
     c.rivals-rivals.ensures.exact in
     let free = free_walk_seen g.G.Graph.pairs _ _ seen c.args.t c.rivals-rivals.result
-    (c.abort_in_cycle.ensures.free c.if-abort_in_cycle.false).2 in
+    c.in-Some.ensures.free.2 in
     record {
-      kept = kept_store seen c.abort_in_cycle.new.self.kept c.args.t
+      kept = kept_store seen c.link_or_abort.new.self.kept c.args.t
           (ap (λ p. g.G.Graph.nodes p.graph c.args.t) seen ∙ c.requires.live) c.args.key c.rivals-rivals.result free exact c.args.value
           c.write.new.self c.note.new.self c.follow.new.graph c.store.new.self
           (λ j. c.write.ensures.chain j ∙ (ap (λ z. cond (key_eq c.args.key j)
@@ -80,9 +80,9 @@ invariant_of-self-2 g c =
           c.store.ensures;
     }
 
-pub returns-then-abort_in_cycle-clause-done : goal.returns-then-abort_in_cycle-clause-done
-returns-then-abort_in_cycle-clause-done g c =
-    let closes = c.abort_in_cycle.ensures.closes c.if-abort_in_cycle.true in
+pub returns-in_default-clause-done : goal.returns-in_default-clause-done
+returns-in_default-clause-done g c =
+    let closes = c.in_default.ensures.closes refl in
     let live = c.requires.live in
     record {
       done = record {
@@ -97,14 +97,14 @@ returns-then-abort_in_cycle-clause-done g c =
 
 pub returns-clause-done : goal.returns-clause-done
 returns-clause-done g c =
-    let seen = ap parts (c.abort_in_cycle.ensures.free c.if-abort_in_cycle.false).0 in
+    let seen = ap parts c.in-Some.ensures.free.0 in
     let exact = rivals_seen g.A.Accesses.list _ _ (sym seen) c.args.t c.args.key Store c.rivals-rivals.result
     c.rivals-rivals.ensures.exact in
     let free = free_walk_seen g.G.Graph.pairs _ _ seen c.args.t c.rivals-rivals.result
-    (c.abort_in_cycle.ensures.free c.if-abort_in_cycle.false).2 in
+    c.in-Some.ensures.free.2 in
     record {
       done = record {
-        does = inr (makes_store seen c.abort_in_cycle.new.self.kept c.args.t
+        does = inr (makes_store seen c.link_or_abort.new.self.kept c.args.t
             (ap (λ p. g.G.Graph.nodes p.graph c.args.t) seen ∙ c.requires.live) c.args.key c.rivals-rivals.result free exact c.args.value
             c.write.new.self c.note.new.self c.follow.new.graph c.store.new.self
             (λ j. c.write.ensures.chain j ∙ (ap (λ z. cond (key_eq c.args.key j)
@@ -124,34 +124,41 @@ returns-clause-done g c =
 
 pub invariant_of-self-in-Break-1 : goal.invariant_of-self-in-Break-1
 invariant_of-self-in-Break-1 g c = record {
-  kept = kept_reserved c.abort_in_cycle.new.self.kept c.reserve.new.self
-      c.abort_in_cycle.new.self.accesses c.reserve.ensures.chain refl;
+  kept = kept_reserved c.link_or_abort.new.self.kept c.reserve.new.self
+      c.link_or_abort.new.self.accesses c.reserve.ensures.chain refl;
 }
 
 pub invariant_of-self-in-Break-branch-2 : goal.invariant_of-self-in-Break-branch-2
 invariant_of-self-in-Break-branch-2 g c = record {
-  kept = kept_reserved c.abort_in_cycle.new.self.kept c.reserve.new.self
+  kept = kept_reserved c.link_or_abort.new.self.kept c.reserve.new.self
       c.reserve-2.new.self c.reserve.ensures.chain c.reserve-2.ensures.same;
 }
 
 pub returns-in_err-reserve-clause-no_memory : goal.returns-in_err-reserve-clause-no_memory
 returns-in_err-reserve-clause-no_memory g c =
-    let seen = ap parts (c.abort_in_cycle.ensures.free c.if-abort_in_cycle.false).0 in
+    let seen = ap parts c.in-Some.ensures.free.0 in
     let exact = rivals_seen g.A.Accesses.list _ _ (sym seen) c.args.t c.args.key Store c.rivals-rivals.result
     c.rivals-rivals.ensures.exact in
     let free = free_walk_seen g.G.Graph.pairs _ _ seen c.args.t c.rivals-rivals.result
-    (c.abort_in_cycle.ensures.free c.if-abort_in_cycle.false).2 in
-    λ b. absurd (free_seen c.abort_in_cycle.new.self.kept c.args.t
+    c.in-Some.ensures.free.2 in
+    λ b. absurd (free_seen c.link_or_abort.new.self.kept c.args.t
     (ap (λ p. g.G.Graph.nodes p.graph c.args.t) seen ∙ c.requires.live) c.args.key Store c.rivals-rivals.result exact
     (parts c.args.self.now) seen free b)
 
 pub returns-in_err-reserve-2-clause-no_memory : goal.returns-in_err-reserve-2-clause-no_memory
 returns-in_err-reserve-2-clause-no_memory g c =
-    let seen = ap parts (c.abort_in_cycle.ensures.free c.if-abort_in_cycle.false).0 in
+    let seen = ap parts c.in-Some.ensures.free.0 in
     let exact = rivals_seen g.A.Accesses.list _ _ (sym seen) c.args.t c.args.key Store c.rivals-rivals.result
     c.rivals-rivals.ensures.exact in
     let free = free_walk_seen g.G.Graph.pairs _ _ seen c.args.t c.rivals-rivals.result
-    (c.abort_in_cycle.ensures.free c.if-abort_in_cycle.false).2 in
-    λ b. absurd (free_seen c.abort_in_cycle.new.self.kept c.args.t
+    c.in-Some.ensures.free.2 in
+    λ b. absurd (free_seen c.link_or_abort.new.self.kept c.args.t
     (ap (λ p. g.G.Graph.nodes p.graph c.args.t) seen ∙ c.requires.live) c.args.key Store c.rivals-rivals.result exact
     (parts c.args.self.now) seen free b)
+
+pub follow-requires-clause-planned : goal.follow-requires-clause-planned
+follow-requires-clause-planned g c = λ κs lives. subst (λ p. c.rivals-rivals.result ≢ [] → g.G.Graph.is_planned p.graph c.args.t c.rivals-rivals.result
+    c.in-Some.link) (sym (ap parts c.in-Some.ensures.free.0)) c.in-Some.ensures.free.3
+
+pub store-requires-clause-at : goal.store-requires-clause-at
+store-requires-clause-at g c = ap (λ p. position (has_number c.args.t) p.live) (ap parts c.in-Some.ensures.free.0) ∙ c.requires.at

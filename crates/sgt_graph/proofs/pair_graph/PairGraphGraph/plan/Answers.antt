@@ -1,7 +1,7 @@
 use Rattle.std.proofs.Common.{◌≡◌, ℕ, List, true, sym, subst}
 use Rattle.sgt_graph.specs.PairGraphs.{is_node}
 use Rattle.sgt_graph.proofs.Kept.{numbers_few}
-use Rattle.sgt_graph.proofs.pair_graph.PairGraphGraph.test.Goals as goal
+use Rattle.sgt_graph.proofs.pair_graph.PairGraphGraph.plan.Goals as goal
 
 pub walk-requires : goal.walk-requires
 walk-requires c =

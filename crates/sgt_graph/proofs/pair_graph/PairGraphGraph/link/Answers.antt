@@ -4,7 +4,7 @@ use Rattle.sgt_cycle.specs.Links.{is_link}
 use Rattle.sgt_cycle.specs.Walk.{NoWalk}
 use Rattle.sgt_graph.proofs.Lists.{at_member}
 use Rattle.sgt_graph.proofs.Insertion.{no_path, still_no_path, adds_next}
-use Rattle.sgt_graph.proofs.pair_graph.PairGraphGraph.insert.Goals as goal
+use Rattle.sgt_graph.proofs.pair_graph.PairGraphGraph.link.Goals as goal
 
 -- an item of a list is a member
 member_here : (preds : List ℕ) (i u : ℕ) → i < length preds → u ≡ slice_index_or preds i u → Member u preds
@@ -20,7 +20,7 @@ pub add_pair-requires-clause-free : goal.add_pair-requires-clause-free
 add_pair-requires-clause-free c =
     let member : Member c.pred-item.result c.args.preds.now = rw c.as_slice-pred-items.ensures at
     (member_here c.as_slice-pred-items.result.now c.loop-pred.pred-index c.pred-item.result c.loop-pred-test.true c.pred-item.is) in
-    let none : NoWalk (is_link c.args.self.now.1) c.args.t c.args.preds.now = c.in_default.ensures.verdict in
+    let none : NoWalk (is_link c.args.self.now.1) c.args.t c.args.preds.now = c.requires.free in
     still_no_path c.args.self.now.1 c.loop-pred.self.1 c.args.t (take c.loop-pred.pred-index c.args.preds.now) c.loop-pred.invariant.pairs
     c.pred-item.result
     (no_path (is_link c.args.self.now.1) c.args.t c.args.preds.now none c.pred-item.result member)

@@ -1,6 +1,6 @@
 use Rattle.std.proofs.Common.{◌≡◌, take}
 use Rattle.sgt_graph.proofs.Insertion.{Adds}
-use Rattle.sgt_graph.proofs.pair_graph.PairGraphGraph.insert.Given as goal
+use Rattle.sgt_graph.proofs.pair_graph.PairGraphGraph.link.Given as goal
 
 abbrev pub invariant-loop-pred : goal.invariant-loop-pred
 invariant-loop-pred l = record {
