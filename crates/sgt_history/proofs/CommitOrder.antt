@@ -6,7 +6,7 @@ use Rattle.sgt_history.specs.Histories.{Does, CommittedBefore}
 use Rattle.sgt_history.specs.Serializability.{Commits, IsEdge, IsPath, IsCommitOrdered, CommitOrderedAreSerializable}
 
 -- before a transaction commits, those with an edge to it have
-edge_earlier : (h : List Operation) (t u d : ℕ) → IsCommitOrdered h → IsEdge h t u → Does h d u Commit → ¬ ¬ CommittedBefore h t d
+pub edge_earlier : (h : List Operation) (t u d : ℕ) → IsCommitOrdered h → IsEdge h t u → Does h d u Commit → ¬ ¬ CommittedBefore h t d
 edge_earlier h t u d ordered edge commits uncommitted = ordered edge.place edge.later record {
   before = t;
   after = u;

@@ -2,6 +2,7 @@ pub mod Places
 pub mod Strictness
 pub mod Inclusions
 pub mod CommitOrder
+pub mod CommitOrders
 pub mod LatestUses
 pub mod Edges
 pub mod Projection

@@ -7,6 +7,7 @@ use Rattle.sgt_history.specs.declared.avoiding.Sources.{Sources}
 use Rattle.sgt_history.specs.declared.recoverable.DirtyReads.{DirtyReads}
 use Rattle.sgt_history.specs.declared.rigorous.Accesses.{Accesses}
 use Rattle.sgt_history.specs.declared.commit_order.LatestUse.{LatestUse}
+use Rattle.sgt_history.specs.declared.commit_order.ItemUses.{ItemUses}
 use Rattle.sgt_history.specs.declared.graph.Edge.{Edge}
 use Rattle.sgt_history.specs.declared.graph.Graph.{Graph}
 use Rattle.sgt_history.specs.declared.commit_order.LatestUses.{LatestUses}
@@ -162,10 +163,20 @@ pub record AreLatestUses (h : List Operation) (commits : ℕ → Option ℕ) (j 
   pub reads_are : (x : ℕ) → IsLatestUse h commits j (Read x) (reads x)
   pub writes_are : (x : ℕ) → IsLatestUse h commits j (Write x) (writes x)
 
+-- a use by where its transaction commits and its place, if both are known
+abbrev pub both : Option ℕ → Option ℕ → Option LatestUse
+both None place = None
+both (Some c) None = None
+both (Some c) (Some i) = Some (record { commit = c; place = i })
+
+-- the use of an item, or none
+abbrev pub use_of : ItemUses → ℕ → Option LatestUse
+use_of uses x = both (entry_of uses.commits x) (entry_of uses.places x)
+
 -- what the checker of the commit order keeps of the operations before place j
 pub record KnowsLatestUses (h : List Operation) (j : ℕ) (s : LatestUses) : Type 0 where
   pub commits_are : AreFirstCommits h (length h) (entry_of s.commits)
-  pub uses_are : AreLatestUses h (entry_of s.commits) j (get nat_cmp s.reads) (get nat_cmp s.writes)
+  pub uses_are : AreLatestUses h (entry_of s.commits) j (use_of s.reads) (use_of s.writes)
 
 -- the one of two uses that commits later
 abbrev pub later_use : Option LatestUse → LatestUse → LatestUse

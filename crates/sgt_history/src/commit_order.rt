@@ -1,17 +1,15 @@
 //! The commit order.
-ghost use Rattle.std.specs.Prelude.{◌≡◌, ◌≢◌, ◌<◌, ◌+◌, ℕ, Some, length, IfSome, IfOk, OnOk, IsNone};
-ghost use Rattle.std.specs.BTreeMap.{get};
-ghost use Rattle.std.specs.Ordering.{nat_cmp};
+ghost use Rattle.std.specs.Prelude.{◌≡◌, ◌≢◌, ◌<◌, ◌+◌, ℕ, Some, None, length, IfSome, IfOk, OnOk, IsNone};
 ghost use Rattle.sgt_history.specs.Classes.{IsFirstViolation};
 ghost use Rattle.sgt_history.specs.Tables.{entry_of};
-ghost use Rattle.sgt_history.specs.Serializability.{BreaksCommitOrder};
-ghost use Rattle.sgt_history.specs.Seen.{AreFirstCommits, KnowsLatestUses, later_use, use_after};
+ghost use Rattle.sgt_history.specs.SerialOrders.{TakesFirst};
+ghost use Rattle.sgt_history.specs.Serializability.{BreaksCommitOrder, IsCommitOrdered, IsSerialOrder};
+ghost use Rattle.sgt_history.specs.Seen.{AreFirstCommits, KnowsLatestUses, later_use, use_after, use_of};
 
 use crate::operation::{Action, Operation, Violation};
 use crate::table::Table;
 use sgt_model::NoMemory;
 use std::alloc::Global;
-use std::collections::BTreeMap;
 
 /// The first operation of a committed transaction that conflicts with an earlier one of another that commits later, with that
 /// one. `None` where the history is commit ordered.
@@ -27,8 +25,8 @@ pub fn commit_order_violation(
 {
     let mut seen = LatestUses {
         commits: first_commits(alloc, history)?,
-        reads: BTreeMap::new(alloc),
-        writes: BTreeMap::new(alloc),
+        reads: ItemUses::new(alloc, history.len()),
+        writes: ItemUses::new(alloc, history.len()),
     };
     for place in 0..history.len() {
         if let Some(earlier) = seen.inverted(history, place) {
@@ -40,6 +38,29 @@ pub fn commit_order_violation(
         seen.note(history, place)?;
     }
     Ok(None)
+}
+
+/// The committed transactions in the order of their first commits. Where the history is commit ordered this is a serial order, of
+/// those that may come next always the one that committed first.
+///
+/// Bernstein, Hadzilacos and Goodman (1987), chapter 2: serializability theorem.
+///
+/// A commit costs five look-ups in a table at most, another operation none.
+pub fn serial_commit_order(alloc: Global, history: &[Operation]) -> Result<Vec<u32>, NoMemory>
+    requires { IsCommitOrdered history.now }
+    ensures serial { IfOk result (λ order. IsSerialOrder history.now order.items) }
+    ensures first { IfOk result (λ order. TakesFirst history.now order.items) }
+{
+    let mut left = first_commits(alloc, history)?;
+    let mut order = Vec::new(alloc);
+    for place in 0..history.len() {
+        let operation = history[place];
+        if operation.action == Action::Commit && left.contains_key(operation.transaction) {
+            left.remove(operation.transaction);
+            order.push(operation.transaction)?;
+        }
+    }
+    Ok(order)
 }
 
 /// Where each committed transaction commits first.
@@ -65,15 +86,55 @@ pub struct LatestUse {
     pub place: usize,
 }
 
+/// For some items a use each.
+#[derive(Drop)]
+pub struct ItemUses {
+    /// Where the use's transaction commits.
+    commits: Table,
+    /// Its place.
+    places: Table,
+}
+
+impl ItemUses {
+    /// No item has one. Those whose numbers are below the bound are found at once.
+    fn new(alloc: Global, bound: usize) -> Self
+        ensures { (x : ℕ) → use_of result x ≡ None }
+    {
+        ItemUses {
+            commits: Table::new(alloc, bound),
+            places: Table::new(alloc, bound),
+        }
+    }
+
+    /// The use of the item.
+    fn find(&self, item: u32) -> Option<LatestUse>
+        ensures { result ≡ use_of self.now item }
+    {
+        let commit = self.commits.find(item)?;
+        let place = self.places.find(item)?;
+        Some(LatestUse { commit, place })
+    }
+
+    /// Sets the use of the item.
+    fn set_use(&mut self, item: u32, latest: LatestUse) -> Result<(), NoMemory>
+        ensures at { OnOk result (use_of self.new item ≡ Some latest) }
+        ensures others { OnOk result ((x : ℕ) → x ≢ item → use_of self.new x ≡ use_of self.old x) }
+    {
+        self.commits.set_place(item, latest.commit)?;
+        self.places.set_place(item, latest.place)?;
+        Ok(())
+    }
+}
+
 /// Of each item the uses before a place by those that commit last.
 #[derive(Drop)]
 struct LatestUses {
     /// Where a transaction commits.
     commits: Table,
     /// Of the reads of an item the one whose transaction commits last.
-    reads: BTreeMap<u32, LatestUse>,
+    reads: ItemUses,
     /// Of the writes of an item the one whose transaction commits last.
-    writes: BTreeMap<u32, LatestUse>,
+    writes: ItemUses,
 }
 
 impl LatestUses {
@@ -118,28 +179,23 @@ impl LatestUses {
 }
 
 /// Keeps the use of the item if its transaction commits after that of the one that is kept.
-fn keep_later(
-    uses: &mut BTreeMap<u32, LatestUse>,
-    item: u32,
-    latest: LatestUse,
-) -> Result<(), NoMemory>
-    ensures at { OnOk result (get nat_cmp uses.new item ≡ Some (later_use (get nat_cmp uses.old item) latest)) }
-    ensures others { OnOk result ((x : ℕ) → x ≢ item → get nat_cmp uses.new x ≡ get nat_cmp uses.old x) }
+fn keep_later(uses: &mut ItemUses, item: u32, latest: LatestUse) -> Result<(), NoMemory>
+    ensures at { OnOk result (use_of uses.new item ≡ Some (later_use (use_of uses.old item) latest)) }
+    ensures others { OnOk result ((x : ℕ) → x ≢ item → use_of uses.new x ≡ use_of uses.old x) }
 {
-    if let Some(known) = uses.get(&item) {
+    if let Some(known) = uses.find(item) {
         if known.commit >= latest.commit {
             return Ok(());
         }
     }
-    uses.insert(item, latest)?;
-    Ok(())
+    uses.set_use(item, latest)
 }
 
 /// The place of the use of the item that is kept, if its transaction commits after the given place.
-fn committing_after(uses: &BTreeMap<u32, LatestUse>, item: u32, commit: usize) -> Option<usize>
-    ensures { result ≡ use_after (get nat_cmp uses.now item) commit }
+fn committing_after(uses: &ItemUses, item: u32, commit: usize) -> Option<usize>
+    ensures { result ≡ use_after (use_of uses.now item) commit }
 {
-    let known = uses.get(&item)?;
+    let known = uses.find(item)?;
     if commit < known.commit {
         return Some(known.place);
     }

@@ -32,7 +32,7 @@ mod strict;
 mod table;
 
 pub use avoiding::{avoidance_violation, read_source};
-pub use commit_order::commit_order_violation;
+pub use commit_order::{commit_order_violation, serial_commit_order};
 pub use conflicts::first_conflicts;
 pub use graph::{Edge, serialization_edges};
 pub use laws::{
