@@ -9,15 +9,11 @@ mod accesses;
 #[cfg(test)]
 mod cascades;
 #[cfg(test)]
-mod cursor;
-#[cfg(test)]
 mod graphs;
 #[cfg(test)]
 mod records;
 #[cfg(test)]
 mod schedulers;
-#[cfg(test)]
-mod spelled;
 #[cfg(test)]
 mod values;
 #[cfg(test)]

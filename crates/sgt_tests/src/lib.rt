@@ -5,6 +5,8 @@
 #![tactic(auto)]
 
 #[cfg(test)]
+mod cursor;
+#[cfg(test)]
 mod engine;
 #[cfg(test)]
 mod first_use;
@@ -16,5 +18,7 @@ mod procedures;
 mod procedures_as_trees;
 #[cfg(test)]
 mod runs;
+#[cfg(test)]
+mod spelled;
 #[cfg(test)]
 mod streams;
