@@ -7,21 +7,13 @@
 #[cfg(test)]
 mod accesses;
 #[cfg(test)]
-mod arithmetic;
-#[cfg(test)]
 mod cascades;
-#[cfg(test)]
-mod cursor;
-#[cfg(test)]
-mod finds;
 #[cfg(test)]
 mod graphs;
 #[cfg(test)]
 mod records;
 #[cfg(test)]
 mod schedulers;
-#[cfg(test)]
-mod spelled;
 #[cfg(test)]
 mod values;
 #[cfg(test)]

@@ -46,17 +46,40 @@ fn finds_the_way_by_rows(rt: HostRuntime) {
     assert!(rt; walk_rows(&rows, 0, indices::only(2)).is_none());
 }
 
+/// What is made of two sets: both together, what both have, the first without the second, and whether they meet.
+fn combined(set: u32, other: u32) -> (u32, u32, u32, bool) {
+    (
+        indices::joined(set, other),
+        indices::common(set, other),
+        indices::minus(set, other),
+        indices::meets(set, other),
+    )
+}
+
 #[test]
 fn indices_are_put_together_and_taken_out(rt: HostRuntime) {
+    let (low, high) = (indices::only(2), indices::only(31));
+    let (two, none, alone, meet) = combined(low, high);
+    assert!(rt; none == 0 && alone == low && !meet);
+    assert!(rt; combined(two, low) == (two, low, high, true));
+    assert!(rt; combined(two, high) == (two, high, low, true));
+    assert!(rt; combined(two, two) == (two, two, 0, true));
+    assert!(rt; !indices::meets(two, indices::complement(two)));
+}
+
+/// Whether a set has an index, and its least index.
+fn looked_at(set: u32, index: u8) -> (bool, Option<u8>)
+    requires { index < 32 }
+{
+    (indices::has(set, index), indices::least(set))
+}
+
+#[test]
+fn indices_are_looked_at(rt: HostRuntime) {
     let two = indices::joined(indices::only(2), indices::only(31));
-    assert!(rt; indices::has(two, 31) && !indices::has(two, 30));
-    assert_eq!(rt; indices::least(two), Some(2));
-    assert_eq!(rt; indices::minus(two, indices::only(2)), indices::only(31));
-    assert_eq!(rt; indices::common(two, indices::only(31)), indices::only(31));
-    assert!(rt;
-        indices::meets(two, indices::only(2)) && !indices::meets(two, indices::complement(two))
-    );
-    assert_eq!(rt; indices::least(indices::minus(two, two)), None);
+    assert!(rt; looked_at(two, 31) == (true, Some(2)));
+    assert!(rt; looked_at(two, 30) == (false, Some(2)));
+    assert!(rt; looked_at(0, 0) == (false, None));
 }
 
 /// One number.

@@ -5,7 +5,13 @@
 #![tactic(auto)]
 
 #[cfg(test)]
+mod arithmetic;
+#[cfg(test)]
+mod cursor;
+#[cfg(test)]
 mod engine;
+#[cfg(test)]
+mod finds;
 #[cfg(test)]
 mod first_use;
 #[cfg(test)]
@@ -16,5 +22,7 @@ mod procedures;
 mod procedures_as_trees;
 #[cfg(test)]
 mod runs;
+#[cfg(test)]
+mod spelled;
 #[cfg(test)]
 mod streams;

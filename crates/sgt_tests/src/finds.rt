@@ -35,11 +35,12 @@ fn does(
         assert_eq!(rt; &procedure.next(&args, &finds[..looks], made), want);
         assert_eq!(rt; &cursor.next(procedure), want);
         match want {
-            Next::Look(_) => {
+            Next::Look(_) if looks < finds.len() => {
                 cursor.looked(procedure, finds[looks]);
                 looks += 1;
             }
-            _ => cursor.stored(procedure),
+            Next::Put(..) => cursor.stored(procedure),
+            _ => return,
         }
     }
 }
