@@ -1,17 +1,20 @@
 //! What `tests/workers` and the measures in `bench` run and look at from outside: a bank with the history behind its report,
-//! whose workers may leave at random, and a session whose quit is refused all memory.
+//! whose workers may leave at random, and a session whose quit is refused all memory. `tests/lines` has it run many scripts.
 //!
 //!     sgt_probe bank WORKERS TRIES [SEED ODDS]    the bank of standard input; one call of so many makes its worker leave
 //!     sgt_probe quit
+//!     sgt_probe scripts                           the scripts of standard input, the length of each in four bytes before it
 #![tactic(auto)]
 
 mod banks;
 mod gate;
 mod quits;
+mod scripts;
 
 use crate::banks::tell_bank;
 use crate::gate::RandomLeave;
 use crate::quits::tell_quits;
+use crate::scripts::tell_scripts;
 use std::{env, io};
 
 /// The number of this word, or another where it is none.
@@ -36,6 +39,9 @@ fn main(rt: HostRuntime) -> io::Result<()> {
     let words = words.as_slice();
     if begins_with(words, "quit") {
         return tell_quits(&rt, alloc);
+    }
+    if begins_with(words, "scripts") {
+        return tell_scripts(&rt, alloc);
     }
     let gate = RandomLeave {
         seed: number(words, 4, 0),
