@@ -1,18 +1,19 @@
 //! What a check finds.
-ghost use Rattle.std.specs.Prelude.{◌≡◌, ◌<◌, ◌+◌, ◌-◌, ◌^◌, ◌==◌, ◌||◌, not, if◌then◌else◌, ℕ, is_some, IfOk, OnOk};
-ghost use Rattle.std.specs.BTreeMap.{get};
-ghost use Rattle.std.specs.Ordering.{nat_cmp};
+ghost use Rattle.std.specs.Prelude.{◌↔◌, ◌≡◌, ◌<◌, ◌+◌, ◌-◌, ◌^◌, ◌==◌, ◌||◌, not, if◌then◌else◌, ℕ, is_some, IfOk, OnOk};
+ghost use Rattle.sgt_history.specs.Tables.{entry_of};
 ghost use Rattle.sgt_history.specs.Classes.{BreaksRecoverability, BreaksAvoidance, BreaksStrictness, BreaksRigorousness, IsFirstViolation};
+ghost use Rattle.sgt_history.specs.Serializability.{BreaksCommitOrder, IsSerializable};
+ghost use Rattle.sgt_history.specs.SerialOrders.{IsShown, IsSerial};
 ghost use Rattle.sgt_check.specs.Reports.{IsReport, AreCounts, IsWriteOf, commits, aborts};
 
 use sgt_history::{
-    Action, Operation, Serializability, Violation, avoidance_violation, avoiding_are_recoverable,
-    commit_order_violation, read_source, recoverable_violation, rigorous_are_strict,
-    rigorous_violation, serial_order_or_cycle, strict_avoid_cascading_aborts, strict_violation,
+    Action, Operation, Serializability, Table, Violation, avoidance_violation,
+    avoiding_are_recoverable, commit_order_violation, commit_ordered_are_serializable, read_source,
+    recoverable_violation, rigorous_are_strict, rigorous_violation, serial_commit_order,
+    serial_order_or_cycle, strict_avoid_cascading_aborts, strict_violation,
 };
 use sgt_model::NoMemory;
 use std::alloc::Global;
-use std::collections::BTreeMap;
 
 /// How many transactions a history has, and how many of them have ended.
 #[derive(Clone, Copy, Debug, Default, PartialEq, Eq)]
@@ -56,7 +57,7 @@ pub struct Report {
 ///
 /// It costs what the checkers of `sgt_history` cost, one after another. Of rigorousness, strictness, the avoidance of cascading
 /// aborts and recoverability each is implied by the one before it: where a history is of one of these classes, those behind it
-/// cost nothing.
+/// cost nothing. Where it is commit ordered, the commit order is the serial order, and no graph is made.
 ///
 /// # Errors
 ///
@@ -65,7 +66,8 @@ pub fn check_history(alloc: Global, history: &[Operation]) -> Result<Report, NoM
     ensures { IfOk result (IsReport history.now) }
 {
     let counts = count(alloc, history)?;
-    let serializability = serial_order_or_cycle(alloc, history)?;
+    let commit_ordered = commit_order_violation(alloc, history)?;
+    let serializability = serial_unless_commit_ordered(alloc, history, &commit_ordered)?;
     let rigorous = rigorous_violation(alloc, history)?;
     let strict = strict_unless_rigorous(alloc, history, &rigorous)?;
     let avoiding = avoiding_unless_strict(alloc, history, &strict)?;
@@ -79,8 +81,25 @@ pub fn check_history(alloc: Global, history: &[Operation]) -> Result<Report, NoM
         avoiding,
         strict,
         rigorous,
-        commit_ordered: commit_order_violation(alloc, history)?,
+        commit_ordered,
     })
+}
+
+/// A serial order or a cycle. Where the history is commit ordered it is the commit order, and no graph is made.
+fn serial_unless_commit_ordered(
+    alloc: Global,
+    history: &[Operation],
+    commit_ordered: &Option<Violation>,
+) -> Result<Serializability, NoMemory>
+    requires { IsFirstViolation (BreaksCommitOrder history.now) commit_ordered.now }
+    ensures shown { IfOk result (IsShown history.now) }
+    ensures exact { IfOk result (λ shown. IsSerial shown ↔ IsSerializable history.now) }
+{
+    commit_ordered_are_serializable();
+    match commit_ordered {
+        Some(_) => serial_order_or_cycle(alloc, history),
+        None => Ok(Serializability::Serial(serial_commit_order(alloc, history)?)),
+    }
 }
 
 /// The first violation of strictness, of which there is none where there is none of rigorousness.
@@ -150,7 +169,7 @@ fn dirty_write(
 fn count(alloc: Global, history: &[Operation]) -> Result<Counts, NoMemory>
     ensures { IfOk result (AreCounts history.now) }
 {
-    let mut seen = BTreeMap::new(alloc);
+    let mut seen = Table::new(alloc, history.len());
     let mut counts = Counts::default();
     for place in 0..history.len() {
         let operation = history[place];
@@ -161,12 +180,16 @@ fn count(alloc: Global, history: &[Operation]) -> Result<Counts, NoMemory>
 }
 
 /// Notes that the transaction acts, and tells whether it has not before.
-fn note(seen: &mut BTreeMap<u32, usize>, transaction: u32, place: usize) -> Result<bool, NoMemory>
-    ensures first { IfOk result (λ first. first ≡ not (is_some (get nat_cmp seen.old transaction))) }
+fn note(seen: &mut Table, transaction: u32, place: usize) -> Result<bool, NoMemory>
+    ensures first { IfOk result (λ first. first ≡ not (is_some (entry_of seen.old transaction))) }
     ensures seen { OnOk result ((t : ℕ) →
-        is_some (get nat_cmp seen.new t) ≡ (is_some (get nat_cmp seen.old t) || transaction == t)) }
+        is_some (entry_of seen.new t) ≡ (is_some (entry_of seen.old t) || transaction == t)) }
 {
-    Ok(seen.insert(transaction, place)?.is_none())
+    if seen.contains_key(transaction) {
+        return Ok(false);
+    }
+    seen.set_place(transaction, place)?;
+    Ok(true)
 }
 
 /// Counts an operation.
