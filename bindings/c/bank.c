@@ -30,7 +30,7 @@ int main(void)
     sgt_reply reply = {0};
     const int64_t account_and_amount[] = {1, 100};
     int64_t value = 0;
-    uint64_t entries = 0, count = 0;
+    uint64_t entries = 0, count = 0, live = 0;
     if (sgt_open(&engine, (const uint8_t *)opening, strlen(opening), &fault) != SGT_OK) return 1;
     for (uint32_t tid = 0; tid < 2; tid++) { /* procedure 1 is a deposit; procedure 0, with the account alone, a balance */
         if (sgt_start(&engine, tid == 0 ? 1 : 0, account_and_amount, tid == 0 ? 2 : 1, &reply) != SGT_OK) return 1;
@@ -61,6 +61,11 @@ int main(void)
         if (sgt_run(&engine, run < 2 ? 1 : 0, account_and_amount, run < 2 ? 2 : 1, &tid, &reply) != SGT_OK) return 1;
         if (run == 2) printf("ran %" PRIu32 ": ", tid), show(&reply);
     }
+    if (sgt_start(&engine, 0, account_and_amount, 1, &reply) != SGT_OK) return 1;
+    if (sgt_cut(&engine, &live) == SGT_STILL_LIVE) printf("%" PRIu64 " live\n", live);
+    if (sgt_quit(&engine, reply.tid, &reply) != SGT_OK || sgt_cut(&engine, &live) != SGT_OK) return 1;
+    if (sgt_entries(&engine, &entries) != SGT_OK || sgt_get(&engine, 2, 101, &value) != SGT_OK) return 1;
+    printf("%" PRIu64 " entries, 2/101 %" PRId64 "\n", entries, value);
     sgt_close(&engine);
     return 0;
 }

@@ -40,6 +40,16 @@ int main()
     sgt::Ran ran = again.run(0, {1});
     std::cout << "ran " << ran.tid.value() << ": ";
     show(ran.reply);
+    std::uint32_t tid = again.start(0, {1}).tid;
+    try {
+        again.cut();
+        return 1;
+    } catch (const sgt::StillLive &why) {
+        std::cout << why.live << " live\n";
+    }
+    again.quit(tid);
+    again.cut();
+    std::cout << again.entries() << " entries, 2/101 " << again.get(2, 101).value() << '\n';
     try {
         sgt::Engine refused(R"({"limits":[99,1],"accounts":[],"procedures":[]})");
     } catch (const sgt::Refused &why) {

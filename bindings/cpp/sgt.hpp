@@ -39,6 +39,14 @@ private:
     }
 };
 
+// What `Engine::cut` throws where transactions are live: how many.
+class StillLive : public std::runtime_error {
+public:
+    explicit StillLive(std::uint64_t live) : std::runtime_error("sgt: a transaction is live"), live(live) {}
+
+    const std::uint64_t live;
+};
+
 // An entry of the history: what was asked, and what was answered.
 struct Entry {
     sgt_event event;
@@ -137,6 +145,15 @@ public:
 
     // Takes memory for so many more entries.
     void reserve(std::uint64_t entries) { check(sgt_reserve(&engine, entries)); }
+
+    // Forgets the history up to now, where nobody is live; else StillLive, and nothing has changed.
+    void cut()
+    {
+        std::uint64_t live = 0;
+        auto status = sgt_cut(&engine, &live);
+        if (status == SGT_STILL_LIVE) throw StillLive(live);
+        check(status);
+    }
 
 private:
     sgt_engine engine{};

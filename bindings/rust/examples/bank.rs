@@ -45,6 +45,14 @@ fn main() -> Result<(), Error> {
     let (tid, reply) = again.run(0, &[1])?;
     print!("ran {}: ", tid.unwrap_or(0));
     show(reply);
+    again.start(0, &[1])?;
+    match again.cut() {
+        Err(Error::StillLive(live)) => println!("{live} live"),
+        other => panic!("{other:?}"),
+    }
+    again.quit(tid.unwrap_or(0) + 1)?;
+    again.cut()?;
+    println!("{} entries, 2/101 {}", again.entries(), again.get(2, 101)?.unwrap_or(0));
     let refused = Engine::open(r#"{"limits":[99,1],"accounts":[],"procedures":[]}"#);
     assert_eq!(refused.err(), Some(Error::Opening(Fault::BadLimits)));
     let engine = std::sync::Mutex::new(engine);

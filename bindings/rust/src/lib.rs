@@ -98,6 +98,8 @@ pub enum Error {
     BadCall,
     /// The opening has a fault.
     Opening(Fault),
+    /// The history can't be cut off, as so many transactions are live.
+    StillLive(u64),
 }
 
 impl fmt::Display for Error {
@@ -115,6 +117,7 @@ impl fmt::Display for Error {
                 place.iter().try_for_each(|position| write!(f, " {position}"))?;
                 if place.is_empty() { write!(f, " top") } else { Ok(()) }
             }
+            Error::StillLive(live) => write!(f, "{live} live"),
         }
     }
 }
@@ -207,6 +210,7 @@ mod c {
         pub fn sgt_entries(engine: *mut Engine, count: *mut u64) -> u32;
         pub fn sgt_entry(engine: *mut Engine, place: u64, event: *mut Event, reply: *mut Reply) -> u32;
         pub fn sgt_reserve(engine: *mut Engine, entries: u64) -> u32;
+        pub fn sgt_cut(engine: *mut Engine, live: *mut u64) -> u32;
     }
 }
 
@@ -305,6 +309,15 @@ impl Engine {
     /// Takes memory for so many more entries.
     pub fn reserve(&mut self, entries: u64) -> Result<(), Error> {
         done(unsafe { c::sgt_reserve(&mut self.inner, entries) })
+    }
+
+    /// Forgets the history up to now, where nobody is live; else `StillLive`, and nothing has changed.
+    pub fn cut(&mut self) -> Result<(), Error> {
+        let mut live = 0;
+        match unsafe { c::sgt_cut(&mut self.inner, &mut live) } {
+            6 => Err(Error::StillLive(live)),
+            status => done(status),
+        }
     }
 
     fn ask(&mut self, event: c::Ask, tid: u32) -> Result<Reply, Error> {

@@ -6,3 +6,4 @@ pub mod Calls
 pub mod Rows
 pub mod Runs
 pub mod Openings
+pub mod Cuts

@@ -17,6 +17,7 @@
 #![tactic(auto)]
 
 mod asked;
+mod cutting;
 mod events;
 mod fault;
 mod handle;

@@ -1,4 +1,5 @@
 use crate::asked::Asked;
+use crate::cutting::sgt_cut;
 use crate::events::{sgt_commit, sgt_quit, sgt_start, sgt_step};
 use crate::fault::Fault;
 use crate::handle::Handle;
@@ -262,5 +263,45 @@ fn a_run_goes_to_its_end(rt: HostRuntime) {
     assert_eq!(rt; sgt_commit(alloc, &mut engine, 3, &mut told), 0);
     assert_eq!(rt; (told.kind, told.answer[0]), (13, 1601));
     assert_eq!(rt; count, 19);
+    sgt_close(alloc, &mut engine);
+}
+
+#[test]
+fn the_history_is_cut_off(rt: HostRuntime) {
+    let alloc = rt.alloc();
+    let mut engine = Handle::closed(alloc);
+    let mut fault = no_fault();
+    let mut told = blank();
+    let mut t = 0;
+    let mut live = 77;
+    let mut count = 0;
+    let mut value = 0;
+    assert_eq!(rt; sgt_cut(alloc, &mut engine, &mut live), 2);
+    assert_eq!(rt; sgt_open(alloc, &mut engine, OPENING, &mut fault), 0);
+    assert_eq!(rt;
+        sgt_run(alloc, &mut engine, 1, &[1, 100], &mut t, &mut told),
+        0
+    );
+    assert_eq!(rt; sgt_start(alloc, &mut engine, 1, &[1, 1], &mut told), 0);
+    assert_eq!(rt; sgt_start(alloc, &mut engine, 0, &[1], &mut told), 0);
+    assert_eq!(rt; sgt_cut(alloc, &mut engine, &mut live), 6);
+    assert_eq!(rt; live, 2);
+    assert_eq!(rt; sgt_quit(alloc, &mut engine, 1, &mut told), 0);
+    assert_eq!(rt; sgt_quit(alloc, &mut engine, 2, &mut told), 0);
+    assert_eq!(rt; sgt_entries(alloc, &mut engine, &mut count), 0);
+    assert_eq!(rt; count, 10);
+    assert_eq!(rt; sgt_cut(alloc, &mut engine, &mut live), 0);
+    assert_eq!(rt; live, 2);
+    assert_eq!(rt; sgt_entries(alloc, &mut engine, &mut count), 0);
+    assert_eq!(rt; count, 0);
+    assert_eq!(rt; sgt_get(alloc, &mut engine, 2, 101, &mut value), 0);
+    assert_eq!(rt; value, 1100);
+    assert_eq!(rt; sgt_commit(alloc, &mut engine, 0, &mut told), 0);
+    assert_eq!(rt; told.kind, 6);
+    assert_eq!(rt;
+        sgt_run(alloc, &mut engine, 1, &[1, 100], &mut t, &mut told),
+        0
+    );
+    assert_eq!(rt; (told.kind, told.answer[0], t), (13, 1200, 0));
     sgt_close(alloc, &mut engine);
 }
