@@ -67,6 +67,7 @@ fn cut(alloc: Global, held: &mut Held) -> Result<(), Uncut>
         return Err(Uncut::NoMemory);
     };
     let engine = replace(&mut held.engine, spare);
+    // The headline holds of what it lends.
     let _ = engine.history();
     match engine.cut(alloc) {
         Ok((_, engine)) => {
