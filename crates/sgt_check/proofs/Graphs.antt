@@ -87,6 +87,22 @@ ends_same a b t u s = elim (cases_eq a t) [
     none false true = refl
     none false false = refl
 
+-- the text of the graph of what was read is a graph of the input
+pub drawn_of : (bytes text lines : List ℕ) (h : History) (r : Report) (conflicts : List Edge) (sound : Bool) → bytes ≡ text
+    → AreRead (words_of text) (texts h) h.operations.items → IsReport h.operations.items r
+    → AreFirstConflicts h.operations.items conflicts → lines ≡ graph_text h conflicts r.serializability
+    → ((sound ≡ true) ↔ (IsSerializable h.operations.items × IsRecoverable h.operations.items)) → IsDrawn bytes lines sound
+drawn_of bytes text lines h r conflicts sound same read found first written verdict = record {
+  history = h;
+  report = r;
+  conflicts = conflicts;
+  read = subst (λ t. AreRead (words_of t) (texts h) h.operations.items) (sym same) read;
+  found = found;
+  first = first;
+  written = written;
+  verdict = verdict;
+}
+
 -- the lines of the graph of what was read are written
 pub is_drawn : (rest held held' : Option (List ℕ)) (text lines : List ℕ) (h : History) (r : Report) (conflicts : List Edge) (sound : Bool)
     → IfSome rest (λ bytes. bytes ≡ text) → AreRead (words_of text) (texts h) h.operations.items → IsReport h.operations.items r
@@ -94,17 +110,17 @@ pub is_drawn : (rest held held' : Option (List ℕ)) (text lines : List ℕ) (h 
     → ((sound ≡ true) ↔ (IsSerializable h.operations.items × IsRecoverable h.operations.items))
     → IfSome rest (λ input. (output : List ℕ) × Appends held held' output × IsDrawn input output sound)
 is_drawn None held held' text lines h r conflicts sound same read found first written appended verdict = tt
-is_drawn (Some bytes) held held' text lines h r conflicts sound same read found first written appended verdict = (
-  lines,
-  appended,
-  record {
-    history = h;
-    report = r;
-    conflicts = conflicts;
-    read = subst (λ t. AreRead (words_of t) (texts h) h.operations.items) (sym same) read;
-    found = found;
-    first = first;
-    written = written;
-    verdict = verdict;
-  },
-)
+is_drawn (Some bytes) held held' text lines h r conflicts sound same read found first written appended verdict =
+    (lines, appended, drawn_of bytes text lines h r conflicts sound same read found first written verdict)
+
+-- the first bytes of those lines are written
+pub is_drawn_in_part : (rest held held' : Option (List ℕ)) (text lines : List ℕ) (h : History) (r : Report) (conflicts : List Edge) (sound : Bool)
+    → IfSome rest (λ bytes. bytes ≡ text) → AreRead (words_of text) (texts h) h.operations.items → IsReport h.operations.items r
+    → AreFirstConflicts h.operations.items conflicts → lines ≡ graph_text h conflicts r.serializability
+    → ((k : ℕ) × Appends held held' (take k lines))
+    → ((sound ≡ true) ↔ (IsSerializable h.operations.items × IsRecoverable h.operations.items))
+    → IfSome rest (λ input. (output : List ℕ) × (sound : Bool) × (k : ℕ) × IsDrawn input output sound
+    × Appends held held' (take k output))
+is_drawn_in_part None held held' text lines h r conflicts sound same read found first written part verdict = tt
+is_drawn_in_part (Some bytes) held held' text lines h r conflicts sound same read found first written part verdict =
+    (lines, sound, part.0, drawn_of bytes text lines h r conflicts sound same read found first written verdict, part.1)

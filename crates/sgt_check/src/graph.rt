@@ -1,5 +1,5 @@
 //! The serialization graph of what a reader gives.
-ghost use Rattle.std.specs.Prelude.{◌≡◌, ◌≢◌, ◌^◌, ◌+◌, ◌<◌, ℕ, List, IfOk, IfErr, IfSome, Err};
+ghost use Rattle.std.specs.Prelude.{◌≡◌, ◌≢◌, ◌^◌, ◌+◌, ◌<◌, ◌≤◌, ℕ, Bool, List, IfOk, IfErr, IfSome, Err, take};
 ghost use Rattle.std.specs.Io.KnownBytes.{Appends};
 ghost use Rattle.sgt_check.specs.Checks.{IsFaultOf};
 ghost use Rattle.sgt_check.specs.Graphs.{IsDrawn};
@@ -15,7 +15,9 @@ use sgt_stream::{Sink, Source, write_all};
 use std::alloc::Global;
 
 /// Checks the history that the source's bytes spell, writes its serialization graph with the cycle of the report, and tells
-/// whether the history is serializable and recoverable.
+/// whether the history is serializable and recoverable. All input is read before the first line is written.
+///
+/// It reads at most 268,500,992 bytes, 65,536 more than an input may have, however long its reader goes on.
 ///
 /// # Errors
 ///
@@ -33,6 +35,13 @@ pub fn run_graph<S: Source, T: Sink>(
         × Appends (T.held sink.old) (T.held sink.new) output × IsDrawn input output sound)) }
     ensures fault { IfErr result (λ f. IfSome (S.rest source.old) (λ input. IsFaultOf input f)) }
     ensures nothing { (f : CheckFault) → result ≡ Err f → f ≢ CheckFault.Writing → sink.new ≡ sink.old }
+    ensures part { result ≡ Err CheckFault.Writing → IfSome (S.rest source.old) (λ input. (output : List ℕ) × (sound : Bool) × (k : ℕ)
+        × IsDrawn input output sound × Appends (T.held sink.old) (T.held sink.new) (take k output)) }
+    ensures bounded { S.given source.new ≤ S.given source.old + 268500992 }
+    ensures read_well { result ≢ Err CheckFault.Reading → S.failures source.new ≡ S.failures source.old }
+    ensures read_failed { result ≡ Err CheckFault.Reading → S.failures source.new ≡ S.failures source.old + 1 }
+    ensures wrote_well { result ≢ Err CheckFault.Writing → T.failures sink.new ≡ T.failures sink.old }
+    ensures write_failed { result ≡ Err CheckFault.Writing → T.failures sink.new ≡ T.failures sink.old + 1 }
 {
     let text = read_input(alloc, source)?;
     let history = read_history(alloc, text.as_slice())?;
@@ -46,8 +55,9 @@ pub fn run_graph<S: Source, T: Sink>(
         conflicts.as_slice(),
         &report.serializability,
     )?;
+    let sound = is_sound(&report);
     let Ok(()) = write_all(sink, lines.as_slice()) else {
         return Err(CheckFault::Writing);
     };
-    Ok(is_sound(&report))
+    Ok(sound)
 }

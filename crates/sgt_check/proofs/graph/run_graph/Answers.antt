@@ -1,9 +1,10 @@
-use Rattle.std.proofs.Common.{rules, ◌≡◌, ◌++◌, ◌∙◌, Err, ap, sym, subst}
+use Rattle.std.proofs.Common.{rules, ◌≡◌, ◌++◌, ◌∙◌, ℕ, Err, take, ap, sym, subst}
 use Rattle.std.specs.Prelude.{IfErr, IfSome}
+use Rattle.std.specs.Io.KnownBytes.{Appends}
 use Rattle.sgt_check.specs.Checks.{IsFaultOf}
 use Rattle.sgt_check.specs.GraphText.{graph_text}
 use Rattle.sgt_check.proofs.Whole.{input_fault}
-use Rattle.sgt_check.proofs.Graphs.{is_drawn}
+use Rattle.sgt_check.proofs.Graphs.{is_drawn, is_drawn_in_part}
 use Rattle.sgt_check.proofs.graph.run_graph.Goals as goal
 
 pub returns-in_err-text-clause-fault : goal.returns-in_err-text-clause-fault
@@ -18,7 +19,7 @@ pub returns-clause-drawn : goal.returns-clause-drawn
 returns-clause-drawn g c =
     is_drawn (g.S.Source.rest c.args.source.now) (g.T.Sink.held c.args.sink.now) (g.T.Sink.held c.write_all.new.sink)
     c.in_ok-text.text.items c.append_graph.new.text.items c.in_ok-history.history c.in_ok-report.report
-    c.in_ok-conflicts.conflicts.items c.is_sound.result
+    c.in_ok-conflicts.conflicts.items c.is_sound-sound.result
     c.in_ok-text.ensures.bytes
     (search rules)
     (search rules)
@@ -28,4 +29,21 @@ returns-clause-drawn g c =
     c.new-lines.ensures.items
     ∙ ap (λ l. graph_text c.in_ok-history.history l c.in_ok-report.report.serializability) c.as_slice-4.ensures.value)
     (search rules)
-    (c.is_sound.ensures _ (search rules))
+    (c.is_sound-sound.ensures _ (search rules))
+
+pub returns-in_default-clause-part : goal.returns-in_default-clause-part
+returns-in_default-clause-part g c = λ _.
+    let held = g.T.Sink.held c.args.sink.now in
+    let held' = g.T.Sink.held c.write_all.new.sink in
+    is_drawn_in_part (g.S.Source.rest c.args.source.now) held held' c.in_ok-text.text.items c.append_graph.new.text.items
+    c.in_ok-history.history c.in_ok-report.report c.in_ok-conflicts.conflicts.items c.is_sound-sound.result
+    c.in_ok-text.ensures.bytes
+    (search rules)
+    (search rules)
+    (search rules)
+    (c.in_ok-append_graph.ensures
+    ∙ ap (λ l. l ++ graph_text c.in_ok-history.history c.as_slice-4.result.now c.in_ok-report.report.serializability)
+    c.new-lines.ensures.items
+    ∙ ap (λ l. graph_text c.in_ok-history.history l c.in_ok-report.report.serializability) c.as_slice-4.ensures.value)
+    (subst (λ lines. (k : ℕ) × Appends held held' (take k lines)) c.as_slice-5.ensures.value c.in_default.ensures.part)
+    (c.is_sound-sound.ensures _ (search rules))
