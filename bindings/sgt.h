@@ -55,6 +55,7 @@ enum sgt_status {
     SGT_OPEN = 3,        /* the engine is open already */
     SGT_NONE = 4,        /* there is no such record or entry */
     SGT_BAD_CALL = 5,    /* a number that was passed is out of its range */
+    SGT_STILL_LIVE = 6,  /* the history can't be cut off, as a transaction is live */
     SGT_NOT_JSON = 16,   /* the opening is no JSON */
     SGT_BAD_LINE = 17,   /* the opening is JSON, and has not the shape of one */
     SGT_BAD_LIMITS = 18, /* a limit is out of its range */
@@ -222,7 +223,7 @@ uint32_t sgt_get(sgt_engine *engine, uint8_t table, int64_t number, int64_t *val
  */
 uint32_t sgt_rows(sgt_engine *engine, uint8_t table, int64_t number, sgt_row *rows, size_t room, uint64_t *count);
 
-/* How many entries the history has: one for each event that was answered. SGT_CLOSED. */
+/* How many entries the history has: one for each event that was answered since the opening or the last cut. SGT_CLOSED. */
 uint32_t sgt_entries(sgt_engine *engine, uint64_t *count);
 
 /*
@@ -240,6 +241,33 @@ uint32_t sgt_entry(sgt_engine *engine, uint64_t place, sgt_event *event, sgt_rep
  * SGT_CLOSED; SGT_NO_MEMORY, also where the number is beyond all memory.
  */
 uint32_t sgt_reserve(sgt_engine *engine, uint64_t entries);
+
+/*
+ * Forgets the history up to now, where nobody is live: its memory is given back, and the engine goes on from the committed database
+ * as one that was just opened on it, with no entries, and transactions numbered from 0. Procedures and limits stay, and what the limits
+ * allow is counted anew. Whoever wants the entries reads them before. It goes once through all records, and takes memory for them.
+ *
+ * SGT_CLOSED; SGT_STILL_LIVE where a transaction is live, tested next: how many are is written into `live`, which else stays as it
+ * was; SGT_NO_MEMORY. But for SGT_OK the engine stays as it was.
+ */
+uint32_t sgt_cut(sgt_engine *engine, uint64_t *live);
+
+/*
+ * The text of a reply: the line that `sgt script` writes for it, without its end and with no zero byte behind it. Where it fits into
+ * `room` bytes it is written whole, and else not at all; in both cases its length is written into `length`, so a caller asks first
+ * with no room, or tries with 1024 bytes, in which every reply fits. Meanwhile it takes memory.
+ *
+ * SGT_BAD_CALL where the fields tell no reply; no call of this library fills them so. SGT_NO_MEMORY. But for SGT_OK text and length
+ * stay as they were.
+ */
+uint32_t sgt_reply_text(const sgt_reply *reply, char *text, size_t room, uint64_t *length);
+
+/*
+ * The text of a fault in the same way: what the program tells of it behind `line 1: `.
+ *
+ * SGT_BAD_CALL where `kind` is no fault's; SGT_NO_MEMORY. But for SGT_OK text and length stay as they were.
+ */
+uint32_t sgt_fault_text(const sgt_fault *fault, char *text, size_t room, uint64_t *length);
 
 #ifdef __cplusplus
 }

@@ -40,10 +40,21 @@ int main()
     sgt::Ran ran = again.run(0, {1});
     std::cout << "ran " << ran.tid.value() << ": ";
     show(ran.reply);
+    std::cout << sgt::text(ran.reply) << '\n';
+    std::uint32_t tid = again.start(0, {1}).tid;
     try {
-        sgt::Engine refused(R"({"limits":[99,1],"accounts":[],"procedures":[]})");
-    } catch (const sgt::Refused &why) {
-        return std::string(why.what()) == "bad limits" ? 0 : 1;
+        again.cut();
+        return 1;
+    } catch (const sgt::StillLive &why) {
+        std::cout << why.live << " live\n";
     }
-    return 1;
+    again.quit(tid);
+    again.cut();
+    std::cout << again.entries() << " entries, 2/101 " << again.get(2, 101).value() << '\n';
+    try {
+        sgt::Engine refused(R"({"limits":[8,100],"accounts":[],"procedures":[[0,[7]]]})");
+        return 1;
+    } catch (const sgt::Refused &why) {
+        std::cout << why.what() << '\n';
+    }
 }

@@ -1,6 +1,6 @@
 """A bank's story: a deposit, and a balance that reads what it stored before it is committed."""
 
-from sgt import Asked, Engine, Kind, OpeningRefused, Reply
+from sgt import Asked, Engine, Kind, OpeningRefused, Reply, StillLive
 
 
 def show(reply: Reply) -> None:
@@ -36,6 +36,12 @@ with Engine(limits=(8, 100), accounts=[(1, 101, 500, 1000)]) as engine:
     print(f"entry 8: commit of {event.tid}, ", end="")
     show(reply)
     assert engine.entry(0)[0].args == (1, 100)
+    for args in ((1, 2, 3, 4, 5), (1, 2**63)):
+        try:
+            engine.start(1, *args)
+            raise SystemExit(f"the arguments {args} were taken")
+        except ValueError:
+            pass
     try:
         engine.entry(11)
         raise SystemExit("an entry that is not there was told")
@@ -54,12 +60,28 @@ with Engine(limits=(8, 100), rows=rows) as again:
     tid, reply = again.run(0, 1)
     print(f"ran {tid}: ", end="")
     show(reply)
+    print(reply.text())
+    live = again.start(0, 1).tid
+    try:
+        again.cut()
+        raise SystemExit("a history was cut off while a transaction is live")
+    except StillLive as why:
+        print(why.live, "live")
+    fell = again.quit(live)
+    assert fell.text() == "aborted quit fell none", fell.text()
+    again.cut()
+    print(f"{len(again)} entries, 2/101 {again.get(2, 101)}")
 
 try:
     Engine(limits=(99, 1))
     raise SystemExit("an opening was not refused")
 except OpeningRefused as why:
     assert str(why) == "bad limits", why
+try:
+    Engine(limits=(8, 100), procedures=[[0, [7]]])
+    raise SystemExit("a procedure was not refused")
+except OpeningRefused as why:
+    print(why)
 try:
     engine.step(0)
     raise SystemExit("a closed engine answered")

@@ -16,9 +16,11 @@ import ctypes
 import ctypes.util
 import enum
 import json
+import operator
 import os
 import pathlib
-from typing import NamedTuple, Optional, Sequence
+import struct
+from typing import Callable, NamedTuple, Optional, Sequence
 
 
 class Kind(enum.IntEnum):
@@ -84,6 +86,11 @@ class Reply(NamedTuple):
     fell: tuple[int, ...] = ()
 
 
+    def text(self) -> str:
+        """The line that a script has for it."""
+        return _written(_LIBRARY.sgt_reply_text, _told(self))
+
+
 class Row(NamedTuple):
     """A record of the database, and its value."""
 
@@ -102,6 +109,14 @@ class OpeningRefused(ValueError):
     def __init__(self, status: int, text: str) -> None:
         super().__init__(text)
         self.status = status
+
+
+class StillLive(RuntimeError):
+    """The history can't be cut off, as transactions are live: `live` many."""
+
+    def __init__(self, live: int) -> None:
+        super().__init__("sgt: a transaction is live")
+        self.live = live
 
 
 class _Engine(ctypes.Structure):
@@ -151,20 +166,17 @@ def _load() -> ctypes.CDLL:
         raise ImportError("sgt: no libsgt.so: set SGT_LIBRARY, or make it by bindings/build")
     library = ctypes.CDLL(path)
     engine, reply, size = ctypes.POINTER(_Engine), ctypes.POINTER(_Reply), ctypes.c_size_t
-    values, event = ctypes.POINTER(ctypes.c_int64), [engine, ctypes.c_uint32, reply]
     takes = {
         "sgt_open": [engine, ctypes.c_char_p, size, ctypes.POINTER(_Fault)],
         "sgt_open_with": [engine, ctypes.c_char_p, size, ctypes.POINTER(_Row), size, ctypes.POINTER(_Fault)],
-        "sgt_start": [engine, ctypes.c_uint16, values, size, reply],
-        "sgt_run": [engine, ctypes.c_uint16, values, size, ctypes.POINTER(ctypes.c_uint32), reply],
-        "sgt_step": event,
-        "sgt_commit": event,
-        "sgt_quit": event,
-        "sgt_get": [engine, ctypes.c_uint8, ctypes.c_int64, values],
+        "sgt_get": [engine, ctypes.c_uint8, ctypes.c_int64, ctypes.POINTER(ctypes.c_int64)],
         "sgt_rows": [engine, ctypes.c_uint8, ctypes.c_int64, ctypes.POINTER(_Row), size, ctypes.POINTER(ctypes.c_uint64)],
         "sgt_entries": [engine, ctypes.POINTER(ctypes.c_uint64)],
         "sgt_entry": [engine, ctypes.c_uint64, ctypes.POINTER(_Event), reply],
         "sgt_reserve": [engine, ctypes.c_uint64],
+        "sgt_cut": [engine, ctypes.POINTER(ctypes.c_uint64)],
+        "sgt_reply_text": [reply, ctypes.c_char_p, size, ctypes.POINTER(ctypes.c_uint64)],
+        "sgt_fault_text": [ctypes.POINTER(_Fault), ctypes.c_char_p, size, ctypes.POINTER(ctypes.c_uint64)],
         "sgt_close": [engine],
     }
     for name, types in takes.items():
@@ -175,24 +187,50 @@ def _load() -> ctypes.CDLL:
 
 
 _LIBRARY = _load()
-_start, _step, _commit, _quit = _LIBRARY.sgt_start, _LIBRARY.sgt_step, _LIBRARY.sgt_commit, _LIBRARY.sgt_quit
-_OK, _NO_MEMORY, _CLOSED, _NONE, _BAD_CALL, _FIRST_FAULT = 0, 1, 2, 4, 5, 16
+_OK, _NO_MEMORY, _CLOSED, _NONE, _STILL_LIVE, _FIRST_FAULT = 0, 1, 2, 4, 6, 16
 _NO_TID = 2**32 - 1  # the limits never allow this number
-_ARGS = [ctypes.c_int64 * max(1, count) for count in range(5)]
 
 
-def _text(fault: _Fault) -> str:
-    number, procedure = fault.number, fault.procedure
-    place = " ".join(map(str, fault.place[: fault.depth])) or "top"
-    texts = {
-        16: "not JSON",
-        17: "bad line",
-        18: "bad limits",
-        19: f"bad opening {number}",
-        20: f"procedure {procedure} shape {place}",
-        21: f"procedure {procedure} flaw {number}",
-    }
-    return texts[fault.kind]
+def _quick(name: str) -> Callable[..., int]:
+    """A function whose arguments are pointers and whole numbers: such are passed as they are, three times as fast as by argtypes."""
+    return _LIBRARY[name]
+
+
+_start, _run, _step, _commit, _quit = map(_quick, ("sgt_start", "sgt_run", "sgt_step", "sgt_commit", "sgt_quit"))
+_SIZES = [ctypes.c_size_t(count) for count in range(5)]
+_pack_args = [struct.Struct(f"{count}q").pack_into for count in range(5)]
+
+
+def _written(write: Callable[..., int], fields: ctypes.Structure) -> str:
+    """The text of these fields: every reply and every fault of an opening fits the buffer, but for a very deep place."""
+    room, length = 1024, ctypes.c_uint64()
+    while True:
+        text = ctypes.create_string_buffer(room)
+        _check(write(fields, text, room, length))
+        if length.value <= room:
+            return text.raw[: length.value].decode()
+        room = length.value
+
+
+def _told(reply: Reply) -> _Reply:
+    """The fields of a reply."""
+    told = _Reply(
+        kind=reply.kind,
+        cause=reply.cause or 0,
+        tid=reply.tid or 0,
+        code=reply.code or 0,
+        table=reply.table or 0,
+        found=reply.value is not None,
+        number=reply.number or 0,
+        value=reply.value or 0,
+        answers=len(reply.answers),
+        walked=len(reply.walk),
+        fallen=len(reply.fell),
+    )
+    told.answer[: told.answers] = reply.answers
+    told.walk[: told.walked] = reply.walk
+    told.fell[: told.fallen] = reply.fell
+    return told
 
 
 def _ended(told: _Reply, kind: Kind) -> Reply:
@@ -210,22 +248,25 @@ def _ended(told: _Reply, kind: Kind) -> Reply:
 
 _KINDS = [None, *Kind]
 _PLAIN = [kind and Reply(kind) for kind in _KINDS]
-_LOOKED, _WROTE, _STARTED, _WAITS, _COMMITTED = Kind.LOOKED, Kind.WROTE, Kind.STARTED, Kind.WAITS, Kind.COMMITTED
+_LOOKED, _WROTE, _COMMITTED = Kind.LOOKED, Kind.WROTE, Kind.COMMITTED
+_plain_fields = struct.Struct("6I2q").unpack_from  # those before the counts
+_made = tuple.__new__
 
 
 def _reply(told: _Reply) -> Reply:
-    number = told.kind
+    number, _, tid, code, table, found, key, value = _plain_fields(told)
+    # A tuple's own maker is called with all fields, as that of a NamedTuple takes twice as long.
+    if number == 8:
+        return _made(Reply, (_LOOKED, None, table, key, value if found else None, (), None, None, (), ()))
+    if number == 9:
+        return _made(Reply, (_WROTE, None, table, key, value, (), None, None, (), ()))
+    if number == 13:
+        return _made(Reply, (_COMMITTED, None, None, None, None, tuple(told.answer[: told.answers]), None, None, (), ()))
     kind = _KINDS[number]
-    if kind is _LOOKED:
-        return Reply(kind, None, told.table, told.number, told.value if told.found else None)
-    if kind is _WROTE:
-        return Reply(kind, None, told.table, told.number, told.value)
-    if kind is _STARTED or kind is _WAITS:
-        return Reply(kind, told.tid)
-    if kind is _COMMITTED:
-        return Reply(kind, answers=tuple(told.answer[: told.answers]))
+    if kind is Kind.STARTED or kind is Kind.WAITS:
+        return _made(Reply, (kind, tid, None, None, None, (), None, None, (), ()))
     if kind is Kind.REFUSED:
-        return Reply(kind, code=told.code, fell=tuple(told.fell[: told.fallen]))
+        return Reply(kind, code=code, fell=tuple(told.fell[: told.fallen]))
     if kind is Kind.ABORTED or kind is Kind.OVER:
         return _ended(told, kind)
     return _PLAIN[number]
@@ -282,46 +323,55 @@ class Engine:
         put = (_Row * max(1, len(rows)))(*(_Row(_table(row[0]), 0, _value(row[1]), _value(row[2])) for row in rows))
         status = _LIBRARY.sgt_open_with(self._engine, line, len(line), put, len(rows), fault)
         if status >= _FIRST_FAULT:
-            raise OpeningRefused(status, _text(fault))
+            raise OpeningRefused(status, _written(_LIBRARY.sgt_fault_text, fault))
         _check(status)
-        self._told = _Reply()
+        self._told, self._args = _Reply(), (ctypes.c_int64 * 4)()
         # What every event is passed.
-        self._at, self._to = ctypes.pointer(self._engine), ctypes.pointer(self._told)
+        self._at, self._to, self._with = map(ctypes.byref, (self._engine, self._told, self._args))
 
     def start(self, procedure: int, *args: int) -> Reply:
         """Starts a transaction of the procedure with at most 4 arguments."""
-        if len(args) >= len(_ARGS):
-            raise ValueError("sgt: a procedure takes at most 4 arguments")
-        status = _start(self._at, procedure, _ARGS[len(args)](*args), len(args), self._to)
+        status = _start(self._at, self._packed(procedure, args), self._with, _SIZES[len(args)], self._to)
         if status:
             _check(status)
         return _reply(self._told)
 
     def run(self, procedure: int, *args: int) -> tuple[Optional[int], Reply]:
         """Runs a procedure from its start to its commit: its transaction's number, if one was started, and the last reply."""
-        if len(args) >= len(_ARGS):
-            raise ValueError("sgt: a procedure takes at most 4 arguments")
         tid = ctypes.c_uint32(_NO_TID)
-        _check(_LIBRARY.sgt_run(self._at, procedure, _ARGS[len(args)](*args), len(args), tid, self._to))
+        number = self._packed(procedure, args)
+        _check(_run(self._at, number, self._with, _SIZES[len(args)], ctypes.byref(tid), self._to))
         return (None if tid.value == _NO_TID else tid.value), _reply(self._told)
+
+    def _packed(self, procedure: int, args: tuple[int, ...]) -> int:
+        """Puts the arguments where a call finds them. The procedure's number."""
+        try:
+            _pack_args[len(args)](self._args, 0, *args)
+        except IndexError:
+            raise ValueError("sgt: a procedure takes at most 4 arguments") from None
+        except struct.error as error:
+            raise ValueError(f"sgt: an argument is no number of 64 bits: {error}") from None
+        if not 0 <= procedure < 65536:
+            raise ValueError("sgt: a number is out of its range")
+        return procedure
 
     def step(self, tid: int) -> Reply:
         """Lets the transaction make its next access."""
-        status = _step(self._at, tid, self._to)
+        status = _step(self._at, tid if tid.__class__ is int else operator.index(tid), self._to)
         if status:
             _check(status)
         return _reply(self._told)
 
     def commit(self, tid: int) -> Reply:
         """Commits the transaction, unless it has to wait."""
-        status = _commit(self._at, tid, self._to)
+        status = _commit(self._at, tid if tid.__class__ is int else operator.index(tid), self._to)
         if status:
             _check(status)
         return _reply(self._told)
 
     def quit(self, tid: int) -> Reply:
         """Quits the transaction: it is aborted."""
-        status = _quit(self._at, tid, self._to)
+        status = _quit(self._at, tid if tid.__class__ is int else operator.index(tid), self._to)
         if status:
             _check(status)
         return _reply(self._told)
@@ -363,6 +413,14 @@ class Engine:
         if entries < 0:
             raise ValueError("sgt: a number is out of its range")
         _check(_LIBRARY.sgt_reserve(self._engine, entries))
+
+    def cut(self) -> None:
+        """Forgets the history up to now, where nobody is live; else StillLive, and nothing has changed."""
+        live = ctypes.c_uint64()
+        status = _LIBRARY.sgt_cut(self._engine, live)
+        if status == _STILL_LIVE:
+            raise StillLive(live.value)
+        _check(status)
 
     def close(self) -> None:
         """Closes the engine. Later calls raise ValueError."""

@@ -1,8 +1,11 @@
 pub mod Owned
 pub mod Told
+pub mod ToldReplies
 pub mod Asked
 pub mod Faults
+pub mod Texts
 pub mod Calls
 pub mod Rows
 pub mod Runs
 pub mod Openings
+pub mod Cuts

@@ -17,6 +17,7 @@
 #![tactic(auto)]
 
 mod asked;
+mod cutting;
 mod events;
 mod fault;
 mod handle;
@@ -31,4 +32,6 @@ mod slot;
 mod status;
 #[cfg(test)]
 mod tests;
+mod texts;
 mod told;
+mod told_reply;

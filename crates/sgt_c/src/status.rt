@@ -18,6 +18,9 @@ pub const NONE: u32 = 4;
 /// A number that was passed is out of its range.
 pub const BAD_CALL: u32 = 5;
 
+/// A transaction is live.
+pub const STILL_LIVE: u32 = 6;
+
 /// The opening is no JSON.
 pub const NOT_JSON: u32 = 16;
 

@@ -1,0 +1,45 @@
+-- What a cut of the history leaves behind a handle.
+use Rattle.std.specs.Prelude.{◌≡◌, ℕ, List, length, Option, Some, None}
+use Rattle.sgt_model.specs.declared.entry.Entry.{Entry}
+use Rattle.sgt_model.specs.Contents.{Key}
+use Rattle.sgt_model.specs.Databases.{contents_of, IsByKey}
+use Rattle.sgt_model.specs.Fates.{live_ones}
+use Rattle.sgt_model.specs.Replay.{folded}
+use Rattle.sgt_model.specs.Values.{settled}
+use Rattle.sgt_engine.specs.Cuts.{GoesOn, NobodyLive}
+use Rattle.sgt_engine.specs.EngineView.{EngineView, setting_of}
+use Rattle.sgt_c.specs.declared.cutting.Uncut.{Uncut}
+use Rattle.sgt_c.specs.declared.cutting.Uncut.TheVariants.{StillLive, NoMemory}
+use Rattle.sgt_c.specs.declared.held.Held.{Held}
+use Rattle.sgt_c.specs.Calls.{Headline}
+
+-- no committed value changes
+abbrev pub CommitsAreKept : EngineView → EngineView → Type 0
+CommitsAreKept before after = (k : Key) → settled (contents_of after.opening) after.past k ≡ settled (contents_of before.opening) before.past k
+
+-- the engine goes on with an empty history from what the past has settled, which its replay leaves; the headline holds of the past
+abbrev pub IsCut : EngineView → EngineView → Type 0
+IsCut before after = GoesOn before after × CommitsAreKept before after × IsByKey after.opening
+    × ((k : Key) → contents_of after.opening k ≡ (folded (setting_of before) before.past).last k)
+    × Headline before
+
+-- the same of what a handle holds
+abbrev pub Cut : Option Held → Option Held → Type 0
+Cut None new = ⊥
+Cut (Some h) None = ⊥
+Cut (Some h) (Some h') = IsCut h.engine h'.engine
+
+-- there is an engine, and a transaction of it is live
+abbrev pub IsSomeoneLive : Option Held → Type 0
+IsSomeoneLive None = ⊥
+IsSomeoneLive (Some h) = ¬ NobodyLive h.engine.past
+
+-- so many are
+abbrev pub TellsLive : Option Held → ℕ → Type 0
+TellsLive None count = ⊥
+TellsLive (Some h) count = count ≡ length (live_ones h.engine.past)
+
+-- why nothing is cut off: somebody is live, with how many are, or else memory is wanting
+abbrev pub IsTooEarly : List Entry → Uncut → Type 0
+IsTooEarly past (StillLive count) = (¬ NobodyLive past) × (count ≡ length (live_ones past))
+IsTooEarly past NoMemory = NobodyLive past

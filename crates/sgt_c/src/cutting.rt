@@ -1,0 +1,98 @@
+//! Cutting the history off.
+ghost use Rattle.std.specs.Prelude.{◌≡◌, ◌≢◌, ◌≤◌, ◌↔◌, None, IfErr, OnOk, OnErr, length};
+ghost use Rattle.sgt_model.specs.Fates.{live_ones};
+ghost use Rattle.sgt_engine.specs.Cuts.{NobodyLive};
+ghost use Rattle.sgt_c.specs.Cuts.{Cut, IsCut, IsSomeoneLive, IsTooEarly, TellsLive};
+
+use crate::handle::Handle;
+use crate::held::Held;
+use crate::status;
+use sgt_model::{Asks, Database, Limits};
+use sgt_program::SgtEngine;
+use std::alloc::Global;
+use std::mem::replace;
+
+/// Forgets the history up to now, where nobody is live: the engine goes on from the committed database as one that was just
+/// opened on it, with no entries, and numbers from 0. Procedures and limits stay, and what the limits allow is counted anew.
+/// It goes once through all records, and takes memory for them meanwhile.
+///
+/// `CLOSED`; `STILL_LIVE` where a transaction is live, tested next: how many are is written to `live`; `NO_MEMORY`.
+#[unsafe(no_mangle)]
+pub extern "C" fn sgt_cut(alloc: Global, engine: &mut Handle, live: &mut u64) -> u32
+    ensures cut { result ≡ 0 → Cut engine.old.slot.held engine.new.slot.held }
+    ensures unchanged { result ≢ 0 → engine.new.slot.held ≡ engine.old.slot.held }
+    ensures still_live { (result ≡ 6) ↔ IsSomeoneLive engine.old.slot.held }
+    ensures live { result ≡ 6 → TellsLive engine.old.slot.held live.new }
+    ensures kept { result ≢ 6 → live.new ≡ live.old }
+    ensures closed { (result ≡ 2) ↔ (engine.old.slot.held ≡ None) }
+    ensures statuses { result ≢ 6 → result ≤ 2 }
+{
+    let Some(mut held) = engine.take(alloc) else {
+        return status::CLOSED;
+    };
+    let cut = cut(alloc, &mut held);
+    engine.put(held);
+    match cut {
+        Ok(()) => status::OK,
+        Err(Uncut::StillLive(count)) => {
+            *live = count;
+            status::STILL_LIVE
+        }
+        Err(Uncut::NoMemory) => status::NO_MEMORY,
+    }
+}
+
+/// Why nothing was cut off.
+#[derive(Clone, Copy)]
+pub enum Uncut {
+    /// So many are live.
+    StillLive(u64),
+    /// A growth was refused.
+    NoMemory,
+}
+
+/// Cuts the history off where nobody is live.
+#[tactic(auto, using(crate::proofs::CutValues::commits_kept, crate::proofs::Cutting::none_of_none, crate::proofs::Cutting::some_of_some))]
+fn cut(alloc: Global, held: &mut Held) -> Result<(), Uncut>
+    ensures cut { OnOk result (IsCut held.old.engine held.new.engine) }
+    ensures unchanged { OnErr result (held.new ≡ held.old) }
+    ensures nobody { OnOk result (NobodyLive held.old.engine.past) }
+    ensures refused { IfErr result (IsTooEarly held.old.engine.past) }
+{
+    let count = live_count(&held.engine);
+    if count > 0 {
+        return Err(Uncut::StillLive(count));
+    }
+    let Some(spare) = spare(alloc) else {
+        return Err(Uncut::NoMemory);
+    };
+    let engine = replace(&mut held.engine, spare);
+    let _ = engine.history();
+    match engine.cut(alloc) {
+        Ok((_, engine)) => {
+            let _spare = replace(&mut held.engine, engine);
+            Ok(())
+        }
+        Err(error) => {
+            let _spare = replace(&mut held.engine, error.into_engine());
+            Err(Uncut::NoMemory)
+        }
+    }
+}
+
+/// How many transactions are live.
+fn live_count(engine: &SgtEngine) -> u64
+    ensures { result ≡ length (live_ones engine.now.past) }
+{
+    engine.sched().live_count() as u64
+}
+
+/// An engine that stands in the place of one that is cut, or none where a growth was refused.
+fn spare(alloc: Global) -> Option<SgtEngine> {
+    let limits = Limits {
+        live: 1,
+        begins: 1,
+        asks: Asks::AtStep,
+    };
+    SgtEngine::new(alloc, Database::empty(alloc), Vec::new(alloc), limits).ok()
+}
