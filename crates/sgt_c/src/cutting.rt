@@ -52,11 +52,7 @@ pub enum Uncut {
 }
 
 /// Cuts the history off where nobody is live.
-<<<<<<< HEAD
-#[tactic(auto, using(crate::proofs::CutValues::commits_kept, crate::proofs::Cutting::none_of_none, crate::proofs::Cutting::some_of_some))]
-=======
 #[tactic(auto, using(crate::proofs::CutValues::commits_kept, crate::proofs::CutValues::none_of_none, crate::proofs::CutValues::some_of_some))]
->>>>>>> origin/c
 fn cut(alloc: Global, held: &mut Held) -> Result<(), Uncut>
     ensures cut { OnOk result (IsCut held.old.engine held.new.engine) }
     ensures unchanged { OnErr result (held.new ≡ held.old) }
