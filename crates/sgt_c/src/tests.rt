@@ -306,7 +306,6 @@ fn the_history_is_cut_off(rt: HostRuntime) {
     assert_eq!(rt; (told.kind, told.answer[0], t), (13, 1200, 0));
     sgt_close(alloc, &mut engine);
 }
-<<<<<<< HEAD
 
 #[test]
 fn replies_are_texts(rt: HostRuntime) {
@@ -366,5 +365,3 @@ fn faults_are_texts(rt: HostRuntime) {
     fault.kind = 22;
     assert_eq!(rt; sgt_fault_text(alloc, &fault, &mut text, &mut length), 5);
 }
-=======
->>>>>>> origin/c
