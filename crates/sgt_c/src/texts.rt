@@ -1,5 +1,5 @@
 //! Replies and faults as text.
-ghost use Rattle.std.specs.Prelude.{◌≡◌, ◌≢◌, ◌≤◌, ◌↔◌, ◌++◌, List, ℕ, IsTrue, OnOk, IfOk, codes};
+ghost use Rattle.std.specs.Prelude.{◌≡◌, ◌≢◌, ◌≤◌, ◌↔◌, ◌++◌, List, ℕ, IsTrue, OnOk, IfOk, codes, take};
 ghost use Rattle.sgt_model.specs.declared.reply.Reply.{Reply as Answer};
 ghost use Rattle.std.specs.Fmt.{decimal};
 ghost use Rattle.sgt_format.specs.Decimals.{each_item};
@@ -50,6 +50,7 @@ pub extern "C" fn sgt_reply_text(
 ///
 /// `BAD_CALL` where the kind is no fault's; `NO_MEMORY`.
 #[unsafe(no_mangle)]
+#[tactic(auto, using(crate::proofs::Writings::fault_words))]
 pub extern "C" fn sgt_fault_text(
     alloc: Global,
     fault: &Fault,
@@ -114,18 +115,30 @@ fn append_fault(line: &mut Vec<u8>, fault: &Fault) -> Result<(), AllocError>
         17 => line.extend_from_slice(b"bad line"),
         18 => line.extend_from_slice(b"bad limits"),
         19 => append_numbered(line, b"bad opening ", fault.number),
-        20 => {
-            append_numbered(line, b"procedure ", fault.procedure)?;
-            line.extend_from_slice(b" shape")?;
-            let depth = (fault.depth as usize).min(128);
-            append_place(line, &fault.place[..depth])
-        }
+        20 => append_shape(line, fault),
         21 => {
             append_numbered(line, b"procedure ", fault.procedure)?;
             append_numbered(line, b" flaw ", fault.number)
         }
         _ => line.extend_from_slice(b"no memory"),
     }
+}
+
+/// Adds the text of a shape: its procedure and its place.
+fn append_shape(line: &mut Vec<u8>, fault: &Fault) -> Result<(), AllocError>
+    ensures { OnOk result (line.new.items ≡ line.old.items ++ text_by 20 fault.now) }
+{
+    append_numbered(line, b"procedure ", fault.procedure)?;
+    line.extend_from_slice(b" shape")?;
+    append_place(line, told_place(fault))
+}
+
+/// The positions that are told.
+fn told_place(fault: &Fault) -> &[u64]
+    ensures { result.now ≡ take fault.now.depth fault.now.place }
+{
+    let depth = (fault.depth as usize).min(128);
+    &fault.place[..depth]
 }
 
 /// Adds each position behind a blank, or `top`.
