@@ -252,6 +252,23 @@ uint32_t sgt_reserve(sgt_engine *engine, uint64_t entries);
  */
 uint32_t sgt_cut(sgt_engine *engine, uint64_t *live);
 
+/*
+ * The text of a reply: the line that `sgt script` writes for it, without its end and with no zero byte behind it. Where it fits into
+ * `room` bytes it is written whole, and else not at all; in both cases its length is written into `length`, so a caller asks first
+ * with no room, or tries with 1024 bytes, in which every reply fits. Meanwhile it takes memory.
+ *
+ * SGT_BAD_CALL where the fields tell no reply; no call of this library fills them so. SGT_NO_MEMORY. But for SGT_OK text and length
+ * stay as they were.
+ */
+uint32_t sgt_reply_text(const sgt_reply *reply, char *text, size_t room, uint64_t *length);
+
+/*
+ * The text of a fault in the same way: what the program tells of it behind `line 1: `.
+ *
+ * SGT_BAD_CALL where `kind` is no fault's; SGT_NO_MEMORY. But for SGT_OK text and length stay as they were.
+ */
+uint32_t sgt_fault_text(const sgt_fault *fault, char *text, size_t room, uint64_t *length);
+
 #ifdef __cplusplus
 }
 #endif

@@ -9,6 +9,8 @@ static const char opening[] = "{\"limits\":[8,100],\"accounts\":[[1,101,500,1000
 
 static const char empty[] = "{\"limits\":[8,100],\"accounts\":[],\"procedures\":[]}";
 
+static const char misfit[] = "{\"limits\":[8,100],\"accounts\":[],\"procedures\":[[0,[7]]]}";
+
 static void show(const sgt_reply *reply)
 {
     switch (reply->kind) {
@@ -30,7 +32,8 @@ int main(void)
     sgt_reply reply = {0};
     const int64_t account_and_amount[] = {1, 100};
     int64_t value = 0;
-    uint64_t entries = 0, count = 0, live = 0;
+    uint64_t entries = 0, count = 0, length = 0, live = 0;
+    char text[1024];
     if (sgt_open(&engine, (const uint8_t *)opening, strlen(opening), &fault) != SGT_OK) return 1;
     for (uint32_t tid = 0; tid < 2; tid++) { /* procedure 1 is a deposit; procedure 0, with the account alone, a balance */
         if (sgt_start(&engine, tid == 0 ? 1 : 0, account_and_amount, tid == 0 ? 2 : 1, &reply) != SGT_OK) return 1;
@@ -61,11 +64,16 @@ int main(void)
         if (sgt_run(&engine, run < 2 ? 1 : 0, account_and_amount, run < 2 ? 2 : 1, &tid, &reply) != SGT_OK) return 1;
         if (run == 2) printf("ran %" PRIu32 ": ", tid), show(&reply);
     }
+    if (sgt_reply_text(&reply, text, sizeof text, &length) != SGT_OK || length > sizeof text) return 1;
+    printf("%.*s\n", (int)length, text);
     if (sgt_start(&engine, 0, account_and_amount, 1, &reply) != SGT_OK) return 1;
     if (sgt_cut(&engine, &live) == SGT_STILL_LIVE) printf("%" PRIu64 " live\n", live);
     if (sgt_quit(&engine, reply.tid, &reply) != SGT_OK || sgt_cut(&engine, &live) != SGT_OK) return 1;
     if (sgt_entries(&engine, &entries) != SGT_OK || sgt_get(&engine, 2, 101, &value) != SGT_OK) return 1;
     printf("%" PRIu64 " entries, 2/101 %" PRId64 "\n", entries, value);
     sgt_close(&engine);
+    if (sgt_open(&engine, (const uint8_t *)misfit, strlen(misfit), &fault) != SGT_PROC_SHAPE) return 1;
+    if (sgt_fault_text(&fault, text, sizeof text, &length) != SGT_OK || length > sizeof text) return 1;
+    printf("%.*s\n", (int)length, text);
     return 0;
 }

@@ -57,6 +57,29 @@ static int runs(sgt_engine *engine, sgt_reply *reply)
     return status == SGT_OK ? refused : -1;
 }
 
+/* The texts of a reply and of a fault, which stay unwritten where memory is refused. How many calls were refused, or -1. */
+static int texts(const sgt_reply *reply)
+{
+    const sgt_fault flaw = {.kind = SGT_PROC_FLAW, .procedure = 5, .number = 7};
+    char text[32] = "untouched";
+    uint64_t length = 77;
+    uint32_t status;
+    int refused = 0;
+    while ((status = sgt_reply_text(reply, text, sizeof text, &length)) == SGT_NO_MEMORY) {
+        if (strcmp(text, "untouched") != 0 || length != 77) return -1;
+        refused++;
+    }
+    if (status != SGT_OK || length != 12 || strncmp(text, "committed 66", 12) != 0) return -1;
+    while ((status = sgt_fault_text(&flaw, text, sizeof text, &length)) == SGT_NO_MEMORY) {
+        if (strncmp(text, "committed 66", 12) != 0 || length != 12) return -1;
+        refused++;
+    }
+    if (status != SGT_OK || length != 18 || strncmp(text, "procedure 5 flaw 7", 18) != 0) return -1;
+    memset(text, '.', sizeof text);
+    while ((status = sgt_fault_text(&flaw, text, 17, &length)) == SGT_NO_MEMORY) refused++;
+    return status == SGT_OK && length == 18 && text[0] == '.' ? refused : -1;
+}
+
 /* A cut: where memory is refused, the entries and the committed values are as before. How many calls were refused, or -1. */
 static int cuts(sgt_engine *engine)
 {
@@ -83,7 +106,7 @@ static int run(void)
     uint64_t had = 0, has = 0;
     int64_t value = 0;
     uint32_t status;
-    int refused = 0, more, cut;
+    int refused = 0, more, told, cut;
     while ((status = sgt_open_with(&engine, (const uint8_t *)opening, strlen(opening), &own, 1, &fault)) == SGT_NO_MEMORY) {
         if (engine.is_open || engine.at) return -1;
         refused++;
@@ -101,9 +124,9 @@ static int run(void)
         if (status != SGT_OK) return -1;
     }
     if (sgt_get(&engine, 2, 101, &value) != SGT_OK || value != 1200) return -1;
-    if ((more = runs(&engine, &reply)) < 0 || (cut = cuts(&engine)) < 0) return -1;
+    if ((more = runs(&engine, &reply)) < 0 || (told = texts(&reply)) < 0 || (cut = cuts(&engine)) < 0) return -1;
     sgt_close(&engine);
-    return engine.is_open || engine.at ? -1 : refused + more + cut;
+    return engine.is_open || engine.at ? -1 : refused + more + told + cut;
 }
 
 int main(void)

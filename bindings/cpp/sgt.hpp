@@ -15,28 +15,47 @@
 
 namespace sgt {
 
+// The text that a call writes into a buffer: it is called with a small one, and again where that was too small.
+template <typename Write> std::string written(Write write)
+{
+    std::string text(64, '\0');
+    for (;;) {
+        std::uint64_t length = 0;
+        auto status = write(&text[0], text.size(), &length);
+        if (status == SGT_NO_MEMORY) throw std::bad_alloc();
+        if (status != SGT_OK) throw std::invalid_argument("sgt: the fields tell nothing");
+        bool fits = length <= text.size();
+        text.resize(length);
+        if (fits) return text;
+    }
+}
+
+// The text of a reply, as a script's line has it.
+inline std::string text(const sgt_reply &reply)
+{
+    return written([&](char *to, std::size_t room, std::uint64_t *length) { return sgt_reply_text(&reply, to, room, length); });
+}
+
+// The text of a fault.
+inline std::string text(const sgt_fault &fault)
+{
+    return written([&](char *to, std::size_t room, std::uint64_t *length) { return sgt_fault_text(&fault, to, room, length); });
+}
+
 // What `Engine` throws where an opening is refused: the fault, with its text.
 class Refused : public std::runtime_error {
 public:
     explicit Refused(const sgt_fault &fault) : std::runtime_error(text(fault)), fault(fault) {}
 
     const sgt_fault fault;
+};
 
-private:
-    static std::string text(const sgt_fault &fault)
-    {
-        switch (fault.kind) {
-        case SGT_NOT_JSON: return "not JSON";
-        case SGT_BAD_LINE: return "bad line";
-        case SGT_BAD_LIMITS: return "bad limits";
-        case SGT_BAD_OPENING: return "bad opening " + std::to_string(fault.number);
-        case SGT_PROC_FLAW: return "procedure " + std::to_string(fault.procedure) + " flaw " + std::to_string(fault.number);
-        default: break;
-        }
-        std::string shape = "procedure " + std::to_string(fault.procedure) + " shape";
-        for (std::uint32_t i = 0; i < fault.depth; i++) shape += " " + std::to_string(fault.place[i]);
-        return fault.depth ? shape : shape + " top";
-    }
+// What `Engine::cut` throws where transactions are live: how many.
+class StillLive : public std::runtime_error {
+public:
+    explicit StillLive(std::uint64_t live) : std::runtime_error("sgt: a transaction is live"), live(live) {}
+
+    const std::uint64_t live;
 };
 
 // What `Engine::cut` throws where transactions are live: how many.

@@ -86,6 +86,11 @@ class Reply(NamedTuple):
     fell: tuple[int, ...] = ()
 
 
+    def text(self) -> str:
+        """The line that a script has for it."""
+        return _written(_LIBRARY.sgt_reply_text, _told(self))
+
+
 class Row(NamedTuple):
     """A record of the database, and its value."""
 
@@ -170,6 +175,8 @@ def _load() -> ctypes.CDLL:
         "sgt_entry": [engine, ctypes.c_uint64, ctypes.POINTER(_Event), reply],
         "sgt_reserve": [engine, ctypes.c_uint64],
         "sgt_cut": [engine, ctypes.POINTER(ctypes.c_uint64)],
+        "sgt_reply_text": [reply, ctypes.c_char_p, size, ctypes.POINTER(ctypes.c_uint64)],
+        "sgt_fault_text": [ctypes.POINTER(_Fault), ctypes.c_char_p, size, ctypes.POINTER(ctypes.c_uint64)],
         "sgt_close": [engine],
     }
     for name, types in takes.items():
@@ -194,18 +201,36 @@ _SIZES = [ctypes.c_size_t(count) for count in range(5)]
 _pack_args = [struct.Struct(f"{count}q").pack_into for count in range(5)]
 
 
-def _text(fault: _Fault) -> str:
-    number, procedure = fault.number, fault.procedure
-    place = " ".join(map(str, fault.place[: fault.depth])) or "top"
-    texts = {
-        16: "not JSON",
-        17: "bad line",
-        18: "bad limits",
-        19: f"bad opening {number}",
-        20: f"procedure {procedure} shape {place}",
-        21: f"procedure {procedure} flaw {number}",
-    }
-    return texts[fault.kind]
+def _written(write: Callable[..., int], fields: ctypes.Structure) -> str:
+    """The text of these fields: every reply and every fault of an opening fits the buffer, but for a very deep place."""
+    room, length = 1024, ctypes.c_uint64()
+    while True:
+        text = ctypes.create_string_buffer(room)
+        _check(write(fields, text, room, length))
+        if length.value <= room:
+            return text.raw[: length.value].decode()
+        room = length.value
+
+
+def _told(reply: Reply) -> _Reply:
+    """The fields of a reply."""
+    told = _Reply(
+        kind=reply.kind,
+        cause=reply.cause or 0,
+        tid=reply.tid or 0,
+        code=reply.code or 0,
+        table=reply.table or 0,
+        found=reply.value is not None,
+        number=reply.number or 0,
+        value=reply.value or 0,
+        answers=len(reply.answers),
+        walked=len(reply.walk),
+        fallen=len(reply.fell),
+    )
+    told.answer[: told.answers] = reply.answers
+    told.walk[: told.walked] = reply.walk
+    told.fell[: told.fallen] = reply.fell
+    return told
 
 
 def _ended(told: _Reply, kind: Kind) -> Reply:
@@ -298,7 +323,7 @@ class Engine:
         put = (_Row * max(1, len(rows)))(*(_Row(_table(row[0]), 0, _value(row[1]), _value(row[2])) for row in rows))
         status = _LIBRARY.sgt_open_with(self._engine, line, len(line), put, len(rows), fault)
         if status >= _FIRST_FAULT:
-            raise OpeningRefused(status, _text(fault))
+            raise OpeningRefused(status, _written(_LIBRARY.sgt_fault_text, fault))
         _check(status)
         self._told, self._args = _Reply(), (ctypes.c_int64 * 4)()
         # What every event is passed.

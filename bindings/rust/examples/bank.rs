@@ -1,5 +1,5 @@
 //! A bank's story: a deposit, and a balance that reads what it stored before it is committed.
-use sgt::{Engine, Error, Event, Fault, LEAST, Reply, Row};
+use sgt::{Cause, Engine, Error, Event, Fault, LEAST, Reply, Row};
 
 fn show(reply: Reply) {
     match reply {
@@ -44,7 +44,8 @@ fn main() -> Result<(), Error> {
     again.run(1, &[1, 100])?;
     let (tid, reply) = again.run(0, &[1])?;
     print!("ran {}: ", tid.unwrap_or(0));
-    show(reply);
+    show(reply.clone());
+    println!("{reply}");
     again.start(0, &[1])?;
     match again.cut() {
         Err(Error::StillLive(live)) => println!("{live} live"),
@@ -53,6 +54,11 @@ fn main() -> Result<(), Error> {
     again.quit(tid.unwrap_or(0) + 1)?;
     again.cut()?;
     println!("{} entries, 2/101 {}", again.entries(), again.get(2, 101)?.unwrap_or(0));
+    if let Err(fault) = Engine::open(r#"{"limits":[8,100],"accounts":[],"procedures":[[0,[7]]]}"#) {
+        println!("{fault}");
+    }
+    let aborted = Reply::Aborted { cause: Cause::Cycle(vec![1, 2]), fell: vec![3] };
+    assert_eq!(aborted.to_string(), "aborted cycle 1 2 fell 3");
     let refused = Engine::open(r#"{"limits":[99,1],"accounts":[],"procedures":[]}"#);
     assert_eq!(refused.err(), Some(Error::Opening(Fault::BadLimits)));
     let engine = std::sync::Mutex::new(engine);

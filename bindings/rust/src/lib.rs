@@ -107,17 +107,39 @@ impl fmt::Display for Error {
         match self {
             Error::NoMemory => write!(f, "no memory"),
             Error::BadCall => write!(f, "a number is out of its range"),
-            Error::Opening(Fault::NotJson) => write!(f, "not JSON"),
-            Error::Opening(Fault::BadLine) => write!(f, "bad line"),
-            Error::Opening(Fault::BadLimits) => write!(f, "bad limits"),
-            Error::Opening(Fault::BadOpening(number)) => write!(f, "bad opening {number}"),
-            Error::Opening(Fault::ProcFlaw(procedure, flaw)) => write!(f, "procedure {procedure} flaw {flaw}"),
-            Error::Opening(Fault::ProcShape(procedure, place)) => {
-                write!(f, "procedure {procedure} shape")?;
-                place.iter().try_for_each(|position| write!(f, " {position}"))?;
-                if place.is_empty() { write!(f, " top") } else { Ok(()) }
-            }
+            Error::Opening(fault) => write!(f, "{fault}"),
             Error::StillLive(live) => write!(f, "{live} live"),
+        }
+    }
+}
+
+/// The line that a script has for it.
+impl fmt::Display for Reply {
+    fn fmt(&self, f: &mut fmt::Formatter<'_>) -> fmt::Result {
+        let reply = fields_of(self);
+        written(f, |to, room, length| unsafe { c::sgt_reply_text(&reply, to, room, length) })
+    }
+}
+
+/// What the program tells of it.
+impl fmt::Display for Fault {
+    fn fmt(&self, f: &mut fmt::Formatter<'_>) -> fmt::Result {
+        let fault = fault_fields(self);
+        written(f, |to, room, length| unsafe { c::sgt_fault_text(&fault, to, room, length) })
+    }
+}
+
+/// Writes the text that a call writes into a buffer: it is called with a small one, and again where that was too small.
+fn written(f: &mut fmt::Formatter<'_>, write: impl Fn(*mut u8, usize, &mut u64) -> u32) -> fmt::Result {
+    let (mut text, mut length) = (vec![0; 64], 0);
+    loop {
+        // The pointer is to as many bytes as are said to be there.
+        if write(text.as_mut_ptr(), text.len(), &mut length) != 0 {
+            return Err(fmt::Error);
+        }
+        match text.get(..length as usize) {
+            Some(text) => return f.write_str(&String::from_utf8_lossy(text)),
+            None => text.resize(length as usize, 0),
         }
     }
 }
@@ -211,6 +233,8 @@ mod c {
         pub fn sgt_entry(engine: *mut Engine, place: u64, event: *mut Event, reply: *mut Reply) -> u32;
         pub fn sgt_reserve(engine: *mut Engine, entries: u64) -> u32;
         pub fn sgt_cut(engine: *mut Engine, live: *mut u64) -> u32;
+        pub fn sgt_reply_text(reply: *const Reply, text: *mut u8, room: usize, length: *mut u64) -> u32;
+        pub fn sgt_fault_text(fault: *const Fault, text: *mut u8, room: usize, length: *mut u64) -> u32;
     }
 }
 
@@ -362,6 +386,80 @@ fn fault_of(fault: &c::Fault) -> Fault {
         20 => Fault::ProcShape(fault.procedure, fault.place[..fault.depth as usize].to_vec()),
         _ => Fault::ProcFlaw(fault.procedure, fault.number),
     }
+}
+
+fn fault_fields(fault: &Fault) -> c::Fault {
+    let (_, mut fields) = blank();
+    match fault {
+        Fault::NotJson => fields.kind = 16,
+        Fault::BadLine => fields.kind = 17,
+        Fault::BadLimits => fields.kind = 18,
+        Fault::BadOpening(number) => (fields.kind, fields.number) = (19, *number),
+        Fault::ProcShape(procedure, place) => {
+            (fields.kind, fields.procedure) = (20, *procedure);
+            fields.depth = filled(&mut fields.place, place);
+        }
+        Fault::ProcFlaw(procedure, flaw) => {
+            (fields.kind, fields.procedure, fields.number) = (21, *procedure, *flaw);
+        }
+    }
+    fields
+}
+
+/// Copies as many as there is room for, and tells how many.
+fn filled<T: Copy>(to: &mut [T], from: &[T]) -> u32 {
+    let count = to.len().min(from.len());
+    to[..count].copy_from_slice(&from[..count]);
+    count as u32
+}
+
+fn cause_fields(fields: &mut c::Reply, cause: &Cause) {
+    match cause {
+        Cause::Cycle(walk) => (fields.cause, fields.walked) = (1, filled(&mut fields.walk, walk)),
+        Cause::Asked(code) => (fields.cause, fields.code) = (2, *code),
+        Cause::Quit => fields.cause = 3,
+    }
+}
+
+fn fields_of(reply: &Reply) -> c::Reply {
+    let mut fields = c::Reply::default();
+    match reply {
+        Reply::Started(tid) => (fields.kind, fields.tid) = (1, *tid),
+        Reply::NoProcedure => fields.kind = 2,
+        Reply::BadArgs => fields.kind = 3,
+        Reply::Spent => fields.kind = 4,
+        Reply::Full => fields.kind = 5,
+        Reply::Unknown => fields.kind = 6,
+        Reply::Over(fate) => {
+            fields.kind = 7;
+            match fate {
+                Fate::Committed => fields.cause = 0,
+                Fate::Aborted(cause) => cause_fields(&mut fields, cause),
+                Fate::Fell(first) => (fields.cause, fields.tid) = (4, *first),
+            }
+        }
+        Reply::Looked { table, number, value } => {
+            (fields.kind, fields.table, fields.number) = (8, u32::from(*table), *number);
+            (fields.found, fields.value) = (u32::from(value.is_some()), value.unwrap_or(0));
+        }
+        Reply::Wrote { table, number, value } => {
+            (fields.kind, fields.table, fields.number, fields.value) = (9, u32::from(*table), *number, *value);
+        }
+        Reply::Ended => fields.kind = 10,
+        Reply::NotEnded => fields.kind = 11,
+        Reply::Waits(first) => (fields.kind, fields.tid) = (12, *first),
+        Reply::Committed(answers) => (fields.kind, fields.answers) = (13, filled(&mut fields.answer, answers)),
+        Reply::Aborted { cause, fell } => {
+            fields.kind = 14;
+            cause_fields(&mut fields, cause);
+            fields.fallen = filled(&mut fields.fell, fell);
+        }
+        Reply::Refused { code, fell } => {
+            (fields.kind, fields.code) = (15, *code);
+            fields.fallen = filled(&mut fields.fell, fell);
+        }
+    }
+    fields
 }
 
 fn done(status: u32) -> Result<(), Error> {

@@ -1,7 +1,9 @@
 pub mod Owned
 pub mod Told
+pub mod ToldReplies
 pub mod Asked
 pub mod Faults
+pub mod Texts
 pub mod Calls
 pub mod Rows
 pub mod Runs

@@ -32,4 +32,6 @@ mod slot;
 mod status;
 #[cfg(test)]
 mod tests;
+mod texts;
 mod told;
+mod told_reply;

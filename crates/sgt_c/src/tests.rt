@@ -9,6 +9,7 @@ use crate::opening_with::sgt_open_with;
 use crate::reading::sgt_get;
 use crate::rows::{Row, sgt_rows};
 use crate::run::sgt_run;
+use crate::texts::{sgt_fault_text, sgt_reply_text};
 use crate::told::Told;
 use std::prelude::HostRuntime;
 
@@ -304,4 +305,63 @@ fn the_history_is_cut_off(rt: HostRuntime) {
     );
     assert_eq!(rt; (told.kind, told.answer[0], t), (13, 1200, 0));
     sgt_close(alloc, &mut engine);
+}
+
+#[test]
+fn replies_are_texts(rt: HostRuntime) {
+    let alloc = rt.alloc();
+    let mut engine = Handle::closed(alloc);
+    let mut fault = no_fault();
+    let mut told = blank();
+    let mut text = [b'.'; 16];
+    let mut length = 77;
+    assert_eq!(rt; sgt_reply_text(alloc, &told, &mut text, &mut length), 5);
+    assert_eq!(rt; (length, text[0]), (77, b'.'));
+    assert_eq!(rt; sgt_open(alloc, &mut engine, OPENING, &mut fault), 0);
+    assert_eq!(rt; sgt_start(alloc, &mut engine, 1, &[1, 100], &mut told), 0);
+    assert_eq!(rt; sgt_reply_text(alloc, &told, &mut text, &mut length), 0);
+    assert!(rt; &text == b"started 0.......");
+    assert_eq!(rt; length, 9);
+    assert_eq!(rt; sgt_step(alloc, &mut engine, 0, &mut told), 0);
+    assert_eq!(rt;
+        sgt_reply_text(alloc, &told, &mut text[..12], &mut length),
+        0
+    );
+    assert!(rt; &text == b"read 0/1 101....");
+    assert_eq!(rt; sgt_quit(alloc, &mut engine, 0, &mut told), 0);
+    assert_eq!(rt; sgt_reply_text(alloc, &told, &mut text, &mut length), 0);
+    assert!(rt; &text == b"read 0/1 101....");
+    assert_eq!(rt; length, 22);
+    told.cause = 4;
+    assert_eq!(rt; sgt_reply_text(alloc, &told, &mut text, &mut length), 5);
+    told.kind = 8;
+    told.table = 8;
+    assert_eq!(rt; sgt_reply_text(alloc, &told, &mut text, &mut length), 5);
+    sgt_close(alloc, &mut engine);
+}
+
+#[test]
+fn faults_are_texts(rt: HostRuntime) {
+    let alloc = rt.alloc();
+    let mut engine = Handle::closed(alloc);
+    let mut fault = no_fault();
+    let mut text = [b'.'; 24];
+    let mut length = 77;
+    assert_eq!(rt; sgt_fault_text(alloc, &fault, &mut text, &mut length), 5);
+    let shape = b"{\"limits\":[8,100],\"accounts\":[],\"procedures\":[[0,[7]]]}";
+    assert_eq!(rt; sgt_open(alloc, &mut engine, shape, &mut fault), 20);
+    assert_eq!(rt; sgt_fault_text(alloc, &fault, &mut text, &mut length), 0);
+    assert!(rt; &text == b"procedure 5 shape 1 0...");
+    assert_eq!(rt; length, 21);
+    fault.depth = 0;
+    assert_eq!(rt; sgt_fault_text(alloc, &fault, &mut text, &mut length), 0);
+    assert!(rt; &text == b"procedure 5 shape top...");
+    fault.kind = 16;
+    assert_eq!(rt;
+        sgt_fault_text(alloc, &fault, &mut text[..7], &mut length),
+        0
+    );
+    assert_eq!(rt; (length, text[0]), (8, b'p'));
+    fault.kind = 22;
+    assert_eq!(rt; sgt_fault_text(alloc, &fault, &mut text, &mut length), 5);
 }
