@@ -58,14 +58,6 @@ public:
     const std::uint64_t live;
 };
 
-// What `Engine::cut` throws where transactions are live: how many.
-class StillLive : public std::runtime_error {
-public:
-    explicit StillLive(std::uint64_t live) : std::runtime_error("sgt: a transaction is live"), live(live) {}
-
-    const std::uint64_t live;
-};
-
 // An entry of the history: what was asked, and what was answered.
 struct Entry {
     sgt_event event;

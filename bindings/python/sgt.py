@@ -85,7 +85,6 @@ class Reply(NamedTuple):
     walk: tuple[int, ...] = ()
     fell: tuple[int, ...] = ()
 
-
     def text(self) -> str:
         """The line that a script has for it."""
         return _written(_LIBRARY.sgt_reply_text, _told(self))
