@@ -23,6 +23,7 @@ IsCause (cause.Cycle walk) = ⊤
 IsCause (cause.Asked code) = code ≤ 65535
 IsCause cause.Quit = ⊤
 
+-- so does the code of its cause
 abbrev pub IsFate : Fate → Type 0
 IsFate fate.Committed = ⊤
 IsFate (fate.Aborted why) = IsCause why
@@ -63,6 +64,7 @@ found_in s = slice_get (None ∷ Some s.value ∷ []) s.found
 abbrev pub causes_in : Told → List (Option Cause)
 causes_in s = None ∷ Some (cause.Cycle (take s.walked s.walk)) ∷ option_map cause.Asked (code_in s) ∷ Some cause.Quit ∷ []
 
+-- the cause by its number, where there is one
 abbrev pub cause_in : Told → Option Cause
 cause_in s = joined (slice_get (causes_in s) s.cause)
 
@@ -70,6 +72,7 @@ cause_in s = joined (slice_get (causes_in s) s.cause)
 abbrev pub fate_by : ℕ → Told → Option Fate
 fate_by n s = cond (nat_eq n 0) (Some fate.Committed) (cond (nat_eq n 4) (Some (fate.Fell s.tid)) (option_map fate.Aborted (cause_in s)))
 
+-- the same by the fields' own number
 abbrev pub fate_in : Told → Option Fate
 fate_in s = fate_by s.cause s
 
@@ -85,5 +88,6 @@ replies_in s = None ∷ Some (reply.Started s.tid) ∷ Some reply.NoProcedure �
     ∷ option_map (λ why. reply.Aborted why (take s.fallen s.fell)) (cause_in s)
     ∷ option_map (λ code. reply.Refused code (take s.fallen s.fell)) (code_in s) ∷ []
 
+-- the reply by its kind, where there is one
 abbrev pub reply_in : Told → Option Reply
 reply_in s = joined (slice_get (replies_in s) s.kind)

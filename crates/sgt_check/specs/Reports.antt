@@ -21,12 +21,14 @@ abbrev pub count_firsts : List Operation → List Operation → ℕ
 count_firsts before [] = 0
 count_firsts before (op ∷ ops) = (if acts before op.transaction then 0 else 1) + count_firsts (before ++ op ∷ []) ops
 
+-- whether it is a commit
 abbrev pub commits : Action → Bool
 commits Commit = true
 commits Abort = false
 commits (Read x) = false
 commits (Write x) = false
 
+-- whether it is an abort
 abbrev pub aborts : Action → Bool
 aborts Commit = false
 aborts Abort = true

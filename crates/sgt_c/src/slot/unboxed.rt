@@ -17,6 +17,7 @@ impl<T, A: Allocator> Model for Unboxed<T, A> {
 }
 
 impl<T, A: Allocator> Unboxed<T, A> {
+    /// The parts of a box.
     pub fn of(boxed: Box<T, A>) -> Unboxed<T, A>
     where
         T: Drop,
@@ -26,6 +27,7 @@ impl<T, A: Allocator> Unboxed<T, A> {
         Unboxed { at, alloc }
     }
 
+    /// The box, put together again.
     pub fn into_box(self) -> Box<T, A>
         ensures { result.value ≡ self.value }
     {
