@@ -30,8 +30,6 @@ mod rows;
 mod run;
 mod slot;
 mod status;
-#[cfg(test)]
-mod tests;
 mod texts;
 mod told;
 mod told_reply;

@@ -1,10 +1,10 @@
 //! A cursor does access by access what its procedure does when it is run again from its start each time.
 
-use crate::spelled::spelled;
-use sgt_model::Args;
-use sgt_proc::{Checked, Next};
+use serde_json::Value;
+use sgt_model::{Args, MOST};
+use sgt_proc::{Checked, Next, check};
+use sgt_proc_json::read;
 use std::alloc::Global;
-use std::process::Abort;
 use std::test::Fail;
 
 /// Branches with accesses, Lets and answers in them, one in the other, and statements behind each of them.
@@ -22,83 +22,170 @@ const STOPS: &str =
     "[1,[[\"if\",[\"same\",[\"arg\",0],0],[[\"put\",0,1,1],[\"ask\",3],[\"put\",0,2,2]],[[\"put\",0,3,3]]],\
     [\"let\",4,[\"sum\",[\"arg\",0],999999999999999]],[\"put\",0,4,[\"reg\",4]]]]";
 
-#[test]
-fn branches_are_entered_and_left(rt: HostRuntime) -> Result<(), Fail> {
-    let procedure = spelled(&rt, BRANCHES)?;
-    for (first, finds, wanted) in [
-        (3, [Some(0), Some(4)].as_slice(), 2),
-        (3, &[Some(9), Some(4)], 3),
-        (3, &[Some(9), None], 3),
-        (3, &[None], 1),
-        (30, &[Some(1)], 2),
-        (30, &[None], 2),
-        (30, &[Some(-999_999_999_999_999)], 2),
-    ] {
-        assert_eq!(rt; accesses_made(&rt, &procedure, &[first, 50], finds), wanted);
-    }
-    Ok(())
+/// It finds record 7 of table 3, or one more than its argument where there is none, stores that there and answers it.
+const UPSERT: &str =
+    "[1,[[\"find\",0,3,7,[\"sum\",[\"arg\",0],1]],[\"put\",3,7,[\"reg\",0]],[\"answer\",[\"reg\",0]]]]";
+
+/// It stores its second argument under its first one, a key that may be used once: where there is such a record it asks 8.
+const ONCE: &str = "[2,[[\"find\",0,4,[\"arg\",0],-1],\
+    [\"if\",[\"same\",[\"reg\",0],-1],[],[[\"ask\",8]]],\
+    [\"put\",4,[\"arg\",0],[\"arg\",1]],[\"answer\",[\"arg\",1]]]]";
+
+/// A find in a branch whose value sets the register that it uses, and a find behind it.
+const AGAIN: &str = "[1,[[\"let\",1,5],\
+    [\"if\",[\"less\",0,[\"arg\",0]],[[\"find\",1,3,[\"arg\",0],[\"product\",[\"reg\",1],2]]],[]],\
+    [\"find\",2,3,[\"reg\",1],[\"reg\",1]],[\"answer\",[\"reg\",1]],[\"answer\",[\"reg\",2]]]]";
+
+/// It answers the fee of so many cents at so many percent, and what is left of the cents.
+const FEE: &str = "[2,[[\"let\",0,[\"quotient\",[\"product\",[\"arg\",0],[\"arg\",1]],100]],\
+    [\"answer\",[\"reg\",0]],[\"answer\",[\"diff\",[\"arg\",0],[\"reg\",0]]]]]";
+
+/// A procedure, its arguments, what its looks find in their order, and how many accesses it makes then.
+type Row = (&'static str, &'static [i64], &'static [Option<i64>], usize);
+
+const ROWS: [Row; 26] = [
+    (BRANCHES, &[3, 50], &[Some(0), Some(4)], 2),
+    (BRANCHES, &[3, 50], &[Some(9), Some(4)], 3),
+    (BRANCHES, &[3, 50], &[Some(9), None], 3),
+    (BRANCHES, &[3, 50], &[None], 1),
+    (BRANCHES, &[30, 50], &[Some(1)], 2),
+    (BRANCHES, &[30, 50], &[None], 2),
+    (BRANCHES, &[30, 50], &[Some(-999_999_999_999_999)], 2),
+    (STOPS, &[0], &[], 1),
+    (STOPS, &[1], &[], 1),
+    (STOPS, &[-1], &[], 2),
+    (UPSERT, &[40], &[None], 2),
+    (UPSERT, &[40], &[Some(9)], 2),
+    (UPSERT, &[40], &[Some(0)], 2),
+    (UPSERT, &[-1], &[None], 2),
+    (UPSERT, &[MOST - 1], &[None], 2),
+    (UPSERT, &[MOST], &[], 0),
+    (ONCE, &[77, 5], &[None], 2),
+    (ONCE, &[77, 5], &[Some(5)], 1),
+    (AGAIN, &[6], &[None, None], 2),
+    (AGAIN, &[6], &[None, Some(2)], 2),
+    (AGAIN, &[6], &[Some(8), None], 2),
+    (AGAIN, &[6], &[Some(8), Some(3)], 2),
+    (AGAIN, &[0], &[None], 1),
+    (FEE, &[1_999, 3], &[], 0),
+    (FEE, &[-1_999, 3], &[], 0),
+    (FEE, &[MOST, 3], &[], 0),
+];
+
+/// The procedure that a text spells, where it has no flaw.
+fn spelled(alloc: Global, text: &str) -> Option<Checked> {
+    let tree = Value::from_str(alloc, text).ok()?;
+    check(read(alloc, &tree).ok()?).ok()
 }
 
-#[test]
-fn codes_end_it(rt: HostRuntime) -> Result<(), Fail> {
-    let procedure = spelled(&rt, STOPS)?;
-    for (arg, wanted) in [(0, 1), (1, 1), (-1, 2)] {
-        assert_eq!(rt; accesses_made(&rt, &procedure, &[arg], &[]), wanted);
-    }
-    Ok(())
-}
-
-#[test]
-fn the_deepest_branch_is_left_step_by_step(rt: HostRuntime) -> Result<(), Fail> {
-    let text = deepest(rt.alloc())?;
-    let procedure = spelled(&rt, text.as_str())?;
-    assert_eq!(rt; accesses_made(&rt, &procedure, &[], &[Some(1)]), 16);
-    Ok(())
-}
-
-#[test]
-fn the_longest_procedure_makes_64_accesses(rt: HostRuntime) -> Result<(), Fail> {
-    let text = longest(rt.alloc())?;
-    let procedure = spelled(&rt, text.as_str())?;
-    assert_eq!(rt; accesses_made(&rt, &procedure, &[], &[Some(1); 64]), 64);
-    Ok(())
-}
-
-/// The text of a procedure with a look as deep as it may be, and a store behind each If on the way.
-fn deepest(alloc: Global) -> Result<String, Fail> {
-    let before = "[\"if\",[\"less\",0,1],[".repeat(alloc, 15)?;
-    let behind = "],[]],[\"put\",0,1,1]".repeat(alloc, 15)?;
-    Ok(format!(in alloc; "[0,[{before}[\"look\",0,0,1,1]{behind}]]")?)
-}
-
-/// The text of a procedure of 64 looks.
-fn longest(alloc: Global) -> Result<String, Fail> {
-    let looks = "[\"look\",0,0,1,1],".repeat(alloc, 63)?;
-    Ok(format!(in alloc; "[0,[{looks}[\"look\",0,0,1,1]]]")?)
-}
-
-/// How many accesses the procedure makes, whose looks find these values in their order. Compares each access, and the end,
-/// with what the procedure does next when it is run from its start.
-fn accesses_made(
-    rt: &impl Abort,
-    procedure: &Checked,
-    args: &[i64],
-    finds: &[Option<i64>],
-) -> usize {
-    let args = Args::from_slice(args).expect(rt, "at most four arguments");
-    let mut cursor = procedure.begin(&args);
+/// How many accesses a procedure makes, whose looks find these values in their order, where the cursor is at each of them, and at the
+/// end, at what comes next from the start.
+fn accesses(procedure: &Checked, args: &Args, finds: &[Option<i64>]) -> Option<usize> {
+    let mut cursor = procedure.begin(args);
     let mut looks = 0;
     for made in 0..65 {
         let next = cursor.next(procedure);
-        assert_eq!(rt; next, procedure.next(&args, &finds[..looks], made));
+        if next != procedure.next(args, &finds[..looks], made) {
+            return None;
+        }
         match next {
             Next::Look(_) if looks < finds.len() => {
                 cursor.looked(procedure, finds[looks]);
                 looks += 1;
             }
             Next::Put(..) => cursor.stored(procedure),
-            _ => return made,
+            _ => return Some(made),
         }
     }
-    65
+    None
+}
+
+/// Likewise, of the procedure that a text spells.
+fn made(alloc: Global, text: &str, args: &[i64], finds: &[Option<i64>]) -> Option<usize> {
+    let args = Args::from_slice(args)?;
+    accesses(&spelled(alloc, text)?, &args, finds)
+}
+
+#[test]
+fn a_cursor_is_at_what_comes_next(rt: HostRuntime) {
+    for (text, args, finds, wanted) in &ROWS {
+        assert_eq!(rt;
+            made(rt.alloc(), text, args, finds),
+            Some(*wanted),
+            "{text}"
+        );
+    }
+}
+
+#[test]
+fn the_deepest_branch_is_left_step_by_step(rt: HostRuntime) -> Result<(), Fail> {
+    let before = "[\"if\",[\"less\",0,1],[".repeat(rt.alloc(), 15)?;
+    let behind = "],[]],[\"put\",0,1,1]".repeat(rt.alloc(), 15)?;
+    let text = format!(in rt.alloc(); "[0,[{before}[\"look\",0,0,1,1]{behind}]]")?;
+    assert_eq!(rt; made(rt.alloc(), text.as_str(), &[], &[Some(1)]), Some(16));
+    Ok(())
+}
+
+#[test]
+fn the_longest_procedure_makes_64_accesses(rt: HostRuntime) -> Result<(), Fail> {
+    let looks = "[\"look\",0,0,1,1],".repeat(rt.alloc(), 63)?;
+    let text = format!(in rt.alloc(); "[0,[{looks}[\"look\",0,0,1,1]]]")?;
+    assert_eq!(rt;
+        made(rt.alloc(), text.as_str(), &[], &[Some(1); 64]),
+        Some(64)
+    );
+    Ok(())
+}
+
+/// Pairs whose product and quotient are numbers, and pairs of which one is none.
+const PAIRS: [[i64; 2]; 34] = [
+    [7, 6],
+    [-7, 6],
+    [7, -6],
+    [-7, -6],
+    [0, -MOST],
+    [MOST, 1],
+    [MOST, -1],
+    [333_333_333_333_333, 3],
+    [-3, 333_333_333_333_333],
+    [31_622_776, 31_622_776],
+    [500_000_000_000_000, 2],
+    [-500_000_000_000_000, 2],
+    [2, -500_000_000_000_000],
+    [31_622_777, 31_622_777],
+    [MOST, MOST],
+    [MOST, -MOST],
+    [-MOST, -MOST],
+    [4_294_967_296, 4_294_967_296],
+    [274_177, 67_280_421_310_721],
+    [274_177, 201_841_263_932_163],
+    [7, 2],
+    [-7, 2],
+    [7, -2],
+    [-7, -2],
+    [6, 3],
+    [-6, 3],
+    [1, 2],
+    [-1, 2],
+    [0, -5],
+    [-MOST, -1],
+    [0, 0],
+    [1, 0],
+    [-1, 0],
+    [MOST, 0],
+];
+
+/// It answers the product of its two arguments.
+const PRODUCT: &str = "[2,[[\"answer\",[\"product\",[\"arg\",0],[\"arg\",1]]]]]";
+
+/// It answers the first argument divided by the second.
+const QUOTIENT: &str = "[2,[[\"answer\",[\"quotient\",[\"arg\",0],[\"arg\",1]]]]]";
+
+#[test]
+fn a_cursor_reckons_as_a_run_from_the_start_does(rt: HostRuntime) {
+    for pair in &PAIRS {
+        for text in [PRODUCT, QUOTIENT] {
+            assert_eq!(rt; made(rt.alloc(), text, pair, &[]), Some(0), "{text}");
+        }
+    }
 }

@@ -6,9 +6,9 @@ use serde_json::Value;
 use sgt_access::OneList;
 use sgt_engine::{Engine, Ran, run_list};
 use sgt_entries::History;
-use sgt_format::{append_database, append_reply, read_event};
+use sgt_format::{append_database, append_reply, read_event, reply_line};
 use sgt_graph::PairGraph;
-use sgt_model::{Args, Asks, Database, Event, Key, Limits, MakeError, NoMemory, Tid};
+use sgt_model::{Args, Asks, Database, Event, Key, Limits, MakeError, NoMemory, Reply, Tid};
 use sgt_proc::{Checked, check};
 use sgt_records::ListRecords;
 use std::alloc::{AllocGlobal, Global};
@@ -89,6 +89,14 @@ fn a_committed_value_is_told(rt: HostRuntime) -> Result<(), Fail> {
     let ran = ran(rt.alloc(), STORE)?;
     let key = Key::new(3, 7).expect(&rt, "a key");
     assert!(rt; ran.engine.committed(key) == Some(4));
+    Ok(())
+}
+
+/// More transactions than one script can start.
+#[test]
+fn a_reply_has_its_line(rt: HostRuntime) -> Result<(), Fail> {
+    let line = reply_line(rt.alloc(), &Reply::Started(Tid(4_000_000)))?;
+    assert!(rt; line.as_slice() == b"started 4000000\n".as_slice());
     Ok(())
 }
 

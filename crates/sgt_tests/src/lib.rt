@@ -5,24 +5,10 @@
 #![tactic(auto)]
 
 #[cfg(test)]
-mod arithmetic;
-#[cfg(test)]
 mod cursor;
 #[cfg(test)]
 mod engine;
 #[cfg(test)]
-mod finds;
-#[cfg(test)]
 mod first_use;
 #[cfg(test)]
-mod formats;
-#[cfg(test)]
-mod procedures;
-#[cfg(test)]
-mod procedures_as_trees;
-#[cfg(test)]
-mod runs;
-#[cfg(test)]
-mod spelled;
-#[cfg(test)]
-mod streams;
+mod trees;

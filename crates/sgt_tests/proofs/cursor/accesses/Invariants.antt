@@ -1,5 +1,5 @@
 use Rattle.std.proofs.Common.{◌≡◌, ◌≤◌, length}
-use Rattle.sgt_tests.proofs.cursor.accesses_made.Given as goal
+use Rattle.sgt_tests.proofs.cursor.accesses.Given as goal
 
 abbrev pub invariant-loop-made : goal.invariant-loop-made
 invariant-loop-made g l = record { same : l.cursor.0 ≡ l.procedure; within : l.looks ≤ length l.finds }

@@ -1,0 +1,330 @@
+/*
+ * Each call of the library, with its status and what it tells, compared with what the header says. Numbers stand for the header's
+ * names here, so that a name that changed its number is seen. Each check that fails is told; the last line counts them all.
+ */
+#include <inttypes.h>
+#include <stdio.h>
+#include <string.h>
+
+#include "sgt.h"
+
+static int checks, failed;
+
+#define CHECK(holds) check((holds) != 0, #holds, __LINE__)
+
+static void check(int holds, const char *text, int line)
+{
+    checks++;
+    if (holds) return;
+    failed++;
+    printf("line %d: %s\n", line, text);
+}
+
+static const char opening[] = "{\"limits\":[8,100],\"accounts\":[[1,101,500,1000]],\"procedures\":[]}";
+static const char shape[] = "{\"limits\":[8,100],\"accounts\":[],\"procedures\":[[0,[7]]]}";
+
+static const int64_t deposit[] = {1, 100};
+
+static uint32_t opens(sgt_engine *engine, const char *text, sgt_fault *fault)
+{
+    return sgt_open(engine, (const uint8_t *)text, strlen(text), fault);
+}
+
+static uint32_t opens_with(sgt_engine *engine, const char *text, const sgt_row *rows, size_t count, sgt_fault *fault)
+{
+    return sgt_open_with(engine, (const uint8_t *)text, strlen(text), rows, count, fault);
+}
+
+static int is_row(const sgt_row *row, uint32_t table, int64_t number, int64_t value)
+{
+    return row->table == table && row->number == number && row->value == value;
+}
+
+static int is_access(const sgt_reply *told, uint32_t kind, uint32_t table, int64_t number, int64_t value)
+{
+    return told->kind == kind && told->table == table && told->number == number && told->value == value;
+}
+
+static int is_committed(const sgt_reply *told, int64_t answer)
+{
+    return told->kind == 13 && told->answers == 1 && told->answer[0] == answer;
+}
+
+static void a_deposit_is_committed(void)
+{
+    sgt_engine engine = {0};
+    sgt_fault fault = {0};
+    sgt_reply told = {0};
+    int64_t value = 0;
+    uint64_t count = 0;
+    CHECK(opens(&engine, opening, &fault) == 0);
+    CHECK(sgt_start(&engine, 1, deposit, 2, &told) == 0);
+    CHECK(told.kind == 1 && told.tid == 0);
+    CHECK(sgt_step(&engine, 0, &told) == 0);
+    CHECK(is_access(&told, 8, 0, 1, 101) && told.found == 1);
+    CHECK(sgt_step(&engine, 0, &told) == 0);
+    CHECK(is_access(&told, 8, 2, 101, 1000) && told.found == 1);
+    CHECK(sgt_step(&engine, 0, &told) == 0);
+    CHECK(is_access(&told, 9, 2, 101, 1100));
+    CHECK(sgt_commit(&engine, 0, &told) == 0);
+    CHECK(is_committed(&told, 1100));
+    CHECK(sgt_quit(&engine, 0, &told) == 0);
+    CHECK(told.kind == 7 && told.cause == 0);
+    CHECK(sgt_get(&engine, 2, 101, &value) == 0);
+    CHECK(value == 1100);
+    CHECK(sgt_get(&engine, 2, 5, &value) == 4);
+    CHECK(value == 1100);
+    CHECK(sgt_entries(&engine, &count) == 0);
+    CHECK(count == 6);
+    sgt_close(&engine);
+    CHECK(!engine.is_open && !engine.at);
+}
+
+static void statuses_are_told(void)
+{
+    const char same[] = "{\"limits\":[8,100],\"accounts\":[[1,101,5,5],[1,102,5,5]],\"procedures\":[]}";
+    const int64_t five[] = {1, 2, 3, 4, 5};
+    sgt_engine engine = {0};
+    sgt_fault fault = {0};
+    sgt_reply told = {0};
+    int64_t value = 77;
+    CHECK(sgt_step(&engine, 0, &told) == 2);
+    CHECK(told.kind == 0);
+    CHECK(opens(&engine, "nope", &fault) == 16);
+    CHECK(fault.kind == 16);
+    CHECK(opens(&engine, same, &fault) == 19);
+    CHECK(fault.kind == 19 && fault.number == 1);
+    CHECK(opens(&engine, shape, &fault) == 20);
+    CHECK(fault.kind == 20 && fault.procedure == 5 && fault.depth == 2 && fault.place[0] == 1 && fault.place[1] == 0);
+    CHECK(!engine.is_open && !engine.at);
+    CHECK(opens(&engine, opening, &fault) == 0);
+    CHECK(opens(&engine, opening, &fault) == 3);
+    CHECK(sgt_get(&engine, 8, 1, &value) == 5);
+    CHECK(sgt_get(&engine, 0, SGT_MOST + 1, &value) == 5);
+    CHECK(value == 77);
+    CHECK(sgt_start(&engine, 0, five, 5, &told) == 5);
+    CHECK(told.kind == 0);
+    sgt_close(&engine);
+    CHECK(sgt_commit(&engine, 0, &told) == 2);
+    CHECK(sgt_quit(&engine, 0, &told) == 2);
+    CHECK(sgt_start(&engine, 0, five, 1, &told) == 2);
+    CHECK(sgt_get(&engine, 0, 1, &value) == 2);
+    CHECK(told.kind == 0 && value == 77);
+}
+
+static void entries_are_told(void)
+{
+    sgt_engine engine = {0};
+    sgt_fault fault = {0};
+    sgt_event asked = {0};
+    sgt_reply told = {0};
+    uint64_t count = 77;
+    CHECK(sgt_entry(&engine, 0, &asked, &told) == 2);
+    CHECK(sgt_reserve(&engine, 10) == 2);
+    CHECK(sgt_entries(&engine, &count) == 2);
+    CHECK(count == 77);
+    CHECK(opens(&engine, opening, &fault) == 0);
+    CHECK(sgt_reserve(&engine, 10) == 0);
+    CHECK(sgt_start(&engine, 1, deposit, 2, &told) == 0);
+    CHECK(sgt_step(&engine, 0, &told) == 0);
+    CHECK(sgt_commit(&engine, 0, &told) == 0);
+    CHECK(sgt_quit(&engine, 0, &told) == 0);
+    memset(&told, 0, sizeof told);
+    CHECK(sgt_entry(&engine, 0, &asked, &told) == 0);
+    CHECK(asked.kind == 1 && asked.procedure == 1 && asked.args == 2);
+    CHECK(asked.arg[0] == 1 && asked.arg[1] == 100);
+    CHECK(told.kind == 1 && told.tid == 0);
+    CHECK(sgt_entry(&engine, 1, &asked, &told) == 0);
+    CHECK(asked.kind == 2 && asked.tid == 0 && told.kind == 8 && told.value == 101);
+    CHECK(sgt_entry(&engine, 2, &asked, &told) == 0);
+    CHECK(asked.kind == 3 && told.kind == 11);
+    CHECK(sgt_entry(&engine, 3, &asked, &told) == 0);
+    CHECK(asked.kind == 4 && told.kind == 14 && told.cause == 3);
+    CHECK(sgt_entry(&engine, 4, &asked, &told) == 4);
+    CHECK(asked.kind == 4 && told.kind == 14);
+    sgt_close(&engine);
+}
+
+static void rows_are_told(void)
+{
+    sgt_engine engine = {0};
+    sgt_fault fault = {0};
+    uint64_t count = 9;
+    sgt_row rows[] = {{9, 0, 9, 9}, {9, 0, 9, 9}};
+    CHECK(sgt_rows(&engine, 8, 0, rows, 2, &count) == 5);
+    CHECK(sgt_rows(&engine, 0, 0, rows, 2, &count) == 2);
+    CHECK(count == 9 && is_row(&rows[0], 9, 9, 9) && is_row(&rows[1], 9, 9, 9));
+    CHECK(opens(&engine, opening, &fault) == 0);
+    CHECK(sgt_rows(&engine, 0, 1, rows, 2, &count) == 0);
+    CHECK(is_row(&rows[0], 0, 1, 101) && is_row(&rows[1], 1, 101, 500));
+    CHECK(count == 3);
+    CHECK(sgt_rows(&engine, 1, 102, rows, 2, &count) == 0);
+    CHECK(is_row(&rows[0], 2, 101, 1000) && is_row(&rows[1], 1, 101, 500));
+    CHECK(count == 1);
+    sgt_close(&engine);
+}
+
+static void rows_are_opened(void)
+{
+    const sgt_row own[] = {{7, 0, 5, 50}, {2, 0, 101, 7}, {7, 0, 5, 51}};
+    const sgt_row beyond = {8, 0, 0, 0};
+    sgt_engine engine = {0};
+    sgt_fault fault = {0};
+    sgt_row row = {0};
+    int64_t value = 0;
+    uint64_t count = 0;
+    CHECK(opens_with(&engine, opening, &beyond, 1, &fault) == 5);
+    CHECK(opens_with(&engine, "", own, 3, &fault) == 16);
+    CHECK(!engine.is_open && !engine.at);
+    CHECK(opens_with(&engine, opening, own, 3, &fault) == 0);
+    CHECK(opens_with(&engine, opening, own, 3, &fault) == 3);
+    CHECK(sgt_get(&engine, 7, 5, &value) == 0);
+    CHECK(value == 51);
+    CHECK(sgt_get(&engine, 2, 101, &value) == 0);
+    CHECK(value == 7);
+    CHECK(sgt_rows(&engine, 0, 0, &row, 0, &count) == 0);
+    CHECK(count == 4);
+    sgt_close(&engine);
+}
+
+static void a_run_goes_to_its_end(void)
+{
+    const int64_t ones[] = {1, 1, 1, 1, 1}, negative[] = {1, -5};
+    sgt_engine engine = {0};
+    sgt_fault fault = {0};
+    sgt_reply told = {0};
+    uint32_t t = 77;
+    uint64_t count = 0;
+    CHECK(sgt_run(&engine, 1, ones, 5, &t, &told) == 5);
+    CHECK(sgt_run(&engine, 1, deposit, 2, &t, &told) == 2);
+    CHECK(t == 77 && told.kind == 0);
+    CHECK(opens(&engine, opening, &fault) == 0);
+    CHECK(sgt_run(&engine, 9, ones, 0, &t, &told) == 0);
+    CHECK(told.kind == 2 && t == 77);
+    CHECK(sgt_run(&engine, 1, deposit, 2, &t, &told) == 0);
+    CHECK(is_committed(&told, 1100) && t == 0);
+    CHECK(sgt_run(&engine, 1, negative, 2, &t, &told) == 0);
+    CHECK(told.kind == 14 && told.cause == 2 && told.code == 2 && t == 1);
+    CHECK(sgt_start(&engine, 1, ones, 2, &told) == 0);
+    CHECK(sgt_step(&engine, 2, &told) == 0);
+    CHECK(sgt_step(&engine, 2, &told) == 0);
+    CHECK(sgt_step(&engine, 2, &told) == 0);
+    CHECK(sgt_run(&engine, 0, ones, 1, &t, &told) == 0);
+    CHECK(told.kind == 12 && told.tid == 2 && t == 3);
+    CHECK(sgt_entries(&engine, &count) == 0);
+    CHECK(count == 19);
+    CHECK(sgt_commit(&engine, 2, &told) == 0);
+    CHECK(sgt_commit(&engine, 3, &told) == 0);
+    CHECK(is_committed(&told, 1601));
+    sgt_close(&engine);
+}
+
+static void the_history_is_cut_off(void)
+{
+    const int64_t one[] = {1, 1};
+    sgt_engine engine = {0};
+    sgt_fault fault = {0};
+    sgt_reply told = {0};
+    uint32_t t = 0;
+    uint64_t live = 77, count = 0;
+    int64_t value = 0;
+    CHECK(sgt_cut(&engine, &live) == 2);
+    CHECK(live == 77);
+    CHECK(opens(&engine, opening, &fault) == 0);
+    CHECK(sgt_run(&engine, 1, deposit, 2, &t, &told) == 0);
+    CHECK(sgt_start(&engine, 1, one, 2, &told) == 0);
+    CHECK(sgt_start(&engine, 0, one, 1, &told) == 0);
+    CHECK(sgt_cut(&engine, &live) == 6);
+    CHECK(live == 2);
+    CHECK(sgt_quit(&engine, 1, &told) == 0);
+    CHECK(sgt_quit(&engine, 2, &told) == 0);
+    CHECK(sgt_entries(&engine, &count) == 0);
+    CHECK(count == 10);
+    CHECK(sgt_cut(&engine, &live) == 0);
+    CHECK(live == 2);
+    CHECK(sgt_entries(&engine, &count) == 0);
+    CHECK(count == 0);
+    CHECK(sgt_get(&engine, 2, 101, &value) == 0);
+    CHECK(value == 1100);
+    CHECK(sgt_commit(&engine, 0, &told) == 0);
+    CHECK(told.kind == 6);
+    CHECK(sgt_run(&engine, 1, deposit, 2, &t, &told) == 0);
+    CHECK(is_committed(&told, 1200) && t == 0);
+    sgt_close(&engine);
+}
+
+/* Whether the first bytes of a text are these, and one behind them was left as it was. */
+static int is_text(const char *text, const char *wanted)
+{
+    size_t length = strlen(wanted);
+    return memcmp(text, wanted, length) == 0 && text[length] == '.';
+}
+
+static void replies_are_texts(void)
+{
+    sgt_engine engine = {0};
+    sgt_fault fault = {0};
+    sgt_reply told = {0};
+    char text[17];
+    uint64_t length = 77;
+    memset(text, '.', sizeof text);
+    CHECK(sgt_reply_text(&told, text, 16, &length) == 5);
+    CHECK(length == 77 && is_text(text, ""));
+    CHECK(opens(&engine, opening, &fault) == 0);
+    CHECK(sgt_start(&engine, 1, deposit, 2, &told) == 0);
+    CHECK(sgt_reply_text(&told, text, 16, &length) == 0);
+    CHECK(is_text(text, "started 0") && is_text(text + 9, "......"));
+    CHECK(length == 9);
+    CHECK(sgt_step(&engine, 0, &told) == 0);
+    CHECK(sgt_reply_text(&told, text, 12, &length) == 0);
+    CHECK(is_text(text, "read 0/1 101") && length == 12);
+    CHECK(sgt_quit(&engine, 0, &told) == 0);
+    CHECK(sgt_reply_text(&told, text, 16, &length) == 0);
+    CHECK(is_text(text, "read 0/1 101") && length == 22);
+    told.cause = 4;
+    CHECK(sgt_reply_text(&told, text, 16, &length) == 5);
+    told.kind = 8;
+    told.table = 8;
+    CHECK(sgt_reply_text(&told, text, 16, &length) == 5);
+    CHECK(is_text(text, "read 0/1 101") && length == 22);
+    sgt_close(&engine);
+}
+
+static void faults_are_texts(void)
+{
+    sgt_engine engine = {0};
+    sgt_fault fault = {0};
+    char text[25];
+    uint64_t length = 77;
+    memset(text, '.', sizeof text);
+    CHECK(sgt_fault_text(&fault, text, 24, &length) == 5);
+    CHECK(length == 77 && is_text(text, ""));
+    CHECK(opens(&engine, shape, &fault) == 20);
+    CHECK(sgt_fault_text(&fault, text, 24, &length) == 0);
+    CHECK(is_text(text, "procedure 5 shape 1 0") && length == 21);
+    fault.depth = 0;
+    CHECK(sgt_fault_text(&fault, text, 24, &length) == 0);
+    CHECK(is_text(text, "procedure 5 shape top"));
+    fault.kind = 22;
+    CHECK(sgt_fault_text(&fault, text, 24, &length) == 5);
+    fault.kind = 16;
+    memset(text, '.', sizeof text);
+    CHECK(sgt_fault_text(&fault, text, 7, &length) == 0);
+    CHECK(is_text(text, "") && length == 8);
+    sgt_close(&engine);
+}
+
+int main(void)
+{
+    a_deposit_is_committed();
+    statuses_are_told();
+    entries_are_told();
+    rows_are_told();
+    rows_are_opened();
+    a_run_goes_to_its_end();
+    the_history_is_cut_off();
+    replies_are_texts();
+    faults_are_texts();
+    printf("%d checks, %d failed\n", checks, failed);
+    return failed != 0;
+}
