@@ -9,6 +9,8 @@ mod cursor;
 #[cfg(test)]
 mod engine;
 #[cfg(test)]
+mod failures;
+#[cfg(test)]
 mod first_use;
 #[cfg(test)]
 mod trees;
