@@ -88,7 +88,7 @@ fn played<R: Threads + Wait + Sync>(
     requires empty { engine.past ≡ [] }
     requires threads { (1 ≤ threads) × (threads ≤ 64) }
 {
-    let blank = Blank::new(threads as u64);
+    let blank = Blank::new(u64::from(threads));
     run::<Brand, _>(rt, alloc, engine, blank, threads, play)
 }
 
