@@ -7,16 +7,10 @@ use std::process::Abort;
 use std::test::Fail;
 
 #[test]
-fn readers_rival_a_writer(rt: HostRuntime) -> Result<(), Fail> {
-    let key = Key::new(2, 101).unwrap();
-    two_readers(&rt, OneList::empty(rt.alloc()), key)?;
-    two_readers(&rt, PerKey::empty(rt.alloc()), key)?;
-    Ok(())
-}
-
-#[test]
-fn forget_closes_up(rt: HostRuntime) -> Result<(), Fail> {
+fn accesses_rival(rt: HostRuntime) -> Result<(), Fail> {
     let (saving, checking) = (Key::new(1, 101).unwrap(), Key::new(2, 101).unwrap());
+    two_readers(&rt, OneList::empty(rt.alloc()), checking)?;
+    two_readers(&rt, PerKey::empty(rt.alloc()), checking)?;
     one_of_three(&rt, OneList::empty(rt.alloc()), saving, checking)?;
     one_of_three(&rt, PerKey::empty(rt.alloc()), saving, checking)?;
     Ok(())

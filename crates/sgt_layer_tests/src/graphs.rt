@@ -6,27 +6,17 @@ use sgt_model::{Tid, Tids};
 use std::process::Abort;
 
 #[test]
-fn three_nodes_have_no_ring(rt: HostRuntime) {
-    three_nodes::<PairGraph>(&rt);
-    three_nodes::<BitGraph>(&rt);
+fn graphs_answer(rt: HostRuntime) {
+    answers::<PairGraph>(&rt);
+    answers::<BitGraph>(&rt);
 }
 
-#[test]
-fn a_way_through_a_removed_node_is_forgotten(rt: HostRuntime) {
-    way_through_removed::<PairGraph>(&rt);
-    way_through_removed::<BitGraph>(&rt);
-}
-
-#[test]
-fn a_ring_of_all_nodes_is_refused(rt: HostRuntime) {
-    ring_of_all::<PairGraph>(&rt);
-    ring_of_all::<BitGraph>(&rt);
-}
-
-#[test]
-fn a_place_is_used_anew(rt: HostRuntime) {
-    place_used_anew::<PairGraph>(&rt);
-    place_used_anew::<BitGraph>(&rt);
+/// What each body of the trait answers.
+fn answers<G: Graph>(rt: &impl Abort) {
+    three_nodes::<G>(rt);
+    way_through_removed::<G>(rt);
+    ring_of_all::<G>(rt);
+    place_used_anew::<G>(rt);
 }
 
 /// A ring is refused, and a shorter way is not. Then the first is removed.

@@ -9,30 +9,17 @@ use std::process::Abort;
 use std::test::Fail;
 
 #[test]
-fn an_undo_leaves_the_write_above(rt: HostRuntime) -> Result<(), Fail> {
+fn writes_are_undone_or_settled(rt: HostRuntime) -> Result<(), Fail> {
     let (a, key) = (rt.alloc(), Key::new(3, 7).unwrap());
+    let empty = Database::empty(a);
+    written_twice(&rt, ListRecords::build(a, &empty)?, key)?;
+    written_twice(&rt, SlabRecords::build(a, &empty)?, key)?;
+    reserved_alone(&rt, a, ListRecords::build(a, &empty)?, key)?;
+    reserved_alone(&rt, a, SlabRecords::build(a, &empty)?, key)?;
     let mut opening = Database::empty(a);
     opening.put(key, 1)?;
     undone_beneath(&rt, a, ListRecords::build(a, &opening)?, key)?;
     undone_beneath(&rt, a, SlabRecords::build(a, &opening)?, key)?;
-    Ok(())
-}
-
-#[test]
-fn an_undo_takes_the_last_write_of_two(rt: HostRuntime) -> Result<(), Fail> {
-    let (a, key) = (rt.alloc(), Key::new(3, 7).unwrap());
-    let opening = Database::empty(a);
-    written_twice(&rt, ListRecords::build(a, &opening)?, key)?;
-    written_twice(&rt, SlabRecords::build(a, &opening)?, key)?;
-    Ok(())
-}
-
-#[test]
-fn an_empty_record_is_none(rt: HostRuntime) -> Result<(), Fail> {
-    let (a, key) = (rt.alloc(), Key::new(3, 7).unwrap());
-    let opening = Database::empty(a);
-    reserved_alone(&rt, a, ListRecords::build(a, &opening)?, key)?;
-    reserved_alone(&rt, a, SlabRecords::build(a, &opening)?, key)?;
     Ok(())
 }
 

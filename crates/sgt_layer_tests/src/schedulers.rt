@@ -1,5 +1,6 @@
 //! Each call of a scheduler, with what it is answered: one transaction by itself, commits that wait, and an abort that takes its
-//! readers along.
+//! readers along. Between the events it is asked who is live, what a commit would end, what is committed, whom a store would come
+//! behind, and whom one has to wait for.
 
 use sgt_access::{Accesses, OneList};
 use sgt_graph::{Graph, PairGraph};
@@ -10,8 +11,7 @@ use sgt_model::{
 use sgt_proc::{Checked, check};
 use sgt_records::{ListRecords, Records};
 use sgt_sched::{Brief, Sched};
-use std::alloc::{AllocError, AllocGlobal, Global};
-use std::process::Abort;
+use std::alloc::{AllocError, Global};
 use std::test::Fail;
 
 type ListSched = Sched<ListRecords, OneList, PairGraph>;
@@ -90,19 +90,25 @@ fn scheduler(
     Ok(Sched::new(alloc, &opening, procedures, limits)?)
 }
 
-/// At most two live ones, and three in all.
-fn of_two(alloc: Global) -> Result<ListSched, Fail> {
-    scheduler(alloc, pay(alloc)?, 2, 3)
-}
-
-/// At most three live ones.
-fn of_three(alloc: Global) -> Result<ListSched, Fail> {
-    scheduler(alloc, pass_on(alloc)?, 3, 10)
+/// A scheduler of at most two live ones and three in all, whose procedure pays; or of at most three, whose procedure passes on.
+fn made(alloc: Global, live: u32) -> Result<ListSched, Fail> {
+    match live {
+        2 => scheduler(alloc, pay(alloc)?, 2, 3),
+        _ => scheduler(alloc, pass_on(alloc)?, 3, 10),
+    }
 }
 
 /// The number that a digit stands for.
 fn number(digit: u8) -> u8 {
     digit.saturating_sub(b'0')
+}
+
+/// The number that the digit at this place stands for; 0 where there is none.
+fn number_at(digits: &[u8], place: usize) -> u8 {
+    match digits.get(place) {
+        Some(digit) => number(*digit),
+        None => 0,
+    }
 }
 
 /// The start of the procedure of the first digit, with an argument for each other. Blanks may stand between them.
@@ -125,14 +131,10 @@ fn start(digits: &[u8]) -> Option<Event> {
 }
 
 /// The event of a word and of digits.
-fn event(words: &str) -> Option<Event> {
-    let (kind, digits) = words.split_once(' ')?;
-    let digits = digits.as_bytes();
-    if kind == "start" {
-        return start(digits);
-    }
-    let t = Tid(u32::from(number(*digits.first()?)));
+fn event(kind: &str, digits: &[u8]) -> Option<Event> {
+    let t = Tid(u32::from(number_at(digits, 0)));
     match kind {
+        "start" => start(digits),
         "step" => Some(Event::Step(t)),
         "commit" => Some(Event::Commit(t)),
         "quit" => Some(Event::Quit(t)),
@@ -163,124 +165,6 @@ fn told<R: Records, A: Accesses, G: Graph>(
     Ok(format!(in alloc; "{reply:?}")?)
 }
 
-/// Tests each line of a table: the reply, and behind an arrow the event.
-fn answers<T: AllocGlobal + Abort, R: Records, A: Accesses, G: Graph>(
-    rt: &T,
-    sched: &mut Sched<R, A, G>,
-    table: &str,
-) -> Result<(), Fail> {
-    for row in table.lines() {
-        let (want, words) = row.split_once(" <- ").expect(rt, "an arrow");
-        let event = event(words).expect(rt, "an event");
-        assert_eq!(rt; told(rt.alloc(), sched, &event)?.as_str(), want, "{words}");
-    }
-    Ok(())
-}
-
-/// Whether a commit would end the transaction.
-fn ends<R: Records, A: Accesses, G: Graph>(sched: &Sched<R, A, G>, t: Tid) -> bool {
-    sched.ends(&Event::Commit(t))
-}
-
-/// Tests who is live.
-fn are_live<R: Records, A: Accesses, G: Graph>(
-    rt: &impl Abort,
-    sched: &Sched<R, A, G>,
-    wanted: &[Tid],
-) {
-    assert!(rt; sched.live().as_slice() == wanted);
-    assert!(rt; sched.live_count() == wanted.len());
-}
-
-/// What is committed at the record of this number.
-fn committed<R: Records, A: Accesses, G: Graph>(sched: &Sched<R, A, G>, id: i64) -> Option<i64> {
-    sched.records().committed(Key::new(3, id)?)
-}
-
-#[test]
-fn starts_are_answered(rt: HostRuntime) -> Result<(), Fail> {
-    let mut sched = of_two(rt.alloc())?;
-    let table = "NoProcedure <- start 1 7
-BadArgs <- start 0
-Started(Tid(0)) <- start 0 7
-Started(Tid(1)) <- start 0 7
-Full <- start 0 7
-Aborted { cause: Quit, fell: [] } <- quit 1
-Started(Tid(2)) <- start 0 7
-Spent <- start 0 7";
-    answers(&rt, &mut sched, table)?;
-    are_live(&rt, &sched, &[Tid(0), Tid(2)]);
-    Ok(())
-}
-
-#[test]
-fn steps_are_answered(rt: HostRuntime) -> Result<(), Fail> {
-    let table = "Unknown <- step 0
-Started(Tid(0)) <- start 0 7
-Looked { key: Key { table: 3, id: 7 }, value: Some(1) } <- step 0
-Wrote { key: Key { table: 3, id: 7 }, value: 5 } <- step 0
-Ended <- step 0
-Committed(Bounded { list: [1] }) <- commit 0
-Over(Committed) <- step 0";
-    answers(&rt, &mut of_two(rt.alloc())?, table)
-}
-
-#[test]
-fn a_missing_record_aborts(rt: HostRuntime) -> Result<(), Fail> {
-    let table = "Started(Tid(0)) <- start 0 9
-Looked { key: Key { table: 3, id: 9 }, value: None } <- step 0
-Aborted { cause: Asked(6), fell: [] } <- step 0";
-    answers(&rt, &mut of_two(rt.alloc())?, table)
-}
-
-/// Both look at the record, and each would store behind the other's look.
-#[test]
-fn a_cycle_aborts(rt: HostRuntime) -> Result<(), Fail> {
-    let table = "Started(Tid(0)) <- start 0 7
-Looked { key: Key { table: 3, id: 7 }, value: Some(1) } <- step 0
-Started(Tid(1)) <- start 0 7
-Looked { key: Key { table: 3, id: 7 }, value: Some(1) } <- step 1
-Wrote { key: Key { table: 3, id: 7 }, value: 5 } <- step 0
-Aborted { cause: Cycle([Tid(1), Tid(0)]), fell: [] } <- step 1";
-    answers(&rt, &mut of_two(rt.alloc())?, table)
-}
-
-#[test]
-fn commits_are_answered(rt: HostRuntime) -> Result<(), Fail> {
-    let mut sched = of_two(rt.alloc())?;
-    let table = "Unknown <- commit 0
-Started(Tid(0)) <- start 0 7
-NotEnded <- commit 0
-Looked { key: Key { table: 3, id: 7 }, value: Some(1) } <- step 0
-Wrote { key: Key { table: 3, id: 7 }, value: 5 } <- step 0
-Started(Tid(1)) <- start 0 7
-NotEnded <- commit 1
-Looked { key: Key { table: 3, id: 7 }, value: Some(5) } <- step 1
-Wrote { key: Key { table: 3, id: 7 }, value: 5 } <- step 1
-Waits(Tid(0)) <- commit 1
-Committed(Bounded { list: [1] }) <- commit 0
-Over(Committed) <- commit 0
-Committed(Bounded { list: [5] }) <- commit 1";
-    answers(&rt, &mut sched, table)?;
-    assert!(rt; committed(&sched, 7) == Some(5));
-    Ok(())
-}
-
-#[test]
-fn quits_are_answered(rt: HostRuntime) -> Result<(), Fail> {
-    let table = "Unknown <- quit 0
-Started(Tid(0)) <- start 0 7
-Looked { key: Key { table: 3, id: 7 }, value: Some(1) } <- step 0
-Wrote { key: Key { table: 3, id: 7 }, value: 5 } <- step 0
-Started(Tid(1)) <- start 0 7
-Looked { key: Key { table: 3, id: 7 }, value: Some(5) } <- step 1
-Wrote { key: Key { table: 3, id: 7 }, value: 5 } <- step 1
-Aborted { cause: Quit, fell: [Tid(1)] } <- quit 0
-Over(Aborted(Quit)) <- quit 0
-Over(Fell(Tid(0))) <- quit 1";
-    answers(&rt, &mut of_two(rt.alloc())?, table)
-}
-
 /// The scheduler's answer to an event in short.
 fn short<R: Records, A: Accesses, G: Graph>(
     sched: &mut Sched<R, A, G>,
@@ -301,36 +185,14 @@ fn told_in_short<R: Records, A: Accesses, G: Graph>(
     Ok(format!(in alloc; "{brief:?}, {place:?}")?)
 }
 
-/// Tests each line of a table: the reply in short, what stands in the place, and behind an arrow the event.
-fn are_placed<T: AllocGlobal + Abort, R: Records, A: Accesses, G: Graph>(
-    rt: &T,
-    sched: &mut Sched<R, A, G>,
-    table: &str,
-) -> Result<(), Fail> {
-    let mut place = Reply::Full;
-    for row in table.lines() {
-        let (want, words) = row.split_once(" <- ").expect(rt, "an arrow");
-        let event = event(words).expect(rt, "an event");
-        let told = told_in_short(rt.alloc(), sched, &mut place, &event)?;
-        assert_eq!(rt; told.as_str(), want, "{words}");
-    }
-    Ok(())
+/// Whether a commit would end the transaction.
+fn ends<R: Records, A: Accesses, G: Graph>(sched: &Sched<R, A, G>, t: Tid) -> bool {
+    sched.ends(&Event::Commit(t))
 }
 
-/// A reply that holds lists is written into the place, and no other one is.
-#[test]
-fn only_lists_are_placed(rt: HostRuntime) -> Result<(), Fail> {
-    let mut sched = of_two(rt.alloc())?;
-    let begun = "Started(Tid(0)), Full <- start 0 7
-Looked { key: Key { table: 3, id: 7 }, value: Some(1) }, Full <- step 0
-Wrote { key: Key { table: 3, id: 7 }, value: 5 }, Full <- step 0";
-    are_placed(&rt, &mut sched, begun)?;
-    assert!(rt; ends(&sched, Tid(0)));
-    let ended = "Placed, Committed(Bounded { list: [1] }) <- commit 0
-Placed, Over(Committed) <- quit 0";
-    are_placed(&rt, &mut sched, ended)?;
-    assert!(rt; !ends(&sched, Tid(0)));
-    Ok(())
+/// What is committed at the record of this number.
+fn committed<R: Records, A: Accesses, G: Graph>(sched: &Sched<R, A, G>, id: i64) -> Option<i64> {
+    sched.records().committed(Key::new(3, id)?)
 }
 
 /// Whom a store of a transaction into the record of this number would come behind.
@@ -349,27 +211,181 @@ fn least_pred<R: Records, A: Accesses, G: Graph>(sched: &Sched<R, A, G>, t: Tid)
 }
 
 /// Two live ones have looked at a record, and then the first stores in it.
-#[test]
-fn layers_are_lent(rt: HostRuntime) -> Result<(), Fail> {
-    let mut sched = of_two(rt.alloc())?;
-    let looks = "Started(Tid(0)) <- start 0 7
-Looked { key: Key { table: 3, id: 7 }, value: Some(1) } <- step 0
-Started(Tid(1)) <- start 0 7
-Looked { key: Key { table: 3, id: 7 }, value: Some(1) } <- step 1";
-    answers(&rt, &mut sched, looks)?;
-    assert!(rt; rivals(&sched, Tid(1), 7) == Tids::from_slice(&[Tid(0)]));
-    assert!(rt; least_pred(&sched, Tid(0)) == None);
-    answers(
-        &rt,
-        &mut sched,
-        "Wrote { key: Key { table: 3, id: 7 }, value: 5 } <- step 0",
-    )?;
-    assert!(rt; least_pred(&sched, Tid(0)) == Some(Tid(1)));
-    Ok(())
+/// What is live, as text: the transactions, and how many they are.
+fn live<R: Records, A: Accesses, G: Graph>(
+    alloc: Global,
+    sched: &Sched<R, A, G>,
+) -> Result<String, Fail> {
+    let tids = sched.live();
+    Ok(format!(in alloc; "{tids:?} {}", sched.live_count())?)
 }
 
-/// Three live ones, each of which has read from the one before it.
-const CHAINED: &str = "Started(Tid(0)) <- start 0 0 1
+/// What is said to a question between events, as text; None where the word is none.
+fn asked<R: Records, A: Accesses, G: Graph>(
+    alloc: Global,
+    sched: &Sched<R, A, G>,
+    kind: &str,
+    digits: &[u8],
+) -> Result<Option<String>, Fail> {
+    let t = Tid(u32::from(number_at(digits, 0)));
+    match kind {
+        "live" => Ok(Some(live(alloc, sched)?)),
+        "ends" => Ok(Some(format!(in alloc; "{}", ends(sched, t))?)),
+        "committed" => {
+            let value = committed(sched, i64::from(number_at(digits, 0)));
+            Ok(Some(format!(in alloc; "{value:?}")?))
+        }
+        "rivals" => {
+            let rivals = rivals(sched, t, i64::from(number_at(digits, 2)));
+            Ok(Some(format!(in alloc; "{rivals:?}")?))
+        }
+        "least" => Ok(Some(format!(in alloc; "{:?}", least_pred(sched, t))?)),
+        _ => Ok(None),
+    }
+}
+
+/// What is said to a line, as text: to a question, or to an event, or to one behind `short`, which is answered in short.
+fn said<R: Records, A: Accesses, G: Graph>(
+    alloc: Global,
+    sched: &mut Sched<R, A, G>,
+    place: &mut Reply,
+    line: &str,
+) -> Result<String, Fail> {
+    let (is_short, line) = match line.strip_prefix("short ") {
+        Some(rest) => (true, rest),
+        None => (false, line),
+    };
+    let (kind, digits) = line.split_once(' ').unwrap_or((line, ""));
+    let digits = digits.as_bytes();
+    if let Some(text) = asked(alloc, sched, kind, digits)? {
+        return Ok(text);
+    }
+    match event(kind, digits) {
+        Some(event) if is_short => told_in_short(alloc, sched, place, &event),
+        Some(event) => told(alloc, sched, &event),
+        None => Ok(String::from_str(alloc, "no event")?),
+    }
+}
+
+/// The first line of a table that is wrong, with what came, or nothing: a line has what is wanted, and behind an arrow what is said to
+/// a scheduler of so many.
+fn first_wrong(alloc: Global, most: u32, table: &str) -> Result<String, Fail> {
+    let mut sched = made(alloc, most)?;
+    let mut place = Reply::Full;
+    for row in table.lines() {
+        let (want, line) = row.split_once(" <- ").unwrap_or((row, ""));
+        let came = said(alloc, &mut sched, &mut place, line)?;
+        if came.as_str() != want {
+            return Ok(format!(in alloc; "{row}: {came}")?);
+        }
+    }
+    Ok(String::new(alloc))
+}
+
+/// What is shown, how many may be live, and a table.
+type Row = (&'static str, u32, &'static str);
+
+const ROWS: [Row; 10] = [
+    (
+        "starts are answered",
+        2,
+        "NoProcedure <- start 1 7
+BadArgs <- start 0
+Started(Tid(0)) <- start 0 7
+Started(Tid(1)) <- start 0 7
+Full <- start 0 7
+Aborted { cause: Quit, fell: [] } <- quit 1
+Started(Tid(2)) <- start 0 7
+Spent <- start 0 7
+[Tid(0), Tid(2)] 2 <- live",
+    ),
+    (
+        "steps are answered",
+        2,
+        "Unknown <- step 0
+Started(Tid(0)) <- start 0 7
+Looked { key: Key { table: 3, id: 7 }, value: Some(1) } <- step 0
+Wrote { key: Key { table: 3, id: 7 }, value: 5 } <- step 0
+Ended <- step 0
+Committed(Bounded { list: [1] }) <- commit 0
+Over(Committed) <- step 0",
+    ),
+    (
+        "a missing record aborts",
+        2,
+        "Started(Tid(0)) <- start 0 9
+Looked { key: Key { table: 3, id: 9 }, value: None } <- step 0
+Aborted { cause: Asked(6), fell: [] } <- step 0",
+    ),
+    (
+        "a cycle aborts: both look at the record, and each would store behind the other's look",
+        2,
+        "Started(Tid(0)) <- start 0 7
+Looked { key: Key { table: 3, id: 7 }, value: Some(1) } <- step 0
+Started(Tid(1)) <- start 0 7
+Looked { key: Key { table: 3, id: 7 }, value: Some(1) } <- step 1
+Wrote { key: Key { table: 3, id: 7 }, value: 5 } <- step 0
+Aborted { cause: Cycle([Tid(1), Tid(0)]), fell: [] } <- step 1",
+    ),
+    (
+        "commits are answered",
+        2,
+        "Unknown <- commit 0
+Started(Tid(0)) <- start 0 7
+NotEnded <- commit 0
+Looked { key: Key { table: 3, id: 7 }, value: Some(1) } <- step 0
+Wrote { key: Key { table: 3, id: 7 }, value: 5 } <- step 0
+Started(Tid(1)) <- start 0 7
+NotEnded <- commit 1
+Looked { key: Key { table: 3, id: 7 }, value: Some(5) } <- step 1
+Wrote { key: Key { table: 3, id: 7 }, value: 5 } <- step 1
+Waits(Tid(0)) <- commit 1
+Committed(Bounded { list: [1] }) <- commit 0
+Over(Committed) <- commit 0
+Committed(Bounded { list: [5] }) <- commit 1
+Some(5) <- committed 7",
+    ),
+    (
+        "quits are answered",
+        2,
+        "Unknown <- quit 0
+Started(Tid(0)) <- start 0 7
+Looked { key: Key { table: 3, id: 7 }, value: Some(1) } <- step 0
+Wrote { key: Key { table: 3, id: 7 }, value: 5 } <- step 0
+Started(Tid(1)) <- start 0 7
+Looked { key: Key { table: 3, id: 7 }, value: Some(5) } <- step 1
+Wrote { key: Key { table: 3, id: 7 }, value: 5 } <- step 1
+Aborted { cause: Quit, fell: [Tid(1)] } <- quit 0
+Over(Aborted(Quit)) <- quit 0
+Over(Fell(Tid(0))) <- quit 1",
+    ),
+    (
+        "a reply that holds lists is written into the place, and no other one is",
+        2,
+        "Started(Tid(0)), Full <- short start 0 7
+Looked { key: Key { table: 3, id: 7 }, value: Some(1) }, Full <- short step 0
+Wrote { key: Key { table: 3, id: 7 }, value: 5 }, Full <- short step 0
+true <- ends 0
+Placed, Committed(Bounded { list: [1] }) <- short commit 0
+Placed, Over(Committed) <- short quit 0
+false <- ends 0",
+    ),
+    (
+        "layers are lent: two live ones have looked at a record, and then the first stores in it",
+        2,
+        "Started(Tid(0)) <- start 0 7
+Looked { key: Key { table: 3, id: 7 }, value: Some(1) } <- step 0
+Started(Tid(1)) <- start 0 7
+Looked { key: Key { table: 3, id: 7 }, value: Some(1) } <- step 1
+Some([Tid(0)]) <- rivals 1 7
+None <- least 0
+Wrote { key: Key { table: 3, id: 7 }, value: 5 } <- step 0
+Some(Tid(1)) <- least 0",
+    ),
+    (
+        "a commit waits for its source: each of three has read from the one before it",
+        3,
+        "Started(Tid(0)) <- start 0 0 1
 Looked { key: Key { table: 3, id: 0 }, value: Some(1) } <- step 0
 Wrote { key: Key { table: 3, id: 1 }, value: 5 } <- step 0
 Started(Tid(1)) <- start 0 1 2
@@ -377,32 +393,44 @@ Looked { key: Key { table: 3, id: 1 }, value: Some(5) } <- step 1
 Wrote { key: Key { table: 3, id: 2 }, value: 5 } <- step 1
 Started(Tid(2)) <- start 0 2 3
 Looked { key: Key { table: 3, id: 2 }, value: Some(5) } <- step 2
-Wrote { key: Key { table: 3, id: 3 }, value: 5 } <- step 2";
-
-#[test]
-fn a_commit_waits_for_its_source(rt: HostRuntime) -> Result<(), Fail> {
-    let mut sched = of_three(rt.alloc())?;
-    answers(&rt, &mut sched, CHAINED)?;
-    assert!(rt; !ends(&sched, Tid(2)));
-    assert!(rt; ends(&sched, Tid(0)));
-    let commits = "Waits(Tid(1)) <- commit 2
+Wrote { key: Key { table: 3, id: 3 }, value: 5 } <- step 2
+false <- ends 2
+true <- ends 0
+Waits(Tid(1)) <- commit 2
 Committed(Bounded { list: [] }) <- commit 0
-Waits(Tid(1)) <- commit 2";
-    answers(&rt, &mut sched, commits)?;
-    are_live(&rt, &sched, &[Tid(1), Tid(2)]);
-    Ok(())
-}
+Waits(Tid(1)) <- commit 2
+[Tid(1), Tid(2)] 2 <- live",
+    ),
+    (
+        "a cascade of two levels: each of three has read from the one before it",
+        3,
+        "Started(Tid(0)) <- start 0 0 1
+Looked { key: Key { table: 3, id: 0 }, value: Some(1) } <- step 0
+Wrote { key: Key { table: 3, id: 1 }, value: 5 } <- step 0
+Started(Tid(1)) <- start 0 1 2
+Looked { key: Key { table: 3, id: 1 }, value: Some(5) } <- step 1
+Wrote { key: Key { table: 3, id: 2 }, value: 5 } <- step 1
+Started(Tid(2)) <- start 0 2 3
+Looked { key: Key { table: 3, id: 2 }, value: Some(5) } <- step 2
+Wrote { key: Key { table: 3, id: 3 }, value: 5 } <- step 2
+Aborted { cause: Quit, fell: [Tid(1), Tid(2)] } <- quit 0
+Over(Fell(Tid(0))) <- step 2
+[] 0 <- live
+Some(1) <- committed 0
+None <- committed 1
+None <- committed 2
+None <- committed 3",
+    ),
+];
 
 #[test]
-fn two_level_cascade(rt: HostRuntime) -> Result<(), Fail> {
-    let mut sched = of_three(rt.alloc())?;
-    answers(&rt, &mut sched, CHAINED)?;
-    let quit = "Aborted { cause: Quit, fell: [Tid(1), Tid(2)] } <- quit 0
-Over(Fell(Tid(0))) <- step 2";
-    answers(&rt, &mut sched, quit)?;
-    are_live(&rt, &sched, &[]);
-    for (id, wanted) in [(0, Some(1)), (1, None), (2, None), (3, None)] {
-        assert!(rt; committed(&sched, id) == wanted);
+fn schedulers_answer(rt: HostRuntime) -> Result<(), Fail> {
+    for (what, most, table) in &ROWS {
+        assert_eq!(rt;
+            first_wrong(rt.alloc(), *most, table)?.as_str(),
+            "",
+            "{what}"
+        );
     }
     Ok(())
 }

@@ -20,8 +20,6 @@ pub const DEPOSIT_CHECKING: u16 = 1;
 
 pub const TRANSACT_SAVING: u16 = 2;
 
-pub const AMALGAMATE: u16 = 3;
-
 pub const WRITE_CHECK: u16 = 4;
 
 const LIMITS: Limits = Limits {

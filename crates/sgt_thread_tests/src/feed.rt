@@ -151,17 +151,6 @@ fn are_once(left: &[(Stub, Taken)], jobs: u32) -> bool {
     true
 }
 
-/// What was seen of a feed.
-#[derive(Clone, Copy, PartialEq, Eq)]
-struct Fed {
-    /// Whether the jobs below the number were taken, each once and each taker's in order, and the takers left for the reason.
-    is_right: bool,
-    /// The number of the job that was handed back, if one was.
-    back: Option<u32>,
-    /// How many stops were put.
-    stops: usize,
-}
-
 /// What the putter and the takers do, in a thread each, and what is to come of it.
 #[derive(Clone, Copy)]
 struct Plan {
@@ -177,6 +166,10 @@ struct Plan {
     end: End,
 }
 
+/// What is seen of a feed: whether the jobs below the number were taken, each once and each taker's in order, and the takers left
+/// for the reason; the number of the job that was handed back, if one was; and how many stops were put.
+type Fed = (bool, Option<u32>, usize);
+
 /// Feeds the takers as it is planned, and joins them.
 fn feed<R: Threads + Wait + Sync>(rt: &R, alloc: Global, plan: Plan) -> Option<Fed> {
     let (putter, takers) = Feed::make(alloc, plan.room, plan.takers).ok()?;
@@ -190,51 +183,116 @@ fn feed<R: Threads + Wait + Sync>(rt: &R, alloc: Global, plan: Plan) -> Option<F
     if let Some(putter) = putter {
         drop(join_all(putter, left));
     }
-    Some(Fed {
-        is_right,
-        back,
-        stops,
-    })
+    Some((is_right, back, stops))
 }
 
-/// How many takers a feed is made with.
-fn made(alloc: Global, room: usize, takers: usize) -> Result<usize, FeedError> {
-    let (_, takers) = Feed::make(alloc, room, takers)?;
-    Ok(takers.len())
-}
+const TO_THE_END: Plan = Plan {
+    room: 3,
+    takers: 1,
+    put: 100,
+    most: 101,
+    taken: 100,
+    end: End::Stop,
+};
 
-/// Whether each of these rooms and numbers of takers is refused for this.
-fn are_refused(alloc: Global, sizes: &[(usize, usize)], error: FeedError) -> bool {
-    for (room, takers) in sizes {
-        if made(alloc, *room, *takers) != Err(error) {
-            return false;
-        }
+const PUTTER_GONE: Plan = Plan {
+    takers: 2,
+    put: 50,
+    taken: 50,
+    end: End::Gone,
+    ..TO_THE_END
+};
+
+const TAKERS_LEAVE: Plan = Plan {
+    room: 1,
+    takers: 4,
+    most: 1,
+    taken: 4,
+    end: End::Enough,
+    ..TO_THE_END
+};
+
+/// What is shown, a plan, and what may be seen.
+type Row = (&'static str, Plan, &'static [Fed]);
+
+/// Where the takers leave, one more job may be put before the last of them does.
+const ROWS: [Row; 4] = [
+    ("each job is taken once", TO_THE_END, &[(true, None, 1)]),
+    (
+        "each job is taken once by one of many",
+        Plan {
+            room: 1,
+            takers: 16,
+            ..TO_THE_END
+        },
+        &[(true, None, 16)],
+    ),
+    (
+        "takers find the putter gone",
+        PUTTER_GONE,
+        &[(true, None, 0)],
+    ),
+    (
+        "leaving lets the putter go",
+        TAKERS_LEAVE,
+        &[(true, Some(4), 0), (true, Some(5), 0)],
+    ),
+];
+
+/// Whether one of these is seen where it goes by the plan.
+fn goes<R: Threads + Wait + Sync>(rt: &R, alloc: Global, plan: Plan, wanted: &[Fed]) -> bool {
+    match feed(rt, alloc, plan) {
+        Some(fed) => wanted.contains(&fed),
+        None => false,
     }
-    true
 }
 
 #[test]
-fn refused_makes(rt: HostRuntime) {
-    let alloc = rt.alloc();
-    assert!(rt; are_refused(alloc, &[(0, 1), (1025, 1), (0, 17)], FeedError::BadRoom));
-    assert!(rt; are_refused(alloc, &[(1, 0), (1024, 17)], FeedError::BadTakers));
-    assert!(rt; made(alloc, 1, 1) == Ok(1));
-    assert!(rt; made(alloc, 1024, 16) == Ok(16));
+fn jobs_and_ends_are_told(rt: HostRuntime) {
+    for (what, plan, wanted) in &ROWS {
+        assert!(rt; goes(&rt, rt.alloc(), *plan, wanted), "{what}");
+    }
 }
 
-/// How many takers a feed for so many jobs is made with.
-fn made_for(alloc: Global, jobs: usize, takers: usize) -> Result<usize, FeedError> {
-    let (_, takers) = Feed::make_for(alloc, jobs, takers)?;
+/// How many takers a feed is made with, of a room, or for so many jobs.
+fn made(
+    alloc: Global,
+    room: Option<usize>,
+    jobs: usize,
+    takers: usize,
+) -> Result<usize, FeedError> {
+    let (_, takers) = match room {
+        Some(room) => Feed::make(alloc, room, takers)?,
+        None => Feed::make_for(alloc, jobs, takers)?,
+    };
     Ok(takers.len())
 }
 
+/// A room or none, and then a number of jobs; a number of takers; and what comes of it.
+type Made = (Option<usize>, usize, usize, Result<usize, FeedError>);
+
+const MADE: [Made; 11] = [
+    (Some(0), 0, 1, Err(FeedError::BadRoom)),
+    (Some(1025), 0, 1, Err(FeedError::BadRoom)),
+    (Some(0), 0, 17, Err(FeedError::BadRoom)),
+    (Some(1), 0, 0, Err(FeedError::BadTakers)),
+    (Some(1024), 0, 17, Err(FeedError::BadTakers)),
+    (Some(1), 0, 1, Ok(1)),
+    (Some(1024), 0, 16, Ok(16)),
+    (None, 1_000_001, 17, Err(FeedError::BadRoom)),
+    (None, 1_000_000, 0, Err(FeedError::BadTakers)),
+    (None, 0, 1, Ok(1)),
+    (None, 2000, 16, Ok(16)),
+];
+
 #[test]
-fn makes_for_jobs(rt: HostRuntime) {
-    let alloc = rt.alloc();
-    assert!(rt; made_for(alloc, 1_000_001, 17) == Err(FeedError::BadRoom));
-    assert!(rt; made_for(alloc, 1_000_000, 0) == Err(FeedError::BadTakers));
-    assert!(rt; made_for(alloc, 0, 1) == Ok(1));
-    assert!(rt; made_for(alloc, 2000, 16) == Ok(16));
+fn feeds_are_made_or_refused(rt: HostRuntime) {
+    for (room, jobs, takers, wanted) in &MADE {
+        assert!(rt;
+            made(rt.alloc(), *room, *jobs, *takers) == *wanted,
+            "{room:?} {jobs} {takers}"
+        );
+    }
 }
 
 /// Puts so many jobs, and a stop for each taker, into a feed that was made for them, before anything is taken. It answers the
@@ -254,70 +312,7 @@ fn put_before_takes<R: Wait>(
 /// Were there too little room, this test would not end.
 #[test]
 fn no_put_waits_for_room(rt: HostRuntime) {
-    assert!(rt; put_before_takes(&rt, rt.alloc(), 0, 1) == Ok((None, 1)));
-    assert!(rt; put_before_takes(&rt, rt.alloc(), 2000, 16) == Ok((None, 16)));
-}
-
-/// Whether none of the jobs was handed back, and so many stops were put.
-fn goes_well<R: Threads + Wait + Sync>(rt: &R, alloc: Global, plan: Plan, stops: usize) -> bool {
-    let fed = Fed {
-        is_right: true,
-        back: None,
-        stops,
-    };
-    feed(rt, alloc, plan) == Some(fed)
-}
-
-#[test]
-fn each_job_is_taken_once(rt: HostRuntime) {
-    let one = Plan {
-        room: 3,
-        takers: 1,
-        put: 100,
-        most: 101,
-        taken: 100,
-        end: End::Stop,
-    };
-    assert!(rt; goes_well(&rt, rt.alloc(), one, 1));
-    let many = Plan {
-        room: 1,
-        takers: 16,
-        ..one
-    };
-    assert!(rt; goes_well(&rt, rt.alloc(), many, 16));
-}
-
-#[test]
-fn takers_find_the_putter_gone(rt: HostRuntime) {
-    let plan = Plan {
-        room: 3,
-        takers: 2,
-        put: 50,
-        most: 101,
-        taken: 50,
-        end: End::Gone,
-    };
-    assert!(rt; goes_well(&rt, rt.alloc(), plan, 0));
-}
-
-/// One more job may be put before the last taker leaves.
-#[test]
-fn leaving_lets_the_putter_go(rt: HostRuntime) {
-    let plan = Plan {
-        room: 1,
-        takers: 4,
-        put: 100,
-        most: 1,
-        taken: 4,
-        end: End::Enough,
-    };
-    let fed = feed(&rt, rt.alloc(), plan);
-    let handed_back = |number| {
-        Some(Fed {
-            is_right: true,
-            back: Some(number),
-            stops: 0,
-        })
-    };
-    assert!(rt; fed == handed_back(4) || fed == handed_back(5));
+    for (jobs, takers) in [(0, 1), (2000, 16)] {
+        assert!(rt; put_before_takes(&rt, rt.alloc(), jobs, takers) == Ok((None, takers)));
+    }
 }

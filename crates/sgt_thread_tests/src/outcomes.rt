@@ -13,7 +13,6 @@ type Call = (u16, &'static [i64]);
 
 /// What is done at an engine. Of these a try is the longest: a procedure is started, which gives a transaction of this number if
 /// it is not refused, and makes so many steps.
-#[derive(Clone, Copy)]
 enum Deed {
     Try(Call, u32, u32),
     Step(u32),
@@ -29,12 +28,12 @@ fn add_try(events: &mut Vec<Event>, call: Call, t: u32, steps: u32) -> Result<()
     Ok(())
 }
 
-fn add(events: &mut Vec<Event>, deed: Deed) -> Result<(), NoMemory> {
+fn add(events: &mut Vec<Event>, deed: &Deed) -> Result<(), NoMemory> {
     match deed {
-        Deed::Try(call, t, steps) => add_try(events, call, t, steps)?,
-        Deed::Step(t) => events.push(Event::Step(Tid(t)))?,
-        Deed::Commit(t) => events.push(Event::Commit(Tid(t)))?,
-        Deed::Quit(t) => events.push(Event::Quit(Tid(t)))?,
+        Deed::Try(call, t, steps) => add_try(events, *call, *t, *steps)?,
+        Deed::Step(t) => events.push(Event::Step(Tid(*t)))?,
+        Deed::Commit(t) => events.push(Event::Commit(Tid(*t)))?,
+        Deed::Quit(t) => events.push(Event::Quit(Tid(*t)))?,
     }
     Ok(())
 }
@@ -42,13 +41,12 @@ fn add(events: &mut Vec<Event>, deed: Deed) -> Result<(), NoMemory> {
 fn events_of(alloc: Global, deeds: &[Deed]) -> Result<Vec<Event>, NoMemory> {
     let mut events = Vec::new(alloc);
     for deed in deeds {
-        add(&mut events, *deed)?;
+        add(&mut events, deed)?;
     }
     Ok(events)
 }
 
 /// What is told of a job.
-#[derive(Clone, Copy)]
 enum Told {
     Done(u64),
     Asked(u64),
@@ -67,12 +65,12 @@ fn tids_of(alloc: Global, numbers: &[u32]) -> Result<Vec<Tid>, NoMemory> {
     Ok(tids)
 }
 
-fn outcome_of(alloc: Global, told: Told) -> Result<Outcome<u8>, NoMemory> {
+fn outcome_of(alloc: Global, told: &Told) -> Result<Outcome<u8>, NoMemory> {
     Ok(match told {
-        Told::Done(n) => Outcome::Done(n),
-        Told::Asked(n) => Outcome::Asked(n),
+        Told::Done(n) => Outcome::Done(*n),
+        Told::Asked(n) => Outcome::Asked(*n),
         Told::Gave(numbers) => Outcome::Gave(tids_of(alloc, numbers)?),
-        Told::Refused(n) => Outcome::Refused(n),
+        Told::Refused(n) => Outcome::Refused(*n),
         Told::Left => Outcome::Left(7),
         Told::Untaken => Outcome::Untaken,
         Told::NoMemory => Outcome::NoMemory,
@@ -82,7 +80,7 @@ fn outcome_of(alloc: Global, told: Told) -> Result<Outcome<u8>, NoMemory> {
 fn outcomes_of(alloc: Global, told: &[Told]) -> Result<Vec<Outcome<u8>>, NoMemory> {
     let mut outcomes = Vec::new(alloc);
     for one in told {
-        outcomes.push(outcome_of(alloc, *one)?)?;
+        outcomes.push(outcome_of(alloc, one)?)?;
     }
     Ok(outcomes)
 }
@@ -112,23 +110,29 @@ fn stands(alloc: Global, engine: &ListEngine, case: Case) -> Result<bool, NoMemo
     audit(alloc, engine.history(), &jobs, &outcomes, workers, tries)
 }
 
-/// The index of the first case that stands, where none is to stand, or the other way round.
-fn first_wrong(alloc: Global, engine: &ListEngine, cases: &[Case], right: bool) -> Option<usize> {
-    for (at, case) in cases.iter().enumerate() {
+/// Whether each case stands, where it is right, and none does otherwise.
+fn all_stand(alloc: Global, engine: &ListEngine, cases: &[Case], right: bool) -> bool {
+    for case in cases {
         if stands(alloc, engine, *case) != Ok(right) {
-            return Some(at);
+            return false;
         }
     }
-    None
+    true
 }
+
+/// What is shown; what is done at an engine; cases that stand then; and cases that don't.
+type Row = (
+    &'static str,
+    &'static [Deed],
+    &'static [Case],
+    &'static [Case],
+);
 
 /// Whether after these deeds the first cases stand, and the others don't.
 fn agree(alloc: Global, deeds: &[Deed], right: &[Case], wrong: &[Case]) -> Option<bool> {
     let events = events_of(alloc, deeds).ok()?;
     let engine = engine_after(alloc, events.as_slice()).ok()?;
-    let first = first_wrong(alloc, &engine, right, true);
-    let second = first_wrong(alloc, &engine, wrong, false);
-    Some(first.is_none() && second.is_none())
+    Some(all_stand(alloc, &engine, right, true) && all_stand(alloc, &engine, wrong, false))
 }
 
 const DEPOSIT: Call = (DEPOSIT_CHECKING, &[1, 100]);
@@ -273,11 +277,6 @@ const KINDS_WRONG: [Case; 11] = [
     ),
 ];
 
-#[test]
-fn an_entry_of_each_kind(rt: HostRuntime) {
-    assert!(rt; agree(rt.alloc(), &KINDS_DONE, &KINDS_RIGHT, &KINDS_WRONG) == Some(true));
-}
-
 /// Entry 4 commits the deposit, and the entries 5 and 6 refuse.
 const TWICE_DONE: [Deed; 4] = [
     Deed::Try(DEPOSIT, 0, 3),
@@ -309,11 +308,6 @@ const TWICE_WRONG: [Case; 3] = [
     ),
 ];
 
-#[test]
-fn nothing_is_named_twice(rt: HostRuntime) {
-    assert!(rt; agree(rt.alloc(), &TWICE_DONE, &TWICE_RIGHT, &TWICE_WRONG) == Some(true));
-}
-
 /// Two write the same check: both look, and the second to store closes a cycle. Entry 10 commits the first.
 const CYCLE_DONE: [Deed; 5] = [
     Deed::Try(CHECK, 0, 3),
@@ -335,11 +329,6 @@ const CYCLE_WRONG: [Case; 4] = [
     (&CHECKS, &[Told::Done(10), Told::Gave(&[0])], 2, 1),
     (&CHECKS, &[Told::Done(10), Told::Gave(&[2])], 2, 1),
 ];
-
-#[test]
-fn a_cycle_is_a_failed_try(rt: HostRuntime) {
-    assert!(rt; agree(rt.alloc(), &CYCLE_DONE, &CYCLE_RIGHT, &CYCLE_WRONG) == Some(true));
-}
 
 /// A deposit is quit twice. With the first, two balances fall that were live at once, with the second a later one.
 const TRIES_DONE: [Deed; 7] = [
@@ -419,11 +408,6 @@ const TRIES_WRONG: [Case; 10] = [
     ),
 ];
 
-#[test]
-fn tries_come_one_after_another(rt: HostRuntime) {
-    assert!(rt; agree(rt.alloc(), &TRIES_DONE, &TRIES_RIGHT, &TRIES_WRONG) == Some(true));
-}
-
 const BALANCES: [Call; 3] = [GOOD_BALANCE, GOOD_BALANCE, GOOD_BALANCE];
 
 const TWO_LEFT: [Told; 3] = [Told::Left, Told::Left, Told::Untaken];
@@ -455,7 +439,45 @@ const LEFT_WRONG: [Case; 5] = [
     ),
 ];
 
+const ROWS: [Row; 5] = [
+    (
+        "an entry of each kind",
+        &KINDS_DONE,
+        &KINDS_RIGHT,
+        &KINDS_WRONG,
+    ),
+    (
+        "nothing is named twice",
+        &TWICE_DONE,
+        &TWICE_RIGHT,
+        &TWICE_WRONG,
+    ),
+    (
+        "a cycle is a failed try",
+        &CYCLE_DONE,
+        &CYCLE_RIGHT,
+        &CYCLE_WRONG,
+    ),
+    (
+        "tries come one after another",
+        &TRIES_DONE,
+        &TRIES_RIGHT,
+        &TRIES_WRONG,
+    ),
+    (
+        "jobs are untaken where all left",
+        &[],
+        &LEFT_RIGHT,
+        &LEFT_WRONG,
+    ),
+];
+
 #[test]
-fn jobs_are_untaken_where_all_left(rt: HostRuntime) {
-    assert!(rt; agree(rt.alloc(), &[], &LEFT_RIGHT, &LEFT_WRONG) == Some(true));
+fn outcomes_agree_with_the_history(rt: HostRuntime) {
+    for (what, deeds, right, wrong) in &ROWS {
+        assert!(rt;
+            agree(rt.alloc(), deeds, right, wrong) == Some(true),
+            "{what}"
+        );
+    }
 }

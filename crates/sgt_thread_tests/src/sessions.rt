@@ -1,186 +1,17 @@
-//! Sessions: threads that share one engine.
+//! Sessions: threads that share one engine, and what their transactions are told.
 ghost use Rattle.std.specs.Prelude.{◌≡◌, ◌≤◌, []};
 ghost use Rattle.sgt_engine.specs.EngineView.{setting_of};
 
-use crate::commits::{asks_at_once, puts_and_asks};
-use crate::engine::{BALANCE, DEPOSIT_CHECKING, ListEngine, SharedEngine, new_engine, start};
-use crate::stress::all_work;
+use crate::engine::{ListEngine, SharedEngine, new_engine};
+use crate::plays::{Play, all_play, calls};
 use sgt_entries::History;
 use sgt_model::{Entry, Event, Reply, Tid};
 use sgt_session::{CloseError, Named, Session, Shared};
 use std::alloc::Global;
 use std::marker::Brand;
 use std::sync::Wait;
-use std::sync::atomic::{AtomicBool, Ordering};
 use std::sync::ledger::Blank;
-use std::test::Fail;
-use std::thread;
 use std::thread::Threads;
-
-/// How often a thread looks whether the other has come.
-const TURNS: u32 = 10_000_000;
-
-/// How many calls a thread makes at most while it waits for those of the other.
-const CALLS: u32 = 1_000_000;
-
-/// What the threads do.
-#[derive(Clone, Copy)]
-pub enum Play {
-    /// The first deposits, and the second asks for the balance meanwhile.
-    Meet,
-    /// Each runs 200 transactions.
-    Press,
-    /// One makes a call of a commit that has to wait.
-    AskAtOnce,
-    /// The first puts in twice, and two others ask for the balance meanwhile.
-    AskBehindTwo,
-}
-
-/// What two threads tell each other beside their calls.
-#[derive(Drop)]
-struct Flags {
-    has_stored: AtomicBool,
-    has_looked: AtomicBool,
-}
-
-/// Waits for a flag, and tells whether it was raised in time.
-pub fn is_raised(flag: &AtomicBool) -> bool {
-    for _ in 0..TURNS {
-        if flag.load(Ordering::SeqCst) {
-            return true;
-        }
-        thread::yield_now();
-    }
-    false
-}
-
-/// Starts a transaction, unless it is refused.
-pub fn starts<N: Named, W: Wait>(
-    rt: &W,
-    shared: &SharedEngine<N>,
-    session: &mut Session<N>,
-    event: Event,
-) -> Option<Tid> {
-    let receipt = session.call(rt, shared, event).ok()?;
-    match &receipt.reply {
-        Reply::Started(t) => Some(*t),
-        _ => None,
-    }
-}
-
-/// Makes a call, and answers its number.
-pub fn calls<N: Named, W: Wait>(
-    rt: &W,
-    shared: &SharedEngine<N>,
-    session: &mut Session<N>,
-    event: Event,
-) -> Option<u64> {
-    match session.call(rt, shared, event) {
-        Ok(receipt) => Some(receipt.number),
-        Err(_) => None,
-    }
-}
-
-/// Starts a transaction, and makes three steps.
-pub fn makes_three_steps<N: Named, W: Wait>(
-    rt: &W,
-    shared: &SharedEngine<N>,
-    session: &mut Session<N>,
-    event: Event,
-) -> Option<Tid> {
-    let t = starts(rt, shared, session, event)?;
-    for _ in 0..3 {
-        calls(rt, shared, session, Event::Step(t))?;
-    }
-    Some(t)
-}
-
-/// Makes steps at the procedure's end, which change nothing, until the other sessions have made so many calls.
-pub fn lets_others_call<N: Named, W: Wait>(
-    rt: &W,
-    shared: &SharedEngine<N>,
-    session: &mut Session<N>,
-    t: Tid,
-    others: u64,
-) {
-    for _ in 0..CALLS {
-        let number = calls(rt, shared, session, Event::Step(t)).unwrap_or(u64::MAX);
-        let own = session.receipts().len() as u64;
-        if number.saturating_add(1) >= own.saturating_add(others) {
-            break;
-        }
-        thread::yield_now();
-    }
-}
-
-/// Deposits 1.00, and commits once the other has asked to commit.
-fn deposits<N: Named, W: Wait>(
-    rt: &W,
-    shared: &SharedEngine<N>,
-    session: &mut Session<N>,
-    flags: &Flags,
-) {
-    if let Some(t) = makes_three_steps(rt, shared, session, start(DEPOSIT_CHECKING, &[1, 100])) {
-        flags.has_stored.store(true, Ordering::SeqCst);
-        if is_raised(&flags.has_looked) {
-            lets_others_call(rt, shared, session, t, 5);
-        }
-        let _ = session.commit(rt, shared, t);
-    }
-}
-
-/// Asks for the balance once the deposit is stored: it reads the checking from the deposit, and has to commit behind it.
-fn asks<N: Named, W: Wait>(
-    rt: &W,
-    shared: &SharedEngine<N>,
-    session: &mut Session<N>,
-    flags: &Flags,
-) {
-    if !is_raised(&flags.has_stored) {
-        return;
-    }
-    if let Some(t) = makes_three_steps(rt, shared, session, start(BALANCE, &[1])) {
-        flags.has_looked.store(true, Ordering::SeqCst);
-        let _ = session.commit(rt, shared, t);
-    }
-}
-
-/// Two threads, each with a session.
-fn both_play<N: Named + Send + Sync, R: Threads + Wait + Sync>(
-    rt: &R,
-    shared: &SharedEngine<N>,
-    sessions: &mut [Session<N>],
-) {
-    let flags = Flags {
-        has_stored: AtomicBool::new(false),
-        has_looked: AtomicBool::new(false),
-    };
-    let signs = &flags;
-    thread::for_each_mut(
-        rt,
-        sessions,
-        2,
-        &|seat, session| match seat {
-            0 => deposits(rt, shared, session, signs),
-            _ => asks(rt, shared, session, signs),
-        },
-    );
-}
-
-/// A thread for each session, where they do what is played.
-fn play_all<N: Named + Send + Sync, R: Threads + Wait + Sync>(
-    rt: &R,
-    shared: &SharedEngine<N>,
-    sessions: &mut [Session<N>],
-    play: Play,
-) {
-    match play {
-        Play::Meet => both_play(rt, shared, sessions),
-        Play::Press => all_work(rt, shared, sessions),
-        Play::AskAtOnce => asks_at_once(rt, shared, sessions),
-        Play::AskBehindTwo => puts_and_asks(rt, shared, sessions),
-    }
-}
 
 /// Closes without one of the sessions.
 fn close_without_one<N: Named>(
@@ -225,7 +56,7 @@ fn close_all<N: Named>(shared: SharedEngine<N>, sessions: Vec<Session<N>>) -> Op
 
 /// So many threads play, each with a session, and leave an engine behind. A close without one of the sessions hands all back, and
 /// one with all of them closes.
-pub fn run<N: Named + Send + Sync, R: Threads + Wait + Sync>(
+fn run<N: Named + Send + Sync, R: Threads + Wait + Sync>(
     rt: &R,
     alloc: Global,
     engine: ListEngine,
@@ -241,18 +72,52 @@ pub fn run<N: Named + Send + Sync, R: Threads + Wait + Sync>(
     let Ok((shared, mut sessions)) = Shared::<N, _, _, _>::new(alloc, engine, blank, threads) else {
         return None;
     };
-    play_all(rt, &shared, sessions.as_mut_slice(), play);
+    all_play(rt, &shared, sessions.as_mut_slice(), play);
     let (shared, sessions) = close_too_early(rt, shared, sessions)?;
     close_all(shared, sessions)
 }
 
+/// The same, on this engine.
+fn played<R: Threads + Wait + Sync>(
+    rt: &R,
+    alloc: Global,
+    engine: ListEngine,
+    threads: u16,
+    play: Play,
+) -> Option<ListEngine>
+    requires empty { engine.past ≡ [] }
+    requires threads { (1 ≤ threads) × (threads ≤ 64) }
+{
+    let blank = Blank::new(u64::from(threads));
+    run::<Brand, _>(rt, alloc, engine, blank, threads, play)
+}
+
+/// The same, on a new engine, of at most three threads.
+fn left_by<R: Threads + Wait + Sync>(
+    rt: &R,
+    alloc: Global,
+    threads: u16,
+    play: Play,
+) -> Option<ListEngine> {
+    if threads < 1 || threads > 3 {
+        return None;
+    }
+    played(rt, alloc, new_engine(alloc).ok()?, threads, play)
+}
+
+/// Two threads meet, the history is cut off, and two new sessions meet on what is left.
+fn left_behind_a_cut<R: Threads + Wait + Sync>(rt: &R, alloc: Global) -> Option<ListEngine> {
+    let (_, engine) = left_by(rt, alloc, 2, Play::Meet)?.cut(alloc).ok()?;
+    played(rt, alloc, engine, 2, Play::Meet)
+}
+
 /// What is compared of a reply.
 #[derive(Clone, Copy, PartialEq, Eq)]
-pub enum Told {
+enum Told {
     Started,
     Looked(Option<i64>),
     Wrote(i64),
-    Waits(Tid),
+    Waits(u32),
     Committed(Option<i64>),
 }
 
@@ -262,7 +127,7 @@ fn compared(entry: &Entry, t: Tid) -> Option<Told> {
         (Event::Start { .. }, Reply::Started(s)) if *s == t => Some(Told::Started),
         (Event::Step(s), Reply::Looked { value, .. }) if *s == t => Some(Told::Looked(*value)),
         (Event::Step(s), Reply::Wrote { value, .. }) if *s == t => Some(Told::Wrote(*value)),
-        (Event::Commit(s), Reply::Waits(first)) if *s == t => Some(Told::Waits(*first)),
+        (Event::Commit(s), Reply::Waits(first)) if *s == t => Some(Told::Waits(first.0)),
         (Event::Commit(s), Reply::Committed(answers)) if *s == t => {
             Some(Told::Committed(answers.as_slice().first().copied()))
         }
@@ -285,7 +150,7 @@ fn waits_again(all: &[Told], count: usize, one: &Told) -> bool {
 }
 
 /// Whether the transaction was told just this, each wait once or more often.
-pub fn is_told(history: &History, t: Tid, all: &[Told]) -> bool {
+fn is_told(history: &History, t: Tid, all: &[Told]) -> bool {
     let mut count: usize = 0;
     for place in 0..history.len() {
         let entry = history.at(place);
@@ -299,6 +164,17 @@ pub fn is_told(history: &History, t: Tid, all: &[Told]) -> bool {
         }
     }
     count == all.len()
+}
+
+/// Whether two transactions were told just this.
+fn are_told(engine: Option<ListEngine>, all: &[(u32, &[Told]); 2]) -> bool {
+    match engine {
+        Some(engine) => {
+            let history = engine.history();
+            is_told(history, Tid(all[0].0), all[0].1) && is_told(history, Tid(all[1].0), all[1].1)
+        }
+        None => false,
+    }
 }
 
 const DEPOSITED: [Told; 5] = [
@@ -315,64 +191,81 @@ const ASKED: [Told; 6] = [
     Told::Looked(Some(101)),
     Told::Looked(Some(500)),
     Told::Looked(Some(1100)),
-    Told::Waits(Tid(0)),
+    Told::Waits(0),
     Told::Committed(Some(1600)),
 ];
 
-/// Whether the two transactions of the threads that met were told so.
-fn have_met(engine: Option<ListEngine>, deposited: &[Told], asked: &[Told]) -> bool {
-    match engine {
-        Some(engine) => {
-            is_told(engine.history(), Tid(0), deposited) && is_told(engine.history(), Tid(1), asked)
-        }
-        None => false,
+/// It is woken by the end of the first, and has to wait for the second.
+const ASKED_BEHIND_TWO: [Told; 7] = [
+    Told::Started,
+    Told::Looked(Some(101)),
+    Told::Looked(Some(550)),
+    Told::Looked(Some(1100)),
+    Told::Waits(0),
+    Told::Waits(1),
+    Told::Committed(Some(1650)),
+];
+
+/// What is shown, how many threads play what, and what two transactions of theirs are told.
+type Row = (&'static str, u16, Play, [(u32, &'static [Told]); 2]);
+
+const ROWS: [Row; 3] = [
+    (
+        "two sessions meet",
+        2,
+        Play::Meet,
+        [(0, &DEPOSITED), (1, &ASKED)],
+    ),
+    (
+        "a call that has to wait returns at once",
+        1,
+        Play::AskAtOnce,
+        [(0, &DEPOSITED), (1, &ASKED)],
+    ),
+    (
+        "an end wakes all that wait for it",
+        3,
+        Play::AskBehindTwo,
+        [(2, &ASKED_BEHIND_TWO), (3, &ASKED_BEHIND_TWO)],
+    ),
+];
+
+#[test]
+fn sessions_are_told_what_they_share(rt: HostRuntime) {
+    for (what, threads, play, all) in &ROWS {
+        assert!(rt;
+            are_told(left_by(&rt, rt.alloc(), *threads, *play), all),
+            "{what}"
+        );
     }
 }
 
-/// The same, told of the accounts that those before them have left.
-const DEPOSITED_AGAIN: [Told; 5] = [
-    Told::Started,
-    Told::Looked(Some(101)),
-    Told::Looked(Some(1100)),
-    Told::Wrote(1200),
-    Told::Committed(Some(1200)),
+/// The same as two that meet, told of the accounts that those before them have left.
+const AGAIN: [(u32, &[Told]); 2] = [
+    (
+        0,
+        &[
+            Told::Started,
+            Told::Looked(Some(101)),
+            Told::Looked(Some(1100)),
+            Told::Wrote(1200),
+            Told::Committed(Some(1200)),
+        ],
+    ),
+    (
+        1,
+        &[
+            Told::Started,
+            Told::Looked(Some(101)),
+            Told::Looked(Some(500)),
+            Told::Looked(Some(1200)),
+            Told::Waits(0),
+            Told::Committed(Some(1700)),
+        ],
+    ),
 ];
 
-const ASKED_AGAIN: [Told; 6] = [
-    Told::Started,
-    Told::Looked(Some(101)),
-    Told::Looked(Some(500)),
-    Told::Looked(Some(1200)),
-    Told::Waits(Tid(0)),
-    Told::Committed(Some(1700)),
-];
-
-/// Cuts the history off, and lets two new sessions meet on what is left.
-fn meet_behind_a_cut<R: Threads + Wait + Sync>(
-    rt: &R,
-    alloc: Global,
-    engine: ListEngine,
-) -> Option<ListEngine> {
-    let (_, engine) = engine.cut(alloc).ok()?;
-    run::<Brand, _>(rt, alloc, engine, Blank::new(2), 2, Play::Meet)
-}
-
 #[test]
-fn new_sessions_go_on_behind_a_cut(rt: HostRuntime) -> Result<(), Fail> {
-    let engine = new_engine(rt.alloc())?;
-    let engine = run::<Brand, _>(&rt, rt.alloc(), engine, Blank::new(2), 2, Play::Meet);
-    let again = match engine {
-        Some(engine) => meet_behind_a_cut(&rt, rt.alloc(), engine),
-        None => None,
-    };
-    assert!(rt; have_met(again, DEPOSITED_AGAIN.as_slice(), ASKED_AGAIN.as_slice()));
-    Ok(())
-}
-
-#[test]
-fn two_sessions_meet(rt: HostRuntime) -> Result<(), Fail> {
-    let engine = new_engine(rt.alloc())?;
-    let engine = run::<Brand, _>(&rt, rt.alloc(), engine, Blank::new(2), 2, Play::Meet);
-    assert!(rt; have_met(engine, DEPOSITED.as_slice(), ASKED.as_slice()));
-    Ok(())
+fn new_sessions_go_on_behind_a_cut(rt: HostRuntime) {
+    assert!(rt; are_told(left_behind_a_cut(&rt, rt.alloc()), &AGAIN));
 }

@@ -1,5 +1,5 @@
 use Rattle.sgt_engine.specs.EngineView.{setting_of}
-use Rattle.sgt_thread_tests.proofs.commits.an_end_wakes_all_that_wait_for_it.Given as goal
+use Rattle.sgt_thread_tests.proofs.sessions.played.Given as goal
 
 abbrev pub ghosts-run-N-Ledger : goal.ghosts-run-N-Ledger
 ghosts-run-N-Ledger g a = record { name = a.blank.name; parts = a.blank.parts }
