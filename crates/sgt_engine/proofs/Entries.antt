@@ -1,6 +1,7 @@
 -- One more entry.
-use Rattle.std.proofs.Common.{◌≡◌, ℕ, ◌<◌, ◌+◌, length, map, take, get_or, List, [], ◌∷◌, ◌++◌, reverse, sym, ap, ap₂, ◌∙◌, subst, subst₂}
-use Rattle.std.proofs.lemmas.List.{reverse-append, map-append, take_more}
+use Rattle.std.proofs.Common.{◌≡◌, ℕ, ◌<◌, ◌+◌, length, map, take, get_or, List, [], ◌∷◌, ◌++◌, reverse, refl, sym, ap, ap₂, ◌∙◌, subst, subst₂}
+use Rattle.std.proofs.lemmas.List.{reverse-append, reverse-reverse, map-append, take_more}
+use Rattle.std.specs.Prelude.{◌≢◌, Some, IfSome}
 use Rattle.std.proofs.lemmas.Grind.{reverse_onto}
 use Rattle.sgt_model.specs.declared.entry.Entry.{Entry}
 use Rattle.sgt_model.specs.declared.event.Event.{Event}
@@ -14,7 +15,7 @@ use Rattle.sgt_model.specs.Legality.{Legal, LegalReply}
 use Rattle.sgt_model.specs.State.{State}
 use Rattle.sgt_model.specs.StateAfter.{IsStateAfter}
 use Rattle.sgt_model.specs.CallEffects.{CallEffect}
-use Rattle.sgt_engine.specs.EngineView.{EngineView, setting_of, made_of, with_entry}
+use Rattle.sgt_engine.specs.EngineView.{EngineView, setting_of, made_of, with_entry, newest_reply}
 use Rattle.sgt_model.specs.Histories.{events_of}
 use Rattle.sgt_model.specs.Refinement.{CallsSimulate}
 
@@ -63,6 +64,20 @@ entry_added opening procedures procedures' limits limits' items new event r now 
     past = longer items new
         (record { event = event; reply = r }) is i;
   }
+
+-- its reply is the newest one
+pub newest_added : (items new : List Entry) (event : Event) (r : Reply) → new ≡ items ++ record { event = event; reply = r } ∷ []
+    → IfSome (newest_reply (reverse new)) (λ x. x ≡ r)
+newest_added items new event r is = subst (λ (past : List Entry). IfSome (newest_reply past) (λ x. x ≡ r))
+    (sym (longer items new (record { event = event; reply = r }) is)) refl
+
+-- what is the newest reply, where there is an entry
+pub newest_is : (items : List Entry) (r : Reply) → IfSome (newest_reply (reverse items)) (λ x. x ≡ r) → items ≢ []
+    → Some r ≡ newest_reply (reverse items)
+newest_is items r is some = both (reverse items) refl is where
+  both : (past : List Entry) → reverse items ≡ past → IfSome (newest_reply past) (λ x. x ≡ r) → Some r ≡ newest_reply past
+  both [] empty is = absurd (some (sym (reverse-reverse items) ∙ ap reverse empty))
+  both (e ∷ past) empty is = ap Some (sym is)
 
 -- its reply is legal
 pub legal_reply : CallsSimulate → (s s' : Setting) (past past' : List Entry) (before after : State) (event : Event) (r : Reply) → s ≡ s'

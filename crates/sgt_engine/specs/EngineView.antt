@@ -1,5 +1,6 @@
 -- What callers see of an engine.
-use Rattle.std.specs.Prelude.{List, [], ◌∷◌}
+use Rattle.std.specs.Prelude.{List, [], ◌∷◌, Option, slice_get}
+use Rattle.std.specs.Option.{option_map}
 use Rattle.sgt_model.specs.declared.entry.Entry.{Entry}
 use Rattle.sgt_model.specs.declared.event.Event.{Event}
 use Rattle.sgt_model.specs.declared.reply.Reply.{Reply}
@@ -31,3 +32,7 @@ with_entry event reply e = record {
   limits = e.limits;
   past = record { event = event; reply = reply } ∷ e.past;
 }
+
+-- the reply of the newest entry, if there is one
+abbrev pub newest_reply : List Entry → Option Reply
+newest_reply past = option_map (λ (e : Entry). e.reply) (slice_get past 0)

@@ -1,4 +1,5 @@
 ghost use Rattle.std.specs.Prelude.{◌≡◌, ℕ, true, Result, Ok, Err, IfOk, OnOk, OnErr, ◌↔◌, reverse};
+ghost use Rattle.std.specs.Option.{option_copied};
 ghost use Rattle.std.specs.Result.{IsOk};
 ghost use Rattle.sgt_model.specs.declared.event.Event.TheVariants.{Quit};
 ghost use Rattle.sgt_model.specs.declared.reply.Reply.{Reply as Answer};
@@ -16,7 +17,7 @@ ghost use Rattle.sgt_model.specs.Values.{settled};
 ghost use Rattle.sgt_model.specs.Walks.{Acyclic};
 ghost use Rattle.sgt_model.specs.Questions.{is_ending};
 ghost use Rattle.sgt_sched.specs.Scheduler.{parts, state};
-ghost use Rattle.sgt_engine.specs.EngineView.{setting_of, made_of, with_entry};
+ghost use Rattle.sgt_engine.specs.EngineView.{setting_of, made_of, with_entry, newest_reply};
 
 mod cut;
 
@@ -53,13 +54,13 @@ pub struct Engine<R: Records, A: Accesses, G: Graph> {
     opening: Database,
     sched: Sched<R, A, G>,
     history: History,
-    // Where the scheduler writes a reply that holds lists, before it is filed.
-    out: Reply,
+    // The reply of the newest entry, where there is one.
+    newest: Reply,
 }
 
 impl<R: Records, A: Accesses, G: Graph> Model for Engine<R, A, G> {
     ghost use Rattle.std.specs.Coded.{codes};
-    ghost use Rattle.std.specs.Prelude.{◌≤◌, length, reverse};
+    ghost use Rattle.std.specs.Prelude.{◌≡◌, ◌≤◌, IfSome, length, reverse};
     ghost use Rattle.sgt_model.specs.Codes.{coded_program};
     ghost use Rattle.sgt_model.specs.Databases.{contents_of};
     ghost use Rattle.sgt_model.specs.Legality.{Legal};
@@ -67,7 +68,7 @@ impl<R: Records, A: Accesses, G: Graph> Model for Engine<R, A, G> {
     ghost use Rattle.sgt_model.specs.StateAfter.{IsStateAfter};
     ghost use Rattle.sgt_sched.specs.LiveList.{numbers};
     ghost use Rattle.sgt_sched.specs.Scheduler.{parts, state};
-    ghost use Rattle.sgt_engine.specs.EngineView.{EngineView};
+    ghost use Rattle.sgt_engine.specs.EngineView.{EngineView, newest_reply};
 
     ghost Value = { EngineView };
 
@@ -86,7 +87,8 @@ impl<R: Records, A: Accesses, G: Graph> Model for Engine<R, A, G> {
         × IsStateAfter (setting (contents_of e.opening) (parts e.sched).procedures (parts e.sched).limits)
         (reverse e.history.entries)
         (state e.sched)
-        × (length (numbers e.sched.live) ≤ e.history.room) };
+        × (length (numbers e.sched.live) ≤ e.history.room)
+        × IfSome (newest_reply (reverse e.history.entries)) (λ r. r ≡ e.newest) };
 }
 
 impl<R: Records, A: Accesses, G: Graph> Engine<R, A, G> {
@@ -107,7 +109,7 @@ impl<R: Records, A: Accesses, G: Graph> Engine<R, A, G> {
             opening,
             sched,
             history: History::new(alloc),
-            out: Reply::Ended,
+            newest: Reply::Ended,
         })
     }
 
@@ -147,13 +149,13 @@ impl<R: Records, A: Accesses, G: Graph> Engine<R, A, G> {
         ensures quits { (t : ℕ) → event ≡ Quit t → live self.old.past t ≡ true → IsOk result }
     {
         self.answer(event)?;
-        match self.history.last_reply() {
-            Some(reply) => Ok(reply),
+        match self.last_reply() {
+            Some(reply) => Ok(reply.copied()),
             None => unreachable!(),
         }
     }
 
-    /// The same, where the reply is not handed out: it stands in the last entry of [`Engine::history`].
+    /// The same, where the reply is not handed out: [`Engine::last_reply`] lends it until the next event.
     pub fn answer(&mut self, event: Event) -> Result<(), NoMemory>
         ensures adds { OnOk result ((r : Answer) × (self.new ≡ with_entry event r self.old)
             × LegalReply (setting_of self.old) self.old.past event r) }
@@ -177,9 +179,21 @@ impl<R: Records, A: Accesses, G: Graph> Engine<R, A, G> {
         headline_holds();
 
         make_room(&mut self.history, &self.sched, &event)?;
-        let brief = self.sched.answer(&event, &mut self.out)?;
-        file(&mut self.history, &event, &brief, &self.out);
+        let brief = self.sched.answer(&event, &mut self.newest)?;
+        file(&mut self.history, &event, &brief, &mut self.newest);
         Ok(())
+    }
+
+    /// What the newest event was answered, if there was one: the reply of the newest entry, where it stands. The history would
+    /// have to make it anew.
+    pub fn last_reply(&self) -> Option<&Reply>
+        ensures { option_copied result ≡ newest_reply self.now.past }
+    {
+        if self.history.is_empty() {
+            None
+        } else {
+            Some(&self.newest)
+        }
     }
 
     /// The scheduler with its layers. It holds just what the history says of the live transactions, how the others ended, and
@@ -245,7 +259,7 @@ impl<R: Records, A: Accesses, G: Graph> Engine<R, A, G> {
             opening,
             sched: _,
             history,
-            out: _,
+            newest: _,
         } = self;
         Past { opening, history }
     }

@@ -37,16 +37,25 @@ pub fn make_room<R: Records, A: Accesses, G: Graph>(
     Ok(())
 }
 
-/// Adds an entry, for which there is room. What is placed of its reply stands in `out`. This takes no memory.
-pub fn file(history: &mut History, event: &Event, brief: &Brief, out: &Reply)
+/// Adds an entry, for which there is room, and leaves its reply in full in `out`, where it stands already if it is placed. This
+/// takes no memory.
+pub fn file(history: &mut History, event: &Event, brief: &Brief, out: &mut Reply)
     requires { 0 < history.old.room }
-    ensures entries { history.new.entries
-        ≡ history.old.entries ++ record { event = event.now; reply = in_full brief.now out.now } ∷ [] }
+    ensures out { out.new ≡ in_full brief.now out.old }
+    ensures entries { history.new.entries ≡ history.old.entries ++ record { event = event.now; reply = out.new } ∷ [] }
     ensures room { history.new.room + 1 ≡ history.old.room }
     ensures no_growth { history.new.capacities ≡ history.old.capacities }
 {
+    write_out(brief, out);
+    history.push(event, out);
+}
+
+// Writes the reply in full, where it is not placed.
+fn write_out(brief: &Brief, out: &mut Reply)
+    ensures { out.new ≡ in_full brief.now out.old }
+{
     match brief {
-        Brief::Placed => history.push(event, out),
-        _ => history.push(event, &brief.short()),
+        Brief::Placed => (),
+        _ => *out = brief.short(),
     }
 }

@@ -79,14 +79,14 @@ impl<R: Records, A: Accesses, G: Graph> Engine<R, A, G> {
             opening,
             mut sched,
             history,
-            out,
+            newest,
         } = self;
         sched.renew();
         let engine = Engine {
             opening: database,
             sched,
             history: History::new(alloc),
-            out,
+            newest,
         };
         Ok((Past { opening, history }, engine))
     }

@@ -1,4 +1,4 @@
-use Rattle.std.proofs.Common.{refl, sym, ap, ◌∙◌, arith, reverse}
+use Rattle.std.proofs.Common.{sym, ap, ◌∙◌, arith, reverse}
 use Rattle.std.proofs.lemmas.Bool.{true≢false}
 use Rattle.std.specs.Result.{is_ok}
 use Rattle.sgt_model.specs.Databases.{contents_of}
@@ -7,7 +7,7 @@ use Rattle.sgt_sched.specs.Briefs.{in_full}
 use Rattle.sgt_sched.specs.Scheduler.{state}
 use Rattle.sgt_engine.specs.EngineView.{setting_of}
 use Rattle.sgt_engine.proofs.Ends.{room_left, ends_seen}
-use Rattle.sgt_engine.proofs.Entries.{added, same_setting, kept_entry, entry_added, legal_reply}
+use Rattle.sgt_engine.proofs.Entries.{added, same_setting, kept_entry, entry_added, newest_added, legal_reply}
 use Rattle.sgt_engine.proofs.engine.Engine.answer.Goals as goal
 
 pub invariant_of-self-2 : goal.invariant_of-self-2
@@ -16,7 +16,7 @@ invariant_of-self-2 g c =
     let kept = kept_entry c.calls_simulate.ensures s _ c.self.inside.history.entries c.file.new.history.entries (state c.self.inside.sched)
     (state c.answer.new.self) c.args.event (in_full c.in_ok-brief.brief c.answer.new.out)
     (same_setting _ _ _ _ _ c.answer.ensures.done.kept.0 c.answer.ensures.done.kept.1)
-    (added _ _ _ _ _ _ c.file.ensures.entries c.make_room.ensures.entries refl)
+    (added _ _ _ _ _ _ c.file.ensures.entries c.make_room.ensures.entries c.file.ensures.out)
     (c.self.invariant.0, c.self.invariant.1) c.in_ok-brief.ensures.done.done.does in
     let left = room_left (record {
       sound = c.states_are_sound.ensures;
@@ -30,7 +30,7 @@ invariant_of-self-2 g c =
     (state c.answer.new.self) (in_full c.in_ok-brief.brief c.answer.new.out) c.make_room.new.history.room
     c.in_ok-brief.ensures.done.done.does c.make_room.ensures.ends
     c.in_ok-make_room.ensures.room in
-    (kept.0, kept.1, omega (arith, left, c.file.ensures.room))
+    (kept.0, kept.1, omega (arith, left, c.file.ensures.room), newest_added _ _ _ _ c.file.ensures.entries)
 
 pub returns-clause-legal : goal.returns-clause-legal
 returns-clause-legal g c = (invariant_of-self-2 g c).0
@@ -47,7 +47,7 @@ returns-clause-adds g c =
       in_full c.in_ok-brief.brief c.answer.new.out,
       entry_added c.self.inside.opening _ _ _ _ c.self.inside.history.entries c.file.new.history.entries c.args.event
           (in_full c.in_ok-brief.brief c.answer.new.out) c.args.self.now c.answer.ensures.done.kept.0 c.answer.ensures.done.kept.1
-          (added _ _ _ _ _ _ c.file.ensures.entries c.make_room.ensures.entries refl) c.self.view_is,
+          (added _ _ _ _ _ _ c.file.ensures.entries c.make_room.ensures.entries c.file.ensures.out) c.self.view_is,
       legal_reply c.calls_simulate.ensures s _ (reverse c.self.inside.history.entries) _ (state c.self.inside.sched)
           (state c.answer.new.self) c.args.event (in_full c.in_ok-brief.brief c.answer.new.out) (ap setting_of c.self.view_is)
           (ap (λ e. e.past) c.self.view_is) (c.self.invariant.0, c.self.invariant.1) c.in_ok-brief.ensures.done.done.does,
