@@ -40,10 +40,15 @@ const AGAIN: &str = "[1,[[\"let\",1,5],\
 const FEE: &str = "[2,[[\"let\",0,[\"quotient\",[\"product\",[\"arg\",0],[\"arg\",1]],100]],\
     [\"answer\",[\"reg\",0]],[\"answer\",[\"diff\",[\"arg\",0],[\"reg\",0]]]]]";
 
+/// SmallBank's balance: where it looks depends on what it found.
+const BALANCE: &str =
+    "[1,[[\"look\",0,0,[\"arg\",0],1],[\"look\",1,1,[\"reg\",0],5],[\"look\",2,2,[\"reg\",0],5],\
+    [\"answer\",[\"sum\",[\"reg\",1],[\"reg\",2]]]]]";
+
 /// A procedure, its arguments, what its looks find in their order, and how many accesses it makes then.
 type Row = (&'static str, &'static [i64], &'static [Option<i64>], usize);
 
-const ROWS: [Row; 26] = [
+const ROWS: [Row; 27] = [
     (BRANCHES, &[3, 50], &[Some(0), Some(4)], 2),
     (BRANCHES, &[3, 50], &[Some(9), Some(4)], 3),
     (BRANCHES, &[3, 50], &[Some(9), None], 3),
@@ -70,6 +75,7 @@ const ROWS: [Row; 26] = [
     (FEE, &[1_999, 3], &[], 0),
     (FEE, &[-1_999, 3], &[], 0),
     (FEE, &[MOST, 3], &[], 0),
+    (BALANCE, &[7], &[Some(9), Some(600), Some(-400)], 3),
 ];
 
 /// The procedure that a text spells, where it has no flaw.
