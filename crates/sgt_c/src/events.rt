@@ -118,8 +118,8 @@ fn answer(held: &mut Held, event: Event, told: &mut Told) -> Result<(), NoMemory
     ensures quits { (t : ℕ) → event ≡ Quit t → live held.old.engine.past t ≡ true → IsOk result }
 {
     held.engine.answer(event)?;
-    match held.engine.history().last_reply() {
-        Some(reply) => tell(told, &reply),
+    match held.engine.last_reply() {
+        Some(reply) => tell(told, reply),
         None => unreachable!(),
     }
     Ok(())
