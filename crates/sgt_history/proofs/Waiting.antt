@@ -1,5 +1,5 @@
 -- Who waits for whom, after one has been looked at again.
-use Rattle.std.proofs.Common.{◌≡◌, ◌≢◌, ◌<◌, ◌≤◌, ◌⊎◌, ℕ, List, Option, Some, None, IsSome, sym, ap, ◌∙◌, subst, inl, inr, arith}
+use Rattle.std.proofs.Common.{◌≡◌, ◌≢◌, ◌<◌, ◌≤◌, ◌+◌, ◌⊎◌, ℕ, List, Option, Some, None, IsSome, sym, ap, ◌∙◌, subst, inl, inr, arith}
 use Rattle.std.specs.Prelude.{slice_get}
 use Rattle.std.specs.BTreeMap.{get}
 use Rattle.sgt_history.specs.Tables.{entry_of}
@@ -37,12 +37,26 @@ leads_to w u k e waits top at =
     let here = subst (λ o. IsTopEdge w.edges.items (entry_of w.left) u o) top (waits.tops_are u) in
     ap (λ (f : Edge). f.to) (same_at w.edges.items k e here.0.0 at here.0.1) ∙ here.0.2
 
--- after the one is looked at to which an edge from t leads, the others wait but for t by a lower one
-pub wait_below : (w w' : Waits) (t i : ℕ) (e : Edge) (o : Option ℕ) → w'.edges ≡ w.edges → w'.left ≡ w.left
+-- where the one does not wait by an edge to which it leads, none waits by it
+pub wait_passed : (w : Waits) (t i : ℕ) (e : Edge) → KnowsWaits w → slice_get w.edges.items i ≡ Some e
+    → entry_of w.incoming.tops e.to ≢ Some i → AllWaitBut w t (i + 1) → AllWaitBut w t i
+wait_passed w t i e waits here apart before u k f top at = elim (before u k f top at) [
+  | inl is ↦ inl is
+  | inr out ↦ elim (cases_eq k i) [
+    | inl same ↦
+        let mine = same_at w.edges.items i f e (subst (λ n. slice_get w.edges.items n ≡ Some f) same at) here in
+        let to : u ≡ e.to = sym (leads_to w u k f waits top at) ∙ ap (λ (g : Edge). g.to) mine in
+        absurd (apart (subst (λ n. entry_of w.incoming.tops e.to ≡ Some n) same
+        (subst (λ v. entry_of w.incoming.tops v ≡ Some k) to top)))
+    | inr differ ↦ inr (out.0, omega (arith, out.1, differ))
+  ]
+]
+
+-- after the one is looked at to which an edge leads, the others wait but for t by a lower one
+pub wait_below : (w w' : Waits) (t i : ℕ) (e : Edge) → w'.edges ≡ w.edges → w'.left ≡ w.left
     → ((u : ℕ) → u ≢ e.to → entry_of w'.incoming.tops u ≡ entry_of w.incoming.tops u) → KnowsWaits w
-    → slice_get w.edges.items i ≡ Some e → AllWaitBut w t (height (Some i)) → WaitsForLeft w' e.to
-    → IsLastEdge From w.edges.items i t o → AllWaitBut w' t (height o)
-wait_below w w' t i e o edges left tops waits here before looked last u k f top at = elim (cases_eq u e.to) [
+    → slice_get w.edges.items i ≡ Some e → WaitsForLeft w' e.to → AllWaitBut w t (i + 1) → AllWaitBut w' t i
+wait_below w w' t i e edges left tops waits here looked before u k f top at = elim (cases_eq u e.to) [
   | inl same ↦ inl (looked k f (ap (λ v. entry_of w'.incoming.tops v) (sym same) ∙ top) at)
   | inr apart ↦ other apart
 ]
@@ -50,7 +64,7 @@ wait_below w w' t i e o edges left tops waits here before looked last u k f top 
     at_old : slice_get w.edges.items k ≡ Some f
     at_old = subst (λ v. slice_get v.items k ≡ Some f) edges at
 
-    other : u ≢ e.to → IsSome (entry_of w'.left f.from) ⊎ ((f.from ≡ t) × (k < height o))
+    other : u ≢ e.to → IsSome (entry_of w'.left f.from) ⊎ ((f.from ≡ t) × (k < i))
     other apart =
         let old = sym (tops u apart) ∙ top in
         elim (before u k f old at_old) [
@@ -58,9 +72,16 @@ wait_below w w' t i e o edges left tops waits here before looked last u k f top 
           | inr out ↦ elim (cases_eq k i) [
             | inl same ↦ absurd (apart (sym (leads_to w u k f waits old at_old)
                 ∙ ap (λ (g : Edge). g.to) (same_at w.edges.items i f e (subst (λ n. slice_get w.edges.items n ≡ Some f) same at_old) here)))
-            | inr differ ↦ inr (out.0, not_after_last From w.edges.items i t k f o last (omega (arith, out.1, differ)) at_old out.0)
+            | inr differ ↦ inr (out.0, omega (arith, out.1, differ))
           ]
         ]
+
+-- what waits for t by an edge before place i does so by none after the last of those
+pub wait_lower : (w : Waits) (t i : ℕ) (o : Option ℕ) → IsLastEdge From w.edges.items i t o → AllWaitBut w t i → AllWaitBut w t (height o)
+wait_lower w t i o last before u k f top at = elim (before u k f top at) [
+  | inl is ↦ inl is
+  | inr out ↦ inr (out.0, not_after_last From w.edges.items i t k f o last out.1 at out.0)
+]
 
 -- an edge to u that is not below one from what is not left, which all above it are
 not_under : (es : List Edge) (left : ℕ → Option ℕ) (u i k : ℕ) (e f : Edge) → slice_get es i ≡ Some e → left e.from ≡ None

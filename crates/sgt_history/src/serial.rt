@@ -1,5 +1,5 @@
 //! Whether a history is serializable, with a serial order or a cycle that shows it.
-ghost use Rattle.std.specs.Prelude.{◌≡◌, ◌<◌, ◌↔◌, ℕ, List, Some, None, slice_get, length, IsSome, IfSome, IfOk, OnOk, IsNone};
+ghost use Rattle.std.specs.Prelude.{◌≡◌, ◌<◌, ◌+◌, ◌↔◌, ℕ, List, Some, None, slice_get, length, IsSome, IfSome, IfOk, OnOk, IsNone};
 ghost use Rattle.std.specs.BTreeMap.{get};
 ghost use Rattle.std.specs.Ordering.{nat_cmp};
 ghost use Rattle.sgt_history.specs.declared.graph.Edge.{Edge};
@@ -14,7 +14,7 @@ ghost use Rattle.sgt_history.specs.Sorting.{KnowsWaits, AllReady, AllWait, AllWa
 use crate::chains::{Chains, End};
 use crate::commit_order::first_commits;
 use crate::cycles::cycle_back;
-use crate::graph::{Edge, serialization_edges};
+use crate::graph::{Edge, edges_of_committed};
 use crate::operation::{Action, Operation};
 use crate::table::Table;
 use sgt_model::NoMemory;
@@ -45,8 +45,8 @@ pub fn serial_order_or_cycle(
     ensures shown { IfOk result (IsShown history.now) }
     ensures exact { IfOk result (λ shown. IsSerial shown ↔ IsSerializable history.now) }
 {
-    let edges = serialization_edges(alloc, history)?;
     let commits = first_commits(alloc, history)?;
+    let edges = edges_of_committed(alloc, history, &commits)?;
     let mut waits = Waits::new(alloc, history, edges, commits)?;
     let mut order = Vec::new(alloc);
     while let Some(transaction) = waits.take_first()? {
@@ -145,9 +145,29 @@ impl Waits {
     {
         let mut next = self.outgoing.last_edge(transaction);
         while let Some(edge) = next {
-            let to = self.edges[edge].to;
-            self.update(to)?;
+            self.pass(edge)?;
             next = self.outgoing.edge_before(edge);
+        }
+        Ok(())
+    }
+
+    /// Lets the one to which the edge leads wait for another, if it has waited by this edge.
+    fn pass(&mut self, edge: usize) -> Result<(), NoMemory>
+        requires within { edge < length self.old.edges.items }
+        requires waits { KnowsWaits self.old }
+        requires ready { AllReady self.old }
+        ensures waits { OnOk result (KnowsWaits self.new) }
+        ensures ready { OnOk result (AllReady self.new) }
+        ensures wait { OnOk result ((t : ℕ) → AllWaitBut self.old t (edge + 1) → AllWaitBut self.new t edge) }
+        ensures edges { OnOk result (self.new.edges ≡ self.old.edges) }
+        ensures left { OnOk result (self.new.left ≡ self.old.left) }
+    {
+        let to = self.edges[edge].to;
+        let Some(top) = self.incoming.last_edge(to) else {
+            return Ok(());
+        };
+        if top == edge {
+            self.update(to)?;
         }
         Ok(())
     }
