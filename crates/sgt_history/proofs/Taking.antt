@@ -10,6 +10,7 @@ use Rattle.std.proofs.lemmas.Grind.{common_steps}
 use Rattle.std.proofs.lemmas.Map.Keys.{le_from_not_gt}
 use Rattle.sgt_history.specs.declared.graph.Edge.{Edge}
 use Rattle.sgt_history.specs.declared.serial.Waits.{Waits}
+use Rattle.sgt_history.specs.declared.watched.Watched.{Watched}
 use Rattle.sgt_history.specs.Sorting.{AreWaits, IsTopEdge, IsFree, IsFirstFree, KnowsWaits, AllReady, AllWait}
 
 -- a map without entries has nothing at a key
@@ -38,17 +39,16 @@ top_stays es left left' u None gone top = λ k e at to. gone e.from (top k e at 
 top_stays es left left' u (Some i) gone top = (top.0, λ k e after at to. gone e.from (top.1 k e after at to))
 
 -- what is kept without one that waits for none
-pub waits_without : (es : List Edge) (left tops below outs further ready left' ready' : ℕ → Option ℕ) (t c : ℕ)
-    → AreWaits es left tops below outs further ready → ready c ≡ Some t → left' t ≡ None → ((u : ℕ) → u ≢ t → left' u ≡ left u)
-    → ready' c ≡ None → ((d : ℕ) → d ≢ c → ready' d ≡ ready d) → AreWaits es left' tops below outs further ready'
-waits_without es left tops below outs further ready left' ready' t c waits is gone others gone_ready others_ready = record {
+pub waits_without : (es : List Edge) (left tops below ready left' ready' : ℕ → Option ℕ) (watched : Watched) (t c : ℕ)
+    → AreWaits es left tops below ready watched → ready c ≡ Some t → left' t ≡ None → ((u : ℕ) → u ≢ t → left' u ≡ left u)
+    → ready' c ≡ None → ((d : ℕ) → d ≢ c → ready' d ≡ ready d) → AreWaits es left' tops below ready' watched
+waits_without es left tops below ready left' ready' watched t c waits is gone others gone_ready others_ready = record {
   apart = λ u v d a b. waits.apart u v d (before u d a) (before v d b);
   tops_are = λ u. top_stays es left left' u (tops u) stay (waits.tops_are u);
   tops_left = λ u some. grind (arith, common_steps, some, waits.tops_left u some, cases_eq u t, others u, waits.ready_are c t is);
   below_are = waits.below_are;
-  outs_are = waits.outs_are;
-  further_are = waits.further_are;
   ready_are = λ d u at. still d u at;
+  watched_are = waits.watched_are;
 }
   where
     before : (u d : ℕ) → left' u ≡ Some d → left u ≡ Some d

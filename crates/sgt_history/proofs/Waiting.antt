@@ -1,15 +1,16 @@
 -- Who waits for whom, after one has been looked at again.
-use Rattle.std.proofs.Common.{◌≡◌, ◌≢◌, ◌<◌, ◌≤◌, ◌⊎◌, ℕ, List, Option, Some, None, IsSome, sym, ap, ◌∙◌, subst, inl, inr, arith}
+use Rattle.std.proofs.Common.{◌≡◌, ◌≢◌, ◌≤◌, ◌+◌, ◌⊎◌, ℕ, List, Option, Some, None, IsSome, sym, ap, ◌∙◌, subst, inl, inr, arith}
 use Rattle.std.specs.Prelude.{slice_get}
 use Rattle.std.specs.BTreeMap.{get}
 use Rattle.sgt_history.specs.Tables.{entry_of}
 use Rattle.std.specs.Ordering.{nat_cmp}
 use Rattle.std.proofs.lemmas.Bool.{cases_eq, cases_lt}
+use Rattle.std.proofs.lemmas.Option.{slice_get_within}
 use Rattle.sgt_history.specs.declared.graph.Edge.{Edge}
 use Rattle.sgt_history.specs.declared.chains.End.TheVariants.{From, To}
 use Rattle.sgt_history.specs.declared.serial.Waits.{Waits}
 use Rattle.sgt_history.specs.Seen.{height}
-use Rattle.sgt_history.specs.Sorting.{IsLastEdge, IsTopEdge, KnowsWaits, IsReady, AllWait, AllWaitBut, WaitsForLeft}
+use Rattle.sgt_history.specs.Sorting.{IsLastEdge, IsTopEdge, KnowsWaits, IsReady, IsWatched, HasBefore, AllWait, AllWaitBut, WaitsForLeft}
 use Rattle.sgt_history.proofs.EdgeChains.{same_at, not_after_last}
 
 -- one that waits for none stays ready, after another is looked at
@@ -37,12 +38,30 @@ leads_to w u k e waits top at =
     let here = subst (λ o. IsTopEdge w.edges.items (entry_of w.left) u o) top (waits.tops_are u) in
     ap (λ (f : Edge). f.to) (same_at w.edges.items k e here.0.0 at here.0.1) ∙ here.0.2
 
--- after the one is looked at to which an edge from t leads, the others wait but for t by a lower one
-pub wait_below : (w w' : Waits) (t i : ℕ) (e : Edge) (o : Option ℕ) → w'.edges ≡ w.edges → w'.left ≡ w.left
+-- an edge that is watched is so after another is looked at
+pub before_still : (ws ws' : List Edge) (m : ℕ) (e : Edge)
+    → ((k : ℕ) (f : Edge) → slice_get ws k ≡ Some f → slice_get ws' k ≡ Some f) → HasBefore ws m e → HasBefore ws' m e
+before_still ws ws' m e kept has = (has.0, has.1, kept has.0 e has.2)
+
+-- the edge by which one waits stays watched, after another is looked at
+pub watched_still : (w w' : Waits) (t u : ℕ) → w'.edges ≡ w.edges
+    → ((v : ℕ) → v ≢ t → entry_of w'.incoming.tops v ≡ entry_of w.incoming.tops v)
+    → ((k : ℕ) (f : Edge) → slice_get w.watched.edges.items k ≡ Some f → slice_get w'.watched.edges.items k ≡ Some f)
+    → IsWatched w u → IsWatched w' t → IsWatched w' u
+watched_still w w' t u edges tops kept before here = elim (cases_eq u t) [
+  | inl same ↦ subst (λ v. IsWatched w' v) (sym same) here
+  | inr apart ↦ λ k e top at.
+      let has = before k e (sym (tops u apart) ∙ top) (subst (λ v. slice_get v.items k ≡ Some e) edges at) in
+      let still = kept has.0 e has.2 in
+      (has.0, slice_get_within w'.watched.edges.items has.0 e still, still)
+]
+
+-- after the one is looked at to which a watched edge leads, the others wait but for t by a lower one
+pub wait_below : (w w' : Waits) (t i : ℕ) (e : Edge) → w'.edges ≡ w.edges → w'.left ≡ w.left
     → ((u : ℕ) → u ≢ e.to → entry_of w'.incoming.tops u ≡ entry_of w.incoming.tops u) → KnowsWaits w
-    → slice_get w.edges.items i ≡ Some e → AllWaitBut w t (height (Some i)) → WaitsForLeft w' e.to
-    → IsLastEdge From w.edges.items i t o → AllWaitBut w' t (height o)
-wait_below w w' t i e o edges left tops waits here before looked last u k f top at = elim (cases_eq u e.to) [
+    → ((k : ℕ) (f : Edge) → slice_get w.watched.edges.items k ≡ Some f → slice_get w'.watched.edges.items k ≡ Some f)
+    → slice_get w.watched.edges.items i ≡ Some e → WaitsForLeft w' e.to → AllWaitBut w t (i + 1) → AllWaitBut w' t i
+wait_below w w' t i e edges left tops waits kept here looked before u k f top at = elim (cases_eq u e.to) [
   | inl same ↦ inl (looked k f (ap (λ v. entry_of w'.incoming.tops v) (sym same) ∙ top) at)
   | inr apart ↦ other apart
 ]
@@ -50,17 +69,31 @@ wait_below w w' t i e o edges left tops waits here before looked last u k f top 
     at_old : slice_get w.edges.items k ≡ Some f
     at_old = subst (λ v. slice_get v.items k ≡ Some f) edges at
 
-    other : u ≢ e.to → IsSome (entry_of w'.left f.from) ⊎ ((f.from ≡ t) × (k < height o))
+    other : u ≢ e.to → IsSome (entry_of w'.left f.from) ⊎ ((f.from ≡ t) × HasBefore w'.watched.edges.items i f)
     other apart =
         let old = sym (tops u apart) ∙ top in
         elim (before u k f old at_old) [
           | inl is ↦ inl (subst (λ m. IsSome (entry_of m f.from)) (sym left) is)
-          | inr out ↦ elim (cases_eq k i) [
+          | inr out ↦ elim (cases_eq out.1.0 i) [
             | inl same ↦ absurd (apart (sym (leads_to w u k f waits old at_old)
-                ∙ ap (λ (g : Edge). g.to) (same_at w.edges.items i f e (subst (λ n. slice_get w.edges.items n ≡ Some f) same at_old) here)))
-            | inr differ ↦ inr (out.0, not_after_last From w.edges.items i t k f o last (omega (arith, out.1, differ)) at_old out.0)
+                ∙ ap (λ (g : Edge). g.to)
+                (same_at w.watched.edges.items i f e (subst (λ n. slice_get w.watched.edges.items n ≡ Some f) same out.1.2) here)))
+            | inr differ ↦ inr (out.0, (out.1.0, omega (arith, out.1.1, differ), kept out.1.0 f out.1.2))
           ]
         ]
+
+-- what waits for t by a watched edge before place i does so by none after the last of those
+pub wait_lower : (w : Waits) (t i : ℕ) (o : Option ℕ) → IsLastEdge From w.watched.edges.items i t o → AllWaitBut w t i
+    → AllWaitBut w t (height o)
+wait_lower w t i o last before u k f top at = elim (before u k f top at) [
+  | inl is ↦ inl is
+  | inr out ↦ inr (out.0, (out.1.0, not_after_last From w.watched.edges.items i t out.1.0 f o last out.1.1 out.1.2 out.0, out.1.2))
+]
+
+-- the last edge from the transaction leads from it
+pub last_from : (es : List Edge) (i t : ℕ) (o : Option ℕ) → IsLastEdge From es i t o → (k : ℕ) → o ≡ Some k
+    → (e : Edge) × (slice_get es k ≡ Some e) × (e.from ≡ t)
+last_from es i t o last k is = (subst (λ p. IsLastEdge From es i t p) is last).1
 
 -- an edge to u that is not below one from what is not left, which all above it are
 not_under : (es : List Edge) (left : ℕ → Option ℕ) (u i k : ℕ) (e f : Edge) → slice_get es i ≡ Some e → left e.from ≡ None

@@ -7,6 +7,7 @@ use Rattle.sgt_history.specs.declared.graph.Edge.{Edge}
 use Rattle.sgt_history.specs.declared.chains.End.{End}
 use Rattle.sgt_history.specs.declared.chains.End.TheVariants.{From, To}
 use Rattle.sgt_history.specs.declared.serial.Waits.{Waits}
+use Rattle.sgt_history.specs.declared.watched.Watched.{Watched}
 use Rattle.sgt_history.specs.Links.{link_of}
 use Rattle.sgt_history.specs.Tables.{entry_of}
 use Rattle.sgt_history.specs.Serializability.{IsCycle, IsEdgeBy}
@@ -34,20 +35,36 @@ IsTopEdge es left u None = (k : ℕ) (e : Edge) → slice_get es k ≡ Some e �
 IsTopEdge es left u (Some i) = ((e : Edge) × (slice_get es i ≡ Some e) × (e.to ≡ u))
     × ((k : ℕ) (e : Edge) → i < k → slice_get es k ≡ Some e → e.to ≡ u → left e.from ≡ None)
 
+-- the watched edges by the transaction that they lead from
+abbrev pub KnowsWatched : Watched → Type 0
+KnowsWatched v = AreChains From v.edges.items (length v.edges.items) (entry_of v.outgoing.tops) (link_of v.outgoing.below)
+
 -- what is kept of the transactions that are left
-pub record AreWaits (es : List Edge) (left tops below outs further ready : ℕ → Option ℕ) : Type 0 where
+pub record AreWaits (es : List Edge) (left tops below ready : ℕ → Option ℕ) (watched : Watched) : Type 0 where
   pub apart : (t u c : ℕ) → left t ≡ Some c → left u ≡ Some c → t ≡ u
   pub tops_are : (u : ℕ) → IsTopEdge es left u (tops u)
   pub tops_left : (u : ℕ) → IsSome (tops u) → IsSome (left u)
   pub below_are : (k : ℕ) (e : Edge) → slice_get es k ≡ Some e → IsLastEdge To es k e.to (below k)
-  pub outs_are : (t : ℕ) → IsLastEdge From es (length es) t (outs t)
-  pub further_are : (k : ℕ) (e : Edge) → slice_get es k ≡ Some e → IsLastEdge From es k e.from (further k)
   pub ready_are : (c u : ℕ) → ready c ≡ Some u → (left u ≡ Some c) × (tops u ≡ None)
+  pub watched_are : KnowsWatched watched
 
 -- what is kept, of its maps
 abbrev pub KnowsWaits : Waits → Type 0
-KnowsWaits w = AreWaits w.edges.items (entry_of w.left) (entry_of w.incoming.tops) (link_of w.incoming.below)
-    (entry_of w.outgoing.tops) (link_of w.outgoing.below) (get nat_cmp w.ready)
+KnowsWaits w =
+    AreWaits w.edges.items (entry_of w.left) (entry_of w.incoming.tops) (link_of w.incoming.below) (get nat_cmp w.ready) w.watched
+
+-- the edge is one of those before place m
+abbrev pub HasBefore : List Edge → ℕ → Edge → Type 0
+HasBefore es m e = (j : ℕ) × (j < m) × (slice_get es j ≡ Some e)
+
+-- if the transaction waits, the edge by which it does is among the watched ones
+abbrev pub IsWatched : Waits → ℕ → Type 0
+IsWatched w u = (k : ℕ) (e : Edge) → entry_of w.incoming.tops u ≡ Some k → slice_get w.edges.items k ≡ Some e
+    → HasBefore w.watched.edges.items (length w.watched.edges.items) e
+
+-- each edge by which one waits is among the watched ones
+abbrev pub AllWatched : Waits → Type 0
+AllWatched w = (u : ℕ) → IsWatched w u
 
 -- if the transaction is left and waits for none, it is among those
 abbrev pub IsReady : Waits → ℕ → Type 0
@@ -74,10 +91,10 @@ AllWait w = (u : ℕ) → WaitsForLeft w u
 abbrev pub AllLeftWait : Waits → Type 0
 AllLeftWait w = (u : ℕ) → IsSome (entry_of w.left u) → IsSome (entry_of w.incoming.tops u)
 
--- each waits, if at all, for one that is left, or for t by an edge before place m
+-- each waits, if at all, for one that is left, or for t by one of the watched edges before place m
 abbrev pub AllWaitBut : Waits → ℕ → ℕ → Type 0
 AllWaitBut w t m = (u k : ℕ) (e : Edge) → entry_of w.incoming.tops u ≡ Some k → slice_get w.edges.items k ≡ Some e
-    → IsSome (entry_of w.left e.from) ⊎ ((e.from ≡ t) × (k < m))
+    → IsSome (entry_of w.left e.from) ⊎ ((e.from ≡ t) × HasBefore w.watched.edges.items m e)
 
 -- the same of all but t
 abbrev pub AreSameBut : ℕ → (ℕ → Option ℕ) → (ℕ → Option ℕ) → Type 0

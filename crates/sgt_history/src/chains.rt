@@ -1,5 +1,6 @@
 //! Edges by their ends.
-ghost use Rattle.std.specs.Prelude.{◌≡◌, ◌≢◌, ◌<◌, ℕ, None, length, IfOk, OnOk, IfSome};
+ghost use Rattle.std.specs.Prelude.{◌≡◌, ◌≢◌, ◌<◌, ◌+◌, ℕ, List, None, length, IfOk, OnOk, IfSome};
+ghost use Rattle.sgt_history.specs.declared.graph.Edge.{Edge};
 ghost use Rattle.sgt_history.specs.Links.{link_of};
 ghost use Rattle.sgt_history.specs.Tables.{entry_of, table_len};
 ghost use Rattle.sgt_history.specs.Sorting.{end_of, AreChains};
@@ -42,19 +43,36 @@ pub struct Chains {
 }
 
 impl Chains {
+    /// There is no edge. Those of the transactions below the bound are found at once.
+    pub fn new(alloc: Global, bound: usize) -> Self
+        ensures { (end : End) (edges : List Edge) → AreChains end edges 0 (entry_of result.tops) (link_of result.below) }
+    {
+        Chains {
+            tops: Table::new(alloc, bound),
+            below: Links::new(alloc),
+        }
+    }
+
     /// All edges, by one of their ends. Those of the transactions below the bound are found at once.
     pub fn by_end(alloc: Global, edges: &[Edge], end: End, bound: usize) -> Result<Self, NoMemory>
         ensures { IfOk result (λ c. AreChains end edges.now (length edges.now) (entry_of c.tops) (link_of c.below)) }
     {
-        let mut chains = Chains {
-            tops: Table::new(alloc, bound),
-            below: Links::new(alloc),
-        };
+        let mut chains = Chains::new(alloc, bound);
         for place in 0..edges.len() {
-            let transaction = end.of(edges[place]);
-            put_on_top(&mut chains.tops, &mut chains.below, transaction, place)?;
+            chains.add(edges, place, end)?;
         }
         Ok(chains)
+    }
+
+    /// Adds the edge at the place behind those before it.
+    pub fn add(&mut self, edges: &[Edge], place: usize, end: End) -> Result<(), NoMemory>
+        requires within { place < length edges.now }
+        requires before { AreChains end edges.now place (entry_of self.old.tops) (link_of self.old.below) }
+        ensures { OnOk result (AreChains end edges.now (place + 1) (entry_of self.new.tops) (link_of self.new.below)) }
+    {
+        let transaction = end.of(edges[place]);
+        put_on_top(&mut self.tops, &mut self.below, transaction, place)?;
+        Ok(())
     }
 
     /// The edge that the transaction's begin with.

@@ -40,7 +40,19 @@ pub fn serialization_edges(alloc: Global, history: &[Operation]) -> Result<Vec<E
     ensures { IfOk result (λ edges. ReachAll history.now edges.items) }
 {
     let commits = first_commits(alloc, history)?;
-    let projection = committed_projection(alloc, history, &commits)?;
+    edges_of_committed(alloc, history, &commits)
+}
+
+/// The edges that `serialization_edges` tells, where it is known who commits.
+pub fn edges_of_committed(
+    alloc: Global,
+    history: &[Operation],
+    commits: &Table,
+) -> Result<Vec<Edge>, NoMemory>
+    requires { AreFirstCommits history.now (length history.now) (entry_of commits.now) }
+    ensures { IfOk result (λ edges. ReachAll history.now edges.items) }
+{
+    let projection = committed_projection(alloc, history, commits)?;
     let graph = Graph::of_projection(alloc, projection.as_slice())?;
     Ok(graph.edges)
 }

@@ -30,6 +30,7 @@ mod rigorous;
 mod serial;
 mod strict;
 mod table;
+mod watched;
 
 pub use avoiding::{avoidance_violation, read_source};
 pub use commit_order::{commit_order_violation, serial_commit_order};

@@ -1,5 +1,5 @@
 //! Whether a history is serializable, with a serial order or a cycle that shows it.
-ghost use Rattle.std.specs.Prelude.{◌≡◌, ◌<◌, ◌↔◌, ℕ, List, Some, None, slice_get, length, IsSome, IfSome, IfOk, OnOk, IsNone};
+ghost use Rattle.std.specs.Prelude.{◌≡◌, ◌<◌, ◌+◌, ◌↔◌, ℕ, List, Some, None, slice_get, length, IsSome, IfSome, IfOk, OnOk, IsNone};
 ghost use Rattle.std.specs.BTreeMap.{get};
 ghost use Rattle.std.specs.Ordering.{nat_cmp};
 ghost use Rattle.sgt_history.specs.declared.graph.Edge.{Edge};
@@ -9,14 +9,15 @@ ghost use Rattle.sgt_history.specs.Serializability.{IsEdgeBy, IsSerializable};
 ghost use Rattle.sgt_history.specs.Seen.{AreFirstCommits};
 ghost use Rattle.sgt_history.specs.SerialOrders.{IsShown, IsSerial};
 ghost use Rattle.sgt_history.specs.Tables.{entry_of, table_len};
-ghost use Rattle.sgt_history.specs.Sorting.{KnowsWaits, AllReady, AllWait, AllWaitBut, AllLeftWait, IsReady, WaitsForLeft, LeadsFromLeft, IsTopEdge, IsFirstFree, AreSameBut, IsCycleOf};
+ghost use Rattle.sgt_history.specs.Sorting.{KnowsWaits, AllReady, AllWatched, AllWait, AllWaitBut, AllLeftWait, IsReady, IsWatched, WaitsForLeft, LeadsFromLeft, IsTopEdge, IsFirstFree, AreSameBut, IsCycleOf};
 
 use crate::chains::{Chains, End};
 use crate::commit_order::first_commits;
 use crate::cycles::cycle_back;
-use crate::graph::{Edge, serialization_edges};
+use crate::graph::{Edge, edges_of_committed};
 use crate::operation::{Action, Operation};
 use crate::table::Table;
+use crate::watched::Watched;
 use sgt_model::NoMemory;
 use std::alloc::Global;
 use std::collections::BTreeMap;
@@ -45,8 +46,8 @@ pub fn serial_order_or_cycle(
     ensures shown { IfOk result (IsShown history.now) }
     ensures exact { IfOk result (λ shown. IsSerial shown ↔ IsSerializable history.now) }
 {
-    let edges = serialization_edges(alloc, history)?;
     let commits = first_commits(alloc, history)?;
+    let edges = edges_of_committed(alloc, history, &commits)?;
     let mut waits = Waits::new(alloc, history, edges, commits)?;
     let mut order = Vec::new(alloc);
     while let Some(transaction) = waits.take_first()? {
@@ -68,8 +69,8 @@ pub struct Waits {
     /// The edges by the transaction that they lead to. Of one that has no place yet it begins with the last that leads from
     /// another such, for which it waits.
     incoming: Chains,
-    /// The edges by the transaction that they lead from.
-    outgoing: Chains,
+    /// The edges by which they wait or have waited.
+    watched: Watched,
     /// Those that wait for none, by where they commit.
     ready: BTreeMap<usize, u32>,
 }
@@ -86,17 +87,17 @@ impl Waits {
         requires edges { (k : ℕ) (e : Edge) → slice_get edges.items k ≡ Some e → IsEdgeBy history.now e }
         ensures waits { IfOk result KnowsWaits }
         ensures ready { IfOk result AllReady }
+        ensures watched { IfOk result AllWatched }
         ensures wait { IfOk result AllWait }
         ensures edges { IfOk result (λ w. w.edges ≡ edges) }
         ensures left { IfOk result (λ w. w.left ≡ commits) }
     {
         let incoming = Chains::by_end(alloc, edges.as_slice(), End::To, history.len())?;
-        let outgoing = Chains::by_end(alloc, edges.as_slice(), End::From, history.len())?;
         let mut waits = Waits {
             edges,
             left: commits,
             incoming,
-            outgoing,
+            watched: Watched::new(alloc, history.len()),
             ready: BTreeMap::new(alloc),
         };
         for place in 0..history.len() {
@@ -112,9 +113,11 @@ impl Waits {
     fn take_first(&mut self) -> Result<Option<u32>, NoMemory>
         requires waits { KnowsWaits self.old }
         requires ready { AllReady self.old }
+        requires watched { AllWatched self.old }
         requires wait { AllWait self.old }
         ensures waits { OnOk result (KnowsWaits self.new) }
         ensures ready { OnOk result (AllReady self.new) }
+        ensures watched { OnOk result (AllWatched self.new) }
         ensures wait { OnOk result (AllWait self.new) }
         ensures edges { OnOk result (self.new.edges ≡ self.old.edges) }
         ensures first { IfOk result (λ taken. IfSome taken (IsFirstFree self.old.edges.items (entry_of self.old.left))) }
@@ -136,18 +139,20 @@ impl Waits {
     fn release(&mut self, transaction: u32) -> Result<(), NoMemory>
         requires waits { KnowsWaits self.old }
         requires ready { AllReady self.old }
-        requires wait { AllWaitBut self.old transaction (length self.old.edges.items) }
+        requires watched { AllWatched self.old }
+        requires wait { AllWaitBut self.old transaction (length self.old.watched.edges.items) }
         ensures waits { OnOk result (KnowsWaits self.new) }
         ensures ready { OnOk result (AllReady self.new) }
+        ensures watched { OnOk result (AllWatched self.new) }
         ensures wait { OnOk result (AllWait self.new) }
         ensures edges { OnOk result (self.new.edges ≡ self.old.edges) }
         ensures left { OnOk result (self.new.left ≡ self.old.left) }
     {
-        let mut next = self.outgoing.last_edge(transaction);
+        let mut next = self.watched.last_edge(transaction);
         while let Some(edge) = next {
-            let to = self.edges[edge].to;
+            let to = self.watched.edges[edge].to;
             self.update(to)?;
-            next = self.outgoing.edge_before(edge);
+            next = self.watched.edge_before(edge);
         }
         Ok(())
     }
@@ -160,7 +165,10 @@ impl Waits {
         ensures left { OnOk result (self.new.left ≡ self.old.left) }
         ensures others { OnOk result (AreSameBut transaction (entry_of self.old.incoming.tops) (entry_of self.new.incoming.tops)) }
         ensures others_ready { OnOk result ((c u : ℕ) → get nat_cmp self.old.ready c ≡ Some u → get nat_cmp self.new.ready c ≡ Some u) }
+        ensures kept { OnOk result ((k : ℕ) (e : Edge) → slice_get self.old.watched.edges.items k ≡ Some e
+            → slice_get self.new.watched.edges.items k ≡ Some e) }
         ensures ready { OnOk result (IsReady self.new transaction) }
+        ensures watched { OnOk result (IsWatched self.new transaction) }
         ensures wait { OnOk result (WaitsForLeft self.new transaction) }
     {
         let Some(commit) = self.left.find(transaction) else {
@@ -168,8 +176,11 @@ impl Waits {
         };
         let top = self.awaited(transaction);
         self.incoming.begin_with(transaction, top)?;
-        if top.is_none() {
-            self.ready.insert(commit, transaction)?;
+        match top {
+            Some(edge) => self.watched.add(self.edges[edge])?,
+            None => {
+                self.ready.insert(commit, transaction)?;
+            }
         }
         Ok(())
     }

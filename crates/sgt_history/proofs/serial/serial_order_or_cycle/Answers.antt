@@ -18,6 +18,7 @@ loop-order-init c =
     let first = subst (λ m. AreFirstCommits h (length h) (entry_of m)) left c.in_ok-commits.ensures in record {
       waits = c.in_ok-waits.ensures.waits;
       ready = c.in_ok-waits.ensures.ready;
+      watched = c.in_ok-waits.ensures.watched;
       wait = c.in_ok-waits.ensures.wait;
       reach = subst (λ l. ReachAll h l) edges c.in_ok-edges.ensures;
       ordered = subst (λ l. AreOrdered h made.edges.items l (entry_of made.left)) (sym empty)
@@ -41,6 +42,7 @@ loop-order-preserved c =
     c.in_ok-transaction.ensures.others in record {
       waits = c.in_ok-transaction.ensures.waits;
       ready = c.in_ok-transaction.ensures.ready;
+      watched = c.in_ok-transaction.ensures.watched;
       wait = c.in_ok-transaction.ensures.wait;
       reach = subst (λ l. ReachAll h l) edges inv.reach;
       ordered = subst (λ l. AreOrdered h l c.push.new.self.items (entry_of new.left)) edges

@@ -4,7 +4,6 @@ use Rattle.sgt_history.specs.Tables.{entry_of}
 use Rattle.std.specs.Ordering.{nat_cmp}
 use Rattle.std.proofs.lemmas.Bool.{cases_eq}
 use Rattle.std.proofs.lemmas.Grind.{common_steps}
-use Rattle.std.proofs.lemmas.Option.{slice_get_within}
 use Rattle.sgt_history.proofs.Taking.{nothing_in, all_wait_still, waits_without, first_free}
 use Rattle.sgt_history.specs.Links.{link_of}
 use Rattle.sgt_history.proofs.serial.Waits.take_first.Goals as goal
@@ -17,15 +16,14 @@ returns-in_default-clause-all_wait c none =
 
 pub release-requires-clause-waits : goal.release-requires-clause-waits
 release-requires-clause-waits c = waits_without c.args.self.now.edges.items (entry_of c.args.self.now.left)
-    (entry_of c.args.self.now.incoming.tops) (link_of c.args.self.now.incoming.below) (entry_of c.args.self.now.outgoing.tops)
-    (link_of c.args.self.now.outgoing.below) (get nat_cmp c.args.self.now.ready) (entry_of c.remove.new.self)
-    _ c.in-Some.transaction c.in-Some.field-0-0 c.requires.waits (search rules)
+    (entry_of c.args.self.now.incoming.tops) (link_of c.args.self.now.incoming.below) (get nat_cmp c.args.self.now.ready)
+    (entry_of c.remove.new.self) _ c.args.self.now.watched c.in-Some.transaction c.in-Some.field-0-0 c.requires.waits (search rules)
     c.remove.ensures.at c.remove.ensures.others
     (grind (arith, common_steps, c.in-Some.ensures.updates)) (λ d apart. grind (arith, common_steps, apart, c.in-Some.ensures.updates))
 
 pub release-requires-clause-wait : goal.release-requires-clause-wait
 release-requires-clause-wait c u k e top at = elim (cases_eq e.from c.in-Some.transaction) [
-  | inl same ↦ inr (same, slice_get_within c.args.self.now.edges.items k e at)
+  | inl same ↦ inr (same, c.requires.watched u k e top at)
   | inr apart ↦
       let still : entry_of c.remove.new.self e.from ≡ entry_of c.args.self.now.left e.from =
       c.remove.ensures.others e.from apart in

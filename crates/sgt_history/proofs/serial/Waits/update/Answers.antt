@@ -3,8 +3,8 @@ use Rattle.std.proofs.lemmas.Bool.{cases_eq}
 use Rattle.std.proofs.lemmas.Grind.{common_steps}
 use Rattle.sgt_history.proofs.serial.Waits.update.Goals as goal
 
-pub returns-in_ok-insert-clause-others_ready : goal.returns-in_ok-insert-clause-others_ready
-returns-in_ok-insert-clause-others_ready c d u is =
+pub returns-in_ok-insert-in-None-clause-others_ready : goal.returns-in_ok-insert-in-None-clause-others_ready
+returns-in_ok-insert-in-None-clause-others_ready c d u is =
     grind (
       arith,
       common_steps,
@@ -14,5 +14,5 @@ returns-in_ok-insert-clause-others_ready c d u is =
       c.requires.apart u c.args.transaction d,
       c.in-Some.is,
       c.find.ensures,
-      c.in_ok-insert.ensures.updates,
+      c.in_ok-insert-in-None.ensures.updates,
     )

@@ -2,7 +2,7 @@ use Rattle.std.proofs.Common.{◌≡◌, subst}
 use Rattle.std.specs.Prelude.{length}
 use Rattle.sgt_history.specs.Seen.{IsConflictBy, HasConflicts}
 use Rattle.sgt_history.proofs.Projection.{edge_by, rises_all}
-use Rattle.sgt_history.proofs.graph.serialization_edges.Goals as goal
+use Rattle.sgt_history.proofs.graph.edges_of_committed.Goals as goal
 
 pub returns : goal.returns
 returns c =
