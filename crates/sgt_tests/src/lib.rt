@@ -21,6 +21,8 @@ mod procedures;
 #[cfg(test)]
 mod procedures_as_trees;
 #[cfg(test)]
+mod record_lines;
+#[cfg(test)]
 mod runs;
 #[cfg(test)]
 mod spelled;
