@@ -82,9 +82,10 @@ fn other_lines_are_no_record_lines(rt: HostRuntime) {
 #[test]
 fn a_database_is_written_as_record_lines(rt: HostRuntime) -> Result<(), Fail> {
     let mut database = Database::empty(rt.alloc());
-    for (table, number, value) in [(7, MOST, LEAST), (0, 1, 101), (7, LEAST, MOST), (0, -1, 0)] {
-        database.put(Key::new(table, number).expect(&rt, "a key"), value)?;
-    }
+    database.put(Key::new(7, MOST).expect(&rt, "a key"), LEAST)?;
+    database.put(Key::new(0, 1).expect(&rt, "a key"), 101)?;
+    database.put(Key::new(7, LEAST).expect(&rt, "a key"), MOST)?;
+    database.put(Key::new(0, -1).expect(&rt, "a key"), 0)?;
     let mut text = Vec::new(rt.alloc());
     append_records(&mut text, &database)?;
     let lines = b"[\"record\",0,-1,0]
