@@ -7,3 +7,4 @@ pub mod Numerals
 pub mod LineTokens
 pub mod PlainLines
 pub mod PlainCalls
+pub mod WrittenRecords

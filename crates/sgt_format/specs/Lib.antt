@@ -2,10 +2,13 @@ pub mod Decimals
 pub mod ReplyText
 pub mod CutText
 pub mod DatabaseText
+pub mod RecordText
 pub mod Trees
 pub mod EventLines
 pub mod ScriptLines
 pub mod JobLines
+pub mod RecordLines
+pub mod WrittenRecords
 pub mod Procedures
 pub mod Openings
 pub mod LineTokens

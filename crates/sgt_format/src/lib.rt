@@ -1,7 +1,8 @@
-//! The formats of `sgt`, both ways. A line of JSON becomes an opening, an event or a job, and a reply or a database becomes its
-//! text. What a line means and which text a reply has stand in `specs/`: `ReplyText`, `DatabaseText`, `EventLines`,
-//! `JobLines` and `Openings`, over `Decimals`, `Trees` and `Procedures`. The contracts give exactly these, and each error exactly where it
-//! applies.
+//! The formats of `sgt`, both ways. A line of JSON becomes an opening, a record line, an event or a job, and a reply or a
+//! database becomes its text. What a line means and which text a reply has stand in `specs/`: `ReplyText`, `DatabaseText`,
+//! `RecordText`, `EventLines`, `JobLines`, `RecordLines` and `Openings`, over `Decimals`, `Trees` and `Procedures`. The contracts
+//! give exactly these, and each error exactly where it applies. [`written_records_are_read`] says that the record lines that are
+//! written of a database are read as its records.
 //!
 //! It knows nothing of how lines are cut from a stream, nor of how an engine runs. Lines come in without their byte 10, and
 //! go out with it.
@@ -12,6 +13,7 @@
 //! let event = read_event(alloc, &mut scratch, b"[\"start\",0,[1]]")?;
 //! append_reply(&mut lines, &Reply::Started(Tid(0)))?; // adds "started 0\n"
 //! append_database(&mut lines, &opening.database)?; // adds "0/1 101\n1/101 500\n2/101 1000\n"
+//! append_records(&mut lines, &opening.database)?; // adds "[\"record\",0,1,101]\n[\"record\",1,101,500]\n[\"record\",2,101,1000]\n"
 //! ```
 #![tactic(auto)]
 
@@ -22,10 +24,13 @@ mod decimal_text;
 mod errors;
 mod event_line;
 mod job_line;
+mod laws;
 mod line_tokens;
 mod opening;
 mod plain_line;
 mod procedures;
+mod record_line;
+mod record_text;
 mod reply_text;
 mod script_line;
 mod sheet;
@@ -38,6 +43,9 @@ pub use decimal_text::{append_answers, append_number, append_numbered};
 pub use errors::{LineError, OpeningError};
 pub use event_line::read_event;
 pub use job_line::read_job;
+pub use laws::written_records_are_read;
 pub use opening::{Opening, read_opening};
+pub use record_line::{Record, RecordLine, read_record_line};
+pub use record_text::append_records;
 pub use reply_text::{append_reply, reply_line};
 pub use script_line::{ScriptLine, read_script_line};

@@ -1,7 +1,7 @@
 //! Tests of the other crates, in a crate of their own: a crate with tests is proved twice, and these would be proved again
 //! for nothing.
 //!
-//! It has no function for others to call. What a test shows is in its name, or in the names of its rows.
+//! It has no function for others to call. What a test shows is in its name.
 #![tactic(auto)]
 
 #[cfg(test)]
@@ -12,5 +12,7 @@ mod engine;
 mod failures;
 #[cfg(test)]
 mod first_use;
+#[cfg(test)]
+mod record_lines;
 #[cfg(test)]
 mod trees;
