@@ -1,0 +1,13 @@
+use Rattle.std.proofs.Common.{◌≡◌, ◌≤◌, length}
+use Rattle.sgt_model.specs.Progress.{call_of}
+use Rattle.sgt_explain.specs.Places.{before}
+use Rattle.sgt_explain.proofs.progress.call_before.Given as goal
+
+abbrev pub invariant-loop-at : goal.invariant-loop-at
+invariant-loop-at l = record {
+  within : l.at ≤ length l.history.entries;
+  none_since : call_of (before l.history.entries l.fn.place) l.t ≡ call_of (before l.history.entries l.at) l.t;
+}
+
+abbrev pub decreases-loop-at : goal.decreases-loop-at
+decreases-loop-at l = l.at
