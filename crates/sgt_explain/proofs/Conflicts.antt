@@ -30,7 +30,8 @@ conflict_of (Some a) t k later h = let p = and_parts _ _ h in let q = and_parts 
 
 -- of the entries before an end
 
-conflicts_back : (t : ℕ) (k : Key) (kind : Kind) → LooksBack (λ past. has_conflicting past t k kind ≡ true) (λ past o. conflicts o t k kind ≡ true)
+conflicts_back : (t : ℕ) (k : Key) (kind : Kind)
+    → LooksBack (λ past. has_conflicting past t k kind ≡ true) (λ past o. conflicts o t k kind ≡ true)
 conflicts_back t k kind = record {
   nowhere = λ h. cc;
   here_or_before = λ e past h. or_cases _ _ h;

@@ -24,7 +24,8 @@ by_abort o = option_map (λ (f : Fate). has_aborted (Some f)) o
 undone_true : (event : Event) (why : Cause) (fell : List ℕ) (t : ℕ) → Member t fell → Some true ≡ by_abort (undone_in event why fell t)
 undone_true event why fell t m = by_tests (concerns event t) (list_any (λ u. nat_eq u t) fell) (member_to t fell m)
   where
-    by_tests : (b c : Bool) → c ≡ true → Some true ≡ by_abort (cond b (Some (fate.Aborted why)) (cond c (Some (fate.Fell (subject event))) None))
+    by_tests : (b c : Bool) → c ≡ true
+        → Some true ≡ by_abort (cond b (Some (fate.Aborted why)) (cond c (Some (fate.Fell (subject event))) None))
     by_tests true c h = refl
     by_tests false true h = refl
     by_tests false false h = absurd (cc)

@@ -18,7 +18,8 @@ none_more P n none here m below holds = elim (cases_eq m n) [
   | inr other ↦ none m (omega (arith, below, other)) holds
 ]
 
-pub reads_none : (entries : List Entry) (end t place : ℕ) → ((v : ℕ) → ReadsAt entries t v place → ⊥) → ReadsUndoneAt entries end t place → ⊥
+pub reads_none : (entries : List Entry) (end t place : ℕ)
+    → ((v : ℕ) → ReadsAt entries t v place → ⊥) → ReadsUndoneAt entries end t place → ⊥
 reads_none entries end t place none (v, undone, reads) = none v reads
 
 pub reads_standing : (entries : List Entry) (end t place w : ℕ) → ((v : ℕ) → ReadsAt entries t v place → w ≡ v)

@@ -131,9 +131,11 @@ walk_at s entries place n k kind within legal about below =
     let (e, is) = entry_there entries place within in
     let legal_here = legal_there s entries place e is legal in
     let walk_is : placed_cycle entries place ≡ cycle_in e.reply = ap (listed_by (λ (x : Entry). cycle_in x.reply)) is in
-    let why = by_cycle s (before entries place) e.event e.reply (aborts_have_cause s (e ∷ before entries place) legal_here).1 n (rw (sym walk_is) below) in
+    let why = by_cycle s (before entries place) e.event e.reply
+    (aborts_have_cause s (e ∷ before entries place) legal_here).1 n (rw (sym walk_is) below) in
     let named : about.by ≡ why.t = some_is _ _ (sym about.named ∙ ap (option_and_then (λ (x : Entry). named_by x.event)) is ∙ why.named) in
-    let wants : Wants (next_of s (before entries place) why.t) k kind = subst (λ u. Wants (next_of s (before entries place) u) k kind) named about.wants in
+    let wants : Wants (next_of s (before entries place) why.t) k kind =
+    subst (λ u. Wants (next_of s (before entries place) u) k kind) named about.wants in
     let same = wanted _ _ _ _ _ wants why.closes.wants in
     record { t = why.t; rest = why.closes.rest; walk = walk_is ∙ why.closes.is; closes = rw (same.0, same.1) why.closes.closes }
 

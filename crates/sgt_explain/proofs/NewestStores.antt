@@ -28,7 +28,12 @@ pub one_back : (entries : List Entry) (place : ℕ) → 0 < place → place ≤ 
 one_back entries place some within =
     let (e, at) = entry_there entries (place - 1) (omega (arith, some, within)) in
     let next : place ≡ (place - 1) + 1 = omega (arith, some) in
-    record { entry = e; at = at; before_is = ap (before entries) next ∙ before_next entries (place - 1) e at; access = access_there entries (place - 1) e at }
+    record {
+      entry = e;
+      at = at;
+      before_is = ap (before entries) next ∙ before_next entries (place - 1) e at;
+      access = access_there entries (place - 1) e at;
+    }
 
 -- a store by one who counts
 stores_counted : (o : Option Access) (k : Key) (counts : ℕ → Bool) (w : ℕ) → Some w ≡ by_of (stores (λ v. true) k o) → counts w ≡ true
@@ -115,4 +120,6 @@ looks_from past o m t v is by looks found = rw (sym is) (looks, by, by_is _ v fo
 
 pub looks_from_one : (past : List Entry) (o : Option Access) (m : Access) (t v u : ℕ) → Some m ≡ o
     → Some v ≡ by_of (newest_store (λ u. not (aborted past u)) m.key past) → LooksFrom past o t u → v ≡ u
-looks_from_one past o m t v u is found from = let h : LooksFrom past (Some m) t u = subst (λ x. LooksFrom past x t u) (sym is) from in is_by _ v u found h.2
+looks_from_one past o m t v u is found from =
+    let h : LooksFrom past (Some m) t u = subst (λ x. LooksFrom past x t u) (sym is) from in
+    is_by _ v u found h.2

@@ -69,7 +69,8 @@ finds_at F G back entries (suc end) n within below at =
 -- the entries before a place of a legal history are legal, and so is the reply there
 pub legal_before : (s : Setting) (entries : List Entry) (place : ℕ) → Legal s (reverse entries) → Legal s (before entries place)
 legal_before s entries place legal = legal_older s (reverse (drop place entries)) (before entries place)
-    (subst (λ l. Legal s l) (ap reverse (sym (take-append-drop place entries)) ∙ reverse-append (take place entries) (drop place entries)) legal)
+    (subst (λ l. Legal s l) (ap reverse (sym (take-append-drop place entries))
+    ∙ reverse-append (take place entries) (drop place entries)) legal)
 
 pub legal_there : (s : Setting) (entries : List Entry) (place : ℕ) (e : Entry) → slice_get entries place ≡ Some e
     → Legal s (reverse entries) → Legal s (e ∷ before entries place)

@@ -22,7 +22,8 @@ TellsFrom entries end key kind edge (Some t) None (Some u) = TellsPending entrie
 
 -- told is edge number n of the walk, from 0
 abbrev pub TellsEdge : List Entry → (end : ℕ) → Key → Kind → List ℕ → (n : ℕ) → Edge → Type 0
-TellsEdge entries end key kind walk n edge = TellsFrom entries end key kind edge (slice_get walk n) (slice_get walk (n + 1)) (slice_get walk 0)
+TellsEdge entries end key kind walk n edge =
+    TellsFrom entries end key kind edge (slice_get walk n) (slice_get walk (n + 1)) (slice_get walk 0)
 
 -- one comes before the next; and the last, which has no next, would come before one that made that access
 abbrev pub HasEdgeFrom : List Entry → (end : ℕ) → Key → Kind → (one next : Option ℕ) → Type 0

@@ -6,21 +6,25 @@
 //! that nobody asks about costs nothing. What is asked costs some passes over the entries before the abort: for an edge at most
 //! two and one for each access that its second transaction made, for one that fell about one for each of its looks.
 //!
-//! [`append_edge`] and [`append_source`] tell them as lines of text.
+//! [`cycle_edge`] tells an edge, [`fall_source`] the look of one that fell; [`append_explanation`] tells both of an abort as lines of
+//! text.
 //!
-//! It runs nothing and writes nothing. It knows no procedures either: which access the aborted transaction was about to make is
-//! for the caller to say.
+//! It runs nothing and writes nothing, and knows no procedures: which access the aborted transaction was about to make is for the
+//! caller to say. [`call_before`] and [`progress_before`] tell what a procedure needs to say that.
 //!
 //! ```
-//! let mut number = 0;
-//! while let Some(edge) = cycle_edge(&history, place, number, key, Kind::Store) {
-//!     append_edge(&mut text, &edge, place, &lines)?; // adds "line 12: 1 would write 2/101, which 0 read at line 8\n"
-//!     number += 1;
-//! }
+//! // What the transaction that is aborted at a place was about to do.
+//! let call = call_before(history, place, t)?;
+//! let progress = progress_before(alloc, history, place, t)?;
+//! let next = procedures[call.procedure as usize].next(&call.args, progress.read.as_slice(), progress.made);
+//!
+//! // "line 12: 1 would write 2/101, which 0 read at line 6 and wrote at line 10", and one such line for each other edge.
+//! append_explanation(&mut text, history, place, Some(Pending { key, kind: Kind::Store }), &lines)?;
 //! ```
 #![tactic(auto)]
 
 mod edge;
+mod explanation;
 mod made;
 mod progress;
 mod search;
@@ -29,6 +33,7 @@ mod text;
 mod writers;
 
 pub use edge::{Earlier, Edge, cycle_edge};
+pub use explanation::{Pending, append_explanation};
 pub use progress::{Call, Progress, call_before, progress_before};
 pub use source::{Source, fall_source};
 pub use text::{append_edge, append_source};

@@ -1,9 +1,9 @@
-ghost use Rattle.std.specs.Prelude.{◌≡◌, ◌+◌, ◌^◌, ◌<◌, ◌++◌, [], length, IfOk, OnOk, IfSome};
+ghost use Rattle.std.specs.Prelude.{◌≡◌, ◌+◌, ◌^◌, ◌<◌, ◌++◌, ℕ, None, [], length, IfOk, OnOk, IfSome, IfNone};
 ghost use Rattle.std.specs.Option.{option_map};
 ghost use Rattle.sgt_model.specs.Accesses.{act_in};
 ghost use Rattle.sgt_model.specs.Progress.{call_in, call_of, reads, made, values_read};
 ghost use Rattle.sgt_explain.specs.Places.{before};
-ghost use Rattle.sgt_explain.specs.Calls.{called};
+ghost use Rattle.sgt_explain.specs.Calls.{called, placed_call};
 
 use crate::made::{Made, made_at};
 use sgt_entries::{EntryRef, History};
@@ -28,10 +28,12 @@ pub struct Progress {
     pub made: usize,
 }
 
-/// What a transaction was started with in the entries before a place, if it was. With how far it has come, this tells what its
-/// procedure does next.
+/// What a transaction was started with in the entries before a place; none where none of them starts it. With how far it has
+/// come, this tells what its procedure does next.
 pub fn call_before(history: &History, place: usize, t: Tid) -> Option<Call>
-    ensures { IfSome result (λ call. call_of (before history.now.entries place) t ≡ called call) }
+    ensures call { IfSome result (λ call. call_of (before history.now.entries place) t ≡ called call) }
+    ensures none { IfNone result
+        ((n : ℕ) → n < place → placed_call history.now.entries t n ≡ None) }
 {
     let mut at = place.min(history.len());
     while 0 < at {

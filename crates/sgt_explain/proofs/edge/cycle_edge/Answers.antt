@@ -6,7 +6,8 @@ use Rattle.sgt_explain.proofs.edge.cycle_edge.Goals as goal
 
 pub returns-clause-all : goal.returns-clause-all
 returns-clause-all c =
-    let same : c.as_slice.result.now ≡ placed_cycle c.args.history.now.entries c.args.place = c.as_slice.ensures ∙ c.in_ok-walk.ensures.some in
+    let same : c.as_slice.result.now ≡ placed_cycle c.args.history.now.entries c.args.place =
+    c.as_slice.ensures ∙ c.in_ok-walk.ensures.some in
     λ s legal about below.
     c.walk_edge.ensures.some.1
     (subst (λ w. HasEdge c.args.history.now.entries c.args.place c.args.key c.args.kind w c.args.number) (sym same)
@@ -14,7 +15,8 @@ returns-clause-all c =
 
 pub returns-clause-pairs : goal.returns-clause-pairs
 returns-clause-pairs c =
-    let same : c.as_slice.result.now ≡ placed_cycle c.args.history.now.entries c.args.place = c.as_slice.ensures ∙ c.in_ok-walk.ensures.some in
+    let same : c.as_slice.result.now ≡ placed_cycle c.args.history.now.entries c.args.place =
+    c.as_slice.ensures ∙ c.in_ok-walk.ensures.some in
     told_are_pairs c.args.history.now.entries c.args.place c.args.number c.args.key c.args.kind (search rules) c.walk_edge.result
     (subst (λ w. IfSome c.walk_edge.result (TellsEdge c.args.history.now.entries c.args.place c.args.key c.args.kind w c.args.number)) same
     c.walk_edge.ensures.told)

@@ -20,7 +20,8 @@ returns-then-number-fell-clause-all c =
     λ s legal below.
     all_sources c.args.history.now.entries c.args.place c.args.number c.index-fell-number.result c.first_source.result
     (slice_get_within c.args.history.now.entries c.args.place _ here)
-    (falls_item c.args.history.now.entries c.args.place c.args.number _ _ _ here c.fell-fell.ensures item) c.first_source.ensures.none s legal
+    (falls_item c.args.history.now.entries c.args.place c.args.number _ _ _ here c.fell-fell.ensures item)
+    c.first_source.ensures.none s legal
 
 pub returns-else-number-fell-clause-some : goal.returns-else-number-fell-clause-some
 returns-else-number-fell-clause-some c =

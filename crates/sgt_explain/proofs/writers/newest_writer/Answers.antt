@@ -8,7 +8,8 @@ pub returns-then-not-is_aborted : goal.returns-then-not-is_aborted
 returns-then-not-is_aborted c =
     let within : c.loop-place.place ≤ length c.args.history.now.entries = search rules in
     writer_found c.args.history.now.entries c.loop-place.place c.args.key
-    (λ v. not (aborted (before c.args.history.now.entries c.args.end) v)) c.in-Some.writer (search rules) within c.in-Some.ensures (search rules)
+    (λ v. not (aborted (before c.args.history.now.entries c.args.end) v)) c.in-Some.writer (search rules) within c.in-Some.ensures
+    (search rules)
     ∙ ap by_of (sym c.loop-place.invariant.none_since)
 
 pub loop-place-preserved-else-not-is_aborted : goal.loop-place-preserved-else-not-is_aborted
