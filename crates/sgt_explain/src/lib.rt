@@ -3,8 +3,8 @@
 //!
 //! An engine says of an abort whom it concerns: a walk, and those that fall. Here the history is searched for the accesses behind
 //! that, each named by its place: how many entries stand before it. Nothing is kept for this while a history grows, so an abort
-//! that nobody asks about costs nothing. What is asked costs some passes over the entries before the abort: for an edge at most
-//! two and one for each access that its second transaction made, for one that fell about one for each of its looks.
+//! that nobody asks about costs nothing. What is asked costs passes over the entries before the abort: for an edge one, and at
+//! most two for each access of its second transaction; for one that fell one, and about two for each of its looks.
 //!
 //! [`cycle_edge`] tells an edge, [`fall_source`] the look of one that fell; [`append_explanation`] tells both of an abort as lines of
 //! text.
