@@ -11,6 +11,8 @@ mod cursor;
 #[cfg(test)]
 mod engine;
 #[cfg(test)]
+mod explain;
+#[cfg(test)]
 mod finds;
 #[cfg(test)]
 mod first_use;
