@@ -1,13 +1,15 @@
 //! Tests of the other crates, in a crate of their own: a crate with tests is proved twice, and these would be proved again
 //! for nothing.
 //!
-//! It has no function for others to call. What a test shows is in its name.
+//! It has no function for others to call. What a test shows is in its name, or in the names of its rows.
 #![tactic(auto)]
 
 #[cfg(test)]
 mod cursor;
 #[cfg(test)]
 mod engine;
+#[cfg(test)]
+mod explain;
 #[cfg(test)]
 mod failures;
 #[cfg(test)]

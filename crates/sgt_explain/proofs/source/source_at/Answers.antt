@@ -1,0 +1,31 @@
+use Rattle.std.proofs.Common.{rules, refl}
+use Rattle.sgt_explain.specs.Places.{before, placed_access}
+use Rattle.sgt_model.specs.Accesses.{Access}
+use Rattle.sgt_explain.proofs.NewestStores.{look_is, looks_from, looks_from_one}
+use Rattle.sgt_explain.proofs.source.source_at.Goals as goal
+
+pub returns-clause-told : goal.returns-clause-told
+returns-clause-told c =
+    let entries = c.args.history.now.entries in
+    let made : Access = record { by = c.made.inside.by; key = c.made.inside.key; kind = c.made.inside.kind; value = c.made.inside.value } in
+    record {
+      reader = refl;
+      place_is = refl;
+      look = look_is (placed_access entries c.args.place) made
+          c.args.reader (search rules) (search rules) (search rules);
+      reads = (
+        search rules,
+        looks_from (before entries c.args.place) (placed_access entries c.args.place)
+            made
+            c.args.reader c.in_ok-source.source (search rules) (search rules) (search rules) c.in_ok-source.ensures,
+      );
+    }
+
+pub returns-clause-some : goal.returns-clause-some
+returns-clause-some c =
+    let entries = c.args.history.now.entries in
+    let made : Access = record { by = c.made.inside.by; key = c.made.inside.key; kind = c.made.inside.kind; value = c.made.inside.value } in
+    λ v reads.
+    looks_from_one (before entries c.args.place) (placed_access entries c.args.place)
+    made
+    c.args.reader c.in_ok-source.source v (search rules) c.in_ok-source.ensures reads.1

@@ -1,0 +1,6 @@
+pub mod Firsts
+pub mod Places
+pub mod Edges
+pub mod WalkEdges
+pub mod Sources
+pub mod Calls

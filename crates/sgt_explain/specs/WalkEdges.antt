@@ -1,0 +1,52 @@
+-- The edges of the walk by which an entry aborts a transaction, and that they are conflict pairs.
+use Rattle.std.specs.Prelude.{◌≡◌, ◌+◌, ℕ, true, List, ◌∷◌, Option, Some, None, slice_get}
+use Rattle.sgt_model.specs.declared.entry.Entry.{Entry}
+use Rattle.sgt_model.specs.declared.kind.Kind.{Kind}
+use Rattle.sgt_model.specs.Contents.{Key}
+use Rattle.sgt_model.specs.Accesses.{access_of}
+use Rattle.sgt_model.specs.Pairs.{has_conflicting, Precedes, Pair}
+use Rattle.sgt_model.specs.Aborts.{Wants, IsAccessBy}
+use Rattle.sgt_model.specs.Settings.{Setting}
+use Rattle.sgt_model.specs.Progress.{next_of}
+use Rattle.sgt_explain.specs.declared.edge.Edge.{Edge}
+use Rattle.sgt_explain.specs.Places.{before, placed_named}
+use Rattle.sgt_explain.specs.Edges.{TellsPair, TellsPending}
+
+-- an edge of a walk leads from one to the next; from the last, which has no next, to the first. That last edge is made by an
+-- access of that kind of the key, which the first was about to make behind the entries before the end
+abbrev pub TellsFrom : List Entry → (end : ℕ) → Key → Kind → Edge → (one next first : Option ℕ) → Type 0
+TellsFrom entries end key kind edge None next first = ⊥
+TellsFrom entries end key kind edge (Some t) (Some u) first = TellsPair entries end t u edge
+TellsFrom entries end key kind edge (Some t) None None = ⊥
+TellsFrom entries end key kind edge (Some t) None (Some u) = TellsPending entries end t u key kind edge
+
+-- told is edge number n of the walk, from 0
+abbrev pub TellsEdge : List Entry → (end : ℕ) → Key → Kind → List ℕ → (n : ℕ) → Edge → Type 0
+TellsEdge entries end key kind walk n edge =
+    TellsFrom entries end key kind edge (slice_get walk n) (slice_get walk (n + 1)) (slice_get walk 0)
+
+-- one comes before the next; and the last, which has no next, would come before one that made that access
+abbrev pub HasEdgeFrom : List Entry → (end : ℕ) → Key → Kind → (one next : Option ℕ) → Type 0
+HasEdgeFrom entries end key kind None next = ⊥
+HasEdgeFrom entries end key kind (Some t) (Some u) = Precedes (before entries end) t u
+HasEdgeFrom entries end key kind (Some t) None = has_conflicting (before entries end) t key kind ≡ true
+
+-- the walk has an edge number n, from 0, and accesses make it
+abbrev pub HasEdge : List Entry → (end : ℕ) → Key → Kind → List ℕ → (n : ℕ) → Type 0
+HasEdge entries end key kind walk n = HasEdgeFrom entries end key kind (slice_get walk n) (slice_get walk (n + 1))
+
+-- the transaction of the entry at this place was about to make an access of that kind of the key
+pub record WasAbout (s : Setting) (entries : List Entry) (place : ℕ) (key : Key) (kind : Kind) : Type 0 where
+  pub by : ℕ
+  pub named : placed_named entries place ≡ Some by
+  pub wants : Wants (next_of s (before entries place) by) key kind
+
+-- the two of an edge are a conflict pair of a history; where its later access was about to be made, they would be one with that
+-- access added as an entry
+abbrev pub IsPairIn : List Entry → Edge → (place : Option ℕ) → Type 0
+IsPairIn past edge (Some n) = Pair past edge.from edge.to
+IsPairIn past edge None = (e : Entry) → IsAccessBy (access_of e) edge.to edge.key edge.kind → Pair (e ∷ past) edge.from edge.to
+
+-- so it is of the history before a place
+abbrev pub IsPairAt : List Entry → (place : ℕ) → Edge → Type 0
+IsPairAt entries place edge = IsPairIn (before entries place) edge edge.place

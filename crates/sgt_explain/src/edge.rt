@@ -1,0 +1,168 @@
+ghost use Rattle.std.specs.Prelude.{◌≡◌, ◌≤◌, ◌<◌, ◌+◌, ◌↔◌, true, length, reverse, IfSome, IfNone, IsSome, []};
+ghost use Rattle.sgt_model.specs.Settings.{Setting};
+ghost use Rattle.sgt_model.specs.Legality.{Legal};
+ghost use Rattle.sgt_model.specs.Pairs.{has_conflicting, Precedes};
+ghost use Rattle.sgt_explain.specs.Places.{before, placed_cycle};
+ghost use Rattle.sgt_explain.specs.Edges.{FollowsAt, TellsAccess, TellsPair, TellsPending};
+ghost use Rattle.sgt_explain.specs.WalkEdges.{TellsEdge, HasEdge, WasAbout, IsPairAt};
+
+use crate::made::made_at;
+use crate::search::earlier;
+use sgt_entries::History;
+use sgt_model::{Cause, Key, Kind, Reply, Tid, Tids};
+
+/// A transaction's first accesses of a key that conflict with a later one, by their places. At least one of them is there.
+#[derive(Clone, Copy, Debug, PartialEq, Eq)]
+pub struct Earlier {
+    /// Its first look at the key; none where the later access is a look, with which none conflicts.
+    pub looked: Option<usize>,
+    /// Its first store.
+    pub stored: Option<usize>,
+}
+
+/// An edge of a walk, with the accesses that make its two transactions a conflict pair.
+#[derive(Clone, Copy, Debug, PartialEq, Eq)]
+pub struct Edge {
+    /// The transaction that comes first.
+    pub from: Tid,
+    /// The one that comes after it.
+    pub to: Tid,
+    /// The key that both accessed.
+    pub key: Key,
+    /// What the later access does, which is that of `to`.
+    pub kind: Kind,
+    /// The place of the later access; none of one that was about to be made, and was rejected.
+    pub place: Option<usize>,
+    /// The accesses of `from` before it.
+    pub earlier: Earlier,
+}
+
+/// Edge number `number`, from 0, of the walk by which the entry at this place aborts a transaction, where that transaction was
+/// about to make an access of this kind of this key. The edges go from each of the walk to the next, and the last of them back
+/// to the first, which is the one that is aborted: this one is made by the access that it was about to make.
+///
+/// It is none where the entry aborts nobody by a cycle, the walk has no more edges, or no such accesses are there. In a legal
+/// history, and by the access that the procedure was at, each edge of the walk is told.
+pub fn cycle_edge(
+    history: &History,
+    place: usize,
+    number: usize,
+    key: Key,
+    kind: Kind,
+) -> Option<Edge>
+    ensures told { IfSome result
+        (TellsEdge history.now.entries place key kind (placed_cycle history.now.entries place) number) }
+    ensures some { IsSome result
+        ↔ HasEdge history.now.entries place key kind (placed_cycle history.now.entries place) number }
+    ensures all { (s : Setting) → Legal s (reverse history.now.entries) → WasAbout s history.now.entries place key kind
+        → number < length (placed_cycle history.now.entries place) → IsSome result }
+    ensures pairs { IfSome result (λ edge. (s : Setting) → Legal s (reverse history.now.entries)
+        → WasAbout s history.now.entries place key kind → IsPairAt history.now.entries place edge) }
+{
+    let walk = cycle_at(history, place)?;
+    walk_edge(history, place, walk.as_slice(), number, key, kind)
+}
+
+// The walk of the abort by a cycle at a place, if there is one.
+fn cycle_at(history: &History, place: usize) -> Option<Tids>
+    ensures some { IfSome result (λ walk. walk ≡ placed_cycle history.now.entries place) }
+    ensures within { IsSome result → place < length history.now.entries }
+    ensures none { IfNone result (placed_cycle history.now.entries place ≡ []) }
+{
+    let entry = history.get_entry(place)?;
+    if !entry.is_by_cycle() {
+        return None;
+    }
+    match entry.reply() {
+        Reply::Aborted {
+            cause: Cause::Cycle(walk),
+            ..
+        } => Some(walk),
+        _ => None,
+    }
+}
+
+// An edge of a walk that begins with the transaction that is aborted there.
+fn walk_edge(
+    history: &History,
+    end: usize,
+    walk: &[Tid],
+    number: usize,
+    key: Key,
+    kind: Kind,
+) -> Option<Edge>
+    requires { end ≤ length history.now.entries }
+    ensures told { IfSome result (TellsEdge history.now.entries end key kind walk.now number) }
+    ensures some { IsSome result ↔ HasEdge history.now.entries end key kind walk.now number }
+{
+    if number >= walk.len() {
+        return None;
+    }
+    if number == walk.len() - 1 {
+        return pending_edge(history, end, walk[number], walk[0], key, kind);
+    }
+    pair_edge(history, end, walk[number], walk[number + 1])
+}
+
+// Why one would come before another, by an access that the other was about to make.
+fn pending_edge(
+    history: &History,
+    end: usize,
+    from: Tid,
+    to: Tid,
+    key: Key,
+    kind: Kind,
+) -> Option<Edge>
+    requires { end ≤ length history.now.entries }
+    ensures told { IfSome result (TellsPending history.now.entries end from to key kind) }
+    ensures some { IsSome result ↔ (has_conflicting (before history.now.entries end) from key kind ≡ true) }
+{
+    match earlier(history, end, from, key, kind) {
+        Some(earlier) => Some(Edge {
+            from,
+            to,
+            key,
+            kind,
+            place: None,
+            earlier,
+        }),
+        None => None,
+    }
+}
+
+// Why one comes before another in the entries before the end, if it does.
+fn pair_edge(history: &History, end: usize, from: Tid, to: Tid) -> Option<Edge>
+    requires { end ≤ length history.now.entries }
+    ensures told { IfSome result (TellsPair history.now.entries end from to) }
+    ensures some { IsSome result ↔ Precedes (before history.now.entries end) from to }
+{
+    for place in 0..end {
+        if let Some(edge) = access_edge(history, place, from, to) {
+            return Some(edge);
+        }
+    }
+    None
+}
+
+// The access of the second at this place, and those of the first that it follows, if it does.
+fn access_edge(history: &History, place: usize, from: Tid, to: Tid) -> Option<Edge>
+    requires { place < length history.now.entries }
+    ensures told { IfSome result (TellsAccess history.now.entries from to place) }
+    ensures some { IsSome result ↔ FollowsAt history.now.entries from to place }
+{
+    let made = made_at(history, place)?;
+    if made.by != to {
+        return None;
+    }
+    match earlier(history, place, from, made.key, made.kind) {
+        Some(earlier) => Some(Edge {
+            from,
+            to,
+            key: made.key,
+            kind: made.kind,
+            place: Some(place),
+            earlier,
+        }),
+        None => None,
+    }
+}

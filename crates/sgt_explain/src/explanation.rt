@@ -1,0 +1,121 @@
+ghost use Rattle.std.specs.Prelude.{◌≡◌, take, OnErr, vec_len};
+
+use crate::edge::{Edge, cycle_edge};
+use crate::source::{Source, fall_source};
+use crate::text::{append_edge, append_source};
+use sgt_entries::History;
+use sgt_model::{Key, Kind, NoMemory};
+
+/// How many transactions a walk has at most, and how many fall with an abort.
+const MOST: usize = 32;
+
+/// The access that a transaction was about to make.
+#[derive(Clone, Copy, Debug, PartialEq, Eq)]
+pub struct Pending {
+    /// The key.
+    pub key: Key,
+    /// Whether it would look at it or store it.
+    pub kind: Kind,
+}
+
+/// Adds the lines that tell why the entry at this place aborts whom it aborts: those of the edges of its walk, where it aborts by
+/// a cycle and the access that was about to be made is given, and then those of the ones that fall. Of another entry it adds none.
+/// The list is as for `append_edge`.
+///
+/// `NoMemory` where the growth was refused; the text is as it was then.
+pub fn append_explanation(
+    text: &mut Vec<u8>,
+    history: &History,
+    place: usize,
+    pending: Option<Pending>,
+    lines: &[u64],
+) -> Result<(), NoMemory>
+    ensures kept { take (vec_len text.old) text.new.items ≡ text.old.items }
+    ensures err { OnErr result (text.new.items ≡ text.old.items) }
+{
+    let before = text.len();
+    if append_all(text, history, place, pending, lines).is_err() {
+        text.truncate(before);
+        return Err(NoMemory);
+    }
+    Ok(())
+}
+
+// Adds the lines of both kinds. On an error the text still begins with what it held.
+fn append_all(
+    text: &mut Vec<u8>,
+    history: &History,
+    place: usize,
+    pending: Option<Pending>,
+    lines: &[u64],
+) -> Result<(), NoMemory>
+    ensures kept { take (vec_len text.old) text.new.items ≡ text.old.items }
+{
+    if let Some(pending) = pending {
+        append_edges(text, history, place, pending, lines)?;
+    }
+    append_sources(text, history, place, lines)
+}
+
+// Adds a line for each edge of the walk. On an error the text still begins with what it held.
+fn append_edges(
+    text: &mut Vec<u8>,
+    history: &History,
+    place: usize,
+    pending: Pending,
+    lines: &[u64],
+) -> Result<(), NoMemory>
+    ensures kept { take (vec_len text.old) text.new.items ≡ text.old.items }
+{
+    for number in 0..MOST {
+        let edge = cycle_edge(history, place, number, pending.key, pending.kind);
+        append_if_edge(text, edge, place, lines)?;
+    }
+    Ok(())
+}
+
+// Adds an edge's line, if there is one. On an error the text still begins with what it held.
+fn append_if_edge(
+    text: &mut Vec<u8>,
+    edge: Option<Edge>,
+    place: usize,
+    lines: &[u64],
+) -> Result<(), NoMemory>
+    ensures kept { take (vec_len text.old) text.new.items ≡ text.old.items }
+{
+    match edge {
+        Some(edge) => append_edge(text, &edge, place, lines),
+        None => Ok(()),
+    }
+}
+
+// Adds a line for each that falls. On an error the text still begins with what it held.
+fn append_sources(
+    text: &mut Vec<u8>,
+    history: &History,
+    place: usize,
+    lines: &[u64],
+) -> Result<(), NoMemory>
+    ensures kept { take (vec_len text.old) text.new.items ≡ text.old.items }
+{
+    for number in 0..MOST {
+        let source = fall_source(history, place, number);
+        append_if_source(text, source, place, lines)?;
+    }
+    Ok(())
+}
+
+// Adds a source's line, if there is one. On an error the text still begins with what it held.
+fn append_if_source(
+    text: &mut Vec<u8>,
+    source: Option<Source>,
+    place: usize,
+    lines: &[u64],
+) -> Result<(), NoMemory>
+    ensures kept { take (vec_len text.old) text.new.items ≡ text.old.items }
+{
+    match source {
+        Some(source) => append_source(text, &source, place, lines),
+        None => Ok(()),
+    }
+}

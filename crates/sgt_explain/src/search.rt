@@ -1,0 +1,70 @@
+ghost use Rattle.std.specs.Prelude.{◌≡◌, ◌≤◌, ◌<◌, ◌↔◌, true, length, IfSome, IsSome, IsTrue};
+ghost use Rattle.sgt_model.specs.Aborts.{IsAccessBy};
+ghost use Rattle.sgt_model.specs.Pairs.{one_stores, has_conflicting};
+ghost use Rattle.sgt_explain.specs.Firsts.{FirstOrNone};
+ghost use Rattle.sgt_explain.specs.Places.{before, placed_access};
+ghost use Rattle.sgt_explain.specs.Edges.{ConflictsAt, TellsEarlier};
+
+use crate::edge::Earlier;
+use crate::made::made_at;
+use sgt_entries::History;
+use sgt_model::{Key, Kind, Tid};
+
+/// The first look and the first store of the key by a transaction, before the end, that conflict with an access of that kind; or
+/// none, where neither is there.
+pub(crate) fn earlier(
+    history: &History,
+    end: usize,
+    by: Tid,
+    key: Key,
+    kind: Kind,
+) -> Option<Earlier>
+    requires { end ≤ length history.now.entries }
+    ensures told { IfSome result (TellsEarlier history.now.entries end by key kind) }
+    ensures some { IsSome result ↔ (has_conflicting (before history.now.entries end) by key kind ≡ true) }
+{
+    let looked = first_conflict(history, end, by, key, Kind::Look, kind);
+    let stored = first_conflict(history, end, by, key, Kind::Store, kind);
+    if looked.is_none() && stored.is_none() {
+        return None;
+    }
+    Some(Earlier { looked, stored })
+}
+
+// The place of the transaction's first access of the key of the one kind, before the end, that conflicts with one of the other.
+fn first_conflict(
+    history: &History,
+    end: usize,
+    by: Tid,
+    key: Key,
+    kind: Kind,
+    later: Kind,
+) -> Option<usize>
+    requires { end ≤ length history.now.entries }
+    ensures { FirstOrNone (ConflictsAt history.now.entries by key kind later) end result }
+{
+    for place in 0..end {
+        if does_conflict(kind, later) && has_access(history, place, by, key, kind) {
+            return Some(place);
+        }
+    }
+    None
+}
+
+// Whether two accesses of these kinds conflict where they are of one key.
+fn does_conflict(earlier: Kind, later: Kind) -> bool
+    ensures { result ≡ one_stores earlier later }
+{
+    earlier == Kind::Store || later == Kind::Store
+}
+
+// Whether the entry at a place is the transaction's access of that kind of the key.
+fn has_access(history: &History, place: usize, by: Tid, key: Key, kind: Kind) -> bool
+    requires { place < length history.now.entries }
+    ensures { IsTrue result ↔ IsAccessBy (placed_access history.now.entries place) by key kind }
+{
+    match made_at(history, place) {
+        Some(made) => made.by == by && made.key == key && made.kind == kind,
+        None => false,
+    }
+}

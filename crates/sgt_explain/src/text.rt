@@ -1,0 +1,163 @@
+ghost use Rattle.std.specs.Prelude.{◌≡◌, take, OnErr, vec_len};
+
+use crate::edge::{Earlier, Edge};
+use crate::source::Source;
+use itoa::{Buffer, Integer};
+use sgt_model::{Key, Kind, NoMemory};
+use std::alloc::AllocError;
+
+/// Adds a line that tells an edge of the walk by which the entry at this place aborts a transaction, as
+/// `line 12: 1 would write 2/101, which 0 read at line 8 and wrote at line 10` where its later access was about to be made, and
+/// else as `line 12: 0 wrote 2/102 at line 10, which 1 read at line 7`. It begins with the line of the abort.
+///
+/// The list has the number of each entry's line, by the place of the entry; where it ends earlier, an entry is told as
+/// `entry 7`, by its place from 0.
+///
+/// `NoMemory` where the growth was refused; the text is as it was then.
+pub fn append_edge(
+    text: &mut Vec<u8>,
+    edge: &Edge,
+    place: usize,
+    lines: &[u64],
+) -> Result<(), NoMemory>
+    ensures kept { take (vec_len text.old) text.new.items ≡ text.old.items }
+    ensures err { OnErr result (text.new.items ≡ text.old.items) }
+{
+    let before = text.len();
+    if append_edge_line(text, edge, place, lines).is_err() {
+        text.truncate(before);
+        return Err(NoMemory);
+    }
+    Ok(())
+}
+
+/// Adds a line that tells by which look one that falls with the abort at this place had read from one that is undone there, as
+/// `line 12: 3 read 2/101 of 1 at line 9`. It begins with the line of the abort; the list is as for `append_edge`.
+///
+/// `NoMemory` where the growth was refused; the text is as it was then.
+pub fn append_source(
+    text: &mut Vec<u8>,
+    source: &Source,
+    place: usize,
+    lines: &[u64],
+) -> Result<(), NoMemory>
+    ensures kept { take (vec_len text.old) text.new.items ≡ text.old.items }
+    ensures err { OnErr result (text.new.items ≡ text.old.items) }
+{
+    let before = text.len();
+    if append_source_line(text, source, place, lines).is_err() {
+        text.truncate(before);
+        return Err(NoMemory);
+    }
+    Ok(())
+}
+
+// Adds an edge's line. On an error the text still begins with what it held.
+fn append_edge_line(
+    text: &mut Vec<u8>,
+    edge: &Edge,
+    place: usize,
+    lines: &[u64],
+) -> Result<(), AllocError>
+    ensures kept { take (vec_len text.old) text.new.items ≡ text.old.items }
+{
+    append_place(text, place, lines)?;
+    append_number(text, b": ", edge.to.0)?;
+    append_later(text, edge, lines)?;
+    append_number(text, b", which ", edge.from.0)?;
+    append_earlier(text, &edge.earlier, lines)?;
+    text.extend_from_slice(b"\n")
+}
+
+// Adds a source's line. On an error the text still begins with what it held.
+fn append_source_line(
+    text: &mut Vec<u8>,
+    source: &Source,
+    place: usize,
+    lines: &[u64],
+) -> Result<(), AllocError>
+    ensures kept { take (vec_len text.old) text.new.items ≡ text.old.items }
+{
+    append_place(text, place, lines)?;
+    append_number(text, b": ", source.reader.0)?;
+    append_key(text, b" read ", source.key)?;
+    append_number(text, b" of ", source.source.0)?;
+    text.extend_from_slice(b" at ")?;
+    append_place(text, source.place, lines)?;
+    text.extend_from_slice(b"\n")
+}
+
+// Adds what the later access of an edge does, or would have done. On an error the text still begins with what it held.
+fn append_later(text: &mut Vec<u8>, edge: &Edge, lines: &[u64]) -> Result<(), AllocError>
+    ensures kept { take (vec_len text.old) text.new.items ≡ text.old.items }
+{
+    match edge.place {
+        Some(place) => {
+            append_key(text, done_by(edge.kind), edge.key)?;
+            text.extend_from_slice(b" at ")?;
+            append_place(text, place, lines)
+        }
+        None => append_key(text, wanted_by(edge.kind), edge.key),
+    }
+}
+
+// The words for an access that was made.
+fn done_by(kind: Kind) -> &'static [u8] {
+    match kind {
+        Kind::Look => b" read ",
+        Kind::Store => b" wrote ",
+    }
+}
+
+// The words for an access that was about to be made.
+fn wanted_by(kind: Kind) -> &'static [u8] {
+    match kind {
+        Kind::Look => b" would read ",
+        Kind::Store => b" would write ",
+    }
+}
+
+// Adds the earlier accesses of an edge. On an error the text still begins with what it held.
+fn append_earlier(text: &mut Vec<u8>, earlier: &Earlier, lines: &[u64]) -> Result<(), AllocError>
+    ensures kept { take (vec_len text.old) text.new.items ≡ text.old.items }
+{
+    if let Some(place) = earlier.looked {
+        text.extend_from_slice(b" read at ")?;
+        append_place(text, place, lines)?;
+        if earlier.stored.is_some() {
+            text.extend_from_slice(b" and")?;
+        }
+    }
+    if let Some(place) = earlier.stored {
+        text.extend_from_slice(b" wrote at ")?;
+        append_place(text, place, lines)?;
+    }
+    Ok(())
+}
+
+// Adds the line of the entry at a place. On an error the text still begins with what it held.
+fn append_place(text: &mut Vec<u8>, place: usize, lines: &[u64]) -> Result<(), AllocError>
+    ensures kept { take (vec_len text.old) text.new.items ≡ text.old.items }
+{
+    if place < lines.len() {
+        append_number(text, b"line ", lines[place])
+    } else {
+        append_number(text, b"entry ", place as u64)
+    }
+}
+
+// Adds words and a key. On an error the text still begins with what it held.
+fn append_key(text: &mut Vec<u8>, words: &[u8], key: Key) -> Result<(), AllocError>
+    ensures kept { take (vec_len text.old) text.new.items ≡ text.old.items }
+{
+    append_number(text, words, key.table())?;
+    append_number(text, b"/", key.id())
+}
+
+// Adds words and a number. On an error the text still begins with what it held.
+fn append_number<I: Integer>(text: &mut Vec<u8>, words: &[u8], number: I) -> Result<(), AllocError>
+    ensures kept { take (vec_len text.old) text.new.items ≡ text.old.items }
+{
+    text.extend_from_slice(words)?;
+    text.extend_from_slice(Buffer::new().format(number).as_bytes())
+}

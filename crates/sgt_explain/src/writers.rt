@@ -1,0 +1,81 @@
+ghost use Rattle.std.specs.Prelude.{◌≡◌, ◌≤◌, ◌<◌, ◌↔◌, Some, true, length, not, IsTrue};
+ghost use Rattle.std.specs.Option.{option_map};
+ghost use Rattle.sgt_model.specs.declared.reply.Fate.{Fate as F};
+ghost use Rattle.sgt_model.specs.Accesses.{Access};
+ghost use Rattle.sgt_model.specs.Fates.{aborted, ending_in, has_aborted};
+ghost use Rattle.sgt_model.specs.Values.{stores, newest_store};
+ghost use Rattle.sgt_model.specs.Walks.{Member};
+ghost use Rattle.sgt_explain.specs.Places.{before, placed_access};
+
+use crate::made::made_at;
+use sgt_entries::{EntryRef, History};
+use sgt_model::{Key, Kind, Tid};
+
+/// Whose store of the key is the newest before the end, of those not aborted by then, if there is one.
+pub(crate) fn newest_writer(history: &History, end: usize, key: Key) -> Option<Tid>
+    requires { end ≤ length history.now.entries }
+    ensures { result ≡ option_map (λ (a : Access). a.by)
+        (newest_store (λ v. not (aborted (before history.now.entries end) v)) key (before history.now.entries end)) }
+{
+    let mut place = end;
+    while 0 < place {
+        place -= 1;
+        if let Some(writer) = writer_at(history, place, key) {
+            if !is_aborted(history, end, writer) {
+                return Some(writer);
+            }
+        }
+    }
+    None
+}
+
+// Who stores the key at this place, if it is a store of it.
+fn writer_at(history: &History, place: usize, key: Key) -> Option<Tid>
+    requires { place < length history.now.entries }
+    ensures { result ≡ option_map (λ (a : Access). a.by) (stores (λ v. true) key (placed_access history.now.entries place)) }
+{
+    let made = made_at(history, place)?;
+    if made.kind == Kind::Store && made.key == key {
+        Some(made.by)
+    } else {
+        None
+    }
+}
+
+// Whether the transaction was aborted, or fell, before the end.
+fn is_aborted(history: &History, end: usize, t: Tid) -> bool
+    requires { end ≤ length history.now.entries }
+    ensures { result ≡ aborted (before history.now.entries end) t }
+{
+    let mut place = end;
+    while 0 < place {
+        place -= 1;
+        if let Some(by_abort) = ending_at(&history.entry(place), t) {
+            return by_abort;
+        }
+    }
+    false
+}
+
+// Where the entry ends the transaction, whether that is by an abort, its own or another's.
+fn ending_at(entry: &EntryRef<'_>, t: Tid) -> Option<bool>
+    ensures { result ≡ option_map (λ (f : F). has_aborted (Some f)) (ending_in entry.now.event entry.now.reply t) }
+{
+    if !entry.is_ending() {
+        return None;
+    }
+    if entry.named() == Some(t) {
+        return Some(!entry.is_commit());
+    }
+    if is_among(entry.fell(), t) {
+        return Some(true);
+    }
+    None
+}
+
+/// Whether the transaction is one of these.
+pub(crate) fn is_among(tids: &[Tid], t: Tid) -> bool
+    ensures { IsTrue result ↔ Member t tids.now }
+{
+    tids.contains(&t)
+}
