@@ -50,6 +50,15 @@ fn history_flag<'a>(alloc: Global, help: &'a str) -> Arg<'a> {
         .action(ArgAction::SetTrue)
 }
 
+/// The option that has the database written alone, as records.
+fn records_flag<'a>(alloc: Global, help: &'a str) -> Result<Arg<'a>, AllocError> {
+    Arg::new(alloc, "records")
+        .long("records")
+        .help(help)
+        .action(ArgAction::SetTrue)
+        .conflicts_with("history")
+}
+
 /// The words of `sgt script`.
 fn script_command<'a>(alloc: Global) -> Result<Command<'a>, AllocError> {
     Command::new(alloc, "script")
@@ -58,7 +67,11 @@ fn script_command<'a>(alloc: Global) -> Result<Command<'a>, AllocError> {
         .arg(history_flag(
             alloc,
             "In place of the replies, writes the run as a history, for 'sgt check'",
-        ))
+        ))?
+        .arg(records_flag(
+            alloc,
+            "In place of the replies, writes the committed database as records",
+        )?)
 }
 
 /// The words of `sgt bank`.
@@ -130,6 +143,8 @@ fn script<R: Print + Input>(rt: &R, alloc: Global, options: &ArgMatches<'_>) -> 
     let mut writer = Writer::new(io::writer(rt));
     if options.get_flag("history") {
         sgt_script::run_history(alloc, &mut reader, &mut writer)
+    } else if options.get_flag("records") {
+        sgt_script::run_records(alloc, &mut reader, &mut writer)
     } else {
         run_script(alloc, &mut reader, &mut writer)
     }

@@ -12,6 +12,7 @@ use Rattle.sgt_model.specs.OneReply.{SomeReplyIsLegal}
 use Rattle.sgt_model.specs.Settings.{Setting}
 use Rattle.sgt_model.specs.Values.{settled}
 use Rattle.sgt_format.specs.DatabaseText.{database_text}
+use Rattle.sgt_format.specs.RecordText.{record_lines}
 use Rattle.sgt_format.specs.Openings.{Opens}
 use Rattle.sgt_format.specs.declared.opening.Opening.{Opening}
 use Rattle.sgt_format.specs.declared.script_line.ScriptLine.{ScriptLine}
@@ -23,7 +24,7 @@ use Rattle.sgt_stream.specs.Intake.{Intake, before_input, bytes_left, cut_left, 
 use Rattle.sgt_stream.specs.Ends.{End, IsOfInput}
 use Rattle.sgt_stream.specs.Spelled.{spelled, end_of}
 use Rattle.sgt_script.specs.declared.telling.Telling.{Telling}
-use Rattle.sgt_script.specs.declared.telling.Telling.TheVariants.{Replies, Operations}
+use Rattle.sgt_script.specs.declared.telling.Telling.TheVariants.{Replies, Operations, Records}
 use Rattle.sgt_script.specs.Parts.{Answer, LegalAnswer, LegalRun, Part, answer_text, left_by, lines_of, part_behind, part_of, answers_text}
 use Rattle.sgt_script.specs.Scripts.{RunOutput, ScriptOf, script_line_at, Closing, Last}
 use Rattle.sgt_script.specs.Answering.{AnswersAll, AnswersLine, AnswersRead, AnswersScriptRead, AnswersSome, BeginWith, NoLine}
@@ -249,6 +250,12 @@ closes Replies are_rows s rows answers (Ok tt') is =
     let opened = part-rows are_rows s rows answers is in
     let told = are_rows opened.0 (part_of s answers).past in (
       database_text told.0,
+      (told.0, told.1, λ k. told.2 k ∙ ap (λ m. settled m (part_of s answers).past k) (sym opened.1), refl),
+    )
+closes Records are_rows s rows answers (Ok tt') is =
+    let opened = part-rows are_rows s rows answers is in
+    let told = are_rows opened.0 (part_of s answers).past in (
+      record_lines told.0,
       (told.0, told.1, λ k. told.2 k ∙ ap (λ m. settled m (part_of s answers).past k) (sym opened.1), refl),
     )
 closes w are_rows s rows answers (Err f) is = ([], refl)

@@ -3,4 +3,5 @@ pub mod Parts
 pub mod WholeLines
 pub mod Runs
 pub mod RunLaws
+pub mod RecordLaws
 pub mod Beginnings

@@ -23,7 +23,7 @@ use Rattle.sgt_stream.specs.Ends.{End}
 use Rattle.sgt_textbook.specs.Laws.{AreCommitOrdered, AreSerializable, AreRecoverable, TextbookLaws}
 use Rattle.sgt_transcript.specs.Transcripts.{TranscriptsSpellTextbooks, cut_comment, operations_text, transcript}
 use Rattle.sgt_script.specs.declared.telling.Telling.{Telling}
-use Rattle.sgt_script.specs.declared.telling.Telling.TheVariants.{Replies, Operations}
+use Rattle.sgt_script.specs.declared.telling.Telling.TheVariants.{Replies, Operations, Records}
 use Rattle.sgt_script.specs.Parts.{Answer, Replied, WasCut, StillLive, LegalRun, Part, answer_text, answers_text, cut_off, left_by, part_of, parts_of}
 use Rattle.sgt_script.specs.Scripts.{Execution, Closing, Opened, RunOutput, Script, ScriptOf}
 use Rattle.sgt_script.specs.RunLaws.{HistoryLaws, InEachPart, InEachTextbook, IsSerialText, PartLaws, RunLaws, behind_cut, transcripts, carried, chained, line_telling, opened_on, replies_telling, results_left}
@@ -49,9 +49,11 @@ tells-one (reply.Waits t) results before telling is = ap (λ l. l ++ text (reply
 tells-one (reply.Aborted why fell) results before telling is = ap (λ l. l ++ text (reply.Aborted why fell)) is
 
 -- contents that are the same, at the end
-closing-same : (m n : Contents) (end : End) (last : List ℕ) → ((k : Key) → n k ≡ m k) → Closing Replies m end last → Closing Replies n end last
-closing-same m n (Ok done) last same (rows, by_key, contents, is) = (rows, by_key, (λ k. contents k ∙ sym (same k)), is)
-closing-same m n (Err fault) last same is = is
+pub closing-same : (w : Telling) (m n : Contents) (end : End) (last : List ℕ) → ((k : Key) → n k ≡ m k) → Closing w m end last → Closing w n end last
+closing-same Replies m n (Ok done) last same (rows, by_key, contents, is) = (rows, by_key, (λ k. contents k ∙ sym (same k)), is)
+closing-same Operations m n (Ok done) last same is = is
+closing-same Records m n (Ok done) last same (rows, by_key, contents, is) = (rows, by_key, (λ k. contents k ∙ sym (same k)), is)
+closing-same w m n (Err fault) last same is = is
 
 -- a run told by its operations writes the transcripts of its parts
 
@@ -109,7 +111,7 @@ module _ (headline : HeadlineHolds) where
       ap (λ (t : Setting). (folded t p.past).results) (sym (chain s answers legal))
       ∙ (headline p.setting p.past (legal-part s answers legal)).replay.answers
 
-  chain-leaves : (s : Setting) (answers : List Answer) → LegalRun s answers → (k : Key)
+  pub chain-leaves : (s : Setting) (answers : List Answer) → LegalRun s answers → (k : Key)
       → (chained s answers).last k ≡ left_by (part_of s answers) k
   chain-leaves s answers legal k =
       let p = part_of s answers in
@@ -130,7 +132,7 @@ module _ (headline : HeadlineHolds) where
       → RunOutput Replies run later ending out end → IsSerialText run out end
   serial-text run later ending out end output = record {
     last = output.last;
-    closing = closing-same _ _ end output.last (chain-leaves run.setting run.answers output.legal) output.closing;
+    closing = closing-same Replies _ _ end output.last (chain-leaves run.setting run.answers output.legal) output.closing;
     text = output.text ∙ ap (λ l. l ++ output.last) (sym (tells run.setting run.answers output.legal)
         ∙ ap (λ results. replies_telling run.setting results run.answers) (sym (chain-tells run.setting run.answers output.legal)));
   }
@@ -179,7 +181,7 @@ module _ (headline : HeadlineHolds) where
           (part-laws s answers is values legal.0, cut-laws s answers is values legal.0)
       cut-laws s (StillLive ∷ answers) is values legal = cut-laws s answers is values legal.0
 
-    parts-laws : (w : Telling) (l : List ℕ) (ls : List (List ℕ)) (ending : Ending) (run : Execution) (out : List ℕ) (end : End)
+    pub parts-laws : (w : Telling) (l : List ℕ) (ls : List (List ℕ)) (ending : Ending) (run : Execution) (out : List ℕ) (end : End)
         → Opened w l ls ending run out end → InEachPart (parts_of run.setting run.answers)
     parts-laws w l ls ending run out end s =
         let rules = ap (λ (t : Setting). t.rules) s.setting in

@@ -1,5 +1,6 @@
 pub mod Parts
 pub mod Scripts
 pub mod RunLaws
+pub mod RecordLaws
 pub mod Answering
 pub mod Beginnings

@@ -7,6 +7,7 @@ use Rattle.sgt_format.specs.ScriptLines.{script_line_of}
 use Rattle.sgt_format.specs.declared.script_line.ScriptLine.{ScriptLine}
 use Rattle.sgt_format.specs.Openings.{Opens, Refuses}
 use Rattle.sgt_format.specs.DatabaseText.{database_text}
+use Rattle.sgt_format.specs.RecordText.{record_lines}
 use Rattle.sgt_format.specs.declared.opening.Opening.{Opening}
 use Rattle.sgt_format.specs.declared.errors.OpeningError.{OpeningError}
 use Rattle.sgt_format.specs.declared.errors.OpeningError.TheVariants as opening_error
@@ -16,18 +17,19 @@ use Rattle.sgt_stream.specs.Lines.{Ending, cut}
 use Rattle.sgt_stream.specs.Ends.{End, fault_of_opening, no_opening}
 use Rattle.sgt_stream.specs.Spelled.{at_line, spelled, end_of}
 use Rattle.sgt_script.specs.declared.telling.Telling.{Telling}
-use Rattle.sgt_script.specs.declared.telling.Telling.TheVariants.{Replies, Operations}
+use Rattle.sgt_script.specs.declared.telling.Telling.TheVariants.{Replies, Operations, Records}
 use Rattle.sgt_script.specs.Parts.{Answer, LegalRun, left_by, lines_of, part_of, answers_text}
 
 -- what line n asks for, or its fault
 abbrev pub script_line_at : ℕ → List ℕ → Result ScriptLine Fault
 script_line_at n line = at_line n (script_line_of line)
 
--- what stands behind the answers of a run that ended well: behind replies the database of these contents, and nothing behind
--- operations
+-- what stands behind the answers of a run that ended well: behind replies the database of these contents, nothing behind
+-- operations, and where records are told these contents as record lines
 abbrev pub Last : Telling → Contents → List ℕ → Type 0
 Last Replies m last = (rows : List Row) × IsByKey rows × ((k : Key) → contents_of rows k ≡ m k) × (last ≡ database_text rows)
 Last Operations m last = last ≡ []
+Last Records m last = (rows : List Row) × IsByKey rows × ((k : Key) → contents_of rows k ≡ m k) × (last ≡ record_lines rows)
 
 -- what stands behind the answers; nothing at a fault
 abbrev pub Closing : Telling → Contents → End → List ℕ → Type 0

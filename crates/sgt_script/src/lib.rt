@@ -10,8 +10,10 @@
 //! ```
 #![tactic(auto)]
 
+mod records;
 mod run;
 mod script;
 mod telling;
 
+pub use records::run_records;
 pub use run::{run_history, run_script};

@@ -15,7 +15,8 @@ use crate::telling::Telling;
 use json::Scratch;
 use sgt_engine::CutError;
 use sgt_format::{
-    ScriptLine, append_cut, append_database, append_reply, append_still_live, read_script_line,
+    ScriptLine, append_cut, append_database, append_records, append_reply, append_still_live,
+    read_script_line,
 };
 use sgt_model::{Entry, Event, NoMemory, histories_go_on, some_reply_is_legal};
 use sgt_program::{SgtEngine, open_engine};
@@ -91,6 +92,7 @@ fn answer_event(
             Some(Entry { event, reply }) => append_operations(text, &event, &reply),
             None => unreachable!(),
         },
+        Telling::Records => Ok(()),
     }
 }
 
@@ -127,17 +129,18 @@ fn append_was_cut(entries: usize, telling: Telling, text: &mut Vec<u8>) -> Resul
     match telling {
         Telling::Replies => append_cut(text, entries),
         Telling::Operations => append_cut_comment(text, entries),
+        Telling::Records => Ok(()),
     }
 }
 
-/// Adds that nothing was cut off, as a transaction is live. Among operations that is nothing.
+/// Adds that nothing was cut off, as a transaction is live. Where replies are not written that is nothing.
 fn append_was_not_cut(telling: Telling, text: &mut Vec<u8>) -> Result<(), NoMemory>
     ensures text { OnOk result (text.new.items ≡ text.old.items ++ answer_text telling StillLive) }
     ensures kept { OnErr result (text.new.items ≡ text.old.items) }
 {
     match telling {
         Telling::Replies => append_still_live(text),
-        Telling::Operations => Ok(()),
+        Telling::Operations | Telling::Records => Ok(()),
     }
 }
 
@@ -146,8 +149,10 @@ fn last_text(alloc: Global, engine: SgtEngine, telling: Telling) -> Result<Vec<u
     ensures { IfOk result (λ text. Last telling (left_by (part_at engine)) text.items) }
 {
     let mut text = Vec::new(alloc);
-    if telling == Telling::Replies {
-        append_database(&mut text, &engine.database(alloc)?)?;
+    match telling {
+        Telling::Replies => append_database(&mut text, &engine.database(alloc)?)?,
+        Telling::Operations => (),
+        Telling::Records => append_records(&mut text, &engine.database(alloc)?)?,
     }
     Ok(text)
 }

@@ -5,4 +5,6 @@ pub(crate) enum Telling {
     Replies,
     /// The operations of the run, as a history has them, and nothing at the end.
     Operations,
+    /// The committed database at the end, as records of JSON, and nothing before it.
+    Records,
 }

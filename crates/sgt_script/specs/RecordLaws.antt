@@ -1,0 +1,13 @@
+-- What is true of every run of a script that is told by its records.
+use Rattle.std.specs.Prelude.{ℕ, List}
+use Rattle.sgt_stream.specs.Ends.{End}
+use Rattle.sgt_script.specs.declared.telling.Telling.TheVariants.{Records}
+use Rattle.sgt_script.specs.Parts.{parts_of}
+use Rattle.sgt_script.specs.Scripts.{Execution, Closing}
+use Rattle.sgt_script.specs.RunLaws.{InEachPart, chained}
+
+-- The laws hold of each part of a run, and what was written, where it ends well, are the record lines of the database that the
+-- serial run of all parts leaves, one after another. Where it ends at a fault nothing was written.
+pub record RecordLaws (run : Execution) (out : List ℕ) (end : End) : Type 0 where
+  pub parts : InEachPart (parts_of run.setting run.answers)
+  pub written : Closing Records (chained run.setting run.answers).last end out
