@@ -84,8 +84,8 @@ fn answer_event(
 {
     engine.answer(event)?;
     match telling {
-        Telling::Replies => match engine.history().last_reply() {
-            Some(reply) => append_reply(text, &reply),
+        Telling::Replies => match engine.last_reply() {
+            Some(reply) => append_reply(text, reply),
             None => unreachable!(),
         },
         Telling::Operations => match engine.history().last() {

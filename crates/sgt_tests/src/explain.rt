@@ -1,7 +1,7 @@
 //! What is told of the aborts of a run, and its lines.
 
-use crate::spelled::spelled;
 use json::Scratch;
+use serde_json::Value;
 use sgt_access::OneList;
 use sgt_engine::{Ran, run_list};
 use sgt_entries::History;
@@ -9,13 +9,21 @@ use sgt_explain::{Pending, append_explanation};
 use sgt_format::read_event;
 use sgt_graph::PairGraph;
 use sgt_model::{Asks, Database, Key, Kind, Limits};
-use sgt_proc::Checked;
+use sgt_proc::{Checked, check};
+use sgt_proc_json::read;
 use sgt_records::ListRecords;
 use std::alloc::{AllocGlobal, Global};
 use std::process::Abort;
 use std::test::Fail;
 
 type SimpleRan = Ran<ListRecords, OneList, PairGraph>;
+
+/// The procedure that a text spells, which has no flaw.
+fn spelled<R: AllocGlobal + Abort>(rt: &R, text: &str) -> Result<Checked, Fail> {
+    let tree = Value::from_str(rt.alloc(), text)?;
+    let procedure = read(rt.alloc(), &tree)?;
+    Ok(check(procedure).ok().expect(rt, "it has no flaw"))
+}
 
 /// Three procedures: one looks at record 101 of table 2 and stores it, one stores it, and one looks at it and stores record 102.
 fn procedures<R: AllocGlobal + Abort>(rt: &R) -> Result<Vec<Checked>, Fail> {
