@@ -63,7 +63,7 @@ fn ran<R: AllocGlobal + Abort>(rt: &R, lines: &str) -> Result<SimpleRan, Fail> {
 fn explained(a: Global, history: &History, place: usize, key: Key) -> Result<Vec<u8>, Fail> {
     let mut lines = Vec::new(a);
     for at in 0..history.len() {
-        lines.push(2 * at as u64 + 2)?;
+        lines.push((at as u64).wrapping_mul(2).wrapping_add(2))?;
     }
     let mut text = Vec::new(a);
     let pending = Pending {
@@ -79,7 +79,12 @@ fn tells<R: AllocGlobal + Abort>(rt: &R, lines: &str, want: &str) -> Result<(), 
     let ran = ran(rt, lines)?;
     let history = ran.engine.history();
     let key = Key::new(2, 101).expect(rt, "a key");
-    let told = explained(rt.alloc(), history, lines.lines().count() - 1, key)?;
+    let told = explained(
+        rt.alloc(),
+        history,
+        lines.lines().count().saturating_sub(1),
+        key,
+    )?;
     assert!(rt;
         told.as_slice() == want.as_bytes(),
         "{}",
