@@ -13,12 +13,14 @@ def is_there():
     return shutil.which("valgrind") is not None
 
 
-def instructions(words, path):
-    """The instructions of one run over an input."""
+def instructions(words, path, statuses=(0,)):
+    """The instructions of one run over an input, which ends with one of these statuses."""
     with tempfile.TemporaryDirectory() as folder, open(path) as lines, open(os.devnull, "w") as nothing:
         profile = os.path.join(folder, "profile")
         valgrind = ["valgrind", "--tool=callgrind", f"--callgrind-out-file={profile}"]
-        subprocess.run(valgrind + words, stdin=lines, stdout=nothing, stderr=nothing, check=True)
+        ran = subprocess.run(valgrind + words, stdin=lines, stdout=nothing, stderr=nothing, check=False)
+        if ran.returncode not in statuses:
+            raise subprocess.CalledProcessError(ran.returncode, words)
         with open(profile) as told:
             return int(SUMMARY.search(told.read())[1])
 
