@@ -211,8 +211,8 @@ impl<R: Records, A: Accesses, G: Graph> Engine<R, A, G> {
         &self.sched
     }
 
-    // Whether the history is empty.
-    fn is_new(&self) -> bool
+    /// Whether the history is empty: nothing was answered since the engine was made or cut.
+    pub fn is_new(&self) -> bool
         ensures { IsTrue result ↔ (self.now.past ≡ []) }
     {
         self.history.is_empty()
