@@ -1,4 +1,4 @@
-ghost use Rattle.std.specs.Prelude.{◌≡◌, ℕ, true, Result, Ok, Err, IfOk, OnOk, OnErr, ◌↔◌, reverse};
+ghost use Rattle.std.specs.Prelude.{◌≡◌, ℕ, true, [], Result, Ok, Err, IfOk, OnOk, OnErr, IsTrue, ◌↔◌, reverse};
 ghost use Rattle.std.specs.Option.{option_copied};
 ghost use Rattle.std.specs.Result.{IsOk};
 ghost use Rattle.sgt_model.specs.declared.event.Event.TheVariants.{Quit};
@@ -20,10 +20,14 @@ ghost use Rattle.sgt_sched.specs.Scheduler.{parts, state};
 ghost use Rattle.sgt_engine.specs.EngineView.{setting_of, made_of, with_entry, newest_reply};
 
 mod cut;
+mod procedures;
+mod put;
 
 use crate::past::Past;
 use crate::room::{file, make_room};
 pub use cut::CutError;
+pub use procedures::AddError;
+pub use put::PutError;
 use sgt_access::Accesses;
 use sgt_entries::History;
 use sgt_graph::Graph;
@@ -205,6 +209,13 @@ impl<R: Records, A: Accesses, G: Graph> Engine<R, A, G> {
         ensures limits { (parts result.now).limits ≡ self.now.limits }
     {
         &self.sched
+    }
+
+    /// Whether the history is empty: nothing was answered since the engine was made or cut.
+    pub fn is_new(&self) -> bool
+        ensures { IsTrue result ↔ (self.now.past ≡ []) }
+    {
+        self.history.is_empty()
     }
 
     /// The history, oldest entry first. Nothing is ever taken out of it.

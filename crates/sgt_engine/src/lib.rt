@@ -19,6 +19,6 @@ mod past;
 mod room;
 mod run;
 
-pub use engine::{CutError, Engine};
+pub use engine::{AddError, CutError, Engine, PutError};
 pub use past::Past;
 pub use run::{Ran, run_list};

@@ -11,5 +11,6 @@ pub mod RecordLines
 pub mod WrittenRecords
 pub mod Procedures
 pub mod Openings
+pub mod ProcedureLines
 pub mod LineTokens
 pub mod PlainLines

@@ -1,8 +1,8 @@
-//! The formats of `sgt`, both ways. A line of JSON becomes an opening, a record line, an event or a job, and a reply or a
-//! database becomes its text. What a line means and which text a reply has stand in `specs/`: `ReplyText`, `DatabaseText`,
-//! `RecordText`, `EventLines`, `JobLines`, `RecordLines` and `Openings`, over `Decimals`, `Trees` and `Procedures`. The contracts
-//! give exactly these, and each error exactly where it applies. [`written_records_are_read`] says that the record lines that are
-//! written of a database are read as its records.
+//! The formats of `sgt`, both ways. A line of JSON becomes an opening, a procedure, a record line, an event or a job, and a reply or
+//! a database becomes its text. What a line means and which text a reply has stand in `specs/`: `ReplyText`, `DatabaseText`,
+//! `RecordText`, `EventLines`, `JobLines`, `RecordLines`, `Openings` and `ProcedureLines`, over `Decimals`, `Trees` and
+//! `Procedures`. The contracts give exactly these, and each error exactly where it applies. [`written_records_are_read`] says that
+//! the record lines that are written of a database are read as its records.
 //!
 //! It knows nothing of how lines are cut from a stream, nor of how an engine runs. Lines come in without their byte 10, and
 //! go out with it.
@@ -28,6 +28,7 @@ mod laws;
 mod line_tokens;
 mod opening;
 mod plain_line;
+mod procedure_line;
 mod procedures;
 mod record_line;
 mod record_text;
@@ -45,6 +46,7 @@ pub use event_line::read_event;
 pub use job_line::read_job;
 pub use laws::written_records_are_read;
 pub use opening::{Opening, read_opening};
+pub use procedure_line::read_procedure_line;
 pub use record_line::{Record, RecordLine, read_record_line};
 pub use record_text::append_records;
 pub use reply_text::{append_reply, reply_line};

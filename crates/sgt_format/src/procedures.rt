@@ -23,7 +23,11 @@ pub(crate) fn read_procedures(alloc: Global, trees: &[Value]) -> Result<Vec<Chec
 }
 
 /// The procedure that a tree spells, which has this number, unless it has a flaw.
-fn read_procedure(alloc: Global, number: u64, tree: &Value) -> Result<Checked, OpeningError>
+pub(crate) fn read_procedure(
+    alloc: Global,
+    number: u64,
+    tree: &Value,
+) -> Result<Checked, OpeningError>
     ensures procedure { IfOk result (IsProcedure (view tree.now)) }
     ensures refused { IfErr result (IsRefusedAs number (view tree.now)) }
 {

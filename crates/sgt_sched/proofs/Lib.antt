@@ -2,6 +2,7 @@ pub mod Lives
 pub mod Lists
 pub mod Started
 pub mod Renewed
+pub mod Added
 pub mod Found
 pub mod Ended
 pub mod Aborted

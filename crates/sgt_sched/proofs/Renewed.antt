@@ -1,9 +1,9 @@
 -- What is left where nothing is live: the committed values alone.
 use Rattle.std.proofs.Common.{◌≡◌, ℕ, ℤ, arith, Bool, true, nat_eq, inl, List, [], ◌∷◌, Option, refl, subst}
-use Rattle.std.proofs.lemmas.Bool.{false_from_ne_true, and_from, or_left, eq-eqb}
+use Rattle.std.proofs.lemmas.Bool.{false≢true, false_from_ne_true, and_from, or_left, eq-eqb}
 use Rattle.sgt_model.specs.declared.kind.Kind.{Kind}
 use Rattle.sgt_model.specs.declared.kind.Kind.TheVariants.{Look, Store}
-use Rattle.sgt_model.specs.Contents.{Key, key_eq}
+use Rattle.sgt_model.specs.Contents.{Key, Contents, key_eq}
 use Rattle.sgt_model.specs.Walks.{Member}
 use Rattle.sgt_model.specs.Pairs.{one_stores}
 use Rattle.sgt_model.specs.AccessList.{ListedAccess, is_conflicting, lists_conflicting}
@@ -30,6 +30,10 @@ no_accesses (a ∷ rest) none = absurd (none a.by a.key Store (or_left _ _ (conf
 no_writes : (chain : List (ℕ × ℤ)) → ((t : ℕ) → writes_in t chain ≡ true → ⊥) → chain ≡ []
 no_writes [] none = refl
 no_writes (w ∷ rest) none = absurd (none w.0 (or_left _ _ (eq-eqb w.0 w.0 refl)))
+
+-- nobody writes in an empty chain
+no_writer : (t : ℕ) → writes_in t [] ≡ true → ⊥
+no_writer t w = false≢true w
 
 no_reads : (reads : List (ℕ × ℕ)) → ((u t : ℕ) → Has reads u t → ⊥) → reads ≡ []
 no_reads [] none = refl
@@ -88,3 +92,51 @@ module _ {R A G : Type 0} {chain : R → Key → List (ℕ × ℤ)} {settled : R
     fates = λ t. refl;
     starts = refl;
   }
+
+  -- the same with other records, in which no write is pending
+  module _ (records : R) (no_chain : (k : Key) → chain records k ≡ []) where
+    abbrev pub reopened : SchedulerView R A G
+    reopened = record {
+      procedures = before.procedures;
+      limits = before.limits;
+      records = records;
+      accesses = before.accesses;
+      graph = before.graph;
+      live = before.live;
+      read_from = before.read_from;
+      fates = [];
+    }
+
+    pub reopened_kept : IsKept chain settled list nodes pairs reopened
+    reopened_kept = record {
+      in_range = kept.in_range;
+      begun = renewed_kept.begun;
+      sound = record {
+        begun = renewed_kept.sound.begun;
+        listed = kept.sound.listed;
+        few = kept.sound.few;
+        pair_nodes = kept.sound.pair_nodes;
+        pair_apart = kept.sound.pair_apart;
+        access_nodes = kept.sound.access_nodes;
+        read_nodes = kept.sound.read_nodes;
+        writers = λ k t w. absurd (no_writer t (subst (λ c. writes_in t c ≡ true) (no_chain k) w));
+        order = λ k. rw (no_chain k) tt;
+      };
+      rising = kept.rising;
+      unended = renewed_kept.unended;
+      along = kept.along;
+    }
+
+    pub reopened_new : (opening : Contents) → ((k : Key) → settled records k ≡ opening k)
+        → IsNew opening (state_of chain settled list nodes pairs reopened)
+    reopened_new opening is = record {
+      live = renewed_new.live;
+      nodes = renewed_new.nodes;
+      pairs = renewed_new.pairs;
+      accesses = renewed_new.accesses;
+      chain = no_chain;
+      settled = is;
+      read_from = renewed_new.read_from;
+      fates = renewed_new.fates;
+      starts = renewed_new.starts;
+    }

@@ -20,6 +20,7 @@ ghost use Rattle.sgt_sched.specs.Steps.{IsNotLive, IsUnended};
 
 mod abort;
 mod commit;
+mod procedures;
 mod quit;
 mod renew;
 mod start;

@@ -1,12 +1,15 @@
 //! Beginning anew.
-ghost use Rattle.std.specs.Prelude.{◌≡◌, []};
+ghost use Rattle.std.specs.Prelude.{◌≡◌, [], OnOk, OnErr};
+ghost use Rattle.sgt_model.specs.Databases.{contents_of};
 ghost use Rattle.sgt_model.specs.NewState.{IsNew};
 ghost use Rattle.sgt_sched.specs.Scheduler.{state, Keeps};
 
 use crate::sched::Sched;
 use sgt_access::Accesses;
 use sgt_graph::Graph;
+use sgt_model::{Database, NoMemory};
 use sgt_records::Records;
+use std::alloc::Global;
 
 impl<R: Records, A: Accesses, G: Graph> Sched<R, A, G> {
     /// Forgets how the transactions ended and how many were started, so that the next one has number 0 again and what the limits
@@ -18,5 +21,19 @@ impl<R: Records, A: Accesses, G: Graph> Sched<R, A, G> {
         ensures kept { Keeps self.old self.new }
     {
         self.fates.clear();
+    }
+
+    /// The same over another opening database, of which it takes a copy in place of the committed values.
+    ///
+    /// `NoMemory` where a growth was refused; then nothing has changed.
+    pub fn reopen(&mut self, alloc: Global, opening: &Database) -> Result<(), NoMemory>
+        requires none_live { (state self.old).live ≡ [] }
+        ensures new { OnOk result (IsNew (contents_of opening.now) (state self.new)) }
+        ensures unchanged { OnErr result (self.new ≡ self.old) }
+        ensures kept { Keeps self.old self.new }
+    {
+        self.records = R::build(alloc, opening)?;
+        self.fates.clear();
+        Ok(())
     }
 }

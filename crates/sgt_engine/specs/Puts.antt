@@ -1,0 +1,48 @@
+-- What is added to what an engine begins with: rows of its opening database, and procedures.
+use Rattle.std.specs.Prelude.{◌≡◌, ⊤, ℕ, List, [], ◌∷◌, ◌++◌, take, Some, None, IsSome, slice_get}
+use Rattle.sgt_model.specs.Contents.{Key, Contents, put_in}
+use Rattle.sgt_model.specs.Databases.{Row, contents_of}
+use Rattle.sgt_model.specs.Syntax.{Program}
+use Rattle.sgt_engine.specs.EngineView.{EngineView}
+use Rattle.sgt_engine.specs.declared.engine.put.PutError.{PutError}
+use Rattle.sgt_engine.specs.declared.engine.put.PutError.TheVariants.{Begun, Taken, NoMemory}
+
+-- contents with these rows put in, one after another
+abbrev pub with_rows : Contents → List Row → Contents
+with_rows contents [] = contents
+with_rows contents (r ∷ rows) = with_rows (put_in contents r.0 r.1) rows
+
+-- no key has a value before its row is put in
+abbrev pub AreNew : Contents → List Row → Type 0
+AreNew contents [] = Unit {0}
+AreNew contents (r ∷ rows) = (contents r.0 ≡ None) × AreNew (put_in contents r.0 r.1) rows
+
+-- the rows before this one are new, and behind them its key has a value
+pub record IsTaken (contents : Contents) (rows : List Row) (index : ℕ) : Type 0 where
+  pub row : Row
+  pub at : slice_get rows index ≡ Some row
+  pub new : AreNew contents (take index rows)
+  pub there : IsSome (with_rows contents (take index rows) row.0)
+
+-- why rows are not put in: one is taken, or else memory is wanting
+abbrev pub AreRefused : Contents → List Row → PutError → Type 0
+AreRefused contents rows Begun = ⊥
+AreRefused contents rows (Taken index) = IsTaken contents rows index
+AreRefused contents rows NoMemory = ⊤
+
+-- the engine opens with these rows, which are new, and is else as it was
+pub record PutsRows (before : EngineView) (rows : List Row) (after : EngineView) : Type 0 where
+  pub contents : (k : Key) → contents_of after.opening k ≡ with_rows (contents_of before.opening) rows k
+  pub new : AreNew (contents_of before.opening) rows
+  pub procedures : after.procedures ≡ before.procedures
+  pub limits : after.limits ≡ before.limits
+  pub past : after.past ≡ before.past
+
+-- the engine with one procedure more
+abbrev pub with_procedure : Program → EngineView → EngineView
+with_procedure procedure e = record {
+  opening = e.opening;
+  procedures = e.procedures ++ procedure ∷ [];
+  limits = e.limits;
+  past = e.past;
+}

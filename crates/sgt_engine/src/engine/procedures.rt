@@ -1,0 +1,60 @@
+//! More procedures.
+ghost use Rattle.std.specs.Prelude.{◌≡◌, ◌≢◌, ◌≤◌, ◌^◌, ◌↔◌, [], length, Err, IfOk, OnOk, OnErr};
+ghost use Rattle.sgt_engine.specs.Puts.{with_procedure};
+
+use crate::engine::Engine;
+use sgt_access::Accesses;
+use sgt_graph::Graph;
+use sgt_model::NoMemory;
+use sgt_proc::Checked;
+use sgt_records::Records;
+use thiserror::Error;
+
+/// Why a procedure was not added.
+#[derive(Clone, Copy, Debug, PartialEq, Eq, Error)]
+pub enum AddError {
+    /// There is a history. This is tested first.
+    #[error("there is a history")]
+    Begun,
+    /// There are 65536 procedures, and so no number for another. This is tested next.
+    #[error("all numbers of procedures are taken")]
+    TooMany,
+    /// A growth was refused.
+    #[error("no memory")]
+    NoMemory,
+}
+
+impl From<NoMemory> for AddError {
+    ghost use Rattle.sgt_engine.specs.declared.engine.procedures.AddError.TheVariants.{NoMemory};
+
+    ghost from_gives = { λ _ error. error ≡ NoMemory };
+
+    fn from(_: NoMemory) -> Self {
+        AddError::NoMemory
+    }
+}
+
+impl<R: Records, A: Accesses, G: Graph> Engine<R, A, G> {
+    /// Adds a procedure behind the others, where the history is empty, and answers its number, by which it is started.
+    ///
+    /// `Begun` where there is a history, tested first; `TooMany` where there are 65536 procedures; `NoMemory` where a growth was
+    /// refused. Then nothing has changed.
+    pub fn add_procedure(&mut self, procedure: Checked) -> Result<u16, AddError>
+        ensures added { OnOk result (self.new ≡ with_procedure procedure self.old) }
+        ensures number { IfOk result (λ n. n ≡ length self.old.procedures) }
+        ensures begun { (result ≡ Err AddError.Begun) ↔ (self.old.past ≢ []) }
+        ensures too_many { (result ≡ Err AddError.TooMany)
+            ↔ ((self.old.past ≡ []) × (2 ^ 16 ≤ length self.old.procedures)) }
+        ensures unchanged { OnErr result (self.new ≡ self.old) }
+    {
+        if !self.is_new() {
+            return Err(AddError::Begun);
+        }
+        let number = self.sched.procedure_count();
+        if number > u16::MAX as usize {
+            return Err(AddError::TooMany);
+        }
+        self.sched.add_procedure(procedure)?;
+        Ok(number as u16)
+    }
+}

@@ -1,0 +1,112 @@
+//! More rows in the opening database.
+ghost use Rattle.std.specs.Prelude.{◌≡◌, ◌≢◌, ◌↔◌, true, false, [], None, Err, IsSome, IfOk, IfErr, OnOk, OnErr};
+ghost use Rattle.sgt_model.specs.Contents.{Key as K, put_in};
+ghost use Rattle.sgt_model.specs.Databases.{contents_of, HasValues};
+ghost use Rattle.sgt_model.specs.Numbers.{IsValue};
+ghost use Rattle.sgt_engine.specs.Puts.{AreNew, AreRefused, PutsRows, with_rows};
+
+use crate::engine::Engine;
+use sgt_access::Accesses;
+use sgt_graph::Graph;
+use sgt_model::{Database, Key, NoMemory, new_is_empty};
+use sgt_records::Records;
+use std::alloc::Global;
+use thiserror::Error;
+
+/// Why rows were not put in.
+#[derive(Clone, Copy, Debug, PartialEq, Eq, Error)]
+pub enum PutError {
+    /// There is a history. This is tested first.
+    #[error("there is a history")]
+    Begun,
+    /// The key of the row with this index has a value: the opening's, or that of a row before it. It is the first such row.
+    #[error("row {0} has a key that has a value")]
+    Taken(usize),
+    /// A growth was refused.
+    #[error("no memory")]
+    NoMemory,
+}
+
+impl From<NoMemory> for PutError {
+    ghost use Rattle.sgt_engine.specs.declared.engine.put.PutError.TheVariants.{NoMemory};
+
+    ghost from_gives = { λ _ error. error ≡ NoMemory };
+
+    fn from(_: NoMemory) -> Self {
+        PutError::NoMemory
+    }
+}
+
+impl<R: Records, A: Accesses, G: Graph> Engine<R, A, G> {
+    /// Puts more rows into the opening database, where the history is empty: values from `LEAST` to `MOST` at keys that have none.
+    /// Procedures and limits stay. So an engine is opened on what a caller keeps elsewhere.
+    ///
+    /// It goes once through the opening and makes the records anew, so many rows are put in by one call. Rows by key that come
+    /// behind the opening's are put in fastest: any other moves those behind it.
+    ///
+    /// `Begun` where there is a history, tested first; `Taken` with the index of the first row whose key has a value then;
+    /// `NoMemory` where a growth was refused. Then nothing has changed.
+    pub fn put(&mut self, alloc: Global, rows: &[(Key, i64)]) -> Result<(), PutError>
+        requires in_range { HasValues rows.now }
+        ensures put { OnOk result (PutsRows self.old rows.now self.new) }
+        ensures begun { (result ≡ Err PutError.Begun) ↔ (self.old.past ≢ []) }
+        ensures taken { IfErr result (λ e. self.old.past ≡ [] → AreRefused (contents_of self.old.opening) rows.now e) }
+        ensures unchanged { OnErr result (self.new ≡ self.old) }
+    {
+        new_is_empty();
+        if !self.is_new() {
+            return Err(PutError::Begun);
+        }
+        let opening = self.opening_with(alloc, rows)?;
+        self.sched.reopen(alloc, &opening)?;
+        self.opening = opening;
+        Ok(())
+    }
+
+    // The opening with these rows, where the history is empty.
+    fn opening_with(&self, alloc: Global, rows: &[(Key, i64)]) -> Result<Database, PutError>
+        requires begins { self.now.past ≡ [] }
+        requires in_range { HasValues rows.now }
+        ensures contents { IfOk result (λ d. (k : K) →
+            contents_of d k ≡ with_rows (contents_of self.now.opening) rows.now k) }
+        ensures new { OnOk result (AreNew (contents_of self.now.opening) rows.now) }
+        ensures refused { IfErr result (AreRefused (contents_of self.now.opening) rows.now) }
+    {
+        // Nothing is committed yet, so this is a copy of the opening.
+        let mut opening = self.database(alloc)?;
+        put_rows(&mut opening, rows)?;
+        Ok(opening)
+    }
+}
+
+// Puts rows in, one after another, as long as they are new.
+fn put_rows(database: &mut Database, rows: &[(Key, i64)]) -> Result<(), PutError>
+    requires in_range { HasValues rows.now }
+    ensures contents { OnOk result ((k : K) →
+        contents_of database.new k ≡ with_rows (contents_of database.old) rows.now k) }
+    ensures new { OnOk result (AreNew (contents_of database.old) rows.now) }
+    ensures refused { IfErr result (AreRefused (contents_of database.old) rows.now) }
+{
+    for (index, row) in rows.iter().enumerate() {
+        if !put_row(database, row)? {
+            return Err(PutError::Taken(index));
+        }
+    }
+    Ok(())
+}
+
+// Puts a row in, and answers whether it is new: where its key has a value, nothing changes.
+fn put_row(database: &mut Database, row: &(Key, i64)) -> Result<bool, NoMemory>
+    requires in_range { IsValue row.now.1 }
+    ensures put { IfOk result (λ new. new ≡ true → (k : K) →
+        contents_of database.new k ≡ put_in (contents_of database.old) row.now.0 row.now.1 k) }
+    ensures new { IfOk result (λ new. new ≡ true → contents_of database.old row.now.0 ≡ None) }
+    ensures taken { IfOk result (λ new. new ≡ false → IsSome (contents_of database.old row.now.0)) }
+{
+    let (key, value) = *row;
+    if database.get(key).is_some() {
+        return Ok(false);
+    }
+    database.put(key, value)?;
+    Ok(true)
+}

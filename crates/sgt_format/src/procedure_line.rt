@@ -1,0 +1,23 @@
+ghost use Rattle.std.specs.Prelude.{◌≡◌, IfOk, IfErr};
+ghost use Rattle.sgt_format.specs.ProcedureLines.{RefusesProcedure, SpellsProcedure};
+
+use crate::errors::OpeningError;
+use crate::procedures::read_procedure;
+use crate::tree::read_tree;
+use sgt_proc::Checked;
+use std::alloc::Global;
+
+/// The procedure that a line spells, as one of the list `procedures` of an opening: it is to have this number, which its error
+/// tells.
+///
+/// # Errors
+///
+/// The first of these that applies: `NotJson`, `ProcShape` with the place of the first misfit, `ProcFlaw` with the least flaw.
+/// `NoMemory` where a growth was refused.
+pub fn read_procedure_line(alloc: Global, number: u64, line: &[u8]) -> Result<Checked, OpeningError>
+    ensures procedure { IfOk result (SpellsProcedure line.now) }
+    ensures refused { IfErr result (RefusesProcedure number line.now) }
+{
+    let tree = read_tree(alloc, line)?.ok_or(OpeningError::NotJson)?;
+    read_procedure(alloc, number, &tree)
+}

@@ -1,0 +1,33 @@
+//! The procedures.
+ghost use Rattle.std.specs.Prelude.{◌≡◌, [], ◌∷◌, ◌++◌, length, OnOk, OnErr};
+ghost use Rattle.sgt_sched.specs.Scheduler.{parts, state};
+
+use crate::sched::Sched;
+use sgt_access::Accesses;
+use sgt_graph::Graph;
+use sgt_model::NoMemory;
+use sgt_proc::Checked;
+use sgt_records::Records;
+
+impl<R: Records, A: Accesses, G: Graph> Sched<R, A, G> {
+    /// How many procedures there are.
+    pub fn procedure_count(&self) -> usize
+        ensures { result ≡ length (parts self.now).procedures }
+    {
+        self.procedures.len()
+    }
+
+    /// Adds a procedure behind the others. Who is live goes on with the one that it was started with.
+    ///
+    /// `NoMemory` where a growth was refused; then nothing has changed.
+    pub fn add_procedure(&mut self, procedure: Checked) -> Result<(), NoMemory>
+        ensures added { OnOk result ((parts self.new).procedures ≡ (parts self.old).procedures ++ procedure ∷ []) }
+        ensures unchanged { OnErr result (parts self.new ≡ parts self.old) }
+        ensures state { state self.new ≡ state self.old }
+        ensures limits { (parts self.new).limits ≡ (parts self.old).limits }
+    {
+        self.procedures.reserve(1)?;
+        self.procedures.push_reserved(procedure);
+        Ok(())
+    }
+}
