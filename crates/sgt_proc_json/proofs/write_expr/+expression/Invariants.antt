@@ -1,4 +1,4 @@
-use Rattle.std.specs.Prelude.{ℕ, ◌+◌}
+use Rattle.std.specs.Prelude.{◌+◌}
 use Rattle.sgt_model.specs.Programs.{term_of}
 use Rattle.sgt_proc_json.proofs.TermSizes.{term_size}
 use Rattle.sgt_proc_json.proofs.write_expr.+expression.Given as goal
