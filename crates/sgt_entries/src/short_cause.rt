@@ -86,6 +86,7 @@ impl ShortCause {
 
 impl ShortFate {
     /// The fate in short. The walk that it may have is added to the list of transactions, which has room for it.
+    #[inline(never)]
     pub fn of(fate: &Fate, tids: &mut Vec<Tid>) -> Self
         requires { vec_len tids.old + 32 ≤ vec_capacity tids.old }
         ensures fate { fate_of tids.new.items result ≡ fate.now }
@@ -103,6 +104,7 @@ impl ShortFate {
 
     /// The same fate in another history, whose transactions were `from`. The walk that it may have is added to the list, which has
     /// room for it.
+    #[inline(never)]
     pub fn moved(&self, from: &[Tid], tids: &mut Vec<Tid>) -> Self
         requires within { IsFate (length from.now) self.now }
         requires room { vec_len tids.old + 32 ≤ vec_capacity tids.old }

@@ -78,6 +78,7 @@ impl ShortReply {
     }
 
     // An abort in short.
+    #[inline(never)]
     fn aborted(cause: &Cause, fell: &Tids, tids: &mut Vec<Tid>) -> Self
         requires { vec_len tids.old + 64 ≤ vec_capacity tids.old }
         ensures reply { (values : List ℤ) → reply_of tids.new.items values result ≡ Aborted cause.now fell.now }
@@ -130,6 +131,7 @@ impl ShortReply {
     }
 
     // The same abort of another history.
+    #[inline(never)]
     fn moved_abort(cause: &ShortCause, fell: Span, from: &[Tid], tids: &mut Vec<Tid>) -> Self
         requires within { IsCause (length from.now) cause.now × IsWithin (length from.now) fell }
         requires room { vec_len tids.old + 64 ≤ vec_capacity tids.old }

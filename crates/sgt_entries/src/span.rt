@@ -12,6 +12,9 @@ pub struct Span {
 
 impl Span {
     /// Adds the items at the end of a list that has room for them, and tells where they stand. This takes no memory.
+    ///
+    /// Most entries have no lists, and pay nothing for this where it stands apart.
+    #[inline(never)]
     pub fn append<T: Copy>(list: &mut Vec<T>, items: &[T]) -> Self
         requires room { vec_len list.old + length items.now ≤ vec_capacity list.old }
         requires few { length items.now ≤ 32 }

@@ -1,6 +1,7 @@
 pub mod Lengths
 pub mod Places
 pub mod StatementsRead
+pub mod TermSizes
 pub mod IfRows
 pub mod SpelledIsRead
 pub mod Written

@@ -1,4 +1,5 @@
 pub mod Trees
+pub mod Operations
 pub mod Spelling
 pub mod Readings
 pub mod Refusals

@@ -1,8 +1,7 @@
-ghost use Rattle.std.specs.Prelude.{◌≡◌, IfOk};
-ghost use Rattle.serde_json.specs.Data.{array, string, item, no_items};
+ghost use Rattle.std.specs.Prelude.{[], ◌∷◌, IfOk};
 ghost use Rattle.serde_json.specs.View.{view};
 ghost use Rattle.sgt_model.specs.Programs.{term_of};
-ghost use Rattle.sgt_proc_json.specs.Spelling.{SpellsTerm};
+ghost use Rattle.sgt_proc_json.specs.Spelling.{SpellsTerm, WordAnd};
 
 use crate::write_number::write_byte;
 use serde_json::Value;
@@ -10,6 +9,7 @@ use sgt_model::{Expr, NoMemory};
 use std::alloc::Global;
 
 /// The tree of an expression.
+#[cycle(expression)]
 pub(crate) fn write_expr(alloc: Global, expr: &Expr) -> Result<Value, NoMemory>
     ensures { IfOk result (λ v. SpellsTerm (term_of expr.now) (view v)) }
 {
@@ -23,41 +23,25 @@ pub(crate) fn write_expr(alloc: Global, expr: &Expr) -> Result<Value, NoMemory>
             Value::try_from_str(alloc, "reg")?,
             write_byte(*n),
         ]?)),
-        Expr::Sum(left, right) => two_exprs(
-            alloc,
-            "sum",
-            write_expr(alloc, left)?,
-            write_expr(alloc, right)?,
-        ),
-        Expr::Diff(left, right) => two_exprs(
-            alloc,
-            "diff",
-            write_expr(alloc, left)?,
-            write_expr(alloc, right)?,
-        ),
-        Expr::Product(left, right) => two_exprs(
-            alloc,
-            "product",
-            write_expr(alloc, left)?,
-            write_expr(alloc, right)?,
-        ),
-        Expr::Quotient(left, right) => two_exprs(
-            alloc,
-            "quotient",
-            write_expr(alloc, left)?,
-            write_expr(alloc, right)?,
-        ),
+        Expr::Sum(left, right) => write_pair(alloc, "sum", left, right),
+        Expr::Diff(left, right) => write_pair(alloc, "diff", left, right),
+        Expr::Product(left, right) => write_pair(alloc, "product", left, right),
+        Expr::Quotient(left, right) => write_pair(alloc, "quotient", left, right),
     }
 }
 
-/// A row of a word and two trees.
-pub(crate) fn two_exprs(
+/// The tree of a word and two expressions.
+#[cycle(expression)]
+pub(crate) fn write_pair(
     alloc: Global,
     word: &str,
-    left: Value,
-    right: Value,
+    left: &Expr,
+    right: &Expr,
 ) -> Result<Value, NoMemory>
-    ensures { IfOk result (λ v. view v ≡ array (item (string word.now) (item (view left) (item (view right) no_items)))) }
+    ensures { IfOk result (λ v.
+        WordAnd word.now (SpellsTerm (term_of left.now) ∷ SpellsTerm (term_of right.now) ∷ []) (view v)) }
 {
+    let left = write_expr(alloc, left)?;
+    let right = write_expr(alloc, right)?;
     Ok(Value::Array(vec![in alloc; Value::try_from_str(alloc, word)?, left, right]?))
 }

@@ -1,0 +1,10 @@
+-- What an operation of arithmetic makes of two expressions.
+use Rattle.sgt_model.specs.Syntax.{Term, sum, diff, product, quotient}
+use Rattle.sgt_proc_json.specs.declared.read_expr.Operation.{Operation}
+use Rattle.sgt_proc_json.specs.declared.read_expr.Operation.TheVariants.{Sum, Diff, Product, Quotient}
+
+abbrev pub operated : Operation → Term → Term → Term
+operated Sum a b = sum a b
+operated Diff a b = diff a b
+operated Product a b = product a b
+operated Quotient a b = quotient a b
