@@ -34,27 +34,16 @@ impl<R: Records, A: Accesses, G: Graph> Clients<R, A, G> {
     }
 
     /// Cuts the history off, where it is long and nothing is live.
-    pub fn ready(self, alloc: Global) -> Result<Self, NoMemory> {
+    pub fn ready(&mut self, alloc: Global) -> Result<(), NoMemory> {
         if self.engine.history().len() < MOST_ENTRIES || self.engine.sched().live_count() > 0 {
-            return Ok(self);
+            return Ok(());
         }
-        let Clients {
-            engine,
-            draws,
-            ended,
-            cuts,
-            most_entries,
-        } = self;
-        match engine.cut(alloc) {
-            Ok((past, engine)) => Ok(Clients {
-                engine,
-                draws,
-                ended,
-                cuts: cuts.wrapping_add(1),
-                most_entries: most_entries.max(past.history.len()),
-            }),
-            Err(_) => Err(NoMemory),
-        }
+        let Ok(past) = self.engine.cut(alloc) else {
+            return Err(NoMemory);
+        };
+        self.cuts = self.cuts.wrapping_add(1);
+        self.most_entries = self.most_entries.max(past.history.len());
+        Ok(())
     }
 
     /// Sends the next event.

@@ -23,15 +23,14 @@ use std::{env, io};
 /// Sends a tenth of the events.
 fn send<R: Records, A: Accesses, G: Graph>(
     alloc: Global,
-    clients: Clients<R, A, G>,
+    clients: &mut Clients<R, A, G>,
     events: u64,
-) -> Result<Clients<R, A, G>, NoMemory> {
-    let mut clients = clients;
+) -> Result<(), NoMemory> {
     for _ in 0..events {
-        clients = clients.ready(alloc)?;
+        clients.ready(alloc)?;
         clients.send()?;
     }
-    Ok(clients)
+    Ok(())
 }
 
 /// Sends all events, and tells at each tenth of the way how far it has come.
@@ -43,10 +42,9 @@ fn run<R: Records, A: Accesses, G: Graph>(
 ) -> io::Result<()> {
     let mut clients = clients;
     for tenth in 1..=10u64 {
-        clients = match send(alloc, clients, events / 10) {
-            Ok(clients) => clients,
-            Err(NoMemory) => return println!(rt; "no memory"),
-        };
+        if send(alloc, &mut clients, events / 10).is_err() {
+            return println!(rt; "no memory");
+        }
         println!(rt;
             "events {} cuts {} most entries {} in all {}",
             tenth.wrapping_mul(events / 10),

@@ -1,12 +1,10 @@
 -- What a cut leaves: a past of its own, and an engine that goes on from what it settled.
-use Rattle.std.specs.Prelude.{◌≡◌, ⊤, List, [], Result, Ok, Err}
+use Rattle.std.specs.Prelude.{◌≡◌, List, []}
 use Rattle.sgt_model.specs.declared.entry.Entry.{Entry}
 use Rattle.sgt_model.specs.Fates.{live_ones}
 use Rattle.sgt_model.specs.Settings.{Setting}
 use Rattle.sgt_model.specs.Values.{settled}
 use Rattle.sgt_engine.specs.EngineView.{EngineView, setting_of}
-use Rattle.sgt_engine.specs.declared.engine.cut.CutError.{CutError}
-use Rattle.sgt_engine.specs.declared.engine.cut.CutError.TheVariants.{StillLive, NoMemory}
 
 -- nobody is live after the history
 abbrev pub NobodyLive : List Entry → Type 0
@@ -22,14 +20,3 @@ pub record GoesOn (before after : EngineView) : Type 0 where
   pub procedures : after.procedures ≡ before.procedures
   pub limits : after.limits ≡ before.limits
   pub past : after.past ≡ []
-
--- the engine that an error hands back
-abbrev pub handed_back : {R A G : Type 0} → CutError R A G → EngineView
-handed_back (StillLive engine) = engine
-handed_back (NoMemory engine) = engine
-
--- it was not cut, as a transaction is live
-abbrev pub IsStillLive : {X R A G : Type 0} → Result X (CutError R A G) → Type 0
-IsStillLive (Ok x) = ⊥
-IsStillLive (Err (StillLive engine)) = ⊤
-IsStillLive (Err (NoMemory engine)) = ⊥

@@ -67,29 +67,28 @@ fn apply_all<R: Records, A: Accesses, G: Graph>(
 fn cut<R: Records, A: Accesses, G: Graph>(
     rt: &impl Print,
     alloc: Global,
-    run: Run<R, A, G>,
-) -> io::Result<(Run<R, A, G>, bool)> {
-    match run.cut(rt, alloc)? {
-        (run, true) => Ok((run, true)),
-        (run, false) => run.cut(rt, alloc),
+    run: &mut Run<R, A, G>,
+) -> io::Result<bool> {
+    if run.cut(rt, alloc)? {
+        return Ok(true);
     }
+    run.cut(rt, alloc)
 }
 
 /// Cuts, starts one more transaction, is told that it is live, quits it, and cuts again.
 fn cut_and_go_on<R: Records, A: Accesses, G: Graph>(
     rt: &impl Print,
     alloc: Global,
-    run: Run<R, A, G>,
-) -> io::Result<Run<R, A, G>> {
-    let (mut run, is_cut) = cut(rt, alloc, run)?;
-    if !is_cut {
-        return Ok(run);
+    run: &mut Run<R, A, G>,
+) -> io::Result<()> {
+    if !cut(rt, alloc, run)? {
+        return Ok(());
     }
-    apply_all(rt, &mut run, &[one_more()], Plan::Again)?;
-    let (mut run, _) = run.cut(rt, alloc)?;
+    apply_all(rt, run, &[one_more()], Plan::Again)?;
+    run.cut(rt, alloc)?;
     run.quit_all(rt, Order::Oldest)?;
-    let (run, _) = cut(rt, alloc, run)?;
-    Ok(run)
+    cut(rt, alloc, run)?;
+    Ok(())
 }
 
 /// A run of the plan, from its first event to its end.
@@ -102,7 +101,7 @@ fn carry_out<R: Records, A: Accesses, G: Graph>(
 ) -> io::Result<()> {
     apply_all(rt, &mut run, events, plan)?;
     if let Plan::Cut = plan {
-        run = cut_and_go_on(rt, alloc, run)?;
+        cut_and_go_on(rt, alloc, &mut run)?;
     }
     run.tell_end(rt)
 }

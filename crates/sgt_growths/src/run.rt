@@ -72,32 +72,24 @@ impl<R: Records, A: Accesses, G: Graph> Run<R, A, G> {
 
     /// Cuts the history off, and tells how many entries it had and whether they are those that were answered. Where it was
     /// refused, that is told, and whether all is as before; and the answer is false.
-    pub fn cut(self, rt: &impl Print, alloc: Global) -> io::Result<(Self, bool)> {
+    pub fn cut(&mut self, rt: &impl Print, alloc: Global) -> io::Result<bool> {
         let before = self.seen();
-        let Run {
-            engine,
-            mut answered,
-            line,
-        } = self;
-        let (engine, refusal) = match engine.cut(alloc) {
-            Ok((past, engine)) => {
-                let is_whole = is_history(&past.history, answered.as_slice());
+        match self.engine.cut(alloc) {
+            Ok(past) => {
+                let is_whole = is_history(&past.history, self.answered.as_slice());
                 println!(rt; "cut {}: history {}", past.history.len(), verdict(is_whole))?;
-                answered.clear();
-                (engine, None)
+                self.answered.clear();
+                Ok(true)
             }
-            Err(CutError::StillLive(engine)) => (engine, Some("still live")),
-            Err(CutError::NoMemory(engine)) => (engine, Some("refused")),
-        };
-        let run = Run {
-            engine,
-            answered,
-            line,
-        };
-        if let Some(refusal) = refusal {
-            run.tell_unchanged(rt, refusal, &before)?;
+            Err(CutError::StillLive) => self.tell_refused(rt, "still live", &before),
+            Err(CutError::NoMemory) => self.tell_refused(rt, "refused", &before),
         }
-        Ok((run, refusal.is_none()))
+    }
+
+    /// Tells of a cut that was refused whether all is as before.
+    fn tell_refused(&self, rt: &impl Print, refusal: &str, before: &Seen) -> io::Result<bool> {
+        self.tell_unchanged(rt, refusal, before)?;
+        Ok(false)
     }
 
     /// Quits those who are live, in this order.

@@ -99,24 +99,18 @@ fn answer_event(
 /// Cuts the history off, where nobody is live: the text that answers this is added. What was cut off is dropped.
 fn answer_cut(
     alloc: Global,
-    engine: SgtEngine,
+    engine: &mut SgtEngine,
     telling: Telling,
     text: &mut Vec<u8>,
-) -> Result<SgtEngine, NoMemory>
-    ensures answered { IfOk result (λ e. AnswersLine telling ScriptLine.Cut
-        (part_at engine) (part_at e) text.old.items text.new.items) }
+) -> Result<(), NoMemory>
+    ensures answered { OnOk result (AnswersLine telling ScriptLine.Cut
+        (part_at engine.old) (part_at engine.new) text.old.items text.new.items) }
     ensures kept { OnErr result (text.new.items ≡ text.old.items) }
 {
     match engine.cut(alloc) {
-        Ok((past, next)) => {
-            append_was_cut(past.history.len(), telling, text)?;
-            Ok(next)
-        }
-        Err(CutError::StillLive(engine)) => {
-            append_was_not_cut(telling, text)?;
-            Ok(engine)
-        }
-        Err(CutError::NoMemory(_)) => Err(NoMemory),
+        Ok(past) => append_was_cut(past.history.len(), telling, text),
+        Err(CutError::StillLive) => append_was_not_cut(telling, text),
+        Err(CutError::NoMemory) => Err(NoMemory),
     }
 }
 
@@ -145,8 +139,8 @@ fn append_was_not_cut(telling: Telling, text: &mut Vec<u8>) -> Result<(), NoMemo
 }
 
 /// What is written behind the answers of a run that ends well.
-fn last_text(alloc: Global, engine: SgtEngine, telling: Telling) -> Result<Vec<u8>, NoMemory>
-    ensures { IfOk result (λ text. Last telling (left_by (part_at engine)) text.items) }
+fn last_text(alloc: Global, engine: &SgtEngine, telling: Telling) -> Result<Vec<u8>, NoMemory>
+    ensures { IfOk result (λ text. Last telling (left_by (part_at engine.now)) text.items) }
 {
     let mut text = Vec::new(alloc);
     match telling {
@@ -216,22 +210,22 @@ fn answer_lines<S: Source, T: Sink>(
     lines: &mut Lines,
     source: &mut S,
     sink: &mut T,
-    mut engine: SgtEngine,
+    engine: &mut SgtEngine,
     telling: Telling,
-) -> Result<SgtEngine, Fault>
+) -> Result<(), Fault>
     requires reading { S.failures source.old + 1 < 2 ^ 64 }
     requires writing { T.failures sink.old + 1 < 2 ^ 64 }
-    requires fresh { engine.past ≡ [] }
+    requires fresh { engine.old.past ≡ [] }
     requires few { come lines.old ≤ 16777217 }
     ensures bounded { S.given source.new + come lines.old ≤ S.given source.old + 16777217 }
-    ensures all { IfOk result (λ e.
-        (all : AnswersAll telling (setting_of engine) (lines.old.number + 1)
+    ensures all { OnOk result (
+        (all : AnswersAll telling (setting_of engine.old) (lines.old.number + 1)
         (cut_left lines.old (S.rest source.old)) (T.held sink.old) (T.held sink.new) (Ok tt))
-        × (part_of (setting_of engine) all.answers ≡ part_at e)) }
+        × (part_of (setting_of engine.old) all.answers ≡ part_at engine.new)) }
     ensures fault { IfErr result (λ f. IsOfInput f →
-        AnswersAll telling (setting_of engine) (lines.old.number + 1)
+        AnswersAll telling (setting_of engine.old) (lines.old.number + 1)
         (cut_left lines.old (S.rest source.old)) (T.held sink.old) (T.held sink.new) (Err f)) }
-    ensures some { AnswersSome telling (setting_of engine) (lines.old.number + 1)
+    ensures some { AnswersSome telling (setting_of engine.old) (lines.old.number + 1)
         (cut_left lines.old (S.rest source.old))
         (bytes_left lines.old (S.rest source.old)) (S.rest source.new)
         (T.held sink.old) (T.held sink.new)
@@ -253,7 +247,7 @@ fn answer_lines<S: Source, T: Sink>(
         flush_before_read(lines, sink, &mut gathered)?;
         match next_script_line(alloc, &mut scratch, lines, source) {
             Ok(Some(ScriptLine::Event(event))) => match answer_event(
-                &mut engine,
+                engine,
                 event,
                 telling,
                 &mut gathered,
@@ -262,12 +256,11 @@ fn answer_lines<S: Source, T: Sink>(
                 Err(_) => return Err(stop(sink, &mut gathered, Fault::NoMemory)),
             },
             Ok(Some(ScriptLine::Cut)) => match answer_cut(alloc, engine, telling, &mut gathered) {
-                Ok(next) => engine = next,
+                Ok(()) => (),
                 Err(_) => return Err(stop(sink, &mut gathered, Fault::NoMemory)),
             },
             Ok(None) => {
-                flush(sink, &mut gathered)?;
-                return Ok(engine);
+                return flush(sink, &mut gathered);
             }
             Err(fault) => return Err(stop(sink, &mut gathered, fault)),
         }
@@ -321,8 +314,9 @@ pub(crate) fn run_opened<S: Source, T: Sink>(
     // Whatever was answered by then, some whole run goes on from there.
     some_reply_is_legal();
     histories_go_on();
-    let engine = answer_lines(alloc, lines, source, sink, engine, telling)?;
-    let mut text = last_text(alloc, engine, telling)?;
+    let mut engine = engine;
+    answer_lines(alloc, lines, source, sink, &mut engine, telling)?;
+    let mut text = last_text(alloc, &engine, telling)?;
     flush(sink, &mut text)
 }
 

@@ -84,8 +84,9 @@
 //!     requires empty { engine.past ≡ [] }
 //!     ensures empty { IfSome result (λ r. r.1.past ≡ []) }
 //! {
-//!     let engine = two_threads::<Brand, _>(rt, alloc, engine, Blank::new(2))?;
-//!     engine.cut(alloc).ok()      // an error would hand the engine back, with its history
+//!     let mut engine = two_threads::<Brand, _>(rt, alloc, engine, Blank::new(2))?;
+//!     let past = engine.cut(alloc).ok()?;     // an error would leave the engine as it was, with its history
+//!     Some((past, engine))
 //! }
 //! ```
 //!

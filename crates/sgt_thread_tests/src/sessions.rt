@@ -107,7 +107,8 @@ fn left_by<R: Threads + Wait + Sync>(
 
 /// Two threads meet, the history is cut off, and two new sessions meet on what is left.
 fn left_behind_a_cut<R: Threads + Wait + Sync>(rt: &R, alloc: Global) -> Option<ListEngine> {
-    let (_, engine) = left_by(rt, alloc, 2, Play::Meet)?.cut(alloc).ok()?;
+    let mut engine = left_by(rt, alloc, 2, Play::Meet)?;
+    engine.cut(alloc).ok()?;
     played(rt, alloc, engine, 2, Play::Meet)
 }
 

@@ -1,4 +1,4 @@
-ghost use Rattle.std.specs.Prelude.{◌≡◌, IfOk, IfErr, ◌↔◌, reverse};
+ghost use Rattle.std.specs.Prelude.{◌≡◌, Err, IfOk, OnOk, OnErr, ◌↔◌, reverse};
 ghost use Rattle.sgt_model.specs.Aborts.{AbortsHaveCause};
 ghost use Rattle.sgt_model.specs.CommitOrder.{CommitsInOrder};
 ghost use Rattle.sgt_model.specs.Contents.{Key as K};
@@ -7,7 +7,7 @@ ghost use Rattle.sgt_model.specs.Legality.{Legal};
 ghost use Rattle.sgt_model.specs.Pairs.{Pair};
 ghost use Rattle.sgt_model.specs.Replay.{folded, IsSerializable};
 ghost use Rattle.sgt_model.specs.Walks.{Acyclic};
-ghost use Rattle.sgt_engine.specs.Cuts.{GoesOn, IsStillLive, NobodyLive, handed_back};
+ghost use Rattle.sgt_engine.specs.Cuts.{GoesOn, NobodyLive};
 ghost use Rattle.sgt_engine.specs.EngineView.{setting_of};
 
 use crate::engine::Engine;
@@ -15,28 +15,30 @@ use crate::past::Past;
 use sgt_access::Accesses;
 use sgt_entries::History;
 use sgt_graph::Graph;
-use sgt_model::{headline_holds, new_is_empty};
+use sgt_model::{NoMemory, headline_holds, new_is_empty};
 use sgt_records::Records;
 use std::alloc::Global;
+use std::mem;
+use thiserror::Error;
 
-/// Why a history was not cut. The engine is handed back as it was.
-#[derive(Drop)]
-pub enum CutError<R: Records, A: Accesses, G: Graph> {
+/// Why a history was not cut off.
+#[derive(Clone, Copy, Debug, PartialEq, Eq, Error)]
+pub enum CutError {
     /// A transaction is live. This is tested first.
-    StillLive(Engine<R, A, G>),
+    #[error("a transaction is live")]
+    StillLive,
     /// A growth was refused.
-    NoMemory(Engine<R, A, G>),
+    #[error("no memory")]
+    NoMemory,
 }
 
-impl<R: Records, A: Accesses, G: Graph> CutError<R, A, G> {
-    /// The engine that was handed back.
-    pub fn into_engine(self) -> Engine<R, A, G>
-        ensures { result ≡ handed_back self }
-    {
-        match self {
-            CutError::StillLive(engine) => engine,
-            CutError::NoMemory(engine) => engine,
-        }
+impl From<NoMemory> for CutError {
+    ghost use Rattle.sgt_engine.specs.declared.engine.cut.CutError.TheVariants.{NoMemory};
+
+    ghost from_gives = { λ _ error. error ≡ NoMemory };
+
+    fn from(_: NoMemory) -> Self {
+        CutError::NoMemory
     }
 }
 
@@ -49,45 +51,31 @@ impl<R: Records, A: Accesses, G: Graph> Engine<R, A, G> {
     /// The headline holds of each part, and the parts chain: what the replay of one leaves is what the next one opens with. It
     /// goes once through all records; the one growth is that of the new opening database.
     ///
-    /// `StillLive` where a transaction is live, tested first; `NoMemory` where the growth was refused. Both hand the engine back
-    /// as it was.
-    pub fn cut(self, alloc: Global) -> Result<(Past, Self), CutError<R, A, G>>
-        ensures past { IfOk result (λ c. c.0.opening ≡ self.opening) }
-        ensures entries { IfOk result (λ c. reverse c.0.history.entries ≡ self.past) }
-        ensures goes_on { IfOk result (λ c. GoesOn self c.1) }
-        ensures replayed { IfOk result (λ c. (k : K) →
-            contents_of c.1.opening k ≡ (folded (setting_of self) self.past).last k) }
-        ensures by_key { IfOk result (λ c. IsByKey c.1.opening) }
-        ensures legal { IfOk result (λ c. Legal (setting_of self) (reverse c.0.history.entries)) }
-        ensures replay { IfOk result (λ c. IsSerializable (setting_of self) (reverse c.0.history.entries)) }
-        ensures no_cycle { IfOk result (λ c. Acyclic (Pair (reverse c.0.history.entries))) }
-        ensures causes { IfOk result (λ c. AbortsHaveCause (setting_of self) (reverse c.0.history.entries)) }
-        ensures order { IfOk result (λ c. CommitsInOrder (reverse c.0.history.entries)) }
-        ensures still_live { IsStillLive result ↔ (¬ NobodyLive self.past) }
-        ensures unchanged { IfErr result (λ e. handed_back e ≡ self) }
+    /// `StillLive` where a transaction is live, tested first; `NoMemory` where the growth was refused. Then nothing has changed.
+    pub fn cut(&mut self, alloc: Global) -> Result<Past, CutError>
+        ensures past { IfOk result (λ p. p.opening ≡ self.old.opening) }
+        ensures entries { IfOk result (λ p. reverse p.history.entries ≡ self.old.past) }
+        ensures goes_on { OnOk result (GoesOn self.old self.new) }
+        ensures replayed { OnOk result ((k : K) →
+            contents_of self.new.opening k ≡ (folded (setting_of self.old) self.old.past).last k) }
+        ensures by_key { OnOk result (IsByKey self.new.opening) }
+        ensures legal { IfOk result (λ p. Legal (setting_of self.old) (reverse p.history.entries)) }
+        ensures replay { IfOk result (λ p. IsSerializable (setting_of self.old) (reverse p.history.entries)) }
+        ensures no_cycle { IfOk result (λ p. Acyclic (Pair (reverse p.history.entries))) }
+        ensures causes { IfOk result (λ p. AbortsHaveCause (setting_of self.old) (reverse p.history.entries)) }
+        ensures order { IfOk result (λ p. CommitsInOrder (reverse p.history.entries)) }
+        ensures still_live { (result ≡ Err CutError.StillLive) ↔ (¬ NobodyLive self.old.past) }
+        ensures unchanged { OnErr result (self.new ≡ self.old) }
     {
         headline_holds();
         new_is_empty();
         if self.sched.live_count() > 0 {
-            return Err(CutError::StillLive(self));
+            return Err(CutError::StillLive);
         }
-        let database = match self.database(alloc) {
-            Ok(database) => database,
-            Err(_) => return Err(CutError::NoMemory(self)),
-        };
-        let Engine {
-            opening,
-            mut sched,
-            history,
-            newest,
-        } = self;
-        sched.renew();
-        let engine = Engine {
-            opening: database,
-            sched,
-            history: History::new(alloc),
-            newest,
-        };
-        Ok((Past { opening, history }, engine))
+        let database = self.database(alloc)?;
+        self.sched.renew();
+        let opening = mem::replace(&mut self.opening, database);
+        let history = mem::replace(&mut self.history, History::new(alloc));
+        Ok(Past { opening, history })
     }
 }
