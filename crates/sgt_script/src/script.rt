@@ -108,8 +108,14 @@ fn answer_cut(
     ensures kept { OnErr result (text.new.items ≡ text.old.items) }
 {
     match engine.cut(alloc) {
-        Ok(past) => append_was_cut(past.history.len(), telling, text),
-        Err(CutError::StillLive) => append_was_not_cut(telling, text),
+        Ok(past) => {
+            append_was_cut(past.history.len(), telling, text)?;
+            Ok(())
+        }
+        Err(CutError::StillLive) => {
+            append_was_not_cut(telling, text)?;
+            Ok(())
+        }
         Err(CutError::NoMemory) => Err(NoMemory),
     }
 }
@@ -139,8 +145,8 @@ fn append_was_not_cut(telling: Telling, text: &mut Vec<u8>) -> Result<(), NoMemo
 }
 
 /// What is written behind the answers of a run that ends well.
-fn last_text(alloc: Global, engine: &SgtEngine, telling: Telling) -> Result<Vec<u8>, NoMemory>
-    ensures { IfOk result (λ text. Last telling (left_by (part_at engine.now)) text.items) }
+fn last_text(alloc: Global, engine: SgtEngine, telling: Telling) -> Result<Vec<u8>, NoMemory>
+    ensures { IfOk result (λ text. Last telling (left_by (part_at engine)) text.items) }
 {
     let mut text = Vec::new(alloc);
     match telling {
@@ -260,7 +266,8 @@ fn answer_lines<S: Source, T: Sink>(
                 Err(_) => return Err(stop(sink, &mut gathered, Fault::NoMemory)),
             },
             Ok(None) => {
-                return flush(sink, &mut gathered);
+                flush(sink, &mut gathered)?;
+                return Ok(());
             }
             Err(fault) => return Err(stop(sink, &mut gathered, fault)),
         }
@@ -316,7 +323,7 @@ pub(crate) fn run_opened<S: Source, T: Sink>(
     histories_go_on();
     let mut engine = engine;
     answer_lines(alloc, lines, source, sink, &mut engine, telling)?;
-    let mut text = last_text(alloc, &engine, telling)?;
+    let mut text = last_text(alloc, engine, telling)?;
     flush(sink, &mut text)
 }
 
