@@ -25,6 +25,8 @@ mod held;
 mod history;
 mod opening;
 mod opening_with;
+mod procedures;
+mod putting;
 mod reading;
 mod rows;
 mod run;
