@@ -176,8 +176,8 @@ uint32_t sgt_open_with(sgt_engine *engine, const uint8_t *opening, size_t length
 /*
  * Puts `count` rows of the caller's into the opening database, while the history is empty: before the first event, and behind a
  * cut. Each is a new record: none of them may have a value, in the opening or by a row before it. Each call goes once through all
- * records, and takes memory for them and for the rows, so many rows are put in by one call; rows in the order of sgt_rows that come
- * behind those of the opening are put in fastest.
+ * records, and takes memory for them and for the rows, so many rows are put in by one call. They come in the order of sgt_rows: a row
+ * in any other place moves those behind it.
  *
  * SGT_BAD_CALL where a table is over 7, or a number or a value out of range, tested first; SGT_CLOSED; SGT_BEGUN where there is a
  * history; SGT_TAKEN where the record of a row has a value already; SGT_NO_MEMORY. With SGT_BAD_CALL and SGT_TAKEN the place of the

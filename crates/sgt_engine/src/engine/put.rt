@@ -41,8 +41,8 @@ impl<R: Records, A: Accesses, G: Graph> Engine<R, A, G> {
     /// Puts more rows into the opening database, where the history is empty: values from `LEAST` to `MOST` at keys that have none.
     /// Procedures and limits stay. So an engine is opened on what a caller keeps elsewhere.
     ///
-    /// It goes once through the opening and makes the records anew, so many rows are put in by one call. Rows by key that come
-    /// behind the opening's are put in fastest: any other moves those behind it.
+    /// It goes once through the opening and makes the records anew, so many rows are put in by one call. They come by key: a row in
+    /// any other place moves those behind it.
     ///
     /// `Begun` where there is a history, tested first; `Taken` with the index of the first row whose key has a value then;
     /// `NoMemory` where a growth was refused. Then nothing has changed.
