@@ -28,7 +28,7 @@
  *
  * NUMBERS. Values, arguments and record numbers lie from -999999999999999 to 999999999999999. Tables are numbered from 0 to 7,
  * and procedures from 0: SmallBank's five come first (0 balance, 1 deposit, 2 transact savings, 3 amalgamate, 4 write check),
- * and those of the opening behind them, from 5 on.
+ * and those of the opening behind them, from 5 on, and then those that sgt_procedure adds.
  */
 #ifndef SGT_H
 #define SGT_H
@@ -47,7 +47,7 @@ typedef struct sgt_engine {
     void *at;
 } sgt_engine;
 
-/* What a call answers. From 16 on it is a fault of an opening, and stands in sgt_fault.kind too. */
+/* What a call answers. From 16 on it is a fault of an opening or of a procedure's text, and stands in sgt_fault.kind too. */
 enum sgt_status {
     SGT_OK = 0,
     SGT_NO_MEMORY = 1,   /* malloc or realloc gave nothing; nothing has changed, and the call may be made again */
@@ -56,7 +56,10 @@ enum sgt_status {
     SGT_NONE = 4,        /* there is no such record or entry */
     SGT_BAD_CALL = 5,    /* a number that was passed is out of its range */
     SGT_STILL_LIVE = 6,  /* the history can't be cut off, as a transaction is live */
-    SGT_NOT_JSON = 16,   /* the opening is no JSON */
+    SGT_BEGUN = 7,       /* nothing can be added to what the engine begins with, as there is a history */
+    SGT_TAKEN = 8,       /* the key of a row has a value already */
+    SGT_TOO_MANY = 9,    /* no number is left for a procedure */
+    SGT_NOT_JSON = 16,   /* the opening, or the procedure's text, is no JSON */
     SGT_BAD_LINE = 17,   /* the opening is JSON, and has not the shape of one */
     SGT_BAD_LIMITS = 18, /* a limit is out of its range */
     SGT_BAD_OPENING = 19, /* an account has the fault `number`: 1 a name twice, 2 a customer twice, 3 a number out of range */
@@ -64,7 +67,7 @@ enum sgt_status {
     SGT_PROC_FLAW = 21   /* the procedure `procedure` has the flaw `number`, from 1 to 10: see docs/FORMATS.md */
 };
 
-/* Why an opening was refused. `kind` is the status, and says which other fields count. */
+/* Why an opening or a procedure was refused. `kind` is the status, and says which other fields count. */
 typedef struct sgt_fault {
     uint32_t kind;
     uint32_t number;     /* of SGT_BAD_OPENING and SGT_PROC_FLAW */
@@ -169,6 +172,29 @@ uint32_t sgt_open(sgt_engine *engine, const uint8_t *opening, size_t length, sgt
  */
 uint32_t sgt_open_with(sgt_engine *engine, const uint8_t *opening, size_t length, const sgt_row *rows, size_t count,
                        sgt_fault *fault);
+
+/*
+ * Puts `count` rows of the caller's into the opening database, while the history is empty: before the first event, and behind a
+ * cut. Each is a new record: none of them may have a value, in the opening or by a row before it. Each call goes once through all
+ * records, and takes memory for them and for the rows, so many rows are put in by one call. They come in the order of sgt_rows: a row
+ * in any other place moves those behind it.
+ *
+ * SGT_BAD_CALL where a table is over 7, or a number or a value out of range, tested first; SGT_CLOSED; SGT_BEGUN where there is a
+ * history; SGT_TAKEN where the record of a row has a value already; SGT_NO_MEMORY. With SGT_BAD_CALL and SGT_TAKEN the place of the
+ * first such row, counted from 0, is written into `at`, which else stays as it was. But for SGT_OK the engine stays as it was.
+ */
+uint32_t sgt_put(sgt_engine *engine, const sgt_row *rows, size_t count, uint64_t *at);
+
+/*
+ * Adds a procedure behind those that are there, while the history is empty. `text` is `length` bytes of JSON, as one item of the list
+ * `procedures` of an opening: see docs/LANGUAGE.md. `[1,[["look",0,2,["arg",0],5],["answer",["reg",0]]]]` answers the record of table 2
+ * that its argument names, and asks code 5 where there is none. Its number, by which it is started, is written into `number`.
+ *
+ * SGT_CLOSED; SGT_BEGUN where there is a history, tested next; SGT_TOO_MANY where there are 65536 procedures; SGT_NOT_JSON,
+ * SGT_PROC_SHAPE or SGT_PROC_FLAW where the text spells none, or one with a flaw: that is written into `fault`, with the number that
+ * the procedure was to have; SGT_NO_MEMORY. But for SGT_OK the engine and the number stay as they were.
+ */
+uint32_t sgt_procedure(sgt_engine *engine, const uint8_t *text, size_t length, uint16_t *number, sgt_fault *fault);
 
 /* Closes an engine, and gives back all that it took. One that is closed stays so. */
 void sgt_close(sgt_engine *engine);

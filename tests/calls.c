@@ -187,6 +187,118 @@ static void rows_are_opened(void)
     sgt_close(&engine);
 }
 
+static void rows_are_put(void)
+{
+    const sgt_row own[] = {{7, 0, 5, 50}, {3, 0, 1, 7}}, there = {2, 0, 101, 9}, more = {7, 0, 6, 1};
+    const sgt_row twice[] = {{7, 0, 6, 1}, {7, 0, 6, 2}};
+    const sgt_row beyond[] = {{7, 0, 9, 0}, {8, 0, 0, 0}, {7, 0, SGT_MOST + 1, 0}};
+    const sgt_row greater = {7, 0, 9, SGT_MOST + 1};
+    sgt_engine engine = {0};
+    sgt_fault fault = {0};
+    sgt_reply told = {0};
+    sgt_row row = {0};
+    uint32_t t = 0;
+    uint64_t at = 77, count = 0, live = 0;
+    int64_t value = 0;
+    CHECK(sgt_put(&engine, own, 2, &at) == 2);
+    CHECK(at == 77);
+    CHECK(sgt_put(&engine, beyond, 3, &at) == 5);
+    CHECK(at == 1);
+    CHECK(opens(&engine, opening, &fault) == 0);
+    CHECK(sgt_put(&engine, &greater, 1, &at) == 5);
+    CHECK(at == 0);
+    at = 77;
+    CHECK(sgt_put(&engine, own, 2, &at) == 0);
+    CHECK(at == 77);
+    CHECK(sgt_get(&engine, 7, 5, &value) == 0);
+    CHECK(value == 50);
+    CHECK(sgt_put(&engine, own, 0, &at) == 0);
+    CHECK(sgt_put(&engine, twice, 2, &at) == 8);
+    CHECK(at == 1);
+    CHECK(sgt_get(&engine, 7, 6, &value) == 4);
+    CHECK(sgt_put(&engine, &there, 1, &at) == 8);
+    CHECK(at == 0);
+    CHECK(sgt_get(&engine, 2, 101, &value) == 0);
+    CHECK(value == 1000);
+    at = 77;
+    CHECK(sgt_run(&engine, 1, deposit, 2, &t, &told) == 0);
+    CHECK(is_committed(&told, 1100));
+    CHECK(sgt_put(&engine, &more, 1, &at) == 7);
+    CHECK(sgt_put(&engine, &there, 1, &at) == 7);
+    CHECK(at == 77);
+    CHECK(sgt_put(&engine, beyond, 3, &at) == 5);
+    CHECK(sgt_cut(&engine, &live) == 0);
+    CHECK(sgt_put(&engine, &more, 1, &at) == 0);
+    CHECK(sgt_rows(&engine, 0, SGT_LEAST, &row, 0, &count) == 0);
+    CHECK(count == 6);
+    CHECK(sgt_get(&engine, 2, 101, &value) == 0);
+    CHECK(value == 1100);
+    sgt_close(&engine);
+}
+
+static uint32_t adds(sgt_engine *engine, const char *text, uint16_t *number, sgt_fault *fault)
+{
+    return sgt_procedure(engine, (const uint8_t *)text, strlen(text), number, fault);
+}
+
+static void procedures_are_added(void)
+{
+    const char lookup[] = "[1,[[\"look\",0,7,[\"arg\",0],5],[\"answer\",[\"reg\",0]]]]";
+    const sgt_row own = {7, 0, 1, 40};
+    sgt_engine engine = {0};
+    sgt_fault fault = {0};
+    sgt_reply told = {0};
+    uint16_t number = 77;
+    uint32_t t = 0;
+    uint64_t at = 0;
+    CHECK(adds(&engine, lookup, &number, &fault) == 2);
+    CHECK(opens(&engine, opening, &fault) == 0);
+    CHECK(adds(&engine, "nope", &number, &fault) == 16);
+    CHECK(fault.kind == 16);
+    CHECK(adds(&engine, "", &number, &fault) == 16);
+    CHECK(adds(&engine, "{}", &number, &fault) == 20);
+    CHECK(fault.kind == 20 && fault.procedure == 5 && fault.depth == 0);
+    CHECK(adds(&engine, "[0,[7]]", &number, &fault) == 20);
+    CHECK(fault.procedure == 5 && fault.depth == 2 && fault.place[0] == 1 && fault.place[1] == 0);
+    CHECK(adds(&engine, "[0,[[\"ask\",0]]]", &number, &fault) == 21);
+    CHECK(fault.kind == 21 && fault.procedure == 5 && fault.number == 8);
+    CHECK(number == 77);
+    CHECK(adds(&engine, lookup, &number, &fault) == 0);
+    CHECK(number == 5);
+    CHECK(adds(&engine, lookup, &number, &fault) == 0);
+    CHECK(number == 6);
+    CHECK(adds(&engine, "[0,[7]]", &number, &fault) == 20);
+    CHECK(fault.procedure == 7 && number == 6);
+    CHECK(sgt_put(&engine, &own, 1, &at) == 0);
+    CHECK(sgt_run(&engine, 6, deposit, 1, &t, &told) == 0);
+    CHECK(is_committed(&told, 40));
+    CHECK(sgt_run(&engine, 7, deposit, 1, &t, &told) == 0);
+    CHECK(told.kind == 2);
+    CHECK(adds(&engine, lookup, &number, &fault) == 7);
+    CHECK(adds(&engine, "nope", &number, &fault) == 7);
+    CHECK(number == 6 && fault.kind == 20);
+    sgt_close(&engine);
+}
+
+static void procedures_have_numbers_of_16_bits(void)
+{
+    const char none[] = "[0,[[\"answer\",7]]]";
+    sgt_engine engine = {0};
+    sgt_fault fault = {0};
+    sgt_reply told = {0};
+    uint16_t number = 77;
+    uint32_t t = 0, added = 5;
+    CHECK(opens(&engine, opening, &fault) == 0);
+    while (added < 65536 && adds(&engine, none, &number, &fault) == 0 && number == added) added++;
+    CHECK(added == 65536);
+    CHECK(adds(&engine, none, &number, &fault) == 9);
+    CHECK(adds(&engine, "nope", &number, &fault) == 9);
+    CHECK(number == 65535 && fault.kind == 0);
+    CHECK(sgt_run(&engine, 65535, deposit, 0, &t, &told) == 0);
+    CHECK(is_committed(&told, 7));
+    sgt_close(&engine);
+}
+
 static void a_run_goes_to_its_end(void)
 {
     const int64_t ones[] = {1, 1, 1, 1, 1}, negative[] = {1, -5};
@@ -321,6 +433,9 @@ int main(void)
     entries_are_told();
     rows_are_told();
     rows_are_opened();
+    rows_are_put();
+    procedures_are_added();
+    procedures_have_numbers_of_16_bits();
     a_run_goes_to_its_end();
     the_history_is_cut_off();
     replies_are_texts();

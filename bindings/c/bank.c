@@ -9,6 +9,8 @@ static const char opening[] = "{\"limits\":[8,100],\"accounts\":[[1,101,500,1000
 
 static const char empty[] = "{\"limits\":[8,100],\"accounts\":[],\"procedures\":[]}";
 
+static const char lookup[] = "[1,[[\"look\",0,7,[\"arg\",0],5],[\"answer\",[\"reg\",0]]]]"; /* answers a record of table 7 */
+
 static const char misfit[] = "{\"limits\":[8,100],\"accounts\":[],\"procedures\":[[0,[7]]]}";
 
 static void show(const sgt_reply *reply)
@@ -31,8 +33,11 @@ int main(void)
     sgt_row rows[8] = {{0}};
     sgt_reply reply = {0};
     const int64_t account_and_amount[] = {1, 100};
+    const sgt_row own = {7, 0, 1, 40};
+    uint16_t number = 0;
+    uint32_t last = 0;
     int64_t value = 0;
-    uint64_t entries = 0, count = 0, length = 0, live = 0;
+    uint64_t entries = 0, count = 0, length = 0, live = 0, at = 0;
     char text[1024];
     if (sgt_open(&engine, (const uint8_t *)opening, strlen(opening), &fault) != SGT_OK) return 1;
     for (uint32_t tid = 0; tid < 2; tid++) { /* procedure 1 is a deposit; procedure 0, with the account alone, a balance */
@@ -71,6 +76,12 @@ int main(void)
     if (sgt_quit(&engine, reply.tid, &reply) != SGT_OK || sgt_cut(&engine, &live) != SGT_OK) return 1;
     if (sgt_entries(&engine, &entries) != SGT_OK || sgt_get(&engine, 2, 101, &value) != SGT_OK) return 1;
     printf("%" PRIu64 " entries, 2/101 %" PRId64 "\n", entries, value);
+    if (sgt_put(&engine, &own, 1, &at) != SGT_OK) return 1; /* a record and a procedure more, as there is no history */
+    if (sgt_put(&engine, &own, 1, &at) == SGT_TAKEN) printf("row %" PRIu64 " taken\n", at);
+    if (sgt_procedure(&engine, (const uint8_t *)lookup, strlen(lookup), &number, &fault) != SGT_OK) return 1;
+    if (sgt_run(&engine, number, account_and_amount, 1, &last, &reply) != SGT_OK) return 1;
+    printf("procedure %u: ", number), show(&reply);
+    if (sgt_put(&engine, &own, 1, &at) == SGT_BEGUN) printf("begun\n");
     sgt_close(&engine);
     if (sgt_open(&engine, (const uint8_t *)misfit, strlen(misfit), &fault) != SGT_PROC_SHAPE) return 1;
     if (sgt_fault_text(&fault, text, sizeof text, &length) != SGT_OK || length > sizeof text) return 1;

@@ -35,7 +35,7 @@ static int runs(sgt_engine *engine, sgt_reply *reply)
 {
     const int64_t args[] = {2, 1};
     sgt_event event = {0};
-    sgt_row rows[8] = {{0}};
+    sgt_row rows[9] = {{0}};
     uint64_t had = 0, has = 0, count = 0;
     uint32_t tid = 0, status;
     int refused = 0;
@@ -51,10 +51,33 @@ static int runs(sgt_engine *engine, sgt_reply *reply)
         refused++;
         if (has != had && (sgt_entry(engine, has - 1, &event, reply) != SGT_OK || event.kind != SGT_QUIT)) return -1;
     }
-    while ((status = sgt_rows(engine, 0, SGT_LEAST, rows, 8, &count)) == SGT_NO_MEMORY) refused++;
-    if (status != SGT_OK || count != 7 || rows[6].value != 51) return -1;
+    while ((status = sgt_rows(engine, 0, SGT_LEAST, rows, 9, &count)) == SGT_NO_MEMORY) refused++;
+    if (status != SGT_OK || count != 9 || rows[8].value != 51) return -1;
     while ((status = sgt_reserve(engine, 1000)) == SGT_NO_MEMORY) refused++;
     return status == SGT_OK ? refused : -1;
+}
+
+/* A record and a procedure more: where memory is refused, neither is there. How many calls were refused, or -1. */
+static int adds(sgt_engine *engine, sgt_fault *fault)
+{
+    static const char lookup[] = "[1,[[\"look\",0,7,[\"arg\",0],5],[\"answer\",[\"reg\",0]]]]";
+    const sgt_row more[] = {{7, 0, 1, 52}, {6, 0, 1, 53}};
+    uint64_t at = 77;
+    uint16_t number = 77;
+    int64_t value = 0;
+    uint32_t status;
+    int refused = 0;
+    while ((status = sgt_put(engine, more, 2, &at)) == SGT_NO_MEMORY) {
+        if (sgt_get(engine, 7, 1, &value) != SGT_NONE || sgt_get(engine, 6, 1, &value) != SGT_NONE || at != 77) return -1;
+        if (sgt_get(engine, 7, 5, &value) != SGT_OK || value != 51) return -1;
+        refused++;
+    }
+    if (status != SGT_OK || sgt_get(engine, 6, 1, &value) != SGT_OK || value != 53) return -1;
+    while ((status = sgt_procedure(engine, (const uint8_t *)lookup, strlen(lookup), &number, fault)) == SGT_NO_MEMORY) {
+        if (number != 77) return -1;
+        refused++;
+    }
+    return status == SGT_OK && number == 5 ? refused : -1;
 }
 
 /* The texts of a reply and of a fault, which stay unwritten where memory is refused. How many calls were refused, or -1. */
@@ -106,12 +129,12 @@ static int run(void)
     uint64_t had = 0, has = 0;
     int64_t value = 0;
     uint32_t status;
-    int refused = 0, more, told, cut;
+    int refused = 0, added, more, told, cut;
     while ((status = sgt_open_with(&engine, (const uint8_t *)opening, strlen(opening), &own, 1, &fault)) == SGT_NO_MEMORY) {
         if (engine.is_open || engine.at) return -1;
         refused++;
     }
-    if (status != SGT_OK) return -1;
+    if (status != SGT_OK || (added = adds(&engine, &fault)) < 0) return -1;
     for (int number = 0; number < 10; number++) {
         do {
             before = reply;
@@ -126,7 +149,7 @@ static int run(void)
     if (sgt_get(&engine, 2, 101, &value) != SGT_OK || value != 1200) return -1;
     if ((more = runs(&engine, &reply)) < 0 || (told = texts(&reply)) < 0 || (cut = cuts(&engine)) < 0) return -1;
     sgt_close(&engine);
-    return engine.is_open || engine.at ? -1 : refused + more + told + cut;
+    return engine.is_open || engine.at ? -1 : refused + added + more + told + cut;
 }
 
 int main(void)

@@ -51,6 +51,23 @@ int main()
     again.quit(tid);
     again.cut();
     std::cout << again.entries() << " entries, 2/101 " << again.get(2, 101).value() << '\n';
+    const std::vector<sgt_row> own{{7, 0, 1, 40}};
+    again.put(own); // a record and a procedure more, as there is no history
+    try {
+        again.put(own);
+        return 1;
+    } catch (const sgt::Taken &why) {
+        std::cout << "row " << why.at << " taken\n";
+    }
+    std::uint16_t number = again.procedure(R"([1,[["look",0,7,["arg",0],5],["answer",["reg",0]]]])");
+    std::cout << "procedure " << number << ": ";
+    show(again.run(number, {1}).reply);
+    try {
+        again.put(own);
+        return 1;
+    } catch (const sgt::Begun &) {
+        std::cout << "begun\n";
+    }
     try {
         sgt::Engine refused(R"({"limits":[8,100],"accounts":[],"procedures":[[0,[7]]]})");
         return 1;

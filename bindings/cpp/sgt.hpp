@@ -42,7 +42,7 @@ inline std::string text(const sgt_fault &fault)
     return written([&](char *to, std::size_t room, std::uint64_t *length) { return sgt_fault_text(&fault, to, room, length); });
 }
 
-// What `Engine` throws where an opening is refused: the fault, with its text.
+// What `Engine` throws where an opening or a procedure is refused: the fault, with its text.
 class Refused : public std::runtime_error {
 public:
     explicit Refused(const sgt_fault &fault) : std::runtime_error(text(fault)), fault(fault) {}
@@ -56,6 +56,20 @@ public:
     explicit StillLive(std::uint64_t live) : std::runtime_error("sgt: a transaction is live"), live(live) {}
 
     const std::uint64_t live;
+};
+
+// What `Engine` throws where something is to be added to what it begins with, and there is a history.
+class Begun : public std::logic_error {
+public:
+    Begun() : std::logic_error("sgt: there is a history") {}
+};
+
+// What `Engine::put` throws where the record of a row has a value already: the place of the first such row, counted from 0.
+class Taken : public std::invalid_argument {
+public:
+    explicit Taken(std::uint64_t at) : std::invalid_argument("sgt: the record of a row has a value already"), at(at) {}
+
+    const std::uint64_t at;
 };
 
 // An entry of the history: what was asked, and what was answered.
@@ -99,6 +113,29 @@ public:
         static const std::int64_t none = 0;
         check(sgt_start(&engine, procedure, args.size() ? args.begin() : &none, args.size(), &reply));
         return reply;
+    }
+
+    // Puts new records into the opening database, while the history is empty; else Begun. Each call goes through all records.
+    void put(const std::vector<sgt_row> &rows)
+    {
+        static const sgt_row no_row{};
+        std::uint64_t at = 0;
+        auto status = sgt_put(&engine, rows.empty() ? &no_row : rows.data(), rows.size(), &at);
+        if (status == SGT_TAKEN) throw Taken(at);
+        check(status);
+    }
+
+    // Adds the procedure of a JSON text behind the others, while the history is empty; else Begun. The number that it is started by.
+    std::uint16_t procedure(std::string_view text)
+    {
+        sgt_fault fault{};
+        static const std::uint8_t none = 0;
+        auto bytes = reinterpret_cast<const std::uint8_t *>(text.data());
+        std::uint16_t number = 0;
+        auto status = sgt_procedure(&engine, bytes ? bytes : &none, text.size(), &number, &fault);
+        if (status >= SGT_NOT_JSON) throw Refused(fault);
+        check(status);
+        return number;
     }
 
     // Runs a procedure from its start to its commit.
@@ -174,6 +211,8 @@ private:
         if (status == SGT_OK) return;
         if (status == SGT_NO_MEMORY) throw std::bad_alloc();
         if (status == SGT_BAD_CALL) throw std::invalid_argument("sgt: a number is out of its range");
+        if (status == SGT_BEGUN) throw Begun();
+        if (status == SGT_TOO_MANY) throw std::length_error("sgt: no number is left for a procedure");
         throw std::logic_error("sgt: the engine is closed");
     }
 

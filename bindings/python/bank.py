@@ -1,6 +1,6 @@
 """A bank's story: a deposit, and a balance that reads what it stored before it is committed."""
 
-from sgt import Asked, Engine, Kind, OpeningRefused, Reply, StillLive
+from sgt import Asked, Begun, Engine, Kind, OpeningRefused, ProcedureRefused, Reply, Row, StillLive, Taken
 
 
 def show(reply: Reply) -> None:
@@ -71,6 +71,24 @@ with Engine(limits=(8, 100), rows=rows) as again:
     assert fell.text() == "aborted quit fell none", fell.text()
     again.cut()
     print(f"{len(again)} entries, 2/101 {again.get(2, 101)}")
+    own = [Row(7, 1, 40)]
+    again.put(own)  # a record and a procedure more, as there is no history
+    try:
+        again.put(own)
+    except Taken as why:
+        print("row", why.at, "taken")
+    try:
+        again.procedure([0, [["ask", 0]]])
+        raise SystemExit("a procedure with a flaw was added")
+    except ProcedureRefused as why:
+        assert str(why) == "procedure 5 flaw 8", why
+    number = again.procedure([1, [["look", 0, 7, ["arg", 0], 5], ["answer", ["reg", 0]]]])
+    print(f"procedure {number}: ", end="")
+    show(again.run(number, 1)[1])
+    try:
+        again.put(own)
+    except Begun:
+        print("begun")
 
 try:
     Engine(limits=(99, 1))

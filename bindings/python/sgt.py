@@ -20,7 +20,7 @@ import operator
 import os
 import pathlib
 import struct
-from typing import Callable, NamedTuple, Optional, Sequence
+from typing import Callable, NamedTuple, Optional, Sequence, Union
 
 
 class Kind(enum.IntEnum):
@@ -102,12 +102,35 @@ class Row(NamedTuple):
 LEAST, MOST = -999_999_999_999_999, 999_999_999_999_999
 
 
-class OpeningRefused(ValueError):
-    """The opening has a fault, whose text this is. `status` is its kind, from 16 on, as `enum sgt_status` has it."""
+class Refused(ValueError):
+    """A text has a fault, whose text this is. `status` is its kind, from 16 on, as `enum sgt_status` has it."""
 
     def __init__(self, status: int, text: str) -> None:
         super().__init__(text)
         self.status = status
+
+
+class OpeningRefused(Refused):
+    """It is the opening's."""
+
+
+class ProcedureRefused(Refused):
+    """It is that of a procedure that was to be added."""
+
+
+class Taken(ValueError):
+    """The record of a row has a value already. `at` is the place of the first such row, counted from 0."""
+
+    def __init__(self, at: int) -> None:
+        super().__init__(f"sgt: the record of row {at} has a value already")
+        self.at = at
+
+
+class Begun(RuntimeError):
+    """There is a history, and so nothing can be added to what the engine begins with."""
+
+    def __init__(self) -> None:
+        super().__init__("sgt: there is a history")
 
 
 class StillLive(RuntimeError):
@@ -168,6 +191,8 @@ def _load() -> ctypes.CDLL:
     takes = {
         "sgt_open": [engine, ctypes.c_char_p, size, ctypes.POINTER(_Fault)],
         "sgt_open_with": [engine, ctypes.c_char_p, size, ctypes.POINTER(_Row), size, ctypes.POINTER(_Fault)],
+        "sgt_put": [engine, ctypes.POINTER(_Row), size, ctypes.POINTER(ctypes.c_uint64)],
+        "sgt_procedure": [engine, ctypes.c_char_p, size, ctypes.POINTER(ctypes.c_uint16), ctypes.POINTER(_Fault)],
         "sgt_get": [engine, ctypes.c_uint8, ctypes.c_int64, ctypes.POINTER(ctypes.c_int64)],
         "sgt_rows": [engine, ctypes.c_uint8, ctypes.c_int64, ctypes.POINTER(_Row), size, ctypes.POINTER(ctypes.c_uint64)],
         "sgt_entries": [engine, ctypes.POINTER(ctypes.c_uint64)],
@@ -186,7 +211,7 @@ def _load() -> ctypes.CDLL:
 
 
 _LIBRARY = _load()
-_OK, _NO_MEMORY, _CLOSED, _NONE, _STILL_LIVE, _FIRST_FAULT = 0, 1, 2, 4, 6, 16
+_OK, _NO_MEMORY, _CLOSED, _NONE, _STILL_LIVE, _BEGUN, _TAKEN, _TOO_MANY, _FIRST_FAULT = 0, 1, 2, 4, 6, 7, 8, 9, 16
 _NO_TID = 2**32 - 1  # the limits never allow this number
 
 
@@ -285,6 +310,10 @@ def _check(status: int) -> None:
         raise MemoryError("sgt: no memory, and nothing has changed")
     if status == _CLOSED:
         raise ValueError("sgt: the engine is closed")
+    if status == _BEGUN:
+        raise Begun()
+    if status == _TOO_MANY:
+        raise OverflowError("sgt: no number is left for a procedure")
     raise ValueError("sgt: a number is out of its range")
 
 
@@ -298,6 +327,11 @@ def _value(value: int) -> int:
     if not LEAST <= value <= MOST:
         raise ValueError("sgt: a number is out of its range")
     return value
+
+
+def _rows(rows: Sequence[Row]) -> ctypes.Array[_Row]:
+    """The rows for a call. ValueError where one is out of its range."""
+    return (_Row * max(1, len(rows)))(*(_Row(_table(row[0]), 0, _value(row[1]), _value(row[2])) for row in rows))
 
 
 class Engine:
@@ -319,14 +353,38 @@ class Engine:
         opening = {"limits": list(limits), "accounts": [list(a) for a in accounts], "procedures": list(procedures)}
         line = json.dumps(opening).encode()
         fault = _Fault()
-        put = (_Row * max(1, len(rows)))(*(_Row(_table(row[0]), 0, _value(row[1]), _value(row[2])) for row in rows))
-        status = _LIBRARY.sgt_open_with(self._engine, line, len(line), put, len(rows), fault)
+        status = _LIBRARY.sgt_open_with(self._engine, line, len(line), _rows(rows), len(rows), fault)
         if status >= _FIRST_FAULT:
             raise OpeningRefused(status, _written(_LIBRARY.sgt_fault_text, fault))
         _check(status)
         self._told, self._args = _Reply(), (ctypes.c_int64 * 4)()
         # What every event is passed.
         self._at, self._to, self._with = map(ctypes.byref, (self._engine, self._told, self._args))
+
+    def put(self, rows: Sequence[Row]) -> None:
+        """Puts new records into the opening database, while the history is empty. Each call goes through all records.
+
+        Begun; Taken with the place of the first row whose record has a value already; MemoryError; ValueError where a row is
+        out of its range. Then nothing has changed.
+        """
+        at = ctypes.c_uint64()
+        status = _LIBRARY.sgt_put(self._engine, _rows(rows), len(rows), at)
+        if status == _TAKEN:
+            raise Taken(at.value)
+        _check(status)
+
+    def procedure(self, procedure: Union[str, Sequence[object]]) -> int:
+        """Adds a procedure behind the others, while the history is empty: a list, or its JSON text. The number that it is started by.
+
+        Begun; ProcedureRefused with the fault's text; OverflowError where no number is left; MemoryError. Then nothing has changed.
+        """
+        text = (procedure if isinstance(procedure, str) else json.dumps(procedure)).encode()
+        number, fault = ctypes.c_uint16(), _Fault()
+        status = _LIBRARY.sgt_procedure(self._engine, text, len(text), number, fault)
+        if status >= _FIRST_FAULT:
+            raise ProcedureRefused(status, _written(_LIBRARY.sgt_fault_text, fault))
+        _check(status)
+        return number.value
 
     def start(self, procedure: int, *args: int) -> Reply:
         """Starts a transaction of the procedure with at most 4 arguments."""

@@ -54,6 +54,19 @@ fn main() -> Result<(), Error> {
     again.quit(tid.unwrap_or(0) + 1)?;
     again.cut()?;
     println!("{} entries, 2/101 {}", again.entries(), again.get(2, 101)?.unwrap_or(0));
+    let own = [Row { table: 7, number: 1, value: 40 }];
+    again.put(&own)?; // a record and a procedure more, as there is no history
+    if let Err(Error::Taken(at)) = again.put(&own) {
+        println!("row {at} taken");
+    }
+    let flaw = again.procedure(r#"[0,[["ask",0]]]"#);
+    assert_eq!(flaw, Err(Error::Opening(Fault::ProcFlaw(5, 8))));
+    let number = again.procedure(r#"[1,[["look",0,7,["arg",0],5],["answer",["reg",0]]]]"#)?;
+    print!("procedure {number}: ");
+    show(again.run(number, &[1])?.1);
+    if again.put(&own) == Err(Error::Begun) {
+        println!("begun");
+    }
     if let Err(fault) = Engine::open(r#"{"limits":[8,100],"accounts":[],"procedures":[[0,[7]]]}"#) {
         println!("{fault}");
     }

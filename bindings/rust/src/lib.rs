@@ -75,7 +75,7 @@ pub const LEAST: i64 = -999_999_999_999_999;
 /// The greatest of them.
 pub const MOST: i64 = 999_999_999_999_999;
 
-/// Why an opening was refused.
+/// Why an opening or a procedure was refused.
 #[derive(Clone, Debug, PartialEq, Eq)]
 pub enum Fault {
     NotJson,
@@ -96,10 +96,16 @@ pub enum Error {
     NoMemory,
     /// Over four arguments, a table over 7, or a record number or a row's value of over fifteen digits.
     BadCall,
-    /// The opening has a fault.
+    /// The opening, or the procedure that was to be added, has a fault.
     Opening(Fault),
     /// The history can't be cut off, as so many transactions are live.
     StillLive(u64),
+    /// There is a history, and so nothing can be added to what the engine begins with.
+    Begun,
+    /// The record of the row at this place, counted from 0, has a value already. It is the first such row.
+    Taken(u64),
+    /// No number is left for a procedure.
+    TooMany,
 }
 
 impl fmt::Display for Error {
@@ -109,6 +115,9 @@ impl fmt::Display for Error {
             Error::BadCall => write!(f, "a number is out of its range"),
             Error::Opening(fault) => write!(f, "{fault}"),
             Error::StillLive(live) => write!(f, "{live} live"),
+            Error::Begun => write!(f, "there is a history"),
+            Error::Taken(at) => write!(f, "the record of row {at} has a value already"),
+            Error::TooMany => write!(f, "no number is left for a procedure"),
         }
     }
 }
@@ -214,6 +223,14 @@ mod c {
             count: usize,
             fault: *mut Fault,
         ) -> u32;
+        pub fn sgt_put(engine: *mut Engine, rows: *const Row, count: usize, at: *mut u64) -> u32;
+        pub fn sgt_procedure(
+            engine: *mut Engine,
+            text: *const u8,
+            length: usize,
+            number: *mut u16,
+            fault: *mut Fault,
+        ) -> u32;
         pub fn sgt_close(engine: *mut Engine);
         pub fn sgt_start(engine: *mut Engine, procedure: u16, args: *const i64, count: usize, reply: *mut Reply) -> u32;
         pub fn sgt_run(
@@ -262,6 +279,26 @@ impl Engine {
         let (bytes, length) = (opening.as_ptr(), opening.len());
         let status = unsafe { c::sgt_open_with(&mut engine.inner, bytes, length, rows.as_ptr(), rows.len(), &mut fault) };
         opened(status, engine, &fault)
+    }
+
+    /// Puts new records into the opening database, while the history is empty; else `Begun`. Each call goes through all records.
+    pub fn put(&mut self, rows: &[Row]) -> Result<(), Error> {
+        let rows: Vec<c::Row> = rows.iter().map(row_for).collect();
+        let mut at = 0;
+        match unsafe { c::sgt_put(&mut self.inner, rows.as_ptr(), rows.len(), &mut at) } {
+            8 => Err(Error::Taken(at)),
+            status => done(status),
+        }
+    }
+
+    /// Adds the procedure of a JSON text behind the others, while the history is empty; else `Begun`. The number that it is started by.
+    pub fn procedure(&mut self, text: &str) -> Result<u16, Error> {
+        let (_, mut fault) = blank();
+        let mut number = 0;
+        match unsafe { c::sgt_procedure(&mut self.inner, text.as_ptr(), text.len(), &mut number, &mut fault) } {
+            16.. => Err(Error::Opening(fault_of(&fault))),
+            status => done(status).map(|()| number),
+        }
     }
 
     /// Starts a transaction of a procedure, with at most four arguments.
@@ -466,6 +503,8 @@ fn done(status: u32) -> Result<(), Error> {
     match status {
         0 => Ok(()),
         1 => Err(Error::NoMemory),
+        7 => Err(Error::Begun),
+        9 => Err(Error::TooMany),
         _ => Err(Error::BadCall),
     }
 }

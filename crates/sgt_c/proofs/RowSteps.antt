@@ -1,10 +1,12 @@
 -- Rows, one on.
-use Rattle.std.proofs.Common.{◌≡◌, ℕ, ◌+◌, ◌<◌, true, false, cond, List, [], ◌∷◌, ◌++◌, length, map, take, drop, set, get_or, Some, refl, sym, ap, ap₂, ◌∙◌, arith}
-use Rattle.std.proofs.lemmas.List.{take_more, take_more_set, drop_more, drop-set-lt, map-set, length-map, drop-drop}
+use Rattle.std.proofs.Common.{◌≡◌, ℕ, pos, ◌+◌, ◌<◌, ◌≤◌, true, false, cond, List, [], ◌∷◌, ◌++◌, length, map, take, drop, set, get_or, Some, refl, sym, ap, ap₂, ◌∙◌, subst, arith}
+use Rattle.std.specs.List.{All}
+use Rattle.std.proofs.lemmas.List.Elements.{All-head, All-push, All-tail}
+use Rattle.std.proofs.lemmas.List.{take_all, take_more, take_more_set, drop_more, drop-set-lt, map-set, length-map, drop-drop}
 use Rattle.sgt_model.specs.Contents.{Key, Contents, key_eq, put_in}
-use Rattle.sgt_model.specs.Databases.{Row, key_lt}
+use Rattle.sgt_model.specs.Databases.{HasValues, Row, key_lt}
 use Rattle.sgt_c.specs.declared.rows.Row.{Row as CRow}
-use Rattle.sgt_c.specs.Rows.{row_of, rows_from, with_rows}
+use Rattle.sgt_c.specs.Rows.{IsRow, row_of, rows_from, with_rows}
 
 -- ---- from a key on
 
@@ -21,6 +23,10 @@ module _ (k : Key) (rows : List Row) (i : ℕ) (d : Row) (within : i < length ro
       ∙ sym (drop_more rows i d within)
 
 -- ---- rows put in
+
+-- a row that nothing is said of
+abbrev pub none : CRow
+none = record { table = 0; spare = 0; number = pos 0; value = pos 0 }
 
 with_rows-append : (contents : Contents) (rows : List CRow) (s : CRow)
     → with_rows contents (rows ++ s ∷ []) ≡ put_in (with_rows contents rows) (row_of s).0 s.value
@@ -53,3 +59,19 @@ tell_row to rows i d x room within is told =
 pub rest_row : (to before : List CRow) (i : ℕ) (x : CRow) → drop i to ≡ drop i before → drop (i + 1) (set to i x) ≡ drop (i + 1) before
 rest_row to before i x same =
     drop-set-lt (i + 1) to i x (omega arith) ∙ sym (drop-drop 1 i to) ∙ ap (drop 1) same ∙ drop-drop 1 i before
+
+-- ---- rows in their ranges
+
+-- one more
+pub ranged_next : (rows : List CRow) (i : ℕ) (d : CRow) → i < length rows → IsRow (get_or rows i d) → All IsRow (take i rows)
+    → All IsRow (take (i + 1) rows)
+ranged_next rows i d within good so_far = rw (take_more rows i d within) (All-push IsRow (take i rows) (get_or rows i d) so_far good)
+
+-- all of them
+pub all_ranged : (rows : List CRow) (i : ℕ) → length rows ≤ i → All IsRow (take i rows) → All IsRow rows
+all_ranged rows i behind so_far = subst (All IsRow) (take_all i rows behind) so_far
+
+-- their values are values
+pub ranged_values : (rows : List CRow) → All IsRow rows → HasValues (map row_of rows)
+ranged_values [] all = tt
+ranged_values (s ∷ rows) all = ((All-head IsRow s rows all).1, ranged_values rows (All-tail IsRow s rows all))

@@ -9,3 +9,4 @@ pub mod Rows
 pub mod Runs
 pub mod Openings
 pub mod Cuts
+pub mod Puts

@@ -1,11 +1,12 @@
 -- What rows say, as C passes and reads them, and what they make of a database.
 use Rattle.std.specs.Prelude.{◌≡◌, ℕ, ◌≤◌, cond, length, map, take, List, [], ◌∷◌, Option, Some, None}
-use Rattle.sgt_model.specs.Contents.{Key, Contents, put_in}
+use Rattle.sgt_model.specs.Contents.{Key, Contents}
 use Rattle.sgt_model.specs.Databases.{Row, contents_of, key_lt, IsByKey}
 use Rattle.sgt_model.specs.Numbers.{IsValue}
 use Rattle.sgt_model.specs.Replay.{folded}
 use Rattle.sgt_model.specs.Values.{settled}
 use Rattle.sgt_engine.specs.EngineView.{EngineView, setting_of}
+use Rattle.sgt_engine.specs.Puts.{with_rows as with_keyed}
 use Rattle.sgt_c.specs.declared.held.Held.{Held}
 use Rattle.sgt_c.specs.declared.rows.Row.{Row as CRow}
 
@@ -19,8 +20,7 @@ row_of s = ((s.table, s.number), s.value)
 
 -- contents with these rows put in, one after another
 abbrev pub with_rows : Contents → List CRow → Contents
-with_rows contents [] = contents
-with_rows contents (s ∷ rows) = with_rows (put_in contents (row_of s).0 s.value) rows
+with_rows contents rows = with_keyed contents (map row_of rows)
 
 -- rows by key, from the first on whose key does not come before this one
 abbrev pub rows_from : Key → List Row → List Row

@@ -7,10 +7,9 @@ ghost use Rattle.sgt_c.specs.Cuts.{Cut, IsCut, IsSomeoneLive, IsTooEarly, TellsL
 use crate::handle::Handle;
 use crate::held::Held;
 use crate::status;
-use sgt_model::{Asks, Database, Limits};
+use sgt_engine::CutError;
 use sgt_program::SgtEngine;
 use std::alloc::Global;
-use std::mem::replace;
 
 /// Forgets the history up to now, where nobody is live: the engine goes on from the committed database as one that was just
 /// opened on it, with no entries, and numbers from 0. Procedures and limits stay, and what the limits allow is counted anew.
@@ -59,25 +58,12 @@ fn cut(alloc: Global, held: &mut Held) -> Result<(), Uncut>
     ensures nobody { OnOk result (NobodyLive held.old.engine.past) }
     ensures refused { IfErr result (IsTooEarly held.old.engine.past) }
 {
-    let count = live_count(&held.engine);
-    if count > 0 {
-        return Err(Uncut::StillLive(count));
-    }
-    let Some(spare) = spare(alloc) else {
-        return Err(Uncut::NoMemory);
-    };
-    let engine = replace(&mut held.engine, spare);
     // The headline holds of what it lends.
-    let _ = engine.history();
-    match engine.cut(alloc) {
-        Ok((_, engine)) => {
-            let _spare = replace(&mut held.engine, engine);
-            Ok(())
-        }
-        Err(error) => {
-            let _spare = replace(&mut held.engine, error.into_engine());
-            Err(Uncut::NoMemory)
-        }
+    let _ = held.engine.history();
+    match held.engine.cut(alloc) {
+        Ok(_) => Ok(()),
+        Err(CutError::StillLive) => Err(Uncut::StillLive(live_count(&held.engine))),
+        Err(CutError::NoMemory) => Err(Uncut::NoMemory),
     }
 }
 
@@ -86,14 +72,4 @@ fn live_count(engine: &SgtEngine) -> u64
     ensures { result ≡ length (live_ones engine.now.past) }
 {
     engine.sched().live_count() as u64
-}
-
-/// An engine that stands in the place of one that is cut, or none where a growth was refused.
-fn spare(alloc: Global) -> Option<SgtEngine> {
-    let limits = Limits {
-        live: 1,
-        begins: 1,
-        asks: Asks::AtStep,
-    };
-    SgtEngine::new(alloc, Database::empty(alloc), Vec::new(alloc), limits).ok()
 }

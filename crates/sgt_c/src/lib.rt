@@ -5,7 +5,7 @@
 //! status. The contracts say of the engine in the handle what `Engine` says of itself. There is no lock and no thread: a caller
 //! with threads puts one lock around each call.
 //!
-//! It reads no line but an opening, and hands out no memory. The header for C, and what a caller owes, stand in `bindings/sgt.h`.
+//! It reads no line but an opening and a procedure, and hands out no memory. The header for C, and what a caller owes, stand in `bindings/sgt.h`.
 //!
 //! ```
 //! let mut engine = Handle::closed(alloc);
@@ -25,6 +25,8 @@ mod held;
 mod history;
 mod opening;
 mod opening_with;
+mod procedures;
+mod putting;
 mod reading;
 mod rows;
 mod run;

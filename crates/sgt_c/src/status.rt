@@ -21,6 +21,15 @@ pub const BAD_CALL: u32 = 5;
 /// A transaction is live.
 pub const STILL_LIVE: u32 = 6;
 
+/// There is a history already.
+pub const BEGUN: u32 = 7;
+
+/// The key of a row has a value already.
+pub const TAKEN: u32 = 8;
+
+/// No number is left for a procedure.
+pub const TOO_MANY: u32 = 9;
+
 /// The opening is no JSON.
 pub const NOT_JSON: u32 = 16;
 

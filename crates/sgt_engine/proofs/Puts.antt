@@ -1,4 +1,4 @@
--- Rows put in, one on.
+-- Rows put in, one on; and an empty history.
 use Rattle.std.proofs.Common.{◌≡◌, ℕ, zero, suc, ◌+◌, ◌<◌, cond, List, [], ◌∷◌, ◌++◌, length, reverse, take, get_or, Some, None, refl, sym, ap, ◌∙◌, arith}
 use Rattle.std.proofs.lemmas.List.{take_more, reverse-reverse}
 use Rattle.sgt_model.specs.Contents.{Key, Contents, key_eq, put_in}
@@ -6,7 +6,8 @@ use Rattle.sgt_model.specs.Databases.{Row, HasValues}
 use Rattle.sgt_model.specs.Numbers.{IsValue}
 use Rattle.sgt_engine.specs.Puts.{with_rows, AreNew}
 
-with_rows-append : (contents : Contents) (rows : List Row) (r : Row) → with_rows contents (rows ++ r ∷ []) ≡ put_in (with_rows contents rows) r.0 r.1
+with_rows-append : (contents : Contents) (rows : List Row) (r : Row)
+    → with_rows contents (rows ++ r ∷ []) ≡ put_in (with_rows contents rows) r.0 r.1
 with_rows-append contents [] r = refl
 with_rows-append contents (x ∷ rows) r = with_rows-append (put_in contents x.0 x.1) rows r
 

@@ -1,5 +1,5 @@
 -- What is added to what an engine begins with: rows of its opening database, and procedures.
-use Rattle.std.specs.Prelude.{◌≡◌, ⊤, ℕ, List, [], ◌∷◌, ◌++◌, take, Some, None, IsSome, slice_get}
+use Rattle.std.specs.Prelude.{◌≡◌, ◌≢◌, ⊤, ℕ, List, [], ◌∷◌, ◌++◌, take, Some, None, IsSome, slice_get}
 use Rattle.sgt_model.specs.Contents.{Key, Contents, put_in}
 use Rattle.sgt_model.specs.Databases.{Row, contents_of}
 use Rattle.sgt_model.specs.Syntax.{Program}
@@ -24,11 +24,17 @@ pub record IsTaken (contents : Contents) (rows : List Row) (index : ℕ) : Type 
   pub new : AreNew contents (take index rows)
   pub there : IsSome (with_rows contents (take index rows) row.0)
 
--- why rows are not put in: one is taken, or else memory is wanting
-abbrev pub AreRefused : Contents → List Row → PutError → Type 0
-AreRefused contents rows Begun = ⊥
-AreRefused contents rows (Taken index) = IsTaken contents rows index
-AreRefused contents rows NoMemory = ⊤
+-- why rows are not put into these contents: one is taken, or else memory is wanting
+abbrev pub DoNotFit : Contents → List Row → PutError → Type 0
+DoNotFit contents rows Begun = ⊥
+DoNotFit contents rows (Taken index) = IsTaken contents rows index
+DoNotFit contents rows NoMemory = ⊤
+
+-- why an engine takes no rows: it has a history, or else they do not fit what it opens with
+abbrev pub AreRefused : EngineView → List Row → PutError → Type 0
+AreRefused e rows Begun = e.past ≢ []
+AreRefused e rows (Taken index) = (e.past ≡ []) × DoNotFit (contents_of e.opening) rows (Taken index)
+AreRefused e rows NoMemory = (e.past ≡ []) × DoNotFit (contents_of e.opening) rows NoMemory
 
 -- the engine opens with these rows, which are new, and is else as it was
 pub record PutsRows (before : EngineView) (rows : List Row) (after : EngineView) : Type 0 where

@@ -3,7 +3,7 @@ ghost use Rattle.std.specs.Prelude.{◌≡◌, ◌≢◌, ◌↔◌, true, false
 ghost use Rattle.sgt_model.specs.Contents.{Key as K, put_in};
 ghost use Rattle.sgt_model.specs.Databases.{contents_of, HasValues};
 ghost use Rattle.sgt_model.specs.Numbers.{IsValue};
-ghost use Rattle.sgt_engine.specs.Puts.{AreNew, AreRefused, PutsRows, with_rows};
+ghost use Rattle.sgt_engine.specs.Puts.{AreNew, AreRefused, DoNotFit, PutsRows, with_rows};
 
 use crate::engine::Engine;
 use sgt_access::Accesses;
@@ -41,8 +41,8 @@ impl<R: Records, A: Accesses, G: Graph> Engine<R, A, G> {
     /// Puts more rows into the opening database, where the history is empty: values from `LEAST` to `MOST` at keys that have none.
     /// Procedures and limits stay. So an engine is opened on what a caller keeps elsewhere.
     ///
-    /// It goes once through the opening and makes the records anew, so many rows are put in by one call. Rows by key that come
-    /// behind the opening's are put in fastest: any other moves those behind it.
+    /// It goes once through the opening and makes the records anew, so many rows are put in by one call. They come by key: a row in
+    /// any other place moves those behind it.
     ///
     /// `Begun` where there is a history, tested first; `Taken` with the index of the first row whose key has a value then;
     /// `NoMemory` where a growth was refused. Then nothing has changed.
@@ -50,7 +50,7 @@ impl<R: Records, A: Accesses, G: Graph> Engine<R, A, G> {
         requires in_range { HasValues rows.now }
         ensures put { OnOk result (PutsRows self.old rows.now self.new) }
         ensures begun { (result ≡ Err PutError.Begun) ↔ (self.old.past ≢ []) }
-        ensures taken { IfErr result (λ e. self.old.past ≡ [] → AreRefused (contents_of self.old.opening) rows.now e) }
+        ensures refused { IfErr result (AreRefused self.old rows.now) }
         ensures unchanged { OnErr result (self.new ≡ self.old) }
     {
         new_is_empty();
@@ -70,7 +70,7 @@ impl<R: Records, A: Accesses, G: Graph> Engine<R, A, G> {
         ensures contents { IfOk result (λ d. (k : K) →
             contents_of d k ≡ with_rows (contents_of self.now.opening) rows.now k) }
         ensures new { OnOk result (AreNew (contents_of self.now.opening) rows.now) }
-        ensures refused { IfErr result (AreRefused (contents_of self.now.opening) rows.now) }
+        ensures refused { IfErr result (DoNotFit (contents_of self.now.opening) rows.now) }
     {
         // Nothing is committed yet, so this is a copy of the opening.
         let mut opening = self.database(alloc)?;
@@ -85,7 +85,7 @@ fn put_rows(database: &mut Database, rows: &[(Key, i64)]) -> Result<(), PutError
     ensures contents { OnOk result ((k : K) →
         contents_of database.new k ≡ with_rows (contents_of database.old) rows.now k) }
     ensures new { OnOk result (AreNew (contents_of database.old) rows.now) }
-    ensures refused { IfErr result (AreRefused (contents_of database.old) rows.now) }
+    ensures refused { IfErr result (DoNotFit (contents_of database.old) rows.now) }
 {
     for (index, row) in rows.iter().enumerate() {
         if !put_row(database, row)? {

@@ -1,11 +1,6 @@
-use Rattle.std.proofs.Common.{pos}
 use Rattle.sgt_model.specs.Databases.{contents_of}
-use Rattle.sgt_c.specs.declared.rows.Row.{Row as CRow}
-use Rattle.sgt_c.proofs.RowSteps.{rows_next}
+use Rattle.sgt_c.proofs.RowSteps.{none, rows_next}
 use Rattle.sgt_c.proofs.rows.put_rows.Goals as goal
-
-abbrev none : CRow
-none = record { table = 0; spare = 0; number = pos 0; value = pos 0 }
 
 pub loop-row-preserved : goal.loop-row-preserved
 loop-row-preserved c =

@@ -1,0 +1,69 @@
+-- What is added to the engine behind a handle before its first event.
+use Rattle.std.specs.Prelude.{◌≡◌, ◌≢◌, ◌≤◌, ◌<◌, ◌^◌, ℕ, List, [], length, map, take, Option, Some, None, slice_get}
+use Rattle.std.specs.List.{All}
+use Rattle.sgt_model.specs.Databases.{contents_of}
+use Rattle.sgt_model.specs.Syntax.{Program}
+use Rattle.sgt_engine.specs.EngineView.{EngineView}
+use Rattle.sgt_engine.specs.Puts.{PutsRows, IsTaken, with_procedure}
+use Rattle.sgt_format.specs.ProcedureLines.{SpellsProcedure, RefusesProcedure}
+use Rattle.sgt_format.specs.declared.errors.OpeningError.{OpeningError}
+use Rattle.sgt_c.specs.declared.fault.Fault.{Fault}
+use Rattle.sgt_c.specs.declared.held.Held.{Held}
+use Rattle.sgt_c.specs.declared.procedures.Unadded.{Unadded}
+use Rattle.sgt_c.specs.declared.procedures.Unadded.TheVariants.{Begun, TooMany, Refused}
+use Rattle.sgt_c.specs.declared.rows.Row.{Row as CRow}
+use Rattle.sgt_c.specs.Faults.{IsFaultTold}
+use Rattle.sgt_c.specs.Rows.{IsRow, row_of}
+
+-- the rows before this one are in their ranges, and this one is not
+pub record IsFirstBad (rows : List CRow) (index : ℕ) : Type 0 where
+  pub row : CRow
+  pub at : slice_get rows index ≡ Some row
+  pub before : All IsRow (take index rows)
+  pub bad : ¬ IsRow row
+
+-- there is an engine, and it has a history
+abbrev pub HasBegun : Option Held → Type 0
+HasBegun None = ⊥
+HasBegun (Some h) = h.engine.past ≢ []
+
+-- the engine opens with these rows, which are new, and is else as it was
+abbrev pub Put : Option Held → List CRow → Option Held → Type 0
+Put None rows new = ⊥
+Put (Some h) rows None = ⊥
+Put (Some h) rows (Some h') = PutsRows h.engine (map row_of rows) h'.engine
+
+-- the rows before this one are new, and behind them its key has a value
+abbrev pub IsTakenIn : Option Held → List CRow → ℕ → Type 0
+IsTakenIn None rows index = ⊥
+IsTakenIn (Some h) rows index = IsTaken (contents_of h.engine.opening) (map row_of rows) index
+
+-- the engine, which has no history, has the procedure that the text spells behind its others, by this number, and is else as it was
+pub record IsAdded (h : Held) (text : List ℕ) (h' : Held) (n : ℕ) : Type 0 where
+  pub none : h.engine.past ≡ []
+  pub procedure : Program
+  pub spelled : SpellsProcedure text procedure
+  pub added : h'.engine ≡ with_procedure procedure h.engine
+  pub number : n ≡ length h.engine.procedures
+
+-- the same of what a handle holds
+abbrev pub Added : Option Held → List ℕ → Option Held → ℕ → Type 0
+Added None text new number = ⊥
+Added (Some h) text None number = ⊥
+Added (Some h) text (Some h') number = IsAdded h text h' number
+
+-- why none is added: there is a history, or else no number is left, or else the text spells none or memory is wanting
+abbrev pub IsRefusal : EngineView → List ℕ → Unadded → Type 0
+IsRefusal e text Begun = e.past ≢ []
+IsRefusal e text TooMany = (e.past ≡ []) × (2 ^ 16 ≤ length e.procedures)
+IsRefusal e text (Refused error) = (e.past ≡ []) × (length e.procedures < 2 ^ 16) × RefusesProcedure (length e.procedures) text error
+
+-- there is an engine without a history, which has no number left for a procedure
+abbrev pub HasNoNumber : Option Held → Type 0
+HasNoNumber None = ⊥
+HasNoNumber (Some h) = (h.engine.past ≡ []) × (2 ^ 16 ≤ length h.engine.procedures)
+
+-- the text spells no procedure, for the reason that is told of the number that it was to have
+abbrev pub IsTextRefused : Option Held → List ℕ → Fault → Type 0
+IsTextRefused None text told = ⊥
+IsTextRefused (Some h) text told = (e : OpeningError) × RefusesProcedure (length h.engine.procedures) text e × IsFaultTold told e

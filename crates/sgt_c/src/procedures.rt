@@ -1,0 +1,85 @@
+//! Adding procedures.
+ghost use Rattle.std.specs.Prelude.{◌≡◌, ◌≢◌, ◌<◌, ◌≤◌, ◌↔◌, None, IfErr, IfOk, OnErr};
+ghost use Rattle.sgt_c.specs.Puts.{Added, HasBegun, HasNoNumber, IsAdded, IsRefusal, IsTextRefused};
+
+use crate::fault::{Fault, tell_fault};
+use crate::handle::Handle;
+use crate::held::Held;
+use crate::status;
+use sgt_engine::AddError;
+use sgt_format::{OpeningError, read_procedure_line};
+use std::alloc::Global;
+
+/// Adds the procedure that a text spells, as one of an opening's list, behind the others, where the history is empty. Its number is
+/// written to `number`.
+///
+/// `CLOSED`; `BEGUN` where there is a history; `TOO_MANY` where no number is left, of 65536; from 16 on a fault of the text,
+/// which is told of the number that the procedure was to have; `NO_MEMORY`.
+#[unsafe(no_mangle)]
+pub extern "C" fn sgt_procedure(
+    alloc: Global,
+    engine: &mut Handle,
+    text: &[u8],
+    number: &mut u16,
+    fault: &mut Fault,
+) -> u32
+    ensures added { result ≡ 0 → Added engine.old.slot.held text.now engine.new.slot.held number.new }
+    ensures unchanged { result ≢ 0 → engine.new.slot.held ≡ engine.old.slot.held }
+    ensures closed { (result ≡ 2) ↔ (engine.old.slot.held ≡ None) }
+    ensures begun { (result ≡ 7) ↔ HasBegun engine.old.slot.held }
+    ensures too_many { (result ≡ 9) ↔ HasNoNumber engine.old.slot.held }
+    ensures refused { 16 ≤ result → (result ≡ fault.new.kind) × IsTextRefused engine.old.slot.held text.now fault.new }
+    ensures statuses { result < 16 → result ≢ 7 → result ≢ 9 → result ≤ 2 }
+    ensures kept { result ≢ 0 → number.new ≡ number.old }
+    ensures untold { result ≢ 1 → result < 16 → fault.new ≡ fault.old }
+{
+    let Some(mut held) = engine.take(alloc) else {
+        return status::CLOSED;
+    };
+    let added = add(alloc, &mut held, text);
+    engine.put(held);
+    match added {
+        Ok(added) => {
+            *number = added;
+            status::OK
+        }
+        Err(Unadded::Begun) => status::BEGUN,
+        Err(Unadded::TooMany) => status::TOO_MANY,
+        Err(Unadded::Refused(error)) => tell_fault(fault, &error),
+    }
+}
+
+/// Why a procedure was not added.
+#[derive(Drop)]
+pub enum Unadded {
+    /// There is a history.
+    Begun,
+    /// No number is left.
+    TooMany,
+    /// The text spells none, or a growth was refused.
+    Refused(OpeningError),
+}
+
+/// Adds the procedure that a text spells to an engine, and answers its number.
+fn add(alloc: Global, held: &mut Held, text: &[u8]) -> Result<u16, Unadded>
+    ensures added { IfOk result (IsAdded held.old text.now held.new) }
+    ensures refused { IfErr result (IsRefusal held.old.engine text.now) }
+    ensures unchanged { OnErr result (held.new ≡ held.old) }
+{
+    if !held.engine.is_new() {
+        return Err(Unadded::Begun);
+    }
+    let number = held.engine.sched().procedure_count();
+    if number > u16::MAX as usize {
+        return Err(Unadded::TooMany);
+    }
+    let procedure = match read_procedure_line(alloc, number as u64, text) {
+        Ok(procedure) => procedure,
+        Err(error) => return Err(Unadded::Refused(error)),
+    };
+    match held.engine.add_procedure(procedure) {
+        Ok(added) => Ok(added),
+        Err(AddError::NoMemory) => Err(Unadded::Refused(OpeningError::NoMemory)),
+        Err(AddError::Begun | AddError::TooMany) => unreachable!(),
+    }
+}

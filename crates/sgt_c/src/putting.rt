@@ -1,0 +1,110 @@
+//! Putting the caller's rows into the opening database.
+ghost use Rattle.std.specs.Prelude.{◌≡◌, ◌≢◌, ◌≤◌, ◌↔◌, [], Err, None, IsNone, IfSome, IfErr, IfOk, OnOk, OnErr, IsTrue, map};
+ghost use Rattle.std.specs.List.{All};
+ghost use Rattle.sgt_model.specs.Databases.{HasValues};
+ghost use Rattle.sgt_engine.specs.Puts.{AreRefused, PutsRows};
+ghost use Rattle.sgt_c.specs.Puts.{HasBegun, IsFirstBad, IsTakenIn, Put};
+ghost use Rattle.sgt_c.specs.Rows.{IsRow, row_of};
+
+use crate::handle::Handle;
+use crate::held::Held;
+use crate::rows::Row;
+use crate::status;
+use sgt_engine::PutError;
+use sgt_model::{Key, NoMemory, is_value};
+use std::alloc::Global;
+
+/// Puts rows into the opening database, where the history is empty: values at keys that have none. So an engine is opened on the
+/// caller's own store, also bit by bit. It goes once through all records, and takes memory for them and for the rows meanwhile.
+///
+/// `BAD_CALL` where a row is out of its range, tested first: the place of the first one is written to `at`; `CLOSED`; `BEGUN`
+/// where there is a history; `TAKEN` where the key of a row has a value, or that of a row before it: the place of the first such
+/// row is written to `at`; `NO_MEMORY`.
+#[unsafe(no_mangle)]
+pub extern "C" fn sgt_put(alloc: Global, engine: &mut Handle, rows: &[Row], at: &mut u64) -> u32
+    ensures put { result ≡ 0 → Put engine.old.slot.held rows.now engine.new.slot.held }
+    ensures unchanged { result ≢ 0 → engine.new.slot.held ≡ engine.old.slot.held }
+    ensures bad_call { (result ≡ 5) ↔ (¬ All IsRow rows.now) }
+    ensures bad_row { result ≡ 5 → IsFirstBad rows.now at.new }
+    ensures closed { (result ≡ 2) ↔ (All IsRow rows.now × (engine.old.slot.held ≡ None)) }
+    ensures begun { (result ≡ 7) ↔ (All IsRow rows.now × HasBegun engine.old.slot.held) }
+    ensures taken { result ≡ 8 → IsTakenIn engine.old.slot.held rows.now at.new }
+    ensures kept { result ≢ 5 → result ≢ 8 → at.new ≡ at.old }
+    ensures statuses { result ≢ 5 → result ≢ 7 → result ≢ 8 → result ≤ 2 }
+{
+    if let Some(bad) = first_bad(rows) {
+        *at = bad as u64;
+        return status::BAD_CALL;
+    }
+    let Some(mut held) = engine.take(alloc) else {
+        return status::CLOSED;
+    };
+    let put = put(alloc, &mut held, rows);
+    engine.put(held);
+    match put {
+        Ok(()) => status::OK,
+        Err(PutError::Begun) => status::BEGUN,
+        Err(PutError::Taken(index)) => {
+            *at = index as u64;
+            status::TAKEN
+        }
+        Err(PutError::NoMemory) => status::NO_MEMORY,
+    }
+}
+
+/// Puts rows into the opening database of an engine.
+fn put(alloc: Global, held: &mut Held, rows: &[Row]) -> Result<(), PutError>
+    requires { All IsRow rows.now }
+    ensures put { OnOk result (PutsRows held.old.engine (map row_of rows.now) held.new.engine) }
+    ensures begun { (result ≡ Err PutError.Begun) ↔ (held.old.engine.past ≢ []) }
+    ensures refused { IfErr result (AreRefused held.old.engine (map row_of rows.now)) }
+    ensures unchanged { OnErr result (held.new ≡ held.old) }
+{
+    if !held.engine.is_new() {
+        return Err(PutError::Begun);
+    }
+    let rows = keyed(alloc, rows)?;
+    held.engine.put(alloc, rows.as_slice())
+}
+
+/// The place of the first row that is out of its range.
+fn first_bad(rows: &[Row]) -> Option<usize>
+    ensures all { IsNone result ↔ All IsRow rows.now }
+    ensures first { IfSome result (IsFirstBad rows.now) }
+{
+    for (index, row) in rows.iter().enumerate() {
+        if !is_row(row) {
+            return Some(index);
+        }
+    }
+    None
+}
+
+fn is_row(row: &Row) -> bool
+    ensures { IsTrue result ↔ IsRow row.now }
+{
+    row.table <= 7 && is_value(row.number) && is_value(row.value)
+}
+
+/// The rows as keys with their values.
+fn keyed(alloc: Global, rows: &[Row]) -> Result<Vec<(Key, i64)>, NoMemory>
+    requires { All IsRow rows.now }
+    ensures rows { IfOk result (λ keyed. keyed.items ≡ map row_of rows.now) }
+    ensures values { IfOk result (λ keyed. HasValues keyed.items) }
+{
+    let mut keyed = Vec::with_capacity(alloc, rows.len())?;
+    for row in rows {
+        keyed.push_reserved(keyed_row(row));
+    }
+    Ok(keyed)
+}
+
+fn keyed_row(row: &Row) -> (Key, i64)
+    requires { IsRow row.now }
+    ensures { result ≡ row_of row.now }
+{
+    let Some(key) = Key::new(row.table as u8, row.number) else {
+        unreachable!();
+    };
+    (key, row.value)
+}
