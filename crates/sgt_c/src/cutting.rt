@@ -7,7 +7,6 @@ ghost use Rattle.sgt_c.specs.Cuts.{Cut, IsCut, IsSomeoneLive, IsTooEarly, TellsL
 use crate::handle::Handle;
 use crate::held::Held;
 use crate::status;
-use sgt_engine::CutError;
 use sgt_program::SgtEngine;
 use std::alloc::Global;
 
@@ -58,12 +57,15 @@ fn cut(alloc: Global, held: &mut Held) -> Result<(), Uncut>
     ensures nobody { OnOk result (NobodyLive held.old.engine.past) }
     ensures refused { IfErr result (IsTooEarly held.old.engine.past) }
 {
+    let count = live_count(&held.engine);
+    if count > 0 {
+        return Err(Uncut::StillLive(count));
+    }
     // The headline holds of what it lends.
     let _ = held.engine.history();
     match held.engine.cut(alloc) {
         Ok(_) => Ok(()),
-        Err(CutError::StillLive) => Err(Uncut::StillLive(live_count(&held.engine))),
-        Err(CutError::NoMemory) => Err(Uncut::NoMemory),
+        Err(_) => Err(Uncut::NoMemory),
     }
 }
 
