@@ -5,6 +5,7 @@ use Rattle.std.specs.Result.{is_err}
 use Rattle.std.specs.Prelude.{take, drop, true, false, Result, Option, None, Some, IfSome, OnErr, Ok, Err}
 use Rattle.std.specs.Io.KnownBytes.{Appends, Consumes}
 use Rattle.sgt_model.specs.declared.entry.Entry.{Entry}
+use Rattle.sgt_model.specs.Contents.{Key}
 use Rattle.sgt_model.specs.Continuations.{SettledAreRows}
 use Rattle.sgt_model.specs.Databases.{Row, contents_of}
 use Rattle.sgt_model.specs.OneReply.{SomeReplyIsLegal}

@@ -1,6 +1,6 @@
 -- The laws of a script's run that is told by its records.
 use Rattle.std.proofs.Common.{◌≡◌, refl, sym, ap, ◌∙◌, subst, List, [], ◌∷◌, ◌++◌, append-nil}
-use Rattle.std.specs.Prelude.{ℕ, Option, None, Some, IfSome}
+use Rattle.std.specs.Prelude.{ℕ, Option, None, Some, IfSome, Ok, Err}
 use Rattle.std.specs.Io.KnownBytes.{Appends}
 use Rattle.sgt_model.specs.StoredValues.{CommittedAreValues}
 use Rattle.sgt_model.specs.Laws.{HeadlineHolds}
