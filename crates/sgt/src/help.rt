@@ -58,6 +58,16 @@ These lines are answered
 where 0/1 is record 1 of table 0, and 4 events were answered since the opening. A transaction is named by the number that its
 start was answered with.
 
+With --explain standard error tells behind each reply that aborts a transaction by which accesses the edges of the cycle come
+about, and from whom each that fell had read, and at the end who is live:
+
+  line 9: 0 wrote 1/101 at line 8, which 1 read at line 6
+  line 9: 1 would write 2/101, which 0 read at line 5
+  line 25: 3 read 2/101 of 2 at line 20
+  1 transaction is live at the end: 4
+
+Standard output and the status are as without it. It is not given together with --history or --records.
+
 The first bad line ends the script: the replies to the lines before it are written, and the fault on standard error. A line has
 at most 65536 bytes, the input 16777216, and a value or a key is a whole number of at most fifteen digits.
 docs/FORMATS.md of the repository has every line and reply, docs/LANGUAGE.md the procedures, examples/ whole scripts."#;

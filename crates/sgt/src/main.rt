@@ -1,7 +1,7 @@
 //! The program: `sgt script` runs a script of JSON lines from standard input on an engine, writes a line for each reply to
-//! standard output and then the committed database. `sgt bank` runs jobs on worker threads, and writes a line for what became of
-//! each and then the committed database. `sgt check` reads a history, and writes of which classes it is, or its serialization
-//! graph. All tell a fault on standard error, with status 2.
+//! standard output and then the committed database, and can tell on standard error why transactions are aborted. `sgt bank` runs
+//! jobs on worker threads, and writes a line for what became of each and then the committed database. `sgt check` reads a history,
+//! and writes of which classes it is, or its serialization graph. All tell a fault on standard error, with status 2.
 //!
 //! It has the command line and nothing else: what a script's run writes is said and proved in `sgt_script`, what a bank's run
 //! writes in `sgt_bank`, and what a check writes in `sgt_check`.
@@ -22,7 +22,7 @@ use sgt_stream::{Fault, Reader, Writer};
 use std::alloc::{AllocError, Global};
 use std::env;
 use std::fmt::Display;
-use std::io::{self, Eprint, Input, Print};
+use std::io::{self, Eprint, Input, Print, Stderr};
 use std::process::ExitCode;
 use std::sync::Wait;
 use std::thread::Threads;
@@ -59,6 +59,16 @@ fn records_flag<'a>(alloc: Global, help: &'a str) -> Result<Arg<'a>, AllocError>
         .conflicts_with("history")
 }
 
+/// The option that has a run told why transactions are aborted.
+fn explain_flag<'a>(alloc: Global) -> Result<Arg<'a>, AllocError> {
+    Arg::new(alloc, "explain")
+        .long("explain")
+        .help("Tells on standard error why transactions are aborted")
+        .action(ArgAction::SetTrue)
+        .conflicts_with("history")?
+        .conflicts_with("records")
+}
+
 /// The words of `sgt script`.
 fn script_command<'a>(alloc: Global) -> Result<Command<'a>, AllocError> {
     Command::new(alloc, "script")
@@ -71,7 +81,8 @@ fn script_command<'a>(alloc: Global) -> Result<Command<'a>, AllocError> {
         .arg(records_flag(
             alloc,
             "In place of the replies, writes the committed database as records",
-        )?)
+        )?)?
+        .arg(explain_flag(alloc)?)
 }
 
 /// The words of `sgt bank`.
@@ -138,13 +149,21 @@ fn number(options: &ArgMatches<'_>, name: &str, default: u32, most: u32) -> u32
 }
 
 /// Runs a script from standard input to standard output.
-fn script<R: Print + Input>(rt: &R, alloc: Global, options: &ArgMatches<'_>) -> Result<(), Fault> {
+fn script<R: Print + Input>(
+    rt: &R,
+    alloc: Global,
+    stderr: Stderr,
+    options: &ArgMatches<'_>,
+) -> Result<(), Fault> {
     let mut reader = Reader::new(rt.reader());
     let mut writer = Writer::new(io::writer(rt));
     if options.get_flag("history") {
         sgt_script::run_history(alloc, &mut reader, &mut writer)
     } else if options.get_flag("records") {
         sgt_script::run_records(alloc, &mut reader, &mut writer)
+    } else if options.get_flag("explain") {
+        let mut errors = Writer::new(stderr);
+        sgt_script::run_explained(alloc, &mut reader, &mut writer, &mut errors)
     } else {
         run_script(alloc, &mut reader, &mut writer)
     }
@@ -186,6 +205,7 @@ fn check<R: Print + Input>(
 fn run<R: Print + Eprint + Input + Threads + Wait + Sync>(
     rt: &R,
     alloc: Global,
+    stderr: Stderr,
     matches: &ArgMatches<'_>,
 ) -> ExitCode {
     let ran = match matches.subcommand() {
@@ -197,7 +217,7 @@ fn run<R: Print + Eprint + Input + Threads + Wait + Sync>(
             };
         }
         Some(("bank", options)) => bank(rt, alloc, options),
-        Some((_, options)) => script(rt, alloc, options),
+        Some((_, options)) => script(rt, alloc, stderr, options),
         None => Ok(()),
     };
     match ran {
@@ -242,5 +262,5 @@ fn main(rt: HostRuntime) -> ExitCode {
         Ok(matches) => matches,
         Err(error) => return refuse(&rt, &error),
     };
-    run(&rt, alloc, &matches)
+    run(&rt, alloc, rt.stderr(), &matches)
 }

@@ -10,10 +10,16 @@
 //! ```
 #![tactic(auto)]
 
+mod explain;
+mod explained;
+mod explaining;
+mod live_text;
+mod pending;
 mod records;
 mod run;
 mod script;
 mod telling;
 
+pub use explained::run_explained;
 pub use records::run_records;
 pub use run::{run_history, run_script};

@@ -7,6 +7,7 @@ ghost use Rattle.sgt_script.specs.Beginnings.{Begins, IsStop, ScriptRuns};
 ghost use Rattle.sgt_script.specs.Parts.{Answer};
 ghost use Rattle.sgt_script.specs.Scripts.{Execution, Script};
 
+use crate::explain::Silent;
 use crate::script::run_with;
 use crate::telling::Telling;
 use sgt_model::{headline_holds, replays_hold_values};
@@ -51,5 +52,5 @@ pub fn run_records<S: Source, T: Sink>(
     opened_hold_values();
     replays_hold_values();
     replay_is_bank();
-    run_with(alloc, source, sink, Telling::Records)
+    run_with(alloc, source, sink, Telling::Records, &mut Silent)
 }

@@ -8,6 +8,7 @@ ghost use Rattle.sgt_script.specs.Answering.{AnswersScriptRead};
 ghost use Rattle.sgt_script.specs.Parts.{Answer, answers_text};
 ghost use Rattle.sgt_script.specs.Scripts.{Execution, Script};
 
+use crate::explain::Silent;
 use crate::script::run_with;
 use crate::telling::Telling;
 use sgt_model::{headline_holds, replays_hold_values};
@@ -65,7 +66,7 @@ pub fn run_script<S: Source, T: Sink>(
     opened_hold_values();
     replays_hold_values();
     replay_is_bank();
-    run_with(alloc, source, sink, Telling::Replies)
+    run_with(alloc, source, sink, Telling::Replies, &mut Silent)
 }
 
 /// Runs a script as `run_script` does, and writes the run as a history in the notation of Bernstein, Hadzilacos and Goodman
@@ -113,5 +114,5 @@ pub fn run_history<S: Source, T: Sink>(
     opened_hold_values();
     replays_hold_values();
     replay_is_bank();
-    run_with(alloc, source, sink, Telling::Operations)
+    run_with(alloc, source, sink, Telling::Operations, &mut Silent)
 }

@@ -11,6 +11,7 @@ ghost use Rattle.sgt_script.specs.Scripts.{Execution, Last, RunOutput, Script, s
 ghost use Rattle.sgt_script.specs.Answering.{AnswersAll, AnswersLine, AnswersRead, AnswersScriptRead, AnswersSome, BeginWith, NoLine, NoLineCame};
 ghost use Rattle.sgt_script.specs.Beginnings.{AppendsPart, Begins, IsStop, LineRuns, ScriptRuns, WritesAt};
 
+use crate::explain::Explains;
 use crate::telling::Telling;
 use json::Scratch;
 use sgt_engine::CutError;
@@ -211,13 +212,14 @@ fn stop<T: Sink>(sink: &mut T, gathered: &mut Vec<u8>, fault: Fault) -> Fault
 }
 
 /// Answers the lines that are left. The answers are gathered, and written out before each read and at the end.
-fn answer_lines<S: Source, T: Sink>(
+fn answer_lines<S: Source, T: Sink, X: Explains>(
     alloc: Global,
     lines: &mut Lines,
     source: &mut S,
     sink: &mut T,
     engine: &mut SgtEngine,
     telling: Telling,
+    explains: &mut X,
 ) -> Result<(), Fault>
     requires reading { S.failures source.old + 1 < 2 ^ 64 }
     requires writing { T.failures sink.old + 1 < 2 ^ 64 }
@@ -251,6 +253,7 @@ fn answer_lines<S: Source, T: Sink>(
     let mut gathered = Vec::new(alloc);
     loop {
         flush_before_read(lines, sink, &mut gathered)?;
+        explains.written(lines);
         match next_script_line(alloc, &mut scratch, lines, source) {
             Ok(Some(ScriptLine::Event(event))) => match answer_event(
                 engine,
@@ -258,7 +261,7 @@ fn answer_lines<S: Source, T: Sink>(
                 telling,
                 &mut gathered,
             ) {
-                Ok(()) => (),
+                Ok(()) => explains.answered(engine, lines.number()),
                 Err(_) => return Err(stop(sink, &mut gathered, Fault::NoMemory)),
             },
             Ok(Some(ScriptLine::Cut)) => match answer_cut(alloc, engine, telling, &mut gathered) {
@@ -267,6 +270,7 @@ fn answer_lines<S: Source, T: Sink>(
             },
             Ok(None) => {
                 flush(sink, &mut gathered)?;
+                explains.ended(engine);
                 return Ok(());
             }
             Err(fault) => return Err(stop(sink, &mut gathered, fault)),
@@ -282,13 +286,14 @@ fn answer_lines<S: Source, T: Sink>(
 /// written then. `Reading` where a read failed: the replies to the whole lines read are written then. `NoMemory` where a growth
 /// was refused: the replies to some first lines are. Neither writes the database. And `Writing` where a write failed: the
 /// beginning of what a whole run writes is written then.
-pub(crate) fn run_opened<S: Source, T: Sink>(
+pub(crate) fn run_opened<S: Source, T: Sink, X: Explains>(
     alloc: Global,
     lines: &mut Lines,
     source: &mut S,
     sink: &mut T,
     engine: SgtEngine,
     telling: Telling,
+    explains: &mut X,
 ) -> Result<(), Fault>
     requires reading { S.failures source.old + 1 < 2 ^ 64 }
     requires writing { T.failures sink.old + 1 < 2 ^ 64 }
@@ -322,7 +327,7 @@ pub(crate) fn run_opened<S: Source, T: Sink>(
     some_reply_is_legal();
     histories_go_on();
     let mut engine = engine;
-    answer_lines(alloc, lines, source, sink, &mut engine, telling)?;
+    answer_lines(alloc, lines, source, sink, &mut engine, telling, explains)?;
     let mut text = last_text(alloc, engine, telling)?;
     flush(sink, &mut text)
 }
@@ -334,11 +339,12 @@ pub(crate) fn run_opened<S: Source, T: Sink>(
 /// The first fault of the script: the replies to the lines before it are written then. `Reading` where a read failed: the
 /// replies to the whole lines read are. `NoMemory` where a growth was refused: the replies to some first lines are. None of
 /// these writes the database. And `Writing` where a write failed: the beginning of what a whole run writes is written then.
-pub(crate) fn run_with<S: Source, T: Sink>(
+pub(crate) fn run_with<S: Source, T: Sink, X: Explains>(
     alloc: Global,
     source: &mut S,
     sink: &mut T,
     telling: Telling,
+    explains: &mut X,
 ) -> Result<(), Fault>
     requires reading { S.failures source.old + 1 < 2 ^ 64 }
     requires writing { T.failures sink.old + 1 < 2 ^ 64 }
@@ -367,6 +373,7 @@ pub(crate) fn run_with<S: Source, T: Sink>(
         return Err(Fault::NoOpening);
     }
     let opening = opening_of(alloc, 1, &lines)?;
+    explains.opened(&lines);
     let engine = open_engine(alloc, opening)?;
-    run_opened(alloc, &mut lines, source, sink, engine, telling)
+    run_opened(alloc, &mut lines, source, sink, engine, telling, explains)
 }

@@ -1,0 +1,120 @@
+"""Why the transactions of a script were aborted, worked out anew from its lines and their replies.
+
+It knows the accesses by their replies alone, and of procedures those of `legal`, for the access that an aborted transaction was
+about to make.
+"""
+
+import json
+import random
+import re
+
+from legal import IN_TWO_STEPS, Run, key_text
+
+OPENING = '{{"limits":[8,100000{asks}],"accounts":[[1,101,500,1000],[2,102,300,200],[3,103,0,90]],"procedures":[' + IN_TWO_STEPS + "]}}\n"
+
+# How many arguments each procedure takes.
+ARGUMENTS = (1, 2, 2, 2, 2, 0, 0)
+
+
+def drawn(seed, events):
+    """A script of so many events, with cuts now and then."""
+    dice = random.Random(seed)
+    lines = [OPENING.format(asks=dice.choice(("", ",1")))]
+    started = 0
+    while len(lines) < events:
+        draw = dice.random()
+        recent = range(max(0, started - 7), started + 1)
+        if draw < 0.15:
+            procedure = dice.randrange(7)
+            args = [dice.choice((1, 1, 2)), dice.choice((1, 2, 2, -60))][: ARGUMENTS[procedure]]
+            lines.append(f'["start",{procedure},{json.dumps(args)}]\n')
+            started += 1
+        elif draw < 0.8:
+            lines.append(f'["step",{dice.choice(recent)}]\n')
+        elif draw < 0.995:
+            lines.append(f'["{dice.choice(("commit", "commit", "commit", "quit"))}",{dice.choice(recent)}]\n')
+        else:
+            lines += [f'["quit",{t}]\n' for t in recent] + ['["cut"]\n']
+            started = 0
+    return "".join(lines)
+
+
+def explanation(script, replies):
+    """What is told of a script that ends well, by its lines and their replies."""
+    told = []
+    part = Part()
+    for line, (event, reply) in enumerate(zip(script.splitlines()[1:], replies.splitlines()), start=2):
+        if reply.startswith("cut "):
+            part = Part()
+        elif reply != "still live":
+            told += [f"line {line}: {text}\n" for text in part.take(line, *json.loads(event), reply)]
+    if live := sorted(part.live):
+        are = "transaction is" if len(live) == 1 else "transactions are"
+        told.append(f"{len(live)} {are} live at the end: {', '.join(map(str, live))}\n")
+    return "".join(told)
+
+
+class Part:
+    """What stands between two cuts."""
+
+    def __init__(self):
+        self.calls = {}  # of each that was started
+        self.live = set()
+        self.gone = set()  # those that were aborted or fell
+        self.accesses = []  # line, whose, "read" or "wrote", key, from whom a look read
+
+    def take(self, line, kind, first, *rest):
+        """The texts that tell of an abort."""
+        reply = rest[-1]
+        if match := re.fullmatch("started ([0-9]+)", reply):
+            self.calls[int(match[1])] = first, rest[0]
+            self.live.add(int(match[1]))
+        elif match := re.fullmatch("(read|wrote) ([0-9]+/-?[0-9]+) (.*)", reply):
+            self.accesses.append((line, first, match[1], match[2], match[3], self.source(match[2])))
+        elif reply.startswith("committed "):
+            self.live.remove(first)
+        elif match := re.fullmatch("(?:aborted|refused) (.*) fell (.*)", reply):
+            walk = [int(t) for t in match[1].split()[1:]] if match[1].startswith("cycle ") else []
+            fell = [] if match[2] == "none" else [int(t) for t in match[2].split()]
+            texts = [self.edge(t, u) for t, u in zip(walk, walk[1:])] + ([self.pending(walk[-1], walk[0])] if walk else [])
+            texts += [self.fall(u, {first, *fell}) for u in fell]
+            self.gone |= {first, *fell}
+            self.live -= {first, *fell}
+            return texts
+        return []
+
+    def source(self, key):
+        """Whose store a look at the key finds, if one of those that were not aborted by now has stored it."""
+        stores = [whose for _, whose, done, other, *_ in self.accesses if done == "wrote" and other == key and whose not in self.gone]
+        return stores[-1] if stores else None
+
+    def conflicting(self, t, done, key, accesses):
+        """The first look and the first store of the key by a transaction that conflict with such an access, as text."""
+        looks = [line for line, whose, did, other, *_ in accesses if (whose, did, other) == (t, "read", key) and done == "wrote"]
+        stores = [line for line, whose, did, other, *_ in accesses if (whose, did, other) == (t, "wrote", key)]
+        return " and".join([f" read at line {line}" for line in looks[:1]] + [f" wrote at line {line}" for line in stores[:1]])
+
+    def edge(self, t, u):
+        """By the first access of the second that conflicts with one of the first before it."""
+        for place, (line, whose, done, key, *_) in enumerate(self.accesses):
+            earlier = self.conflicting(t, done, key, self.accesses[:place])
+            if whose == u and earlier:
+                return f"{u} {done} {key} at line {line}, which {t}{earlier}"
+        raise AssertionError(f"no edge from {t} to {u}")
+
+    def pending(self, t, u):
+        """By the access that the second was about to make."""
+        run = Run(*self.calls[u])
+        for _, whose, done, _, value, _ in self.accesses:
+            if whose == u:
+                run.go(None if done == "wrote" or value == "none" else int(value))
+        kind, key, _ = run.access
+        would, done = ("read", "read") if kind == "look" else ("write", "wrote")
+        return f"{u} would {would} {key_text(key)}, which {t}{self.conflicting(t, done, key_text(key), self.accesses)}"
+
+    def fall(self, u, undone):
+        """By its first look that read from another one of these."""
+        for line, whose, done, key, _, source in self.accesses:
+            if whose == u and done == "read" and source in undone - {u}:
+                return f"{u} read {key} of {source} at line {line}"
+        raise AssertionError(f"{u} has read from none of {undone}")
