@@ -107,7 +107,11 @@ fn bank_command<'a>(alloc: Global) -> Result<Command<'a>, AllocError> {
         .arg(history_flag(
             alloc,
             "In place of the outcomes, writes the run as a history, for 'sgt check'",
-        ))
+        ))?
+        .arg(records_flag(
+            alloc,
+            "In place of the outcomes, writes the committed database as records",
+        )?)
 }
 
 /// The words of `sgt check`.
@@ -181,6 +185,8 @@ fn bank<R: Print + Input + Threads + Wait + Sync>(
     let tries = number(options, "tries", TRIES, MOST_TRIES);
     if options.get_flag("history") {
         sgt_bank::run_history(rt, alloc, &mut reader, &mut writer, workers, tries)
+    } else if options.get_flag("records") {
+        sgt_bank::run_records(rt, alloc, &mut reader, &mut writer, workers, tries)
     } else {
         run_jobs(rt, alloc, &mut reader, &mut writer, workers, tries)
     }

@@ -11,12 +11,13 @@ use Rattle.sgt_audit.specs.AllOutcomes.{is_left, is_untaken}
 use Rattle.sgt_model.specs.declared.entry.Entry.{Entry}
 use Rattle.sgt_model.specs.Databases.{Row}
 use Rattle.sgt_format.specs.Openings.{Opens}
+use Rattle.sgt_format.specs.RecordText.{record_lines}
 use Rattle.sgt_format.specs.declared.opening.Opening.{Opening}
 use Rattle.sgt_dispatch.specs.declared.job.Job.{Job}
 use Rattle.sgt_stream.specs.Lines.{Ending, cut}
 use Rattle.sgt_bank.specs.Inputs.{InputAsks, LinesAsk}
 use Rattle.sgt_program.specs.Openings.{opened_setting, OpenedIsBank}
-use Rattle.sgt_bank.specs.Banks.{HasRun, AreRun, IsHistory, IsReport, IsRun}
+use Rattle.sgt_bank.specs.Banks.{HasRun, AreRun, IsHistory, IsRecords, IsReport, IsRun}
 use Rattle.sgt_textbook.specs.Laws.{AreCommitOrdered, AreSerializable, AreRecoverable}
 use Rattle.sgt_transcript.specs.Transcripts.{TranscriptsSpellTextbooks, transcript}
 use Rattle.sgt_bank.proofs.SerialTexts.{text-same}
@@ -96,6 +97,17 @@ is-report workers tries bytes history outcomes rows out run text = record {
   run = run;
   text = text;
   written = text ∙ text-same (opened_setting run.opening) history tries run.jobs outcomes rows run.are_run.replay run.are_run.stand.each;
+}
+
+-- so does the text of its records
+pub is-records : (workers tries : ℕ) (bytes : List ℕ) (history : List Entry) (outcomes : List (Outcome Infallible)) (rows : List Row)
+    (out : List ℕ) → IsRun workers tries bytes history outcomes rows → out ≡ record_lines rows → IsRecords workers tries bytes out
+is-records workers tries bytes history outcomes rows out run text = record {
+  history = history;
+  outcomes = outcomes;
+  rows = rows;
+  run = run;
+  text = text;
 }
 
 -- and so it is where they are told by their operations

@@ -13,6 +13,7 @@ use Rattle.sgt_model.specs.Aborts.{AbortsHaveCause}
 use Rattle.sgt_model.specs.CommitOrder.{CommitsInOrder}
 use Rattle.sgt_smallbank.specs.Replays.{CommitsAreBank}
 use Rattle.sgt_format.specs.declared.opening.Opening.{Opening}
+use Rattle.sgt_format.specs.RecordText.{record_lines}
 use Rattle.sgt_program.specs.Openings.{opened_setting}
 use Rattle.sgt_dispatch.specs.declared.job.Job.{Job}
 use Rattle.sgt_audit.specs.declared.outcome.Outcome.{Outcome}
@@ -67,6 +68,15 @@ pub record IsHistory (workers tries : ℕ) (bytes out : List ℕ) : Type 0 where
   pub textbook : TextbookLaws (reverse history)
   pub text : out ≡ transcript (reverse history)
   pub spelled : TranscriptsSpellTextbooks
+
+-- what is written for an input of these bytes that is told by its records: the record lines of the database that the serial run of
+-- the jobs leaves
+pub record IsRecords (workers tries : ℕ) (bytes out : List ℕ) : Type 0 where
+  pub history : List Entry
+  pub outcomes : List (Outcome Infallible)
+  pub rows : List Row
+  pub run : IsRun workers tries bytes history outcomes rows
+  pub text : out ≡ record_lines rows
 
 -- what is written for an input of these bytes: the text of a report on the jobs that it asks for. Each `committed` line of it has
 -- the answers that the serial run gives the job's transaction, and each `asked` line of one that was refused at its commit the

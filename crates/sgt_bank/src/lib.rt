@@ -4,7 +4,7 @@
 //! An input is an opening, as that of a script, and behind it a job a line; [`read_input`] reads it whole. `specs/Inputs.antt`
 //! says what it asks for, and what its first fault is. [`outcome_line`] is the line of a job's outcome, and [`report_text`] all
 //! of them with the database behind. [`run_jobs`] joins these by `run` of `sgt_workers`, which makes the threads, and
-//! [`run_history`] does the same and writes the run as a history.
+//! [`run_history`] does the same and writes the run as a history, [`run_records`] the database alone, as records.
 //!
 //! ```
 //! let mut reader = Reader::new(rt.reader());
@@ -17,11 +17,13 @@ mod gate;
 mod input;
 mod jobs;
 mod outcome_text;
+mod records;
 mod report;
 mod run;
 
 pub use input::read_input;
 pub use outcome_text::outcome_line;
+pub use records::run_records;
 pub use report::report_text;
 pub use run::{run_history, run_jobs};
 pub use sgt_workers::{MOST_TRIES, MOST_WORKERS};

@@ -78,7 +78,7 @@ fn run_behind_opening<W: Threads + Wait + Sync>(
 /// # Errors
 ///
 /// The first fault of the input; and `Reading`, `Spawn`, `Mismatch` and `NoMemory`.
-fn run_input<S: Source, W: Threads + Wait + Sync>(
+pub(crate) fn run_input<S: Source, W: Threads + Wait + Sync>(
     rt: &W,
     alloc: Global,
     source: &mut S,
@@ -108,7 +108,7 @@ fn run_input<S: Source, W: Threads + Wait + Sync>(
 }
 
 /// Writes the text of a run.
-fn write_text<T: Sink>(sink: &mut T, text: &[u8]) -> Result<(), Fault>
+pub(crate) fn write_text<T: Sink>(sink: &mut T, text: &[u8]) -> Result<(), Fault>
     requires { T.failures sink.old + 1 < 2 ^ 64 }
     ensures all { OnOk result (Appends (T.held sink.old) (T.held sink.new) text.now) }
     ensures part { OnErr result ((k : ℕ) × Appends (T.held sink.old) (T.held sink.new) (take k text.now)) }
