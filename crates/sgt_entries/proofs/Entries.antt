@@ -6,6 +6,8 @@ use Rattle.std.proofs.lemmas.Grind.{reverse_onto}
 use Rattle.std.proofs.lemmas.List.{length-map, reverse-reverse, take-append-le, drop-append-le}
 use Rattle.std.proofs.lemmas.List.{length-drop, length-append, append_assoc, map-append}
 use Rattle.sgt_model.specs.declared.entry.Entry.{Entry}
+use Rattle.sgt_model.specs.declared.event.Event.{Event}
+use Rattle.sgt_model.specs.declared.reply.Reply.{Reply}
 use Rattle.sgt_model.specs.declared.reply.Cause.TheVariants as cause
 use Rattle.sgt_model.specs.declared.reply.Fate.TheVariants as fate
 use Rattle.sgt_model.specs.declared.reply.Reply.TheVariants as reply
@@ -148,30 +150,37 @@ entries-same ns ms vs ws es names values h = rw (names.1, values.1) (entries-kep
 event-same : (vs ws : List ℤ) (e : ShortEvent) → HasMore vs ws → IsEvent (length vs) e → event_of ws e ≡ event_of vs e
 event-same vs ws e values h = rw values.1 (event-kept vs values.0 e h)
 
-more-more : {X : Type 0} (xs ys zs : List X) → HasMore xs ys → HasMore ys zs → HasMore xs zs
+pub more-more : {X : Type 0} (xs ys zs : List X) → HasMore xs ys → HasMore ys zs → HasMore xs zs
 more-more xs ys zs one two = (one.0 ++ two.0, two.1 ∙ ap (λ l. l ++ two.0) one.1 ∙ append_assoc xs one.0 two.0)
 
 more-length : {X : Type 0} (xs ys : List X) → HasMore xs ys → length xs ≤ length ys
 more-length xs ys more = let long = ap length more.1 ∙ length-append xs more.0 in omega (arith, long)
 
--- what a push leaves
-pub entries-pushed : (ns ms : List ℕ) (vs us ws : List ℤ) (es fs : List ShortEntry) (e : ShortEvent) (r : ShortReply)
-    → HasMore ns ms → HasMore vs us → HasMore us ws → AreEntries (length ns) (length vs) es → IsEvent (length us) e
-    → IsReply (length ms) (length ws) r → fs ≡ es ++ record { event = e; reply = r } ∷ [] → AreEntries (length ms) (length ws) fs
-entries-pushed ns ms vs us ws es fs e r names one two all event reply is =
-    rw is (entries-added _ _ _ _ es (record { event = e; reply = r }) (more-length ns ms names)
-    (more-length vs ws (more-more vs us ws one two)) all (event-more _ _ e (more-length us ws two) event, reply))
+-- an entry whose reply was made behind its event
+pub joined : (ms : List ℕ) (us ws : List ℤ) (e : ShortEvent) (r : ShortReply) → HasMore us ws → IsEvent (length us) e
+    → IsReply (length ms) (length ws) r → IsEntry (length ms) (length ws) (record { event = e; reply = r })
+joined ms us ws e r more event reply = (event-more _ _ e (more-length us ws more) event, reply)
 
-pub entries-after : (ns ms : List ℕ) (vs us ws : List ℤ) (es fs : List ShortEntry) (e : ShortEvent) (r : ShortReply)
-    → HasMore ns ms → HasMore vs us → HasMore us ws → AreEntries (length ns) (length vs) es → IsEvent (length us) e
-    → fs ≡ es ++ record { event = e; reply = r } ∷ []
-    → map (entry_of ms ws) fs ≡ map (entry_of ns vs) es ++ record { event = event_of us e; reply = reply_of ms ws r } ∷ []
-entries-after ns ms vs us ws es fs e r names one two all event is =
+pub joined_is : (ms : List ℕ) (us ws : List ℤ) (e : ShortEvent) (r : ShortReply) (v : Event) (q : Reply) → HasMore us ws
+    → IsEvent (length us) e → event_of us e ≡ v → reply_of ms ws r ≡ q
+    → entry_of ms ws (record { event = e; reply = r }) ≡ record { event = v; reply = q }
+joined_is ms us ws e r v q more within event reply =
+    ap (λ x. record { event = x; reply = reply_of ms ws r }) (event-same us ws e more within ∙ event)
+    ∙ ap (λ y. record { event = v; reply = y }) reply
+
+-- what a push leaves
+pub entries-pushed : (ns ms : List ℕ) (vs ws : List ℤ) (es fs : List ShortEntry) (e : ShortEntry) → HasMore ns ms → HasMore vs ws
+    → AreEntries (length ns) (length vs) es → IsEntry (length ms) (length ws) e → fs ≡ es ++ e ∷ [] → AreEntries (length ms) (length ws) fs
+entries-pushed ns ms vs ws es fs e names values all one is =
+    rw is (entries-added _ _ _ _ es e (more-length ns ms names) (more-length vs ws values) all one)
+
+pub entries-after : (ns ms : List ℕ) (vs ws : List ℤ) (es fs : List ShortEntry) (e : ShortEntry) → HasMore ns ms → HasMore vs ws
+    → AreEntries (length ns) (length vs) es → fs ≡ es ++ e ∷ []
+    → map (entry_of ms ws) fs ≡ map (entry_of ns vs) es ++ entry_of ms ws e ∷ []
+entries-after ns ms vs ws es fs e names values all is =
     ap (map (entry_of ms ws)) is
-    ∙ map-append (entry_of ms ws) es (record { event = e; reply = r } ∷ [])
-    ∙ ap (λ l. l ++ entry_of ms ws (record { event = e; reply = r }) ∷ [])
-    (entries-same ns ms vs ws es names (more-more vs us ws one two) all)
-    ∙ ap (λ v. map (entry_of ns vs) es ++ record { event = v; reply = reply_of ms ws r } ∷ []) (event-same us ws e two event)
+    ∙ map-append (entry_of ms ws) es (e ∷ [])
+    ∙ ap (λ l. l ++ entry_of ms ws e ∷ []) (entries-same ns ms vs ws es names values all)
 
 taken-suc : {X : Type 0} (xs : List X) (n : ℕ) (x : X) → slice_get xs n ≡ Some x → take (suc n) xs ≡ take n xs ++ x ∷ []
 taken-suc [] n x is = absurd (cc)

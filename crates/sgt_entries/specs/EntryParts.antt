@@ -1,6 +1,5 @@
 -- What the lists of an entry hold, and an entry without them.
-use Rattle.std.specs.Prelude.{◌≡◌, ℕ, ℤ, Bool, true, false, List, []}
-use Rattle.sgt_model.specs.declared.entry.Entry.{Entry}
+use Rattle.std.specs.Prelude.{ℕ, ℤ, Bool, true, false, List, []}
 use Rattle.sgt_model.specs.declared.event.Event.{Event}
 use Rattle.sgt_model.specs.declared.event.Event.TheVariants as event
 use Rattle.sgt_model.specs.declared.reply.Cause.{Cause}
@@ -75,13 +74,6 @@ fell_in (reply.Committed answers) = []
 abbrev pub answers_in : Reply → List ℤ
 answers_in (reply.Committed answers) = answers
 answers_in _ = []
-
--- the entry has nothing in its lists
-pub record HasNoLists (e : Entry) : Type 0 where
-  pub args : args_in e.event ≡ []
-  pub answers : answers_in e.reply ≡ []
-  pub walk : walk_in e.reply ≡ []
-  pub fell : fell_in e.reply ≡ []
 
 -- what else is asked of a reply
 

@@ -2,7 +2,7 @@ ghost use Rattle.std.specs.Prelude.{◌≡◌, ◌↔◌, IsTrue};
 ghost use Rattle.sgt_model.specs.Fates.{is_start};
 ghost use Rattle.sgt_model.specs.Questions.{named_by, started_in, over_in};
 ghost use Rattle.sgt_model.specs.Questions.{refuses_start, is_wait, is_commit, is_ask, is_quit, is_ending, tells_end};
-ghost use Rattle.sgt_entries.specs.EntryParts.{bare_event, bare_reply, args_in, walk_in, fell_in, answers_in, HasNoLists, is_by_cycle, tells_fall, is_access, is_at_end};
+ghost use Rattle.sgt_entries.specs.EntryParts.{bare_event, bare_reply, args_in, walk_in, fell_in, answers_in, is_by_cycle, tells_fall, is_access, is_at_end};
 
 use crate::short_cause::{ShortCause, ShortFate};
 use crate::short_entry::ShortEntry;
@@ -64,30 +64,78 @@ impl<'a> EntryRef<'a> {
     pub fn is_same(&self, other: &EntryRef<'_>) -> bool
         ensures { IsTrue result ↔ (self.now ≡ other.now) }
     {
-        if !self.has_same_event(other) || !self.has_same_reply(other) {
-            return false;
-        }
-        // Most entries have no lists.
-        if self.has_no_lists() && other.has_no_lists() {
-            return true;
-        }
-        self.has_same_values(other) && self.has_same_tids(other)
+        self.is_surely_same(other) || self.is_same_in_all(other)
     }
 
-    // Whether it is of a kind that has no lists.
-    fn has_no_lists(&self) -> bool
-        ensures { IsTrue result → HasNoLists self.now }
+    // Whether both are the same entry, of a kind that is frequent. Of others it tells nothing.
+    #[inline]
+    fn is_surely_same(&self, other: &EntryRef<'_>) -> bool
+        ensures { IsTrue result → self.now ≡ other.now }
     {
-        if let ShortEvent::Start { .. } = self.short.event {
-            return false;
+        self.has_surely_same_event(other) && self.has_surely_same_reply(other)
+    }
+
+    // Whether the events are the same, of a kind that is frequent.
+    #[inline]
+    fn has_surely_same_event(&self, other: &EntryRef<'_>) -> bool
+        ensures { IsTrue result → self.now.event ≡ other.now.event }
+    {
+        match (&self.short.event, &other.short.event) {
+            (ShortEvent::Step(t), ShortEvent::Step(u)) => t == u,
+            (ShortEvent::Commit(t), ShortEvent::Commit(u)) => t == u,
+            (
+                ShortEvent::Start { procedure, args },
+                ShortEvent::Start {
+                    procedure: another,
+                    args: others,
+                },
+            ) => {
+                procedure == another
+                    && are_same_values(args.items(self.values), others.items(other.values))
+            }
+            _ => false,
         }
-        match self.short.reply {
-            ShortReply::Over(_)
-            | ShortReply::Committed(_)
-            | ShortReply::Aborted { .. }
-            | ShortReply::Refused { .. } => false,
-            _ => true,
+    }
+
+    // Whether the replies are the same, of a kind that is frequent.
+    #[inline]
+    fn has_surely_same_reply(&self, other: &EntryRef<'_>) -> bool
+        ensures { IsTrue result → self.now.reply ≡ other.now.reply }
+    {
+        match (&self.short.reply, &other.short.reply) {
+            (
+                ShortReply::Looked { key, value },
+                ShortReply::Looked {
+                    key: another,
+                    value: found,
+                },
+            ) => key == another && value == found,
+            (
+                ShortReply::Wrote { key, value },
+                ShortReply::Wrote {
+                    key: another,
+                    value: stored,
+                },
+            ) => key == another && value == stored,
+            (ShortReply::Ended, ShortReply::Ended) => true,
+            (ShortReply::Started(t), ShortReply::Started(u)) => t == u,
+            (ShortReply::Committed(answers), ShortReply::Committed(others)) => are_same_values(
+                answers.items(self.values),
+                others.items(other.values),
+            ),
+            _ => false,
         }
+    }
+
+    // Whether both are the same entry, of whatever kind.
+    #[inline(never)]
+    fn is_same_in_all(&self, other: &EntryRef<'_>) -> bool
+        ensures { IsTrue result ↔ (self.now ≡ other.now) }
+    {
+        self.has_same_event(other)
+            && self.has_same_reply(other)
+            && self.has_same_values(other)
+            && self.has_same_tids(other)
     }
 
     // Whether the events are the same but for the arguments.

@@ -1,8 +1,10 @@
-ghost use Rattle.std.specs.Prelude.{◌≡◌, ◌+◌, ◌≤◌, ◌<◌, ◌↔◌, [], ◌∷◌, ◌++◌, length, take, min, reverse, slice_get};
+ghost use Rattle.std.specs.Prelude.{◌≡◌, ℕ, ℤ, true, List, ◌+◌, ◌≤◌, ◌<◌, ◌↔◌, [], ◌∷◌, ◌++◌, length, take, min, reverse, slice_get};
 ghost use Rattle.std.specs.Prelude.{IsTrue, Some, OnOk, OnErr};
 ghost use Rattle.std.specs.Result.{IsOk};
 ghost use Rattle.std.specs.Option.{option_map};
 ghost use Rattle.sgt_model.specs.declared.entry.Entry.{Entry as E};
+ghost use Rattle.sgt_entries.specs.ShortEntries.{entry_of};
+ghost use Rattle.sgt_entries.specs.Plain.{is_plain};
 
 use crate::entry_ref::EntryRef;
 use crate::short_entry::ShortEntry;
@@ -154,29 +156,94 @@ impl History {
     }
 
     /// Adds an entry, for which there is room. This takes no memory.
+    #[inline]
     pub fn push(&mut self, event: &Event, reply: &Reply)
         requires { 0 < self.old.room }
         ensures entries { self.new.entries ≡ self.old.entries ++ record { event = event.now; reply = reply.now } ∷ [] }
         ensures room { self.new.room + 1 ≡ self.old.room }
         ensures capacities { self.new.capacities ≡ self.old.capacities }
     {
-        let event = ShortEvent::of(event, &mut self.values);
-        let reply = ShortReply::of(reply, &mut self.tids, &mut self.values);
+        // The frequent kinds are written straight to their place.
+        match (event, reply) {
+            (Event::Step(t), Reply::Looked { key, value }) => self.push_plain(
+                ShortEvent::Step(*t),
+                ShortReply::Looked {
+                    key: *key,
+                    value: *value,
+                },
+            ),
+            (Event::Step(t), Reply::Wrote { key, value }) => self.push_plain(
+                ShortEvent::Step(*t),
+                ShortReply::Wrote {
+                    key: *key,
+                    value: *value,
+                },
+            ),
+            (Event::Step(t), Reply::Ended) => {
+                self.push_plain(ShortEvent::Step(*t), ShortReply::Ended)
+            }
+            _ => self.push_any(event, reply),
+        }
+    }
+
+    // Adds an entry of whatever kind.
+    #[inline(never)]
+    fn push_any(&mut self, event: &Event, reply: &Reply)
+        requires { 0 < self.old.room }
+        ensures entries { self.new.entries ≡ self.old.entries ++ record { event = event.now; reply = reply.now } ∷ [] }
+        ensures room { self.new.room + 1 ≡ self.old.room }
+        ensures capacities { self.new.capacities ≡ self.old.capacities }
+    {
+        let ShortEntry { event, reply } = ShortEntry::of(
+            event,
+            reply,
+            &mut self.tids,
+            &mut self.values,
+        );
+        self.entries.push_reserved(ShortEntry { event, reply });
+        self.room -= 1;
+    }
+
+    // Adds an entry of a kind that has no lists.
+    #[inline(always)]
+    fn push_plain(&mut self, event: ShortEvent, reply: ShortReply)
+        requires room { 0 < self.old.room }
+        requires plain { is_plain (record { event = event; reply = reply }) ≡ true }
+        ensures entries { (tids : List ℕ) (values : List ℤ) →
+            self.new.entries ≡ self.old.entries ++ entry_of tids values (record { event = event; reply = reply }) ∷ [] }
+        ensures room { self.new.room + 1 ≡ self.old.room }
+        ensures capacities { self.new.capacities ≡ self.old.capacities }
+    {
         self.entries.push_reserved(ShortEntry { event, reply });
         self.room -= 1;
     }
 
     /// Adds an entry that another history holds, for which there is room here. This takes no memory.
+    #[inline]
     pub fn push_entry(&mut self, entry: &EntryRef<'_>)
         requires { 0 < self.old.room }
         ensures entries { self.new.entries ≡ self.old.entries ++ entry.now ∷ [] }
         ensures room { self.new.room + 1 ≡ self.old.room }
         ensures capacities { self.new.capacities ≡ self.old.capacities }
     {
-        let event = entry.short.event.moved(entry.values, &mut self.values);
-        let reply = entry
+        // Most entries have no lists.
+        if entry.short.is_plain() {
+            self.push_plain(entry.short.event, entry.short.reply);
+        } else {
+            self.push_lists(entry);
+        }
+    }
+
+    // Adds an entry that another history holds, with its lists.
+    #[inline(never)]
+    fn push_lists(&mut self, entry: &EntryRef<'_>)
+        requires { 0 < self.old.room }
+        ensures entries { self.new.entries ≡ self.old.entries ++ entry.now ∷ [] }
+        ensures room { self.new.room + 1 ≡ self.old.room }
+        ensures capacities { self.new.capacities ≡ self.old.capacities }
+    {
+        let ShortEntry { event, reply } = entry
             .short
-            .reply
             .moved(entry.tids, entry.values, &mut self.tids, &mut self.values);
         self.entries.push_reserved(ShortEntry { event, reply });
         self.room -= 1;

@@ -1,6 +1,7 @@
 ghost use Rattle.std.specs.Prelude.{◌≡◌, ◌+◌, ◌≤◌, ℤ, List, length, vec_len, vec_capacity};
 ghost use Rattle.sgt_entries.specs.Spans.{HasMore};
 ghost use Rattle.sgt_entries.specs.ShortEntries.{event_of, IsEvent};
+ghost use Rattle.sgt_entries.specs.Plain.{is_plain_event};
 ghost use Rattle.sgt_entries.specs.EntryParts.{bare_event};
 
 use crate::bare::BareEvent;
@@ -59,6 +60,14 @@ impl ShortEvent {
             ShortEvent::Commit(t) => ShortEvent::Commit(*t),
             ShortEvent::Quit(t) => ShortEvent::Quit(*t),
         }
+    }
+
+    /// Whether it is of a kind that has no arguments.
+    #[inline]
+    pub fn is_plain(&self) -> bool
+        ensures { result ≡ is_plain_event self.now }
+    {
+        !matches!(self, ShortEvent::Start { .. })
     }
 
     /// The event without its arguments.

@@ -2,6 +2,7 @@ ghost use Rattle.std.specs.Prelude.{◌≡◌, ◌+◌, ◌≤◌, ℕ, ℤ, Lis
 ghost use Rattle.sgt_model.specs.declared.reply.Reply.TheVariants.{Aborted};
 ghost use Rattle.sgt_entries.specs.Spans.{part_of, HasMore, IsWithin};
 ghost use Rattle.sgt_entries.specs.ShortEntries.{cause_of, reply_of, IsCause, IsReply};
+ghost use Rattle.sgt_entries.specs.Plain.{is_plain_reply};
 ghost use Rattle.sgt_entries.specs.EntryParts.{bare_reply};
 
 use crate::bare::BareReply;
@@ -145,6 +146,20 @@ impl ShortReply {
         let cause = cause.moved(from, tids);
         let fell = Span::append(tids, fell.items(from));
         ShortReply::Aborted { cause, fell }
+    }
+
+    /// Whether it is of a kind that has no lists.
+    #[inline]
+    pub fn is_plain(&self) -> bool
+        ensures { result ≡ is_plain_reply self.now }
+    {
+        !matches!(
+            self,
+            ShortReply::Over(_)
+                | ShortReply::Committed(_)
+                | ShortReply::Aborted { .. }
+                | ShortReply::Refused { .. }
+        )
     }
 
     /// The reply without its lists.

@@ -1,4 +1,4 @@
-use Rattle.std.proofs.Common.{rules, ap, ◌∙◌}
+use Rattle.std.proofs.Common.{ap}
 use Rattle.sgt_entries.proofs.Entries.{taken, seen_at}
 use Rattle.sgt_entries.proofs.history.History.entry.Goals as goal
 

@@ -1,38 +1,14 @@
-use Rattle.std.proofs.Common.{◌∷◌, [], ◌++◌, ap, ◌∙◌, map, arith}
-use Rattle.sgt_entries.specs.ShortEntries.{entry_of, reply_of}
-use Rattle.sgt_entries.proofs.Entries.{entries-pushed, entries-after}
+use Rattle.std.proofs.Common.{[], rules, w64}
+use Rattle.std.proofs.lemmas.Int.{to_z-of_z}
 use Rattle.sgt_entries.proofs.history.History.push.Goals as goal
 
-pub invariant_of-self : goal.invariant_of-self
-invariant_of-self c =
-    let used = ap (λ h. h.room) c.self.view_is in (
-      entries-pushed c.self.inside.tids.items c.of-reply.new.tids.items c.self.inside.values.items c.of-event.new.values.items
-          c.of-reply.new.values.items c.self.inside.entries.items c.push_reserved.new.self.items c.of-event.result c.of-reply.result
-          c.of-reply.ensures.more_tids c.of-event.ensures.more c.of-reply.ensures.more_values c.self.invariant.0
-          c.of-event.ensures.within c.of-reply.ensures.within c.push_reserved.ensures.items,
-      omega (arith, used, c.requires, c.self.invariant.1, c.push_reserved.ensures.len, c.push_reserved.ensures.capacity),
-      omega (arith, used, c.requires, c.self.invariant.2, c.of-reply.ensures.len_tids, c.of-reply.ensures.capacity_tids),
-      omega (
-        arith,
-        used,
-        c.requires,
-        c.self.invariant.3,
-        c.of-event.ensures.len,
-        c.of-event.ensures.capacity,
-        c.of-reply.ensures.len_values,
-        c.of-reply.ensures.capacity_values,
-      ),
-    )
+pub returns-in-Step-Looked-clause-entries : goal.returns-in-Step-Looked-clause-entries
+returns-in-Step-Looked-clause-entries c = rw (c.in-Step-Looked.is-0, c.in-Step-Looked.is-1) (c.push_plain.ensures.entries [] [])
 
-pub returns-clause-entries : goal.returns-clause-entries
-returns-clause-entries c =
-    entries-after c.self.inside.tids.items c.of-reply.new.tids.items c.self.inside.values.items c.of-event.new.values.items
-    c.of-reply.new.values.items c.self.inside.entries.items c.push_reserved.new.self.items c.of-event.result c.of-reply.result
-    c.of-reply.ensures.more_tids c.of-event.ensures.more c.of-reply.ensures.more_values c.self.invariant.0 c.of-event.ensures.within
-    c.push_reserved.ensures.items
-    ∙ ap (λ v. map (entry_of c.self.inside.tids.items c.self.inside.values.items) c.self.inside.entries.items
-    ++ record { event = v; reply = reply_of c.of-reply.new.tids.items c.of-reply.new.values.items c.of-reply.result } ∷ [])
-    c.of-event.ensures.event
-    ∙ ap (λ r. map (entry_of c.self.inside.tids.items c.self.inside.values.items) c.self.inside.entries.items
-    ++ record { event = c.args.event.now; reply = r } ∷ []) c.of-reply.ensures.reply
-    ∙ ap (λ h. h.entries ++ record { event = c.args.event.now; reply = c.args.reply.now } ∷ []) c.self.view_is
+pub returns-in-Step-Wrote-clause-entries : goal.returns-in-Step-Wrote-clause-entries
+returns-in-Step-Wrote-clause-entries c =
+    let same = to_z-of_z w64 c.in-Step-Wrote.value (search rules) in
+    rw (c.in-Step-Wrote.is-0, c.in-Step-Wrote.is-1) (rw same at (c.push_plain-in-Step-Wrote.ensures.entries [] []))
+
+pub returns-in-Step-Ended-clause-entries : goal.returns-in-Step-Ended-clause-entries
+returns-in-Step-Ended-clause-entries c = rw (c.in-Step-Ended.is-0, c.in-Step-Ended.is-1) (c.push_plain-in-Step-Ended.ensures.entries [] [])
