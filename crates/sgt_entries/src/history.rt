@@ -3,6 +3,8 @@ ghost use Rattle.std.specs.Prelude.{IsTrue, Some, OnOk, OnErr};
 ghost use Rattle.std.specs.Result.{IsOk};
 ghost use Rattle.std.specs.Option.{option_map};
 ghost use Rattle.sgt_model.specs.declared.entry.Entry.{Entry as E};
+ghost use Rattle.sgt_model.specs.declared.event.Event.TheVariants.{Start, Commit};
+ghost use Rattle.sgt_model.specs.declared.reply.Reply.TheVariants.{Started, Committed};
 ghost use Rattle.sgt_entries.specs.ShortEntries.{entry_of};
 ghost use Rattle.sgt_entries.specs.Plain.{is_plain};
 
@@ -10,6 +12,7 @@ use crate::entry_ref::EntryRef;
 use crate::short_entry::ShortEntry;
 use crate::short_event::ShortEvent;
 use crate::short_reply::ShortReply;
+use crate::span::Span;
 use crate::touch::touch_ahead;
 use sgt_model::{Entry, Event, NoMemory, Reply, Tid};
 use std::alloc::Global;
@@ -182,6 +185,14 @@ impl History {
             (Event::Step(t), Reply::Ended) => {
                 self.push_plain(ShortEvent::Step(*t), ShortReply::Ended)
             }
+            (Event::Start { procedure, args }, Reply::Started(t)) => {
+                let _count = args.len();
+                self.push_start(*procedure, args.as_slice(), *t)
+            }
+            (Event::Commit(t), Reply::Committed(answers)) => {
+                let _count = answers.len();
+                self.push_commit(*t, answers.as_slice())
+            }
             _ => self.push_any(event, reply),
         }
     }
@@ -200,6 +211,40 @@ impl History {
             &mut self.tids,
             &mut self.values,
         );
+        self.entries.push_reserved(ShortEntry { event, reply });
+        self.room -= 1;
+    }
+
+    // Adds the start of a transaction.
+    #[inline(never)]
+    fn push_start(&mut self, procedure: u16, args: &[i64], t: Tid)
+        requires room { 0 < self.old.room }
+        requires few { length args.now ≤ 4 }
+        ensures entries { self.new.entries
+            ≡ self.old.entries ++ record { event = Start procedure args.now; reply = Started t } ∷ [] }
+        ensures room { self.new.room + 1 ≡ self.old.room }
+        ensures capacities { self.new.capacities ≡ self.old.capacities }
+    {
+        let args = Span::append(&mut self.values, args);
+        let event = ShortEvent::Start { procedure, args };
+        let reply = ShortReply::Started(t);
+        self.entries.push_reserved(ShortEntry { event, reply });
+        self.room -= 1;
+    }
+
+    // Adds a commit with its answers.
+    #[inline(never)]
+    fn push_commit(&mut self, t: Tid, answers: &[i64])
+        requires room { 0 < self.old.room }
+        requires few { length answers.now ≤ 8 }
+        ensures entries { self.new.entries
+            ≡ self.old.entries ++ record { event = Commit t; reply = Committed answers.now } ∷ [] }
+        ensures room { self.new.room + 1 ≡ self.old.room }
+        ensures capacities { self.new.capacities ≡ self.old.capacities }
+    {
+        let answers = Span::append(&mut self.values, answers);
+        let event = ShortEvent::Commit(t);
+        let reply = ShortReply::Committed(answers);
         self.entries.push_reserved(ShortEntry { event, reply });
         self.room -= 1;
     }
@@ -235,8 +280,26 @@ impl History {
     }
 
     // Adds an entry that another history holds, with its lists.
-    #[inline(never)]
     fn push_lists(&mut self, entry: &EntryRef<'_>)
+        requires { 0 < self.old.room }
+        ensures entries { self.new.entries ≡ self.old.entries ++ entry.now ∷ [] }
+        ensures room { self.new.room + 1 ≡ self.old.room }
+        ensures capacities { self.new.capacities ≡ self.old.capacities }
+    {
+        match (&entry.short.event, &entry.short.reply) {
+            (ShortEvent::Start { procedure, args }, ShortReply::Started(t)) => {
+                self.push_start(*procedure, args.items(entry.values), *t)
+            }
+            (ShortEvent::Commit(t), ShortReply::Committed(answers)) => {
+                self.push_commit(*t, answers.items(entry.values))
+            }
+            _ => self.push_moved(entry),
+        }
+    }
+
+    // The same, of whatever kind.
+    #[inline(never)]
+    fn push_moved(&mut self, entry: &EntryRef<'_>)
         requires { 0 < self.old.room }
         ensures entries { self.new.entries ≡ self.old.entries ++ entry.now ∷ [] }
         ensures room { self.new.room + 1 ≡ self.old.room }

@@ -21,6 +21,7 @@ impl Span {
         ensures items { list.new.items ≡ list.old.items ++ items.now }
         ensures part { part_of list.new.items result ≡ items.now }
         ensures within { IsWithin (length list.new.items) result }
+        ensures count { result.count ≡ length items.now }
         ensures len { vec_len list.new ≡ vec_len list.old + length items.now }
         ensures capacity { vec_capacity list.new ≡ vec_capacity list.old }
     {
@@ -38,6 +39,7 @@ impl Span {
     pub fn items<T>(self, list: &[T]) -> &[T]
         requires { IsWithin (length list.now) self }
         ensures items { result.now ≡ part_of list.now self }
+        ensures count { length result.now ≡ self.count }
         ensures few { length result.now ≤ 32 }
     {
         &list[self.from..self.from + self.count as usize]

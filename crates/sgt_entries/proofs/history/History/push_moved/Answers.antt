@@ -1,7 +1,7 @@
 use Rattle.std.proofs.Common.{◌∷◌, [], ◌++◌, ap, ap₂, ◌∙◌, map, arith}
 use Rattle.sgt_entries.specs.ShortEntries.{entry_of}
 use Rattle.sgt_entries.proofs.Entries.{entries-pushed, entries-after}
-use Rattle.sgt_entries.proofs.history.History.push_lists.Goals as goal
+use Rattle.sgt_entries.proofs.history.History.push_moved.Goals as goal
 
 pub invariant_of-self : goal.invariant_of-self
 invariant_of-self c =
