@@ -54,16 +54,16 @@ put-line m next said hold is = of-record (record_of said) refl is
     of-record None says found = absurd (cc found)
     of-record (Some put) says found = of-new put (is_some (m put.key)) says found
 
+-- what later lines make of the contents behind a line, they make of some
+after-put : (n : ℕ) (next : Option Contents) (later : Contents → Result Contents ℕ) (values : Contents)
+    → and_then_put n next later ≡ Ok values → (m : Contents) × (next ≡ Some m) × (later m ≡ Ok values)
+after-put n None later values is = absurd (cc is)
+after-put n (Some m) later values is = (m, refl, is)
+
 -- with those of all lines
 pub put-values : (n : ℕ) (m values : Contents) (records : List RecordLine) → HoldValues m → put_records n m records ≡ Ok values
     → HoldValues values
-put-values n m values [] hold is = subst HoldValues (values-are is) hold
-  where
-    values-are : Ok m ≡ Ok values → m ≡ values
-    values-are same = cc same
-put-values n m values (said ∷ later) hold is = behind (put_record m said) refl is
-  where
-    behind : (next : Option Contents) → put_record m said ≡ next
-        → and_then_put n next (λ (c : Contents). put_records (n + 1) c later) ≡ Ok values → HoldValues values
-    behind None at found = absurd (cc found)
-    behind (Some next) at found = put-values (n + 1) next values later (put-line m next said hold at) found
+put-values n m values [] hold is = let same : m ≡ values = cc is in subst HoldValues same hold
+put-values n m values (said ∷ later) hold is =
+    let next = after-put n (put_record m said) (λ (c : Contents). put_records (n + 1) c later) values is in
+    put-values (n + 1) next.0 values later (put-line m next.0 said hold next.1) next.2
