@@ -34,6 +34,13 @@ numbered-at n [] i job at = absurd (none-some job at)
 numbered-at n (c ∷ cs) zero job at = ap (λ (j : Job). j.number) (sym (same_Some _ job at)) ∙ omega arith
 numbered-at n (c ∷ cs) (suc i) job at = numbered-at (n + 1) cs i job at ∙ omega arith
 
+-- before the first
+pub asked-none : (first : ℕ) (known : Option Cut) → Asked first known [] known
+asked-none first None = tt
+asked-none first (Some c) =
+    let here : first ≡ first + 0 = omega arith in
+    (ap (λ n. spelled (job_at first) n c.given) here, ap (λ n. end_of (job_at first) n c.given c.ending) here)
+
 -- one more line that asks for a call
 pub asked-next : (first : ℕ) (a b d : Option Cut) (cs : List JobCall) (c : JobCall) → length cs < 1000000 → Asked first a cs b → Asks b c d
     → Asked first a (cs ++ c ∷ []) d

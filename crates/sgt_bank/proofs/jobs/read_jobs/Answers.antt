@@ -3,8 +3,22 @@ use Rattle.std.specs.Prelude.{IfErr, vec_len}
 use Rattle.sgt_stream.specs.Intake.{cut_left}
 use Rattle.sgt_stream.specs.Ends.{IsOfInput}
 use Rattle.sgt_bank.specs.Taking.{Asks, EndsWith}
-use Rattle.sgt_bank.proofs.Takings.{asked-next, asked-many, asked-fault, numbered-snoc, length-snoc, length-numbered, numbered-at}
+use Rattle.sgt_bank.proofs.Takings.{asked-none, asked-next, asked-many, asked-fault, numbered-snoc, length-snoc, length-numbered, numbered-at}
 use Rattle.sgt_bank.proofs.jobs.read_jobs.Goals as goal
+
+pub loop-jobs-init : goal.loop-jobs-init
+loop-jobs-init g c = record {
+  asked = (
+    [],
+    search rules,
+    omega arith,
+    omega arith,
+    asked-none (c.args.lines.now.number + 1) (cut_left c.args.lines.now (g.S.Source.rest c.args.source.now)),
+  );
+  counted = search (rules, arith);
+  few = search rules;
+  reading = search rules;
+}
 
 pub returns-in_err-call-clause-fault : goal.returns-in_err-call-clause-fault
 returns-in_err-call-clause-fault g c =
