@@ -12,6 +12,9 @@ from legal import IN_TWO_STEPS, Run, key_text
 
 OPENING = '{{"limits":[8,100000{asks}],"accounts":[[1,101,500,1000],[2,102,300,200],[3,103,0,90]],"procedures":[' + IN_TWO_STEPS + "]}}\n"
 
+# What lines may put behind the opening: the account that transfers miss, and what the two steps store.
+RECORDS = ((0, -60, 104), (1, 104, 70), (2, 104, -7), (3, 7, 100))
+
 # How many arguments each procedure takes.
 ARGUMENTS = (1, 2, 2, 2, 2, 0, 0)
 
@@ -20,6 +23,7 @@ def drawn(seed, events):
     """A script of so many events, with cuts now and then."""
     dice = random.Random(seed)
     lines = [OPENING.format(asks=dice.choice(("", ",1")))]
+    lines += [f'["record",{table},{number},{value}]\n' for table, number, value in RECORDS if dice.random() < 0.5]
     started = 0
     while len(lines) < events:
         draw = dice.random()
@@ -43,7 +47,9 @@ def explanation(script, replies):
     """What is told of a script that ends well, by its lines and their replies."""
     told = []
     part = Part()
-    for line, (event, reply) in enumerate(zip(script.splitlines()[1:], replies.splitlines()), start=2):
+    lines = list(enumerate(script.splitlines()[1:], start=2))
+    events = [(line, event) for line, event in lines if not event.startswith('["record",')]
+    for (line, event), reply in zip(events, replies.splitlines()):
         if reply.startswith("cut "):
             part = Part()
         elif reply != "still live":

@@ -144,10 +144,15 @@ class Run:
 
 
 def rows_of(opening):
-    """The records that the accounts of an opening have."""
+    """The records that the accounts of an opening have, and those of the record lines behind it."""
+    first, *records = opening.splitlines()
     rows = {}
-    for name, customer, saving, checking in json.loads(opening)["accounts"]:
+    for name, customer, saving, checking in json.loads(first)["accounts"]:
         rows |= {(0, name): customer, (1, customer): saving, (2, customer): checking}
+    for _, table, number, value in map(json.loads, records):
+        if (table, number) in rows:
+            raise Illegal(f"{table}/{number} is put twice")
+        rows[table, number] = value
     return rows
 
 
@@ -163,9 +168,10 @@ class Checker:
     """Takes the entries of a history one after another, and tells the first that is not legal."""
 
     def __init__(self, opening):
-        self.most_live, self.begins, *asks = json.loads(opening)["limits"]
+        first = json.loads(opening.splitlines()[0])
+        self.most_live, self.begins, *asks = first["limits"]
         self.asks_at_commit = asks == [1]
-        self.procedures = 5 + len(json.loads(opening)["procedures"])
+        self.procedures = 5 + len(first["procedures"])
         self.opened = rows_of(opening)
         self.settled = dict(self.opened)
         self.runs = []  # of each transaction that was started

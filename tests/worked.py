@@ -11,7 +11,8 @@ class Bank:
     """What a bank was given, and what it wrote: for each job its outcome, and then the records."""
 
     def __init__(self, given, wrote):
-        opening, *jobs = [json.loads(line) for line in given.splitlines()]
+        opening, *later = [json.loads(line) for line in given.splitlines()]
+        jobs = [line for line in later if line[0] == "job"]
         lines = wrote.splitlines()
         self.accounts = opening["accounts"]
         self.jobs = [(procedure, args) for _, procedure, args in jobs]

@@ -26,9 +26,11 @@ All is kept in memory, and nothing on disk: what was committed is gone when the 
 
 /// What `sgt script --help` tells behind the options.
 pub(crate) const SCRIPT_HELP: &str =
-    r#"Line 1 opens, each later line is an event and is answered by a line, and at the end comes the committed database:
+    r#"Line 1 opens, with record lines behind it; each later line is an event and is answered by a line, and at the end comes the
+committed database:
 
   {"limits":[1,10],"accounts":[[1,101,500,1000]],"procedures":[]}
+  ["record",3,1,7]
   ["start",0,[1]]
   ["step",0]
   ["commit",0]
@@ -40,6 +42,7 @@ pub(crate) const SCRIPT_HELP: &str =
               the step, where what the procedure looked at may be undone later
   accounts    of each the name, the customer, the saving and the checking
   procedures  of your own, numbered from 5
+  record      a table from 0 to 7, a number in it and a value, where no record is there yet; what --records writes are such lines
   start       a procedure's number and its arguments: 0 Balance (name), 1 DepositChecking (name, amount),
               2 TransactSaving (name, amount), 3 Amalgamate (name, name), 4 WriteCheck (name, amount)
   step        the transaction's next access
@@ -74,9 +77,9 @@ docs/FORMATS.md of the repository has every line and reply, docs/LANGUAGE.md the
 
 /// What `sgt bank --help` tells behind the options.
 pub(crate) const BANK_HELP: &str =
-    r#"Line 1 opens as in a script, and each later line is a job: one call of a procedure. The workers take the jobs in turn and run
-them at the same time, each as a transaction of its own. One that is aborted by a conflict is tried again. At the end comes a
-line for each job, by its number from 0, and then the committed database:
+    r#"Line 1 opens as in a script, with record lines behind it, and each later line is a job: one call of a procedure. The workers take
+the jobs in turn and run them at the same time, each as a transaction of its own. One that is aborted by a conflict is tried again.
+At the end comes a line for each job, by its number from 0, and then the committed database:
 
   {"limits":[32,1000],"accounts":[[1,101,500,1000]],"procedures":[]}
   ["job",1,[1,50]]

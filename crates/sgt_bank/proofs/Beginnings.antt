@@ -1,7 +1,7 @@
 -- Laws of an input from its first line.
 use Rattle.std.proofs.Common.{◌≡◌, ◌≢◌, ℕ, ◌+◌, List, refl, ap, sym, ◌∙◌, subst, inl, inr}
 use Rattle.std.specs.Prelude.{Option, None, Some, IfSome, Ok, Err}
-use Rattle.sgt_format.specs.Openings.{Opens, Refuses}
+use Rattle.sgt_format.specs.Openings.{Refuses}
 use Rattle.sgt_format.specs.declared.opening.Opening.{Opening}
 use Rattle.sgt_format.specs.declared.errors.OpeningError.{OpeningError}
 use Rattle.sgt_format.specs.declared.errors.OpeningError.TheVariants as opening_error
@@ -12,9 +12,18 @@ use Rattle.sgt_stream.specs.Lines.{Ending, AtLongLine, AtLimit, Cut, cut}
 use Rattle.sgt_stream.specs.Intake.{Intake, before_input, cut_left, Gives, EndsAs, Explains}
 use Rattle.sgt_stream.specs.Ends.{IsOfInput, no_opening, fault_of_opening}
 use Rattle.sgt_stream.specs.Spelled.{spelled, end_of}
+use Rattle.sgt_stream.proofs.Begun.{Begun, HasBadRecord}
 use Rattle.sgt_bank.specs.Jobs.{job_at, numbered}
 use Rattle.sgt_bank.specs.Taking.{EndsWith}
 use Rattle.sgt_bank.specs.Inputs.{InputAsks, InputFails, LinesAsk, LinesFail}
+
+-- the same lines from the same number on
+same-calls : (m n : ℕ) (ls ls' : List (List ℕ)) → m ≡ n → ls ≡ ls' → spelled (job_at m) m ls ≡ spelled (job_at n) n ls'
+same-calls m n ls ls' number lines = rw (number, lines) refl
+
+same-end : (m n : ℕ) (ls ls' : List (List ℕ)) (e e' : Ending) → m ≡ n → ls ≡ ls' → e ≡ e'
+    → end_of (job_at m) m ls e ≡ end_of (job_at n) n ls' e'
+same-end m n ls ls' e e' number lines ending = rw (number, lines, ending) refl
 
 -- the first fault of an input whose bytes are known
 abbrev pub Fails : ℕ → Option (List ℕ) → Fault → Type 0
@@ -41,31 +50,41 @@ fails-refused workers i (Some bytes) line (Some c) e f start gives refuses known
     subst (λ (ls : List (List ℕ)). LinesFail workers ls (cut bytes).ending f) (sym gives'.0)
     (inl (record { error = e; refuses = refuses; known = known; fault_is = is }))
 
--- line 1 opens, and a later one is at fault
-pub fails-behind : (workers : ℕ) (i : Intake) (rest : Option (List ℕ)) (line : List ℕ) (new : Option Cut) (o : Opening) (f : Fault)
-    → i ≡ before_input → Gives (cut_left i rest) line new → Opens workers line o → EndsWith 2 (Err f) new → Fails workers rest f
-fails-behind workers i None line new o f start gives opens ends = tt
-fails-behind workers i (Some bytes) line None o f start gives opens ends =
-    absurd (subst (λ (j : Intake). Gives (cut_left j (Some bytes)) line None) start gives)
-fails-behind workers i (Some bytes) line (Some c) o f start gives opens ends =
-    let gives' : Gives (cut_left before_input (Some bytes)) line (Some c) =
-    subst (λ (j : Intake). Gives (cut_left j (Some bytes)) line (Some c)) start gives in
-    subst (λ (ls : List (List ℕ)). LinesFail workers ls (cut bytes).ending f) (sym gives'.0)
-    (inr (record { opening = o; opens = opens; ends = ap (λ (e : Ending). end_of job_at 2 c.given e) gives'.1 ∙ ends }))
+-- a record line behind line 1 can't be put
+pub fails-record : (workers : ℕ) (rest : Option (List ℕ)) (line : List ℕ) (f : Fault) → HasBadRecord workers rest line f
+    → Fails workers rest f
+fails-record workers None line f refused = tt
+fails-record workers (Some bytes) line f (later, given, bad, refuses, is) =
+    subst (λ (ls : List (List ℕ)). LinesFail workers ls (cut bytes).ending f) (sym given)
+    (inr (inl (record { bad = bad; refuses = refuses; fault_is = is })))
 
--- line 1 opens, and the later ones ask for jobs
-pub asks-all : (workers : ℕ) (i : Intake) (rest : Option (List ℕ)) (line : List ℕ) (new : Option Cut) (o : Opening)
-    (jobs : List Job) → i ≡ before_input → Gives (cut_left i rest) line new → Opens workers line o
-    → IfSome new (λ c. (jobs ≡ numbered 0 (spelled job_at 2 c.given)) × (end_of job_at 2 c.given c.ending ≡ Ok tt))
+-- they open, and a later line is at fault
+pub fails-behind : (workers : ℕ) (rest : Option (List ℕ)) (line : List ℕ) (n : ℕ) (new : Option Cut) (o : Opening) (f : Fault)
+    → Begun workers rest line o n new → EndsWith n n (Err f) new → Fails workers rest f
+fails-behind workers None line n new o f begun ends = tt
+fails-behind workers (Some bytes) line n None o f begun ends = absurd begun
+fails-behind workers (Some bytes) line n (Some c) o f begun ends =
+    subst (λ (ls : List (List ℕ)). LinesFail workers ls (cut bytes).ending f) (sym begun.given)
+    (inr (inr (record {
+      opening = o;
+      opens = begun.opens;
+      ends = same-end _ n _ c.given _ c.ending begun.number begun.left begun.ending ∙ ends;
+    })))
+
+-- they open, and the later lines ask for jobs
+pub asks-all : (workers : ℕ) (rest : Option (List ℕ)) (line : List ℕ) (n : ℕ) (new : Option Cut) (o : Opening)
+    (jobs : List Job) → Begun workers rest line o n new
+    → IfSome new (λ c. (jobs ≡ numbered 0 (spelled (job_at n) n c.given)) × (end_of (job_at n) n c.given c.ending ≡ Ok tt))
     → IfSome rest (λ bytes. InputAsks workers bytes o jobs)
-asks-all workers i None line new o jobs start gives opens asks = tt
-asks-all workers i (Some bytes) line None o jobs start gives opens asks =
-    absurd (subst (λ (j : Intake). Gives (cut_left j (Some bytes)) line None) start gives)
-asks-all workers i (Some bytes) line (Some c) o jobs start gives opens asks =
-    let gives' : Gives (cut_left before_input (Some bytes)) line (Some c) =
-    subst (λ (j : Intake). Gives (cut_left j (Some bytes)) line (Some c)) start gives in
-    subst (λ (ls : List (List ℕ)). LinesAsk workers ls (cut bytes).ending o jobs) (sym gives'.0)
-    (record { opens = opens; jobs_are = asks.0; no_fault = ap (λ (e : Ending). end_of job_at 2 c.given e) gives'.1 ∙ asks.1 })
+asks-all workers None line n new o jobs begun asks = tt
+asks-all workers (Some bytes) line n None o jobs begun asks = absurd begun
+asks-all workers (Some bytes) line n (Some c) o jobs begun asks =
+    subst (λ (ls : List (List ℕ)). LinesAsk workers ls (cut bytes).ending o jobs) (sym begun.given)
+    (record {
+      opens = begun.opens;
+      jobs_are = asks.0 ∙ sym (ap (numbered 0) (same-calls _ n _ c.given begun.number begun.left));
+      no_fault = same-end _ n _ c.given _ c.ending begun.number begun.left begun.ending ∙ asks.1;
+    })
 
 -- line 1 is too long, or the input is
 pub fails-long : (workers : ℕ) (i : Intake) (rest : Option (List ℕ)) (f : Fault) → i ≡ before_input → Explains f i.number
@@ -80,6 +99,7 @@ fails-long workers i rest fault.NoMemory start explained exact = absurd exact
 fails-long workers i rest fault.NoOpening start explained exact = absurd explained
 fails-long workers i rest (fault.NotJson n) start explained exact = absurd explained
 fails-long workers i rest (fault.BadLine n) start explained exact = absurd explained
+fails-long workers i rest (fault.BadRecord n) start explained exact = absurd explained
 fails-long workers i rest fault.BadLimits start explained exact = absurd explained
 fails-long workers i rest (fault.BadOpening k) start explained exact = absurd explained
 fails-long workers i rest (fault.ProcShape n place) start explained exact = absurd explained

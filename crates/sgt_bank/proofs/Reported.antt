@@ -10,9 +10,10 @@ use Rattle.sgt_audit.specs.declared.outcome.Outcome.TheVariants as outcome
 use Rattle.sgt_audit.specs.AllOutcomes.{is_left, is_untaken}
 use Rattle.sgt_model.specs.declared.entry.Entry.{Entry}
 use Rattle.sgt_model.specs.Databases.{Row}
-use Rattle.sgt_format.specs.Openings.{Opens}
+use Rattle.sgt_format.specs.FilledOpenings.{OpensWith, leading_records}
 use Rattle.sgt_format.specs.RecordText.{record_lines}
 use Rattle.sgt_format.specs.declared.opening.Opening.{Opening}
+use Rattle.sgt_format.specs.declared.record_line.RecordLine.{RecordLine}
 use Rattle.sgt_dispatch.specs.declared.job.Job.{Job}
 use Rattle.sgt_stream.specs.Lines.{Ending, cut}
 use Rattle.sgt_bank.specs.Inputs.{InputAsks, LinesAsk}
@@ -65,11 +66,11 @@ pub each-run : (os : List (Outcome Infallible)) (workers : ℕ) → 1 ≤ worker
     → (0 < count_by is_untaken os → count_by is_left os ≡ workers) → All HasRun os
 each-run os workers some full = all-run os (all-taken workers _ _ some (none-left os) full)
 
--- the first line of an input of jobs opens
+-- the first lines of an input of jobs open
 opens-first : (workers : ℕ) (ls : List (List ℕ)) (ending : Ending) (o : Opening) (jobs : List Job)
-    → LinesAsk workers ls ending o jobs → (line : List ℕ) × Opens workers line o
+    → LinesAsk workers ls ending o jobs → (line : List ℕ) × (records : List RecordLine) × OpensWith workers line records o
 opens-first workers [] ending o jobs asks = absurd asks
-opens-first workers (line ∷ later) ending o jobs asks = (line, asks.opens)
+opens-first workers (line ∷ later) ending o jobs asks = (line, leading_records later, asks.opens)
 
 -- jobs that were run are those of the input
 pub is-run : OpenedIsBank → (workers tries : ℕ) (rest : Option (List ℕ)) (o : Opening) (jobs : List Job) (history : List Entry)
@@ -83,7 +84,7 @@ is-run bank workers tries (Some bytes) o jobs history outcomes rows asks run =
       jobs = jobs;
       asks = asks;
       are_run = run;
-      bank = bank workers opens.0 o (reverse history) opens.1 run.legal;
+      bank = bank workers opens.0 opens.1 o (reverse history) opens.2 run.legal;
     }
 
 -- the text of jobs that were run is a report

@@ -1,7 +1,7 @@
 -- Laws of jobs that are read one after another.
 use Rattle.std.proofs.Common.{◌≡◌, ℕ, ◌+◌, ◌<◌, true, false, List, [], ◌∷◌, ◌++◌, length, refl, ap, sym, ◌∙◌, append_assoc, arith}
-use Rattle.std.specs.Prelude.{zero, suc, nat_le, slice_get, if◌then◌else◌, Option, None, Some, Ok, Err}
-use Rattle.std.proofs.lemmas.Bool.{le-leb}
+use Rattle.std.specs.Prelude.{zero, suc, nat_lt, slice_get, if◌then◌else◌, Option, None, Some, Ok, Err}
+use Rattle.std.proofs.lemmas.Bool.{le-ltb, lt-ltb}
 use Rattle.std.proofs.lemmas.Option.{none-some, same_Some}
 use Rattle.sgt_format.specs.declared.call.JobCall.{JobCall}
 use Rattle.sgt_dispatch.specs.declared.job.Job.{Job}
@@ -34,44 +34,59 @@ numbered-at n [] i job at = absurd (none-some job at)
 numbered-at n (c ∷ cs) zero job at = ap (λ (j : Job). j.number) (sym (same_Some _ job at)) ∙ omega arith
 numbered-at n (c ∷ cs) (suc i) job at = numbered-at (n + 1) cs i job at ∙ omega arith
 
+-- before the first
+pub asked-none : (first : ℕ) (known : Option Cut) → Asked first known [] known
+asked-none first None = tt
+asked-none first (Some c) =
+    let here : first ≡ first + 0 = omega arith in
+    (ap (λ n. spelled (job_at first) n c.given) here, ap (λ n. end_of (job_at first) n c.given c.ending) here)
+
 -- one more line that asks for a call
-pub asked-next : (a b d : Option Cut) (cs : List JobCall) (c : JobCall) → length cs < 1000000 → Asked a cs b → Asks b c d
-    → Asked a (cs ++ c ∷ []) d
-asked-next None b d cs c few first next = tt
-asked-next (Some a) None d cs c few first next = absurd first
-asked-next (Some a) (Some b) None cs c few first next = next
-asked-next (Some a) (Some b) (Some d) cs c few first (line, given, asks, ending) =
-    let fits : nat_le (length cs + 2) 1000001 ≡ true = le-leb (length cs + 2) 1000001 (grind (arith, few)) in
-    let at : job_at (length cs + 2) line ≡ Ok c = ap (λ r. unless_too_many (length cs + 2) (at_line (length cs + 2) r)) asks
+pub asked-next : (first : ℕ) (a b d : Option Cut) (cs : List JobCall) (c : JobCall) → length cs < 1000000 → Asked first a cs b → Asks b c d
+    → Asked first a (cs ++ c ∷ []) d
+asked-next first None b d cs c few before next = tt
+asked-next first (Some a) None d cs c few before next = absurd before
+asked-next first (Some a) (Some b) None cs c few before next = next
+asked-next first (Some a) (Some b) (Some d) cs c few before (line, given, asks, ending) =
+    let fits : nat_lt (first + length cs) (first + 1000000) ≡ true = lt-ltb (first + length cs) (first + 1000000) (omega (arith, few)) in
+    let at : job_at first (first + length cs) line ≡ Ok c =
+    ap (λ r. unless_too_many first (first + length cs) (at_line (first + length cs) r)) asks
     ∙ ap (λ t. if t then Ok c else Err fault.TooManyJobs) fits in
-    let count : length cs + 2 + 1 ≡ length (cs ++ c ∷ []) + 2 = grind (arith, length-snoc cs c) in
-    let later : spelled job_at (length cs + 2) b.given ≡ c ∷ spelled job_at (length (cs ++ c ∷ []) + 2) d.given =
-    ap (spelled job_at (length cs + 2)) given ∙ ap (λ r. and_later r (spelled job_at (length cs + 2 + 1) d.given)) at
-    ∙ ap (λ n. c ∷ spelled job_at n d.given) count in
-    let more : end_of job_at (length cs + 2) b.given b.ending ≡ end_of job_at (length (cs ++ c ∷ []) + 2) d.given d.ending =
-    ap (λ g. end_of job_at (length cs + 2) g b.ending) given ∙ ap (λ r. or_later r (end_of job_at (length cs + 2 + 1) d.given b.ending)) at
-    ∙ ap (λ e. end_of job_at (length cs + 2 + 1) d.given e) ending ∙ ap (λ n. end_of job_at n d.given d.ending) count in (
-      first.0 ∙ ap (λ l. cs ++ l) later ∙ sym (append_assoc cs (c ∷ []) (spelled job_at (length (cs ++ c ∷ []) + 2) d.given)),
-      first.1 ∙ more,
+    let count : first + length cs + 1 ≡ first + length (cs ++ c ∷ []) = grind (arith, length-snoc cs c) in
+    let later : spelled (job_at first) (first + length cs) b.given ≡ c ∷ spelled (job_at first) (first + length (cs ++ c ∷ [])) d.given =
+    ap (spelled (job_at first) (first + length cs)) given
+    ∙ ap (λ r. and_later r (spelled (job_at first) (first + length cs + 1) d.given)) at
+    ∙ ap (λ n. c ∷ spelled (job_at first) n d.given) count in
+    let more : end_of (job_at first) (first + length cs) b.given b.ending
+    ≡ end_of (job_at first) (first + length (cs ++ c ∷ [])) d.given d.ending =
+    ap (λ g. end_of (job_at first) (first + length cs) g b.ending) given
+    ∙ ap (λ r. or_later r (end_of (job_at first) (first + length cs + 1) d.given b.ending)) at
+    ∙ ap (λ e. end_of (job_at first) (first + length cs + 1) d.given e) ending
+    ∙ ap (λ n. end_of (job_at first) n d.given d.ending) count in (
+      before.0 ∙ ap (λ l. cs ++ l) later
+          ∙ sym (append_assoc cs (c ∷ []) (spelled (job_at first) (first + length (cs ++ c ∷ [])) d.given)),
+      before.1 ∙ more,
     )
 
 -- one more than may be asked for
-pub asked-many : (a b d : Option Cut) (cs : List JobCall) (c : JobCall) → length cs ≡ 1000000 → Asked a cs b → Asks b c d
-    → EndsWith 2 (Err fault.TooManyJobs) a
-asked-many None b d cs c many first next = tt
-asked-many (Some a) None d cs c many first next = absurd first
-asked-many (Some a) (Some b) None cs c many first next = absurd next
-asked-many (Some a) (Some b) (Some d) cs c many first (line, given, asks, ending) =
-    let full : nat_le (length cs + 2) 1000001 ≡ false = rw many refl in
-    let at : job_at (length cs + 2) line ≡ Err fault.TooManyJobs =
-    ap (λ r. unless_too_many (length cs + 2) (at_line (length cs + 2) r)) asks
+pub asked-many : (first : ℕ) (a b d : Option Cut) (cs : List JobCall) (c : JobCall) → length cs ≡ 1000000 → Asked first a cs b
+    → Asks b c d → EndsWith first first (Err fault.TooManyJobs) a
+asked-many first None b d cs c many before next = tt
+asked-many first (Some a) None d cs c many before next = absurd before
+asked-many first (Some a) (Some b) None cs c many before next = absurd next
+asked-many first (Some a) (Some b) (Some d) cs c many before (line, given, asks, ending) =
+    let full : nat_lt (first + length cs) (first + 1000000) ≡ false =
+    le-ltb (first + length cs) (first + 1000000) (omega (arith, many)) in
+    let at : job_at first (first + length cs) line ≡ Err fault.TooManyJobs =
+    ap (λ r. unless_too_many first (first + length cs) (at_line (first + length cs) r)) asks
     ∙ ap (λ t. if t then Ok c else Err fault.TooManyJobs) full in
-    first.1 ∙ ap (λ g. end_of job_at (length cs + 2) g b.ending) given
-    ∙ ap (λ r. or_later r (end_of job_at (length cs + 2 + 1) d.given b.ending)) at
+    before.1 ∙ ap (λ g. end_of (job_at first) (first + length cs) g b.ending) given
+    ∙ ap (λ r. or_later r (end_of (job_at first) (first + length cs + 1) d.given b.ending)) at
 
 -- the next line is at fault
-pub asked-fault : (a b : Option Cut) (cs : List JobCall) (n : ℕ) (end : End) → n ≡ length cs + 2 → Asked a cs b → EndsWith n end b
-    → EndsWith 2 end a
-asked-fault None b cs n end at first next = tt
-asked-fault (Some a) None cs n end at first next = absurd first
-asked-fault (Some a) (Some b) cs n end at first next = first.1 ∙ ap (λ k. end_of job_at k b.given b.ending) (sym at) ∙ next
+pub asked-fault : (first : ℕ) (a b : Option Cut) (cs : List JobCall) (n : ℕ) (end : End) → n ≡ first + length cs → Asked first a cs b
+    → EndsWith first n end b → EndsWith first first end a
+asked-fault first None b cs n end at before next = tt
+asked-fault first (Some a) None cs n end at before next = absurd before
+asked-fault first (Some a) (Some b) cs n end at before next =
+    before.1 ∙ ap (λ k. end_of (job_at first) k b.given b.ending) (sym at) ∙ next

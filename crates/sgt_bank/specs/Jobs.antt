@@ -1,5 +1,5 @@
 -- The jobs that the lines of an input ask for.
-use Rattle.std.specs.Prelude.{ℕ, ◌+◌, nat_le, if◌then◌else◌, List, [], ◌∷◌, Result, Ok, Err}
+use Rattle.std.specs.Prelude.{ℕ, ◌+◌, nat_lt, if◌then◌else◌, List, [], ◌∷◌, Result, Ok, Err}
 use Rattle.sgt_format.specs.JobLines.{job_of}
 use Rattle.sgt_format.specs.declared.call.JobCall.{JobCall}
 use Rattle.sgt_dispatch.specs.declared.job.Job.{Job}
@@ -7,14 +7,14 @@ use Rattle.sgt_stream.specs.declared.fault.Fault.{Fault}
 use Rattle.sgt_stream.specs.declared.fault.Fault.TheVariants as fault
 use Rattle.sgt_stream.specs.Spelled.{at_line}
 
--- what line n asks for, where it is not one more than 1,000,000. Line 2 asks for the first
-abbrev pub unless_too_many : ℕ → Result JobCall Fault → Result JobCall Fault
-unless_too_many n (Ok call) = if nat_le n 1000001 then Ok call else Err fault.TooManyJobs
-unless_too_many n (Err f) = Err f
+-- what line n asks for, where it is not one more than 1,000,000, the first of which a line asks for by its number
+abbrev pub unless_too_many : ℕ → ℕ → Result JobCall Fault → Result JobCall Fault
+unless_too_many first n (Ok call) = if nat_lt n (first + 1000000) then Ok call else Err fault.TooManyJobs
+unless_too_many first n (Err f) = Err f
 
 -- the call that line n asks for, or its fault
-abbrev pub job_at : ℕ → List ℕ → Result JobCall Fault
-job_at n line = unless_too_many n (at_line n (job_of line))
+abbrev pub job_at : ℕ → ℕ → List ℕ → Result JobCall Fault
+job_at first n line = unless_too_many first n (at_line n (job_of line))
 
 -- the jobs of these calls, numbered from n on
 abbrev pub numbered : ℕ → List JobCall → List Job

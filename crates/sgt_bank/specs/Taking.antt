@@ -13,13 +13,14 @@ Asks None call new = ⊤
 Asks (Some old) call None = ⊥
 Asks (Some old) call (Some new) = (line : List ℕ) × (old.given ≡ line ∷ new.given) × (job_of line ≡ Ok call) × (old.ending ≡ new.ending)
 
--- known lines from number 2 on begin with those that ask for these calls, and then come these
-abbrev pub Asked : Option Cut → List JobCall → Option Cut → Type 0
-Asked None asked new = ⊤
-Asked (Some old) asked None = ⊥
-Asked (Some old) asked (Some new) = (spelled job_at 2 old.given ≡ asked ++ spelled job_at (length asked + 2) new.given)
-    × (end_of job_at 2 old.given old.ending ≡ end_of job_at (length asked + 2) new.given new.ending)
+-- known lines, the first job's and then others, begin with those that ask for these calls, and then come these
+abbrev pub Asked : ℕ → Option Cut → List JobCall → Option Cut → Type 0
+Asked first None asked new = ⊤
+Asked first (Some old) asked None = ⊥
+Asked first (Some old) asked (Some new) =
+    (spelled (job_at first) first old.given ≡ asked ++ spelled (job_at first) (first + length asked) new.given)
+    × (end_of (job_at first) first old.given old.ending ≡ end_of (job_at first) (first + length asked) new.given new.ending)
 
--- known lines from number n on end so at the next line, or where there is none
-abbrev pub EndsWith : ℕ → End → Option Cut → Type 0
-EndsWith n end known = IfSome known (λ c. end_of job_at n c.given c.ending ≡ end)
+-- known lines from number n on, behind a first job's, end so at the next line, or where there is none
+abbrev pub EndsWith : ℕ → ℕ → End → Option Cut → Type 0
+EndsWith first n end known = IfSome known (λ c. end_of (job_at first) n c.given c.ending ≡ end)

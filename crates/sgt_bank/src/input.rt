@@ -6,10 +6,10 @@ ghost use Rattle.sgt_stream.specs.Ends.{IsOfInput};
 use crate::jobs::read_jobs;
 use sgt_dispatch::Job;
 use sgt_format::Opening;
-use sgt_stream::{Fault, Lines, Source, opening_of};
+use sgt_stream::{Fault, Lines, Source, opening_of, read_records};
 use std::alloc::Global;
 
-/// What an input asks for: its opening, which lets as many be live as there are workers, and its jobs.
+/// What an input asks for: its opening, which lets as many be live as there are workers, with the records behind it, and its jobs.
 ///
 /// # Errors
 ///
@@ -38,6 +38,7 @@ pub fn read_input<S: Source>(
         return Err(Fault::NoOpening);
     }
     let opening = opening_of(alloc, workers, &lines)?;
+    let opening = read_records(alloc, &mut lines, source, opening)?;
     let jobs = read_jobs(alloc, &mut lines, source)?;
     Ok((opening, jobs))
 }

@@ -27,7 +27,7 @@ fn next_call<S: Source>(
     ensures end { IfOk result (λ next. IsNone next →
         EndsAs AtEnd (cut_left lines.old (S.rest source.old))) }
     ensures fault { IfErr result (λ f. IsOfInput f →
-        EndsWith (lines.old.number + 1) (Err f) (cut_left lines.old (S.rest source.old))) }
+        (first : ℕ) → EndsWith first (lines.old.number + 1) (Err f) (cut_left lines.old (S.rest source.old))) }
     ensures number { IfOk result (λ next. IfSome next (λ _. lines.new.number ≡ lines.old.number + 1)) }
     ensures nearer { IfOk result (λ next. IfSome next (λ _. lines.new.within < lines.old.within)) }
     ensures come { S.given source.new + come lines.old ≤ S.given source.old + come lines.new }
@@ -57,14 +57,13 @@ pub(crate) fn read_jobs<S: Source>(
     source: &mut S,
 ) -> Result<Vec<Job>, Fault>
     requires reading { S.failures source.old + 1 < 2 ^ 64 }
-    requires second { lines.old.number ≡ 1 }
     requires few { come lines.old ≤ 16777217 }
     ensures jobs { IfOk result (λ jobs. IfSome (cut_left lines.old (S.rest source.old)) (λ c.
-        (jobs.items ≡ numbered 0 (spelled job_at 2 c.given))
-        × (end_of job_at 2 c.given c.ending ≡ Ok tt))) }
+        (jobs.items ≡ numbered 0 (spelled (job_at (lines.old.number + 1)) (lines.old.number + 1) c.given))
+        × (end_of (job_at (lines.old.number + 1)) (lines.old.number + 1) c.given c.ending ≡ Ok tt))) }
     ensures numbered { IfOk result (λ jobs. AreJobs jobs.items) }
     ensures fault { IfErr result (λ f. IsOfInput f →
-        EndsWith 2 (Err f) (cut_left lines.old (S.rest source.old))) }
+        EndsWith (lines.old.number + 1) (lines.old.number + 1) (Err f) (cut_left lines.old (S.rest source.old))) }
     ensures bounded { S.given source.new + come lines.old ≤ S.given source.old + 16777217 }
     ensures writing { result ≢ Err Fault.Writing }
     ensures well { result ≢ Err Fault.Reading →

@@ -11,6 +11,7 @@ pub mod RecordLines
 pub mod WrittenRecords
 pub mod Procedures
 pub mod Openings
+pub mod FilledOpenings
 pub mod ProcedureLines
 pub mod LineTokens
 pub mod PlainLines

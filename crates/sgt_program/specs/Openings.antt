@@ -7,17 +7,20 @@ use Rattle.sgt_model.specs.Legality.{Legal}
 use Rattle.sgt_model.specs.StoredValues.{HoldValues}
 use Rattle.sgt_smallbank.specs.Texts.{procedures}
 use Rattle.sgt_smallbank.specs.Replays.{CommitsAreBank}
-use Rattle.sgt_format.specs.Openings.{Opens}
+use Rattle.sgt_format.specs.FilledOpenings.{OpensWith}
 use Rattle.sgt_format.specs.declared.opening.Opening.{Opening}
+use Rattle.sgt_format.specs.declared.record_line.RecordLine.{RecordLine}
 
 -- the setting of an opening: SmallBank's procedures, and behind them its own
 abbrev pub opened_setting : Opening → Setting
 opened_setting opening = setting (contents_of opening.database) (procedures ++ opening.procedures.items) opening.limits
 
--- what the accounts of an opening that a line spells open holds values
+-- what the accounts and the records of an opening that lines spell open holds values
 abbrev pub OpenedHoldValues : Type 0
-OpenedHoldValues = (least : ℕ) (line : List ℕ) (opening : Opening) → Opens least line opening → HoldValues (contents_of opening.database)
+OpenedHoldValues = (least : ℕ) (line : List ℕ) (records : List RecordLine) (opening : Opening)
+    → OpensWith least line records opening → HoldValues (contents_of opening.database)
 
--- behind an opening that a line spells, each commit of one of SmallBank's procedures in a legal history is the bank's arithmetic
+-- behind an opening that lines spell, each commit of one of SmallBank's procedures in a legal history is the bank's arithmetic
 abbrev pub OpenedIsBank : Type 0
-OpenedIsBank = (least : ℕ) (line : List ℕ) (opening : Opening) (past : List Entry) → Opens least line opening → Legal (opened_setting opening) past → CommitsAreBank (opened_setting opening) past
+OpenedIsBank = (least : ℕ) (line : List ℕ) (records : List RecordLine) (opening : Opening) (past : List Entry)
+    → OpensWith least line records opening → Legal (opened_setting opening) past → CommitsAreBank (opened_setting opening) past

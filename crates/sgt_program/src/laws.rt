@@ -3,14 +3,14 @@ ghost use Rattle.sgt_program.specs.Openings.{OpenedHoldValues, OpenedIsBank};
 
 use sgt_smallbank::replay_is_bank;
 
-/// What the accounts of an opening that a line spells put into the database are values.
+/// What the accounts and the records of an opening that lines spell put into the database are values.
 pub fn opened_hold_values()
     ensures { OpenedHoldValues }
 {
     replay_is_bank();
 }
 
-/// After a legal history behind an opening that a line spells, each committed transaction of one of SmallBank's five
+/// After a legal history behind an opening that lines spell, each committed transaction of one of SmallBank's five
 /// procedures has done what the bank's arithmetic says, on what those committed before it left.
 pub fn opened_is_bank()
     ensures { OpenedIsBank }

@@ -46,18 +46,18 @@ appends-trans (Some ws) None c xs ys first second = absurd first
 appends-trans (Some ws) (Some bs) None xs ys first second = second
 appends-trans (Some ws) (Some bs) (Some cs) xs ys first second = second ∙ ap (λ l. l ++ ys) first ∙ append_assoc ws xs ys
 
--- what a run over known lines writes, with what it started from
-abbrev pub Output : Telling → Setting → Option Cut → Option (List ℕ) → Option (List ℕ) → End → Type 0
-Output w s known held held' end =
+-- what a run over known lines from number n on writes, with what it started from
+abbrev pub Output : Telling → Setting → ℕ → Option Cut → Option (List ℕ) → Option (List ℕ) → End → Type 0
+Output w s n known held held' end =
     IfSome known (λ c. (run : Execution) × (run.setting ≡ s) × (out : List ℕ) × Appends held held' out
-    × RunOutput w run c.given c.ending out end)
+    × RunOutput w run n c.given c.ending out end)
 
 -- a run whose lines are all answered, with what it wrote
 pub output-all : (w : Telling) (s : Setting) (n : ℕ) (known : Option Cut) (answers : List Answer) (end : End) (last : List ℕ)
-    (held held' : Option (List ℕ)) → n ≡ 2 → LegalRun s answers → AllAnswered n known answers end
-    → Closing w (left_by (part_of s answers)) end last → Appends held held' (answers_text w answers ++ last) → Output w s known held held' end
-output-all w s n None answers end last held held' second legal all closing written = tt
-output-all w s n (Some c) answers end last held held' second legal all closing written = (
+    (held held' : Option (List ℕ)) → LegalRun s answers → AllAnswered n known answers end
+    → Closing w (left_by (part_of s answers)) end last → Appends held held' (answers_text w answers ++ last) → Output w s n known held held' end
+output-all w s n None answers end last held held' legal all closing written = tt
+output-all w s n (Some c) answers end last held held' legal all closing written = (
   record { setting = s; answers = answers },
   refl,
   answers_text w answers ++ last,
@@ -65,8 +65,8 @@ output-all w s n (Some c) answers end last held held' second legal all closing w
   record {
     last = last;
     legal = legal;
-    lines_are = sym all.0 ∙ ap (λ k. spelled script_line_at k c.given) second;
-    end_is = sym all.1 ∙ ap (λ k. end_of script_line_at k c.given c.ending) second;
+    lines_are = sym all.0;
+    end_is = sym all.1;
     closing = closing;
     text = refl;
   },
@@ -78,12 +78,12 @@ exact-flush (Ok tt') err exact = refl
 exact-flush (Err f) err exact = absurd (subst IsOfInput err exact)
 
 -- what a run writes that ended at a fault of the script
-pub output-fault : (w : Telling) (s : Setting) (n : ℕ) (known : Option Cut) (r : End) (f : Fault) (held held' : Option (List ℕ)) → n + 1 ≡ 2
-    → r ≡ Err f → (IsOfInput f → AnswersAll w s (n + 1) known held held' (Err f)) → IsExact r → Output w s known held held' r
-output-fault w s n known r f held held' second failed answered exact =
+pub output-fault : (w : Telling) (s : Setting) (n : ℕ) (known : Option Cut) (r : End) (f : Fault) (held held' : Option (List ℕ))
+    → r ≡ Err f → (IsOfInput f → AnswersAll w s n known held held' (Err f)) → IsExact r → Output w s n known held held' r
+output-fault w s n known r f held held' failed answered exact =
     let all = answered (subst IsExact failed exact) in
-    subst (Output w s known held held') (sym failed)
-    (output-all w s (n + 1) known all.answers (Err f) [] held held' second all.legal all.all refl
+    subst (Output w s n known held held') (sym failed)
+    (output-all w s n known all.answers (Err f) [] held held' all.legal all.all refl
     (subst (Appends held held') (sym (append-nil (answers_text w all.answers))) all.written))
 
 -- the database behind an engine's part
@@ -92,13 +92,13 @@ closes-part w p q last same is = subst (λ (x : Part). Last w (left_by x) last) 
 
 -- what a run writes that ended well
 pub output-well : (w : Telling) (s : Setting) (n : ℕ) (known : Option Cut) (q : Part) (r : End) (gathered : List ℕ)
-    (held held' held'' : Option (List ℕ)) → n + 1 ≡ 2 → r ≡ Ok tt
-    → (all : AnswersAll w s (n + 1) known held held' (Ok tt)) × (part_of s all.answers ≡ q) → Last w (left_by q) gathered
+    (held held' held'' : Option (List ℕ)) → r ≡ Ok tt
+    → (all : AnswersAll w s n known held held' (Ok tt)) × (part_of s all.answers ≡ q) → Last w (left_by q) gathered
     → OnOk r (Appends held' held'' gathered)
-    → Output w s known held held'' r
-output-well w s n known q r gathered held held' held'' second wrote (all, part) is last =
+    → Output w s n known held held'' r
+output-well w s n known q r gathered held held' held'' wrote (all, part) is last =
     let more : Appends held' held'' gathered = subst (λ (e : End). OnOk e (Appends held' held'' gathered)) wrote last in
-    subst (Output w s known held held'') (sym wrote)
-    (output-all w s (n + 1) known all.answers (Ok tt) gathered held held'' second all.legal all.all
+    subst (Output w s n known held held'') (sym wrote)
+    (output-all w s n known all.answers (Ok tt) gathered held held'' all.legal all.all
     (closes-part w (part_of s all.answers) q gathered part is)
     (appends-trans held held' held'' (answers_text w all.answers) gathered all.written more))

@@ -13,14 +13,15 @@ use Rattle.sgt_model.specs.Settings.{Setting}
 use Rattle.sgt_model.specs.Values.{settled}
 use Rattle.sgt_format.specs.DatabaseText.{database_text}
 use Rattle.sgt_format.specs.RecordText.{record_lines}
-use Rattle.sgt_format.specs.Openings.{Opens}
 use Rattle.sgt_format.specs.declared.opening.Opening.{Opening}
 use Rattle.sgt_format.specs.declared.script_line.ScriptLine.{ScriptLine}
 use Rattle.sgt_program.specs.Openings.{opened_setting}
 use Rattle.sgt_stream.specs.declared.fault.Fault.{Fault}
 use Rattle.sgt_stream.specs.declared.fault.Fault.TheVariants as fault
-use Rattle.sgt_stream.specs.Lines.{Cut, Ending, cut, has_break}
-use Rattle.sgt_stream.specs.Intake.{Intake, before_input, bytes_left, cut_left, taken, Gives}
+use Rattle.sgt_stream.specs.Lines.{Cut, cut, has_break}
+use Rattle.sgt_stream.specs.Intake.{Intake, before_input, bytes_left, cut_left, taken}
+use Rattle.sgt_stream.specs.Records.{Passes, ReadsRecords}
+use Rattle.sgt_stream.proofs.Begun.{Begun, HaveBegun}
 use Rattle.sgt_stream.specs.Ends.{End, IsOfInput}
 use Rattle.sgt_stream.specs.Spelled.{spelled, end_of}
 use Rattle.sgt_script.specs.declared.telling.Telling.{Telling}
@@ -31,8 +32,8 @@ use Rattle.sgt_script.specs.Answering.{AnswersAll, AnswersLine, AnswersRead, Ans
 use Rattle.sgt_script.specs.Beginnings.{AppendsPart, Begins, IsStop, LineRuns, ScriptRuns, WritesAt}
 use Rattle.sgt_script.proofs.Answers.{all-answered, appends-trans, begin-next, closes-part}
 use Rattle.sgt_script.proofs.Parts.{lines-newer, part-rows, replies-newer, runs-go-on}
-use Rattle.sgt_script.proofs.WholeLines.{IsReadSo, read-next, read-opened}
-use Rattle.sgt_script.proofs.Runs.{appends-none}
+use Rattle.sgt_script.proofs.WholeLines.{IsReadSo, behind-records, only-records, read-next, read-opened}
+use Rattle.sgt_script.proofs.Runs.{appends-none, output-same}
 
 -- what is written, and what is gathered
 
@@ -262,12 +263,12 @@ closes w are_rows s rows answers (Err f) is = ([], refl)
 
 -- what was answered goes on to a whole run
 goes-on : (w : Telling) → SomeReplyIsLegal → SettledAreRows → (s : Setting) (rows : List Row) (n m : ℕ) (c : Cut) (left : Option Cut)
-    (answers : List Answer) (out rest : List ℕ) → s.opening ≡ contents_of rows → n ≡ 2 → LegalRun s answers
-    → BeginWith n (Some c) (lines_of answers) m left → answers_text w answers ≡ out ++ rest → Begins (LineRuns w s c) answers out
-goes-on w some are_rows s rows n m c None answers out rest is second legal answered parts = absurd answered
-goes-on w some are_rows s rows n m c (Some left) answers out rest is second legal answered parts =
+    (answers : List Answer) (out rest : List ℕ) → s.opening ≡ contents_of rows → LegalRun s answers
+    → BeginWith n (Some c) (lines_of answers) m left → answers_text w answers ≡ out ++ rest → Begins (LineRuns w s n c) answers out
+goes-on w some are_rows s rows n m c None answers out rest is legal answered parts = absurd answered
+goes-on w some are_rows s rows n m c (Some left) answers out rest is legal answered parts =
     let more = runs-go-on some s answers (spelled script_line_at m left.given) legal in
-    let end : End = end_of script_line_at 2 c.given c.ending in
+    let end : End = end_of script_line_at n c.given c.ending in
     let closing = closes w are_rows s rows (more.0 ++ answers) end is in record {
       run = record { setting = s; answers = more.0 ++ answers };
       newer = more.0;
@@ -279,8 +280,7 @@ goes-on w some are_rows s rows n m c (Some left) answers out rest is second lega
         record {
           last = closing.0;
           legal = more.1;
-          lines_are = lines-newer more.0 answers ∙ ap (λ l. lines_of answers ++ l) more.2 ∙ sym answered.0
-              ∙ ap (λ k. spelled script_line_at k c.given) second;
+          lines_are = lines-newer more.0 answers ∙ ap (λ l. lines_of answers ++ l) more.2 ∙ sym answered.0;
           end_is = refl;
           closing = closing.1;
           text = sym (ap (λ l. l ++ closing.0) (replies-newer w more.0 answers ∙ ap (λ l. l ++ answers_text w more.0) parts)
@@ -289,51 +289,51 @@ goes-on w some are_rows s rows n m c (Some left) answers out rest is second lega
       );
     }
 
--- what a run over known lines wrote that stopped behind a reply
-abbrev pub Stops : Telling → Setting → Option Cut → (from to old new : Option (List ℕ)) → End → Type 0
-Stops w s known from to old new end = IfSome known (λ c. (answered : List Answer) × Appends old new (answers_text w answered)
-    × Begins (LineRuns w s c) answered (answers_text w answered) × (end ≡ Err fault.Reading → AnswersRead 2 from to answered))
+-- what a run over known lines from number n on wrote that stopped behind a reply
+abbrev pub Stops : Telling → Setting → ℕ → Option Cut → (from to old new : Option (List ℕ)) → End → Type 0
+Stops w s n known from to old new end = IfSome known (λ c. (answered : List Answer) × Appends old new (answers_text w answered)
+    × Begins (LineRuns w s n c) answered (answers_text w answered) × (end ≡ Err fault.Reading → AnswersRead n from to answered))
 
 -- and what one wrote whose write failed
-abbrev pub Fails : Telling → Setting → Option Cut → Option (List ℕ) → Option (List ℕ) → Type 0
-Fails w s known old new = IfSome known (λ c. (answered : List Answer) × (out : List ℕ) × Appends old new out
-    × Begins (LineRuns w s c) answered out)
+abbrev pub Fails : Telling → Setting → ℕ → Option Cut → Option (List ℕ) → Option (List ℕ) → Type 0
+Fails w s n known old new = IfSome known (λ c. (answered : List Answer) × (out : List ℕ) × Appends old new out
+    × Begins (LineRuns w s n c) answered out)
 
 pub stops-from : (w : Telling) → SomeReplyIsLegal → SettledAreRows → (s : Setting) (rows : List Row) (n : ℕ) (known : Option Cut)
-    (from to old new : Option (List ℕ)) (wrote unread : Type 0) (end : End) → s.opening ≡ contents_of rows → n + 1 ≡ 2 → wrote
-    → (end ≡ Err fault.Reading → unread) → AnswersSome w s (n + 1) known from to old new wrote unread
-    → Stops w s known from to old new end
-stops-from w answer are_rows s rows n None from to old new wrote unread end is second well failed some = tt
-stops-from w answer are_rows s rows n (Some c) from to old new wrote unread end is second well failed some =
+    (from to old new : Option (List ℕ)) (wrote unread : Type 0) (end : End) → s.opening ≡ contents_of rows → wrote
+    → (end ≡ Err fault.Reading → unread) → AnswersSome w s n known from to old new wrote unread
+    → Stops w s n known from to old new end
+stops-from w answer are_rows s rows n None from to old new wrote unread end is well failed some = tt
+stops-from w answer are_rows s rows n (Some c) from to old new wrote unread end is well failed some =
     let whole : answers_text w some.answers ≡ some.written =
     some.parts ∙ ap (λ l. some.written ++ l) (some.all well) ∙ append-nil some.written in (
       some.answers,
       subst (Appends old new) (sym whole) some.appends,
-      goes-on w answer are_rows s rows (n + 1) some.next c some.left some.answers (answers_text w some.answers) [] is second some.legal
+      goes-on w answer are_rows s rows n some.next c some.left some.answers (answers_text w some.answers) [] is some.legal
           some.answered (sym (append-nil (answers_text w some.answers))),
-      λ reading. subst (λ k. AnswersRead k from to some.answers) second (some.read (failed reading)),
+      λ reading. some.read (failed reading),
     )
 
 pub fails-from : (w : Telling) → SomeReplyIsLegal → SettledAreRows → (s : Setting) (rows : List Row) (n : ℕ) (known : Option Cut)
-    (from to old new : Option (List ℕ)) (wrote unread : Type 0) → s.opening ≡ contents_of rows → n + 1 ≡ 2
-    → AnswersSome w s (n + 1) known from to old new wrote unread → Fails w s known old new
-fails-from w answer are_rows s rows n None from to old new wrote unread is second some = tt
-fails-from w answer are_rows s rows n (Some c) from to old new wrote unread is second some = (
+    (from to old new : Option (List ℕ)) (wrote unread : Type 0) → s.opening ≡ contents_of rows
+    → AnswersSome w s n known from to old new wrote unread → Fails w s n known old new
+fails-from w answer are_rows s rows n None from to old new wrote unread is some = tt
+fails-from w answer are_rows s rows n (Some c) from to old new wrote unread is some = (
   some.answers,
   some.written,
   some.appends,
-  goes-on w answer are_rows s rows (n + 1) some.next c some.left some.answers some.written some.rest is second some.legal some.answered
+  goes-on w answer are_rows s rows n some.next c some.left some.answers some.written some.rest is some.legal some.answered
       some.parts,
 )
 
 -- where the write of the database failed
 pub fails-last : (w : Telling) (s : Setting) (n : ℕ) (known : Option Cut) (q : Part) (gathered : List ℕ)
-    (held held' held'' : Option (List ℕ)) → n + 1 ≡ 2
-    → (all : AnswersAll w s (n + 1) known held held' (Ok tt)) × (part_of s all.answers ≡ q) → Last w (left_by q) gathered
+    (held held' held'' : Option (List ℕ))
+    → (all : AnswersAll w s n known held held' (Ok tt)) × (part_of s all.answers ≡ q) → Last w (left_by q) gathered
     → AppendsPart held' held'' gathered
-    → Fails w s known held held''
-fails-last w s n None q gathered held held' held'' second answered is part = tt
-fails-last w s n (Some c) q gathered held held' held'' second (all, present) is part = (
+    → Fails w s n known held held''
+fails-last w s n None q gathered held held' held'' answered is part = tt
+fails-last w s n (Some c) q gathered held held' held'' (all, present) is part = (
   all.answers,
   answers_text w all.answers ++ part.written,
   appends-trans held held' held'' (answers_text w all.answers) part.written all.written part.appends,
@@ -348,8 +348,8 @@ fails-last w s n (Some c) q gathered held held' held'' second (all, present) is 
       record {
         last = gathered;
         legal = all.legal;
-        lines_are = sym all.all.0 ∙ ap (λ k. spelled script_line_at k c.given) second;
-        end_is = sym all.all.1 ∙ ap (λ k. end_of script_line_at k c.given c.ending) second;
+        lines_are = sym all.all.0;
+        end_is = sym all.all.1;
         closing = closes-part w (part_of s all.answers) q gathered present is;
         text = append_assoc (answers_text w all.answers) part.written part.rest ∙ ap (λ l. answers_text w all.answers ++ l) (sym part.parts);
       },
@@ -360,21 +360,21 @@ fails-last w s n (Some c) q gathered held held' held'' second (all, present) is 
 -- from the first line
 
 -- a whole run behind an opening is one of the script
-of-script : (w : Telling) (s : Setting) (bytes line : List ℕ) (c : Cut) (o : Opening) (answered : List Answer) (out : List ℕ)
-    → Gives (cut_left before_input (Some bytes)) line (Some c) → Opens 1 line o → s ≡ opened_setting o
-    → Begins (LineRuns w s c) answered out → Begins (ScriptRuns w bytes) answered out
-of-script w s bytes line c o answered out gives opens is begun = record {
+of-script : (w : Telling) (s : Setting) (bytes line : List ℕ) (n : ℕ) (c : Cut) (o : Opening) (answered : List Answer) (out : List ℕ)
+    → HaveBegun 1 bytes line o n c → s ≡ opened_setting o → Begins (LineRuns w s n c) answered out → Begins (ScriptRuns w bytes) answered out
+of-script w s bytes line n c o answered out opened is begun = record {
   run = begun.run;
   newer = begun.newer;
   begins = begun.begins;
   rest = begun.rest;
   end = begun.end;
-  whole = subst (λ (ls : List (List ℕ)). ScriptOf w ls (cut bytes).ending (Some begun.run) (out ++ begun.rest) begun.end) (sym gives.0)
+  whole = subst (λ (ls : List (List ℕ)). ScriptOf w ls (cut bytes).ending (Some begun.run) (out ++ begun.rest) begun.end) (sym opened.given)
       (record {
         opening = o;
-        opens = opens;
+        opens = opened.opens;
         setting = begun.whole.0 ∙ is;
-        output = subst (λ (e : Ending). RunOutput w begun.run c.given e (out ++ begun.rest) begun.end) (sym gives.1) begun.whole.1;
+        output = output-same w begun.run _ n _ c.given _ c.ending (out ++ begun.rest) begun.end opened.number opened.left opened.ending
+            begun.whole.1;
       });
 }
 
@@ -394,39 +394,41 @@ pub stops-nothing : (w : Telling) (rest to held : Option (List ℕ)) (end : End)
 stops-nothing w None to held end read = tt
 stops-nothing w (Some bytes) to held end read = ([], appends-none held, inl refl, read)
 
--- behind an opening, where the lines left are known so
-stops-behind : (w : Telling) (i i' : Intake) (s : Setting) (bytes : List ℕ) (rest' to old new : Option (List ℕ)) (known : Option Cut) (o : Opening)
-    (end : End) → i ≡ before_input → Gives (cut_left i (Some bytes)) i'.line known → Opens 1 i'.line o → s ≡ opened_setting o
-    → Consumes (bytes_left i (Some bytes)) (bytes_left i' rest') (taken i') → has_break i'.line ≡ false
-    → (end ≡ Err fault.Reading → i'.ended ≡ false) → Stops w s known (bytes_left i' rest') to old new end
-    → ScriptStops w (Some bytes) to old new end
-stops-behind w i i' s bytes rest' to old new None o end start gives opens is took unbroken going stops =
-    absurd (subst (λ (j : Intake). Gives (cut_left j (Some bytes)) i'.line None) start gives)
-stops-behind w i i' s bytes rest' to old new (Some c) o end start gives opens is took unbroken going (answered, wrote, begun, read) =
-    let gives' : Gives (cut_left before_input (Some bytes)) i'.line (Some c) =
-    subst (λ (j : Intake). Gives (cut_left j (Some bytes)) i'.line (Some c)) start gives in (
+-- nor where a read failed, or a growth was refused, behind line 1
+pub stops-records : (w : Telling) (i j : Intake) (rest rest' to held : Option (List ℕ)) (end : End) → i ≡ before_input
+    → Consumes (bytes_left i rest) (bytes_left j rest') (taken j) → has_break j.line ≡ false
+    → (end ≡ Err fault.Reading → (j.ended ≡ false) × ReadsRecords (bytes_left j rest') to) → ScriptStops w rest to held held end
+stops-records w i j None rest' to held end start took unbroken read = tt
+stops-records w i j (Some bytes) rest' to held end start took unbroken read = (
+  [],
+  appends-none held,
+  inl refl,
+  λ reading. read-opened i j bytes rest' to [] start took unbroken (read reading).0 (only-records (bytes_left j rest') to (read reading).1),
+)
+
+-- behind an opening
+pub stops-opened : (w : Telling) (i j k : Intake) (s : Setting) (rest rest' rest'' to old new : Option (List ℕ)) (known : Option Cut)
+    (o : Opening) (end : End) → i ≡ before_input → Begun 1 rest j.line o (k.number + 1) known → s ≡ opened_setting o
+    → Consumes (bytes_left i rest) (bytes_left j rest') (taken j) → has_break j.line ≡ false → j.number ≡ 1
+    → (k.ended ≡ false → (j.ended ≡ false) × Passes j.number (bytes_left j rest') k.number (bytes_left k rest''))
+    → (end ≡ Err fault.Reading → k.ended ≡ false) → Stops w s (k.number + 1) known (bytes_left k rest'') to old new end
+    → ScriptStops w rest to old new end
+stops-opened w i j k s None rest' rest'' to old new known o end start begun is took unbroken one passes going stops = tt
+stops-opened w i j k s (Some bytes) rest' rest'' to old new None o end start begun is took unbroken one passes going stops = absurd begun
+stops-opened w i j k s (Some bytes) rest' rest'' to old new (Some c) o end start begun is took unbroken one passes going
+    (answered, wrote, begins, read) = (
       answered,
       wrote,
-      inr (of-script w s bytes i'.line c o answered (answers_text w answered) gives' opens is begun),
-      λ reading. read-opened i i' (Some bytes) rest' to answered start took unbroken (going reading) (read reading),
+      inr (of-script w s bytes j.line (k.number + 1) c o answered (answers_text w answered) begun is begins),
+      λ reading.
+          let still = passes (going reading) in
+          read-opened i j bytes rest' to answered start took unbroken still.0
+          (behind-records (bytes_left j rest') (bytes_left k rest'') to j.number k.number answered one still.1 (read reading)),
     )
 
-pub stops-opened : (w : Telling) (i i' : Intake) (s : Setting) (rest rest' to old new : Option (List ℕ)) (o : Opening) (end : End) → i ≡ before_input
-    → Gives (cut_left i rest) i'.line (cut_left i' rest') → Opens 1 i'.line o → s ≡ opened_setting o
-    → Consumes (bytes_left i rest) (bytes_left i' rest') (taken i') → has_break i'.line ≡ false
-    → (end ≡ Err fault.Reading → i'.ended ≡ false) → Stops w s (cut_left i' rest') (bytes_left i' rest') to old new end
-    → ScriptStops w rest to old new end
-stops-opened w i i' s None rest' to old new o end start gives opens is took unbroken going stops = tt
-stops-opened w i i' s (Some bytes) rest' to old new o end start gives opens is took unbroken going stops =
-    stops-behind w i i' s bytes rest' to old new (cut_left i' rest') o end start gives opens is took unbroken going stops
-
-pub fails-opened : (w : Telling) (i : Intake) (s : Setting) (rest old new : Option (List ℕ)) (line : List ℕ) (known : Option Cut) (o : Opening)
-    → i ≡ before_input → Gives (cut_left i rest) line known → Opens 1 line o → s ≡ opened_setting o → Fails w s known old new
-    → ScriptFails w rest old new
-fails-opened w i s None old new line known o start gives opens is fails = tt
-fails-opened w i s (Some bytes) old new line None o start gives opens is fails =
-    absurd (subst (λ (j : Intake). Gives (cut_left j (Some bytes)) line None) start gives)
-fails-opened w i s (Some bytes) old new line (Some c) o start gives opens is (answered, out, wrote, begun) =
-    let gives' : Gives (cut_left before_input (Some bytes)) line (Some c) =
-    subst (λ (j : Intake). Gives (cut_left j (Some bytes)) line (Some c)) start gives in
-    (answered, out, wrote, of-script w s bytes line c o answered out gives' opens is begun)
+pub fails-opened : (w : Telling) (s : Setting) (rest old new : Option (List ℕ)) (line : List ℕ) (n : ℕ) (known : Option Cut) (o : Opening)
+    → Begun 1 rest line o n known → s ≡ opened_setting o → Fails w s n known old new → ScriptFails w rest old new
+fails-opened w s None old new line n known o begun is fails = tt
+fails-opened w s (Some bytes) old new line n None o begun is fails = absurd begun
+fails-opened w s (Some bytes) old new line n (Some c) o begun is (answered, out, wrote, begins) =
+    (answered, out, wrote, of-script w s bytes line n c o answered out begun is begins)

@@ -17,6 +17,7 @@ use Rattle.sgt_model.specs.Replay.{RunResult, folded, told_in, told}
 use Rattle.sgt_smallbank.specs.Replays.{CommitsAreBank, ReplayIsBank}
 use Rattle.sgt_smallbank.specs.Texts.{procedures}
 use Rattle.sgt_program.specs.Openings.{OpenedHoldValues}
+use Rattle.sgt_format.specs.FilledOpenings.{behind_records, leading_records, number_behind}
 use Rattle.sgt_format.specs.ReplyText.{text}
 use Rattle.sgt_stream.specs.Lines.{Ending, cut}
 use Rattle.sgt_stream.specs.Ends.{End}
@@ -82,9 +83,9 @@ closes-nothing : (m : Contents) (end : End) (last : List ℕ) → Closing Operat
 closes-nothing m (Ok done) last is = is
 closes-nothing m (Err fault) last is = is
 
-transcribed-run : (run : Execution) (later : List (List ℕ)) (ending : Ending) (out : List ℕ) (end : End)
-    → RunOutput Operations run later ending out end → out ≡ transcripts (parts_of run.setting run.answers)
-transcribed-run run later ending out end output =
+transcribed-run : (run : Execution) (n : ℕ) (later : List (List ℕ)) (ending : Ending) (out : List ℕ) (end : End)
+    → RunOutput Operations run n later ending out end → out ≡ transcripts (parts_of run.setting run.answers)
+transcribed-run run n later ending out end output =
     output.text ∙ ap (λ l. answers_text Operations run.answers ++ l) (closes-nothing (left_by (part_of run.setting run.answers)) end output.last output.closing)
     ∙ append-nil (answers_text Operations run.answers) ∙ transcribed run.setting run.answers output.legal
 
@@ -128,9 +129,9 @@ module _ (headline : HeadlineHolds) where
       (ap (λ results. replies_telling s results answers) (chain-tells s answers legal.0) ∙ tells s answers legal.0)
   tells s (StillLive ∷ answers) legal = ap (λ l. l ++ answer_text Replies StillLive) (tells s answers legal.0)
 
-  serial-text : (run : Execution) (later : List (List ℕ)) (ending : Ending) (out : List ℕ) (end : End)
-      → RunOutput Replies run later ending out end → IsSerialText run out end
-  serial-text run later ending out end output = record {
+  serial-text : (run : Execution) (n : ℕ) (later : List (List ℕ)) (ending : Ending) (out : List ℕ) (end : End)
+      → RunOutput Replies run n later ending out end → IsSerialText run out end
+  serial-text run n later ending out end output = record {
     last = output.last;
     closing = closing-same Replies _ _ end output.last (chain-leaves run.setting run.answers output.legal) output.closing;
     text = output.text ∙ ap (λ l. l ++ output.last) (sym (tells run.setting run.answers output.legal)
@@ -185,7 +186,7 @@ module _ (headline : HeadlineHolds) where
         → Opened w l ls ending run out end → InEachPart (parts_of run.setting run.answers)
     parts-laws w l ls ending run out end s =
         let rules = ap (λ (t : Setting). t.rules) s.setting in
-        let values = subst (λ (t : Setting). HoldValues t.opening) (sym s.setting) (opened 1 l s.opening s.opens) in
+        let values = subst (λ (t : Setting). HoldValues t.opening) (sym s.setting) (opened 1 l (leading_records ls) s.opening s.opens) in
         let others = s.opening.procedures.items in
         let limits = s.opening.limits in (
           part-laws others limits run.setting run.answers rules values s.output.legal,
@@ -199,7 +200,7 @@ module _ (headline : HeadlineHolds) where
     run-laws (l ∷ ls) ending None out end s = tt
     run-laws (l ∷ ls) ending (Some run) out end s = record {
       parts = parts-laws Replies l ls ending run out end s;
-      written = serial-text run ls ending out end s.output;
+      written = serial-text run (number_behind ls) (behind_records ls) ending out end s.output;
     }
 
     -- what a run wrote, with its laws beside it
@@ -239,7 +240,7 @@ module _ (headline : HeadlineHolds) where
           textbook-laws run.setting run.answers s.output.legal,
           cut-textbooks run.setting run.answers s.output.legal,
         );
-        written = transcribed-run run ls ending out end s.output;
+        written = transcribed-run run (number_behind ls) (behind_records ls) ending out end s.output;
         spelled = spell;
       }
 

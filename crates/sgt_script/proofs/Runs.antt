@@ -1,9 +1,9 @@
 -- Laws of a script's run from its first line.
-use Rattle.std.proofs.Common.{◌≡◌, ◌≢◌, ℕ, List, [], refl, ap, sym, ◌∙◌, append-nil, subst}
+use Rattle.std.proofs.Common.{◌≡◌, ◌≢◌, ℕ, List, [], refl, ap, sym, ◌∙◌, append-nil, subst, inl, inr}
 use Rattle.std.specs.Prelude.{Option, None, Some, IfSome}
 use Rattle.std.specs.Io.KnownBytes.{Appends}
 use Rattle.sgt_model.specs.Settings.{Setting}
-use Rattle.sgt_format.specs.Openings.{Opens, Refuses}
+use Rattle.sgt_format.specs.Openings.{Refuses}
 use Rattle.sgt_format.specs.declared.opening.Opening.{Opening}
 use Rattle.sgt_format.specs.declared.errors.OpeningError.{OpeningError}
 use Rattle.sgt_format.specs.declared.errors.OpeningError.TheVariants as opening_error
@@ -13,6 +13,7 @@ use Rattle.sgt_stream.specs.Ends.{End, no_opening, fault_of_opening, IsExact}
 use Rattle.sgt_script.specs.declared.telling.Telling.{Telling}
 use Rattle.sgt_script.specs.Scripts.{Execution, Script, ScriptOf, RunOutput}
 use Rattle.sgt_program.specs.Openings.{opened_setting}
+use Rattle.sgt_stream.proofs.Begun.{Begun, HasBadRecord}
 use Rattle.sgt_script.proofs.Answers.{Output}
 use Rattle.sgt_stream.specs.declared.fault.Fault.{Fault}
 use Rattle.sgt_stream.specs.declared.fault.Fault.TheVariants as fault
@@ -55,31 +56,43 @@ wrote-refused w i (Some bytes) held line (Some c) e r start gives refuses known 
       [],
       appends-none held,
       subst (λ (ls : List (List ℕ)). ScriptOf w ls (cut bytes).ending None [] r) (sym gives'.0)
-          (record { error = e; refuses = refuses; known = known; nothing = refl; end_is = is }),
+          (inl (record { error = e; refuses = refuses; known = known; nothing = refl; end_is = is })),
     )
 
--- line 1 opens
-pub wrote-opened : (w : Telling) (i : Intake) (s : Setting) (rest held held' : Option (List ℕ)) (line : List ℕ) (new : Option Cut) (o : Opening)
-    (r : End) → i ≡ before_input → Gives (cut_left i rest) line new → Opens 1 line o → s ≡ opened_setting o
-    → Output w s new held held' r → Wrote w rest held held' r
-wrote-opened w i s None held held' line new o r start gives opens is output = tt
-wrote-opened w i s (Some bytes) held held' line None o r start gives opens is output =
-    absurd (subst (λ (j : Intake). Gives (cut_left j (Some bytes)) line None) start gives)
-wrote-opened w i s (Some bytes) held held' line (Some c) o r start gives opens is (run, from, out, wrote, output) =
-    let gives' : Gives (cut_left before_input (Some bytes)) line (Some c) =
-    subst (λ (j : Intake). Gives (cut_left j (Some bytes)) line (Some c)) start gives in (
-      Some run,
-      out,
-      wrote,
-      subst (λ (ls : List (List ℕ)). ScriptOf w ls (cut bytes).ending (Some run) out r) (sym gives'.0)
-          (record {
-            opening = o;
-            opens = opens;
-            setting = from ∙ is;
-            output = subst (λ (e : Ending). RunOutput w run c.given e out r)
-                (sym gives'.1) output;
-          }),
-    )
+-- a record line behind line 1 can't be put
+pub wrote-bad-record : (w : Telling) (rest held : Option (List ℕ)) (line : List ℕ) (f : Fault) (r : End) → HasBadRecord 1 rest line f
+    → r ≡ Err f → Wrote w rest held held r
+wrote-bad-record w None held line f r refused is = tt
+wrote-bad-record w (Some bytes) held line f r (later, given, bad, refuses, fault-is) is = (
+  None,
+  [],
+  appends-none held,
+  subst (λ (ls : List (List ℕ)). ScriptOf w ls (cut bytes).ending None [] r) (sym given)
+      (inr (record { bad = bad; refuses = refuses; nothing = refl; end_is = is ∙ ap (λ (g : Fault). Err g) fault-is })),
+)
+
+-- the same lines from the same number on
+pub output-same : (w : Telling) (run : Execution) (m n : ℕ) (ls ls' : List (List ℕ)) (e e' : Ending) (out : List ℕ) (end : End)
+    → m ≡ n → ls ≡ ls' → e ≡ e' → RunOutput w run n ls' e' out end → RunOutput w run m ls e out end
+output-same w run m n ls ls' e e' out end number lines ending output = rw (number, lines, ending) output
+
+-- they open
+pub wrote-opened : (w : Telling) (s : Setting) (rest held held' : Option (List ℕ)) (line : List ℕ) (n : ℕ) (new : Option Cut) (o : Opening)
+    (r : End) → Begun 1 rest line o n new → s ≡ opened_setting o → Output w s n new held held' r → Wrote w rest held held' r
+wrote-opened w s None held held' line n new o r begun is output = tt
+wrote-opened w s (Some bytes) held held' line n None o r begun is output = absurd begun
+wrote-opened w s (Some bytes) held held' line n (Some c) o r begun is (run, from, out, wrote, output) = (
+  Some run,
+  out,
+  wrote,
+  subst (λ (ls : List (List ℕ)). ScriptOf w ls (cut bytes).ending (Some run) out r) (sym begun.given)
+      (record {
+        opening = o;
+        opens = begun.opens;
+        setting = from ∙ is;
+        output = output-same w run _ n _ c.given _ c.ending out r begun.number begun.left begun.ending output;
+      }),
+)
 
 -- line 1 is too long, or the input is
 wrote-fault : (w : Telling) (i : Intake) (rest held : Option (List ℕ)) (f : Fault) → i ≡ before_input → Explains f i.number (cut_left i rest)
@@ -94,6 +107,7 @@ wrote-fault w i rest held fault.NoMemory start explained exact = absurd exact
 wrote-fault w i rest held fault.NoOpening start explained exact = absurd explained
 wrote-fault w i rest held (fault.NotJson n) start explained exact = absurd explained
 wrote-fault w i rest held (fault.BadLine n) start explained exact = absurd explained
+wrote-fault w i rest held (fault.BadRecord n) start explained exact = absurd explained
 wrote-fault w i rest held fault.BadLimits start explained exact = absurd explained
 wrote-fault w i rest held (fault.BadOpening k) start explained exact = absurd explained
 wrote-fault w i rest held (fault.ProcShape n place) start explained exact = absurd explained

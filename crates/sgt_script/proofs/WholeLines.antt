@@ -1,17 +1,18 @@
 -- Laws of bytes that are read line by line: the whole lines among them, and what these ask for.
 use Rattle.std.proofs.Common.{◌≡◌, ℕ, ◌+◌, false, List, [], ◌∷◌, ◌++◌, length, refl, ap, sym, ◌∙◌, append_assoc, append-nil, subst, arith}
 use Rattle.std.proofs.lemmas.List.{length-append}
-use Rattle.std.specs.Prelude.{Result, Option, None, Some, Ok, Err}
+use Rattle.std.specs.Prelude.{Result, Option, None, Some, ⊤, Ok, Err}
 use Rattle.std.specs.Io.KnownBytes.{Consumes, Keeps, prepend_known}
 use Rattle.sgt_stream.specs.declared.fault.Fault.{Fault}
 use Rattle.sgt_stream.specs.Lines.{AtEnd, has_break, whole_lines}
-use Rattle.sgt_stream.specs.Intake.{Intake, before_input, bytes_left, taken}
+use Rattle.sgt_stream.specs.Intake.{Intake, NoLineCame, before_input, bytes_left, taken}
+use Rattle.sgt_stream.specs.Records.{Passes, ReadsRecords}
 use Rattle.sgt_stream.specs.Ends.{End}
 use Rattle.sgt_stream.specs.Spelled.{and_later, or_later, spelled, end_of}
 use Rattle.sgt_stream.proofs.Cuts.{whole_lines-first}
 use Rattle.sgt_script.specs.Parts.{Answer, asked}
 use Rattle.sgt_script.specs.Scripts.{script_line_at}
-use Rattle.sgt_script.specs.Answering.{AreAnswered, AnswersRead, AreLaterAnswered, AnswersScriptRead, NoLineCame}
+use Rattle.sgt_script.specs.Answering.{AreAnswered, AnswersRead, AreBehindRecords, AreLaterAnswered, AnswersScriptRead}
 use Rattle.sgt_script.proofs.Answers.{lines_of-answer}
 
 -- one more line behind lines that all spell something
@@ -123,22 +124,61 @@ read-nothing i i' (Some bytes) rest' start none =
       subst (λ (ls : List (List ℕ)). AreLaterAnswered ls []) (sym none.1) refl,
     )
 
--- behind an opening
-pub read-opened : (i i' : Intake) (rest rest' to : Option (List ℕ)) (answers : List Answer) → i ≡ before_input
-    → Consumes (bytes_left i rest) (bytes_left i' rest') (taken i') → has_break i'.line ≡ false → i'.ended ≡ false
-    → AnswersRead 2 (bytes_left i' rest') to answers → AnswersScriptRead rest to answers
-read-opened i i' None rest' to answers start took unbroken going (read, then, events) = (
-  i'.line ++ 10 ∷ read,
-  tt,
-  subst (λ (ls : List (List ℕ)). AreLaterAnswered ls answers) (sym (whole_lines-first i'.line read unbroken)) events,
-)
-read-opened i i' (Some bytes) rest' to answers start took unbroken going (read, then, events) =
-    let left : bytes_left i (Some bytes) ≡ Some bytes = ap (λ (j : Intake). bytes_left j (Some bytes)) start in
-    let line : taken i' ≡ i'.line ++ 10 ∷ [] = rw going refl in (
+-- known bytes were read whose whole lines are record lines and lines that got these answers
+abbrev pub AnswersBehind : Option (List ℕ) → Option (List ℕ) → List Answer → Type 0
+AnswersBehind None to answers = ⊤
+AnswersBehind (Some old) to answers = (read : List ℕ) × Consumes (Some old) to read × AreBehindRecords (whole_lines read) answers
+
+-- behind line 1
+pub read-opened : (i i' : Intake) (bytes : List ℕ) (rest' to : Option (List ℕ)) (answers : List Answer) → i ≡ before_input
+    → Consumes (bytes_left i (Some bytes)) (bytes_left i' rest') (taken i') → has_break i'.line ≡ false → i'.ended ≡ false
+    → AnswersBehind (bytes_left i' rest') to answers → AnswersScriptRead (Some bytes) to answers
+read-opened i i' bytes rest' to answers start took unbroken going behind =
+    go (bytes_left i' rest') (subst (Consumes (Some bytes) (bytes_left i' rest')) line
+    (subst (λ (k : Option (List ℕ)). Consumes k (bytes_left i' rest') (taken i')) left took)) behind
+  where
+    left : bytes_left i (Some bytes) ≡ Some bytes
+    left = ap (λ (j : Intake). bytes_left j (Some bytes)) start
+
+    line : taken i' ≡ i'.line ++ 10 ∷ []
+    line = rw going refl
+
+    go : (mid : Option (List ℕ)) → Consumes (Some bytes) mid (i'.line ++ 10 ∷ []) → AnswersBehind mid to answers
+        → AnswersScriptRead (Some bytes) to answers
+    go None consumed answered = absurd consumed
+    go (Some mid) consumed (read, then, events) = (
       i'.line ++ 10 ∷ read,
       subst (Consumes (Some bytes) to) (append_assoc i'.line (10 ∷ []) read)
-          (consumes-trans (Some bytes) (bytes_left i' rest') to (i'.line ++ 10 ∷ []) read
-          (subst (Consumes (Some bytes) (bytes_left i' rest')) line
-          (subst (λ (k : Option (List ℕ)). Consumes k (bytes_left i' rest') (taken i')) left took)) then),
+          (consumes-trans (Some bytes) (Some mid) to (i'.line ++ 10 ∷ []) read consumed then),
       subst (λ (ls : List (List ℕ)). AreLaterAnswered ls answers) (sym (whole_lines-first i'.line read unbroken)) events,
     )
+
+-- record lines alone were read
+pub only-records : (old to : Option (List ℕ)) → ReadsRecords old to → AnswersBehind old to []
+only-records None to reads = tt
+only-records (Some old) None reads = absurd reads
+only-records (Some old) (Some now) (read, bytes, are) = (
+  read,
+  bytes,
+  record { records = whole_lines read; others = []; parts = sym (append-nil (whole_lines read)); are = are; answered = (refl, refl) },
+)
+
+-- behind record lines others were
+pub behind-records : (old mid to : Option (List ℕ)) (n m : ℕ) (answers : List Answer) → n ≡ 1 → Passes n old m mid
+    → AnswersRead (m + 1) mid to answers → AnswersBehind old to answers
+behind-records None mid to n m answers one passes read = tt
+behind-records (Some old) None to n m answers one passes read = absurd passes
+behind-records (Some old) (Some mid) to n m answers one passed (read, then, events) = (
+  passed.read ++ read,
+  consumes-trans (Some old) (Some mid) to passed.read read passed.bytes then,
+  record {
+    records = passed.lines;
+    others = whole_lines read;
+    parts = passed.whole read;
+    are = passed.are;
+    answered = subst (λ k. AreAnswered k (whole_lines read) answers) count events;
+  },
+)
+  where
+    count : m + 1 ≡ 2 + length passed.lines
+    count = omega (arith, one, passed.number)

@@ -1,10 +1,10 @@
 -- How far the lines of a script are answered.
-use Rattle.std.specs.Prelude.{◌≡◌, ℕ, ⊤, false, List, [], ◌∷◌, ◌++◌, Option, None, Some, Ok}
-use Rattle.std.specs.Io.KnownBytes.{Appends, Consumes, Keeps}
+use Rattle.std.specs.Prelude.{◌≡◌, ℕ, ◌+◌, ⊤, List, [], ◌∷◌, ◌++◌, length, Option, None, Some, Ok}
+use Rattle.std.specs.Io.KnownBytes.{Appends, Consumes}
 use Rattle.sgt_model.specs.Settings.{Setting}
+use Rattle.sgt_format.specs.FilledOpenings.{AreRecordLines}
 use Rattle.sgt_format.specs.declared.script_line.ScriptLine.{ScriptLine}
 use Rattle.sgt_stream.specs.Lines.{Cut, AtEnd, whole_lines}
-use Rattle.sgt_stream.specs.Intake.{Intake, bytes_left}
 use Rattle.sgt_stream.specs.Ends.{End}
 use Rattle.sgt_stream.specs.Spelled.{spelled, end_of}
 use Rattle.sgt_script.specs.declared.telling.Telling.{Telling}
@@ -35,18 +35,22 @@ AreAnswered n ls answers = (spelled script_line_at n ls ≡ lines_of answers) ×
 abbrev pub AnswersRead : ℕ → Option (List ℕ) → Option (List ℕ) → List Answer → Type 0
 AnswersRead n old new answers = (read : List ℕ) × Consumes old new read × AreAnswered n (whole_lines read) answers
 
--- of these whole lines of a script, those behind line 1 got these answers
+-- these lines are record lines, from number 2 on, and those behind them got these answers
+pub record AreBehindRecords (later : List (List ℕ)) (answers : List Answer) : Type 0 where
+  pub records : List (List ℕ)
+  pub others : List (List ℕ)
+  pub parts : later ≡ records ++ others
+  pub are : AreRecordLines records
+  pub answered : AreAnswered (2 + length records) others answers
+
+-- of these whole lines of a script, those behind line 1 and its record lines got these answers
 abbrev pub AreLaterAnswered : List (List ℕ) → List Answer → Type 0
 AreLaterAnswered [] answers = answers ≡ []
-AreLaterAnswered (line ∷ later) answers = AreAnswered 2 later answers
+AreLaterAnswered (line ∷ later) answers = AreBehindRecords later answers
 
 -- of a script these bytes were read, and their whole lines got these answers
 abbrev pub AnswersScriptRead : Option (List ℕ) → Option (List ℕ) → List Answer → Type 0
 AnswersScriptRead old new answers = (read : List ℕ) × Consumes old new read × AreLaterAnswered (whole_lines read) answers
-
--- no line came: the bytes left are as they were, the source has not ended, and no whole line is held
-abbrev pub NoLineCame : Intake → Option (List ℕ) → Intake → Option (List ℕ) → Type 0
-NoLineCame i rest i' rest' = Keeps (bytes_left i rest) (bytes_left i' rest') × (whole_lines i'.held ≡ []) × (i'.ended ≡ false)
 
 -- what a line asks for was answered: the present part has become the one behind that answer, whose text was added
 pub record AnswersLine (w : Telling) (line : ScriptLine) (old new : Part) (before after : List ℕ) : Type 0 where

@@ -30,13 +30,13 @@ pub record Begins (Whole : Wholes) (answered : List Answer) (out : List ℕ) : T
   pub end : End
   pub whole : Whole run (out ++ rest) end
 
--- the whole runs of a script over these bytes, whose line 1 opens
+-- the whole runs of a script over these bytes, which open
 abbrev pub ScriptRuns : Telling → List ℕ → Wholes
 ScriptRuns w bytes run out end = Script w bytes (Some run) out end
 
--- the whole runs behind an opening, over these lines
-abbrev pub LineRuns : Telling → Setting → Cut → Wholes
-LineRuns w s c run out end = (run.setting ≡ s) × RunOutput w run c.given c.ending out end
+-- the whole runs behind an opening, over these lines, from number n on
+abbrev pub LineRuns : Telling → Setting → ℕ → Cut → Wholes
+LineRuns w s n c run out end = (run.setting ≡ s) × RunOutput w run n c.given c.ending out end
 
 -- these bytes are written; where not all of them could be, the first are, and the fault is that and not this one
 abbrev pub WritesAt : Fault → Fault → Option (List ℕ) → Option (List ℕ) → List ℕ → Type 0

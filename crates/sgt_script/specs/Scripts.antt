@@ -1,11 +1,12 @@
 -- What the run of a script writes, and how it ends.
-use Rattle.std.specs.Prelude.{◌≡◌, ◌≢◌, ℕ, List, [], ◌∷◌, ◌++◌, Option, None, Some, Result, Ok, Err}
+use Rattle.std.specs.Prelude.{◌≡◌, ◌≢◌, ℕ, List, [], ◌∷◌, ◌++◌, ◌⊎◌, Option, None, Some, Result, Ok, Err}
 use Rattle.sgt_model.specs.Contents.{Key, Contents}
 use Rattle.sgt_model.specs.Databases.{Row, IsByKey, contents_of}
 use Rattle.sgt_model.specs.Settings.{Setting}
 use Rattle.sgt_format.specs.ScriptLines.{script_line_of}
 use Rattle.sgt_format.specs.declared.script_line.ScriptLine.{ScriptLine}
-use Rattle.sgt_format.specs.Openings.{Opens, Refuses}
+use Rattle.sgt_format.specs.Openings.{Refuses}
+use Rattle.sgt_format.specs.FilledOpenings.{OpensWith, RefusesRecord, behind_records, leading_records, number_behind}
 use Rattle.sgt_format.specs.DatabaseText.{database_text}
 use Rattle.sgt_format.specs.RecordText.{record_lines}
 use Rattle.sgt_format.specs.declared.opening.Opening.{Opening}
@@ -13,6 +14,7 @@ use Rattle.sgt_format.specs.declared.errors.OpeningError.{OpeningError}
 use Rattle.sgt_format.specs.declared.errors.OpeningError.TheVariants as opening_error
 use Rattle.sgt_program.specs.Openings.{opened_setting}
 use Rattle.sgt_stream.specs.declared.fault.Fault.{Fault}
+use Rattle.sgt_stream.specs.declared.fault.Fault.TheVariants as fault
 use Rattle.sgt_stream.specs.Lines.{Ending, cut}
 use Rattle.sgt_stream.specs.Ends.{End, fault_of_opening, no_opening}
 use Rattle.sgt_stream.specs.Spelled.{at_line, spelled, end_of}
@@ -41,22 +43,22 @@ pub record Execution : Type 0 where
   pub setting : Setting
   pub answers : List Answer
 
--- what a run over these lines behind the opening writes: the text of legal answers to them, and the closing text, of what the
--- last part leaves
-pub record RunOutput (w : Telling) (run : Execution) (later : List (List ℕ)) (ending : Ending) (out : List ℕ) (end : End) : Type 0 where
+-- what a run over these lines behind the opening, from number n on, writes: the text of legal answers to them, and the closing
+-- text, of what the last part leaves
+pub record RunOutput (w : Telling) (run : Execution) (n : ℕ) (later : List (List ℕ)) (ending : Ending) (out : List ℕ) (end : End) : Type 0 where
   pub last : List ℕ
   pub legal : LegalRun run.setting run.answers
-  pub lines_are : lines_of run.answers ≡ spelled script_line_at 2 later
-  pub end_is : end ≡ end_of script_line_at 2 later ending
+  pub lines_are : lines_of run.answers ≡ spelled script_line_at n later
+  pub end_is : end ≡ end_of script_line_at n later ending
   pub closing : Closing w (left_by (part_of run.setting run.answers)) end last
   pub text : out ≡ answers_text w run.answers ++ last
 
--- line 1 is an opening, and the later lines are answered
+-- line 1 and the record lines behind it are an opening, and the lines behind those are answered
 pub record Opened (w : Telling) (line : List ℕ) (later : List (List ℕ)) (ending : Ending) (run : Execution) (out : List ℕ) (end : End) : Type 0 where
   pub opening : Opening
-  pub opens : Opens 1 line opening
+  pub opens : OpensWith 1 line (leading_records later) opening
   pub setting : run.setting ≡ opened_setting opening
-  pub output : RunOutput w run later ending out end
+  pub output : RunOutput w run (number_behind later) (behind_records later) ending out end
 
 -- line 1 is refused as an opening
 pub record Refused (line out : List ℕ) (end : End) : Type 0 where
@@ -66,15 +68,22 @@ pub record Refused (line out : List ℕ) (end : End) : Type 0 where
   pub nothing : out ≡ []
   pub end_is : end ≡ Err (fault_of_opening error)
 
+-- line 1 is an opening, and a record line behind it can't be put
+pub record RefusedRecord (line : List ℕ) (later : List (List ℕ)) (out : List ℕ) (end : End) : Type 0 where
+  pub bad : ℕ
+  pub refuses : RefusesRecord 1 line (leading_records later) bad
+  pub nothing : out ≡ []
+  pub end_is : end ≡ Err (fault.BadRecord bad)
+
 -- there is no line 1, and nothing is written
 abbrev pub Unopened : Ending → List ℕ → End → Type 0
 Unopened ending out end = (out ≡ []) × (end ≡ no_opening ending)
 
--- what a run over these lines writes: with an execution where line 1 opens, and without one where it does not
+-- what a run over these lines writes: with an execution where they open, and without one where they do not
 abbrev pub ScriptOf : Telling → List (List ℕ) → Ending → Option Execution → List ℕ → End → Type 0
 ScriptOf w [] ending None out end = Unopened ending out end
 ScriptOf w [] ending (Some run) out end = ⊥
-ScriptOf w (line ∷ later) ending None out end = Refused line out end
+ScriptOf w (line ∷ later) ending None out end = Refused line out end ⊎ RefusedRecord line later out end
 ScriptOf w (line ∷ later) ending (Some run) out end = Opened w line later ending run out end
 
 -- what a script's run over these bytes writes, and how it ends

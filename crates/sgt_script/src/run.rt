@@ -19,8 +19,8 @@ use sgt_textbook::{legal_are_commit_ordered, legal_are_recoverable, legal_are_se
 use sgt_transcript::transcripts_spell_textbooks;
 use std::alloc::Global;
 
-/// Runs a script on the program's engine: line 1 opens, each later line is an event, or asks for the history to be cut off, and
-/// is answered, and the committed database comes last. Of each part between cuts the headline holds; and run one after another in
+/// Runs a script on the program's engine: line 1 opens, the record lines behind it put records into the opening database, each
+/// later line is an event, or asks for the history to be cut off, and is answered, and the committed database comes last. Of each part between cuts the headline holds; and run one after another in
 /// commit order, the committed transactions' procedures of all parts give the answers in their `committed` lines, and leave the
 /// database that is written. Each of SmallBank's procedures among them did what the bank's arithmetic says, on what those
 /// committed before it left.

@@ -4,11 +4,11 @@ ghost use Rattle.sgt_model.specs.declared.entry.Entry.{Entry as Filed};
 ghost use Rattle.sgt_model.specs.Legality.{Legal};
 ghost use Rattle.sgt_engine.specs.EngineView.{setting_of};
 ghost use Rattle.sgt_stream.specs.Lines.{has_break};
-ghost use Rattle.sgt_stream.specs.Intake.{bytes_left, come, cut_left, has_whole_line, taken};
+ghost use Rattle.sgt_stream.specs.Intake.{NoLineCame, bytes_left, come, cut_left, has_whole_line, taken};
 ghost use Rattle.sgt_stream.specs.Ends.{IsOfInput, IsExact};
 ghost use Rattle.sgt_script.specs.Parts.{Answer, Replied, StillLive, WasCut, answer_text, answers_text, left_by, part_at, part_of};
 ghost use Rattle.sgt_script.specs.Scripts.{Execution, Last, RunOutput, Script, script_line_at};
-ghost use Rattle.sgt_script.specs.Answering.{AnswersAll, AnswersLine, AnswersRead, AnswersScriptRead, AnswersSome, BeginWith, NoLine, NoLineCame};
+ghost use Rattle.sgt_script.specs.Answering.{AnswersAll, AnswersLine, AnswersRead, AnswersScriptRead, AnswersSome, BeginWith, NoLine};
 ghost use Rattle.sgt_script.specs.Beginnings.{AppendsPart, Begins, IsStop, LineRuns, ScriptRuns, WritesAt};
 
 use crate::explain::Explains;
@@ -21,7 +21,7 @@ use sgt_format::{
 };
 use sgt_model::{Entry, Event, NoMemory, histories_go_on, some_reply_is_legal};
 use sgt_program::{SgtEngine, open_engine};
-use sgt_stream::{Fault, Lines, Sink, Source, at_line, opening_of, write_all};
+use sgt_stream::{Fault, Lines, Sink, Source, at_line, opening_of, read_records, write_all};
 use sgt_transcript::{append_cut_comment, append_operations};
 use std::alloc::Global;
 
@@ -278,7 +278,7 @@ fn answer_lines<S: Source, T: Sink, X: Explains>(
     }
 }
 
-/// Runs a script behind its opening, which was line 1: answers each line, and writes the committed database at the end.
+/// Runs a script behind its opening: answers each line, and writes the committed database at the end.
 ///
 /// # Errors
 ///
@@ -298,22 +298,21 @@ pub(crate) fn run_opened<S: Source, T: Sink, X: Explains>(
     requires reading { S.failures source.old + 1 < 2 ^ 64 }
     requires writing { T.failures sink.old + 1 < 2 ^ 64 }
     requires fresh { engine.past ≡ [] }
-    requires second { lines.old.number ≡ 1 }
     requires few { come lines.old ≤ 16777217 }
     ensures output { IsExact result → IfSome (cut_left lines.old (S.rest source.old)) (λ c.
         (run : Execution) × (run.setting ≡ setting_of engine)
         × (out : List ℕ) × Appends (T.held sink.old) (T.held sink.new) out
-        × RunOutput telling run c.given c.ending out result) }
+        × RunOutput telling run (lines.old.number + 1) c.given c.ending out result) }
     ensures stops { IsStop result → IfSome (cut_left lines.old (S.rest source.old)) (λ c.
         (answered : List Answer) × Appends (T.held sink.old) (T.held sink.new) (answers_text telling answered)
-        × Begins (LineRuns telling (setting_of engine) c) answered (answers_text telling answered)
-        × (result ≡ Err Fault.Reading → AnswersRead 2
+        × Begins (LineRuns telling (setting_of engine) (lines.old.number + 1) c) answered (answers_text telling answered)
+        × (result ≡ Err Fault.Reading → AnswersRead (lines.old.number + 1)
         (bytes_left lines.old (S.rest source.old)) (S.rest source.new) answered)) }
     ensures going { result ≡ Err Fault.Reading → lines.old.ended ≡ false }
     ensures part { result ≡ Err Fault.Writing →
         IfSome (cut_left lines.old (S.rest source.old)) (λ c.
         (answered : List Answer) × (out : List ℕ) × Appends (T.held sink.old) (T.held sink.new) out
-        × Begins (LineRuns telling (setting_of engine) c) answered out) }
+        × Begins (LineRuns telling (setting_of engine) (lines.old.number + 1) c) answered out) }
     ensures bounded { S.given source.new + come lines.old ≤ S.given source.old + 16777217 }
     ensures read_well { IsExact result → S.failures source.new ≡ S.failures source.old }
     ensures read_failed { result ≡ Err Fault.Reading →
@@ -332,7 +331,8 @@ pub(crate) fn run_opened<S: Source, T: Sink, X: Explains>(
     flush(sink, &mut text)
 }
 
-/// Runs a script: line 1 opens, each later line is an event or a cut and is answered, and the committed database comes last.
+/// Runs a script: line 1 opens and the record lines behind it fill the database, each later line is an event or a cut and is
+/// answered, and the committed database comes last.
 ///
 /// # Errors
 ///
@@ -374,6 +374,7 @@ pub(crate) fn run_with<S: Source, T: Sink, X: Explains>(
     }
     let opening = opening_of(alloc, 1, &lines)?;
     explains.opened(&lines);
+    let opening = read_records(alloc, &mut lines, source, opening)?;
     let engine = open_engine(alloc, opening)?;
     run_opened(alloc, &mut lines, source, sink, engine, telling, explains)
 }

@@ -1,10 +1,10 @@
 -- Where the cutting of a source's bytes into lines stands.
 use Rattle.std.specs.Prelude.{◌≡◌, ℕ, ◌+◌, ◌-◌, ◌<◌, ◌≤◌, ◌⊎◌, Bool, true, false, ⊤, if◌then◌else◌, List, [], ◌∷◌, ◌++◌, length, take, Option, None, Some, IfSome, IsTrue}
 use Rattle.std.specs.Option.{option_map}
-use Rattle.std.specs.Io.KnownBytes.{prepend_known}
+use Rattle.std.specs.Io.KnownBytes.{Keeps, prepend_known}
 use Rattle.sgt_stream.specs.declared.fault.Fault.{Fault}
 use Rattle.sgt_stream.specs.declared.fault.Fault.TheVariants.{LongLine, TooLong, Reading}
-use Rattle.sgt_stream.specs.Lines.{Cut, cut_within, has_break, IsBreak, Ending, AtLongLine, AtLimit}
+use Rattle.sgt_stream.specs.Lines.{Cut, cut_within, has_break, whole_lines, IsBreak, Ending, AtLongLine, AtLimit}
 
 -- the line given last; how many were given; the bytes that have come of lines not given yet; how many of the bytes to come in
 -- lines are within the input's limit; and whether the source has ended
@@ -85,3 +85,7 @@ Explains (LongLine n) given known = (n ≡ given + 1) × EndsAs AtLongLine known
 Explains TooLong given known = EndsAs AtLimit known
 Explains Reading given known = ⊤
 Explains _ given known = ⊥
+
+-- no line came: the bytes left are as they were, the source has not ended, and no whole line is held
+abbrev pub NoLineCame : Intake → Option (List ℕ) → Intake → Option (List ℕ) → Type 0
+NoLineCame i rest i' rest' = Keeps (bytes_left i rest) (bytes_left i' rest') × (whole_lines i'.held ≡ []) × (i'.ended ≡ false)

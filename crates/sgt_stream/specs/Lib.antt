@@ -3,3 +3,4 @@ pub mod Buffers
 pub mod Intake
 pub mod Ends
 pub mod Spelled
+pub mod Records

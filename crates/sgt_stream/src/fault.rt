@@ -16,6 +16,9 @@ pub enum Fault {
     /// The line's JSON text is no opening, or no event.
     #[error("line {0}: bad line")]
     BadLine(u64),
+    /// The line puts a record whose key or value is out of range, or whose key has a value already.
+    #[error("line {0}: bad record")]
+    BadRecord(u64),
     /// A limit of the opening is out of its range.
     #[error("line 1: bad limits")]
     BadLimits,

@@ -4,8 +4,9 @@
 //! A reader is a [`Source`] and a writer a [`Sink`], two small traits with bodies over any `Read` and `Write`, that count
 //! their failed calls; a source counts the bytes that it gives, too. [`Lines`] cuts what a source gives into lines within the
 //! limits, and keeps a piece of fixed size, however long the input is. `specs/Lines.antt` says what the lines of a text are.
-//! [`opening_of`] takes a line as the opening of a run. What a line spells is said in `sgt_format`; `specs/Spelled.antt` says
-//! what lines spell one after another, up to the first bad one, whatever reads a line.
+//! [`opening_of`] takes a line as the opening of a run, and [`read_records`] puts the records of the lines behind it into that. What a
+//! line spells is said in `sgt_format`; `specs/Spelled.antt` says what lines spell one after another, up to the first bad one,
+//! whatever reads a line.
 //!
 //! ```
 //! let mut source = Reader::new(rt.reader());
@@ -22,6 +23,7 @@ mod fault;
 mod lines;
 mod misfit;
 mod opening;
+mod records;
 mod sink;
 mod source;
 
@@ -30,5 +32,6 @@ pub use fault::Fault;
 pub use lines::Lines;
 pub use misfit::Misfit;
 pub use opening::opening_of;
+pub use records::read_records;
 pub use sink::{Sink, Writer, write_all};
 pub use source::{Failed, Reader, Source};

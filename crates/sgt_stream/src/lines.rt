@@ -1,7 +1,7 @@
-ghost use Rattle.std.specs.Prelude.{◌≡◌, ◌≢◌, ℕ, if◌then◌else◌, IsTrue, IsFalse, true, false, IfOk, IfErr, OnOk, OnErr, OnSome, None, Some, min, [], ◌++◌, ◌+◌, ◌-◌, ◌^◌, ◌<◌, ◌≤◌, ◌↔◌, length, take, drop};
+ghost use Rattle.std.specs.Prelude.{◌≡◌, ◌≢◌, ℕ, if◌then◌else◌, IsTrue, IsFalse, true, false, IfOk, IfErr, OnOk, OnErr, OnSome, None, Some, min, [], ◌++◌, ◌+◌, ◌-◌, ◌^◌, ◌<◌, ◌≤◌, ◌↔◌, ◌⊎◌, IfSome, IsNone, length, take, drop};
 ghost use Rattle.std.specs.Io.KnownBytes.{Consumes, Keeps};
 ghost use Rattle.sgt_stream.specs.Lines.{has_break, whole_lines, IsBreak, AtEnd};
-ghost use Rattle.sgt_stream.specs.Intake.{before_input, has_whole_line, bytes_left, work, IsReady, IsGiven, IsLong, cut_left, Gives, EndsAs, Explains, taken, come};
+ghost use Rattle.sgt_stream.specs.Intake.{Intake, before_input, has_whole_line, bytes_left, work, IsReady, IsGiven, IsLong, cut_left, Gives, EndsAs, Explains, taken, come};
 
 use crate::buffer::Buffer;
 use crate::fault::Fault;
@@ -171,8 +171,12 @@ impl Lines {
         Ok(())
     }
 
-    /// Reads until the whole of the next line has come, or the source has ended.
-    fn fill<S: Source>(&mut self, source: &mut S) -> Result<(), Fault>
+    /// Reads until the whole of the next line has come, or the source has ended. It gives no line.
+    ///
+    /// # Errors
+    ///
+    /// `LongLine`, `TooLong` and `Reading`, as `next_line` does.
+    pub fn fill<S: Source>(&mut self, source: &mut S) -> Result<(), Fault>
         requires { S.failures source.old + 1 < 2 ^ 64 }
         ensures number { self.new.number ≡ self.old.number }
         ensures within { self.new.within ≡ self.old.within }
@@ -205,6 +209,31 @@ impl Lines {
             }
         }
         Ok(())
+    }
+
+    /// The next line, which has come, without its byte 10: `next_line` gives it. None where it is too long, or there is none.
+    pub fn ahead(&self) -> Option<&[u8]>
+        requires { IsReady self.now }
+        ensures line { IfSome result (λ line.
+            (k : Intake) × IsGiven self.now k × (k.line ≡ line.now)) }
+        ensures none { IsNone result → IsLong self.now
+            ⊎ ((self.now.held ≡ []) × (self.now.ended ≡ true)) }
+    {
+        let held = self.buffer.held();
+        match self.found {
+            Some(len) => {
+                if len > LONGEST_LINE {
+                    return None;
+                }
+                Some(&held[..len])
+            }
+            None => {
+                if held.is_empty() {
+                    return None;
+                }
+                Some(held)
+            }
+        }
     }
 
     /// Gives the next line, which has come, or none.

@@ -9,50 +9,50 @@ use Rattle.sgt_script.proofs.script.run_opened.Goals as goal
 
 pub returns-in_err-answer_lines-clause-output : goal.returns-in_err-answer_lines-clause-output
 returns-in_err-answer_lines-clause-output g c = λ exact.
-    output-fault c.args.telling (setting_of c.args.engine) c.args.lines.now.number (cut_left c.args.lines.now (g.S.Source.rest c.args.source.now))
+    output-fault c.args.telling (setting_of c.args.engine) (c.args.lines.now.number + 1) (cut_left c.args.lines.now (g.S.Source.rest c.args.source.now))
     c.from_residual.result c.in_err-answer_lines.field-0.0 (g.T.Sink.held c.args.sink.now) (g.T.Sink.held c.answer_lines.new.sink)
-    (ap (λ n. n + 1) c.requires.second) (search rules) (search rules) exact
+    (search rules) (search rules) exact
 
 pub returns-clause-output : goal.returns-clause-output
 returns-clause-output g c = λ exact.
-    output-well c.args.telling (setting_of c.args.engine) c.args.lines.now.number (cut_left c.args.lines.now (g.S.Source.rest c.args.source.now))
+    output-well c.args.telling (setting_of c.args.engine) (c.args.lines.now.number + 1) (cut_left c.args.lines.now (g.S.Source.rest c.args.source.now))
     (part_at c.answer_lines.new.engine) c.flush.result c.in_ok-text.text.items
     (g.T.Sink.held c.args.sink.now) (g.T.Sink.held c.answer_lines.new.sink) (g.T.Sink.held c.flush.new.sink)
-    (ap (λ n. n + 1) c.requires.second) (exact-flush c.flush.result c.flush.ensures.err exact) c.in_ok-answer_lines.ensures.all
+    (exact-flush c.flush.result c.flush.ensures.err exact) c.in_ok-answer_lines.ensures.all
     c.in_ok-text.ensures c.flush.ensures.bytes
 
 pub returns-in_err-answer_lines-clause-stops : goal.returns-in_err-answer_lines-clause-stops
 returns-in_err-answer_lines-clause-stops g c = λ stop.
     stops-from c.args.telling c.some_reply_is_legal.ensures c.histories_go_on.ensures.rows (setting_of c.args.engine) c.args.engine.opening
-    c.args.lines.now.number (cut_left c.args.lines.now (g.S.Source.rest c.args.source.now))
+    (c.args.lines.now.number + 1) (cut_left c.args.lines.now (g.S.Source.rest c.args.source.now))
     (bytes_left c.args.lines.now (g.S.Source.rest c.args.source.now)) (g.S.Source.rest c.answer_lines.new.source)
     (g.T.Sink.held c.args.sink.now) (g.T.Sink.held c.answer_lines.new.sink)
-    (c.answer_lines.result ≢ Err fault.Writing) (c.answer_lines.result ≡ Err fault.Reading) c.from_residual.result refl (ap (λ n. n + 1) c.requires.second)
+    (c.answer_lines.result ≢ Err fault.Writing) (c.answer_lines.result ≡ Err fault.Reading) c.from_residual.result refl
     (stop-well c.answer_lines.result c.from_residual.result c.in_err-answer_lines.field-0.0 c.in_err-answer_lines.was (search rules) stop)
     (same-fault c.answer_lines.result c.from_residual.result c.in_err-answer_lines.field-0.0 fault.Reading c.in_err-answer_lines.was (search rules)) c.answer_lines.ensures.some
 
 pub returns-in_err-answer_lines-clause-part : goal.returns-in_err-answer_lines-clause-part
 returns-in_err-answer_lines-clause-part g c = λ failed.
     fails-from c.args.telling c.some_reply_is_legal.ensures c.histories_go_on.ensures.rows (setting_of c.args.engine) c.args.engine.opening
-    c.args.lines.now.number (cut_left c.args.lines.now (g.S.Source.rest c.args.source.now))
+    (c.args.lines.now.number + 1) (cut_left c.args.lines.now (g.S.Source.rest c.args.source.now))
     (bytes_left c.args.lines.now (g.S.Source.rest c.args.source.now)) (g.S.Source.rest c.answer_lines.new.source)
     (g.T.Sink.held c.args.sink.now) (g.T.Sink.held c.answer_lines.new.sink)
-    (c.answer_lines.result ≢ Err fault.Writing) (c.answer_lines.result ≡ Err fault.Reading) refl (ap (λ n. n + 1) c.requires.second) c.answer_lines.ensures.some
+    (c.answer_lines.result ≢ Err fault.Writing) (c.answer_lines.result ≡ Err fault.Reading) refl c.answer_lines.ensures.some
 
 pub returns-in_err-text-clause-stops : goal.returns-in_err-text-clause-stops
 returns-in_err-text-clause-stops g c = λ stop.
     stops-from c.args.telling c.some_reply_is_legal.ensures c.histories_go_on.ensures.rows (setting_of c.args.engine) c.args.engine.opening
-    c.args.lines.now.number (cut_left c.args.lines.now (g.S.Source.rest c.args.source.now))
+    (c.args.lines.now.number + 1) (cut_left c.args.lines.now (g.S.Source.rest c.args.source.now))
     (bytes_left c.args.lines.now (g.S.Source.rest c.args.source.now)) (g.S.Source.rest c.answer_lines.new.source)
     (g.T.Sink.held c.args.sink.now) (g.T.Sink.held c.answer_lines.new.sink)
-    (c.answer_lines.result ≢ Err fault.Writing) (c.answer_lines.result ≡ Err fault.Reading) c.from_residual-in_err-text.result refl (ap (λ n. n + 1) c.requires.second)
+    (c.answer_lines.result ≢ Err fault.Writing) (c.answer_lines.result ≡ Err fault.Reading) c.from_residual-in_err-text.result refl
     (λ is. absurd (cc (sym c.in_ok-answer_lines.was ∙ is))) (λ reading. search rules) c.answer_lines.ensures.some
 
 pub returns-clause-part : goal.returns-clause-part
 returns-clause-part g c = λ failed.
-    fails-last c.args.telling (setting_of c.args.engine) c.args.lines.now.number (cut_left c.args.lines.now (g.S.Source.rest c.args.source.now))
+    fails-last c.args.telling (setting_of c.args.engine) (c.args.lines.now.number + 1) (cut_left c.args.lines.now (g.S.Source.rest c.args.source.now))
     (part_at c.answer_lines.new.engine) c.in_ok-text.text.items
     (g.T.Sink.held c.args.sink.now) (g.T.Sink.held c.answer_lines.new.sink) (g.T.Sink.held c.flush.new.sink)
-    (ap (λ n. n + 1) c.requires.second) c.in_ok-answer_lines.ensures.all
+    c.in_ok-answer_lines.ensures.all
     c.in_ok-text.ensures
     (on-failed c.flush.result _ failed c.flush.ensures.part)
