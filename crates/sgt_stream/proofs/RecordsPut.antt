@@ -336,6 +336,7 @@ cut-nothing most = ap cut-by (le-leb 0 most (omega arith))
   where
     counted-by : Bool → List (List ℕ)
     counted-by within = if within then [] else whole_lines (take most []) ++ long_line (unended (take most []))
+
     cut-by : Bool → Cut
     cut-by within = record { given = before_long (counted-by within); ending = ending_of within (counted-by within) }
 
