@@ -91,9 +91,6 @@ module _ (m : Key → Option Record) (a : Slab Chain) (key : Key) (r : Record) (
   pub committed_is : committed_of m key ≡ r.committed
   committed_is = ap (option_and_then (λ (r : Record). r.committed)) is
 
-  pub held_there : IsHeld a (slot_in r.written)
-  held_there p at = index.held key p (ap slot_in written_is ∙ at)
-
   pub chain_there : IsChain (chain_at a r.written)
   chain_there = subst (λ w. IsChain (chain_at a w)) written_is (index.are_chains key)
 
@@ -269,18 +266,6 @@ module _ (m n : Key → Option Record) (a b : Slab Chain) (key : Key) (r : Recor
   unmoved : Moves a b None (slot_in r.written)
   unmoved = stays a b None (slot_in r.written) same refl (ap slot_in here)
 
-  -- no chain changes
-  pub blank_chains : (k : Key) → key_chain n b k ≡ key_chain m a k
-  blank_chains k = chain_by m n key r told a b index Nothing unwritten unmoved (λ c. c) (ap (chain_at b) here) k ∙ go (key_eq key k)
-    where
-      go : (e : Bool) → cond e (key_chain m a k) (key_chain m a k) ≡ key_chain m a k
-      go true = refl
-      go false = refl
-
-  -- no committed value does
-  pub blank_committed : (k : Key) → committed_of n k ≡ committed_of m k
-  blank_committed = committed_same m n key r told (none ∙ sym (ap (option_and_then (λ (r : Record). r.committed)) absent))
-
   -- and the index stands
   pub index_blank : IsIndex n b
   index_blank = index_told m n key r told a b index Nothing unwritten unmoved (subst IsChain (sym (ap (chain_at b) here)) chain_empty)
@@ -293,13 +278,3 @@ module _ (m n : Key → Option Record) (a b : Slab Chain) (key : Key) (r : Recor
       → OnErr result ((k : Key) → n k ≡ m k) → IsIndex n b
   index_added (Ok x) told alike = index_blank m n a b key r absent here none same index told
   index_added (Err e) told alike = index_alike m n a b alike same index
-
-  pub chains_added : (result : Result T F) → OnOk result ((k : Key) → n k ≡ cond (key_eq key k) (Some r) (m k))
-      → OnErr result ((k : Key) → n k ≡ m k) → (k : Key) → key_chain n b k ≡ key_chain m a k
-  chains_added (Ok x) told alike = blank_chains m n a b key r absent here none same index told
-  chains_added (Err e) told alike = chains_alike m n a b alike same
-
-  pub committed_added : (result : Result T F) → OnOk result ((k : Key) → n k ≡ cond (key_eq key k) (Some r) (m k))
-      → OnErr result ((k : Key) → n k ≡ m k) → (k : Key) → committed_of n k ≡ committed_of m k
-  committed_added (Ok x) told alike = blank_committed m n a b key r absent here none same index told
-  committed_added (Err e) told alike = committed_alike m n a b alike same

@@ -48,18 +48,6 @@ same_index p q e = ap (λ (o : Option ℕ). unwrap_or o p) e
 -- a record that is put
 module _ (indices : BTreeMap Key ℕ) (records : List Record) (are : AreIndices indices records) (key : Key) (p : ℕ)
     (at : get key_cmp indices key ≡ Some p) (r : Record) where
-  -- the list is as long as before, so the indices stay
-  set_length : (xs : List Record) (i : ℕ) → length (slice_set xs i r) ≡ length xs
-  set_length [] i = refl
-  set_length (x ∷ xs) zero = refl
-  set_length (x ∷ xs) (suc i) = ap suc (set_length xs i)
-
-  pub put_indices : AreIndices indices (slice_set records p r)
-  put_indices = record {
-    within = λ k q is. subst (λ n. q < n) (sym (set_length records p)) (are.within k q is);
-    apart = are.apart;
-  }
-
   -- it is the key's, and every other is as before
   pub put_told : (k : Key) → option_and_then (slice_get (slice_set records p r)) (get key_cmp indices k)
       ≡ cond (key_eq key k) (Some r) (option_and_then (slice_get records) (get key_cmp indices k))
@@ -80,10 +68,6 @@ module _ (old new : BTreeMap Key ℕ) (records : List Record) (are : AreIndices 
     (told : Updates key_cmp old new key (Some (length records))) where
   pub index_told : (k : Key) → get key_cmp new k ≡ cond (key_eq key k) (Some (length records)) (get key_cmp old k)
   index_told k = told.0 k ∙ ap (λ b. cond b (Some (length records)) (get key_cmp old k)) (same_key key k)
-
-  -- the key has that index
-  pub index_added : get key_cmp new key ≡ Some (length records)
-  index_added = index_told key ∙ ap (λ b. cond b (Some (length records)) (get key_cmp old key)) (key_eq-refl key)
 
   -- and where it had none, the others keep theirs
   pub indices_stay : get key_cmp old key ≡ None → (k : Key) (p : ℕ) → get key_cmp old k ≡ Some p → get key_cmp new k ≡ Some p

@@ -8,7 +8,8 @@ use Rattle.sgt_access.proofs.Tests.{any_in_take, any_in_drop}
 use Rattle.sgt_access.proofs.per_key.PerKey.of_key.Goals as goal
 
 pub returns-then-accesses-le-FEW-clause-conflicting : goal.returns-then-accesses-le-FEW-clause-conflicting
-returns-then-accesses-le-FEW-clause-conflicting c u kind = ap (λ xs. lists_conflicting xs u c.args.key kind) c.as_slice-accesses.ensures.value
+returns-then-accesses-le-FEW-clause-conflicting c u kind = ap (λ xs. lists_conflicting xs u c.args.key kind)
+    c.as_slice-accesses.ensures.value
     ∙ c.self.invariant.alike _ (conflicting_takes u c.args.key kind)
     ∙ ap (λ v. lists_conflicting v.0 u c.args.key kind) c.self.view_is
 
