@@ -1,16 +1,12 @@
 -- Rows, one on.
-use Rattle.std.proofs.Common.{◌≡◌, ℕ, pos, ◌+◌, ◌<◌, ◌≤◌, true, false, cond, List, [], ◌∷◌, ◌++◌, length, map, take, drop, set, get_or, Some, refl, sym, ap, ap₂, ◌∙◌, subst, arith}
+use Rattle.std.proofs.Common.{◌≡◌, ℕ, pos, ◌+◌, ◌<◌, ◌≤◌, cond, List, [], ◌∷◌, ◌++◌, length, map, take, drop, set, get_or, Some, refl, sym, ap, ap₂, ◌∙◌, subst, arith}
 use Rattle.std.specs.List.{All}
 use Rattle.std.proofs.lemmas.List.Elements.{All-head, All-push, All-tail}
-use Rattle.std.proofs.lemmas.List.{take_all, take_more, take_more_set, drop_more, drop-set-lt, map-set, length-map, drop-drop}
+use Rattle.std.proofs.lemmas.List.{take_all, take_more, take_more_set, drop-set-lt, map-set, length-map, drop-drop}
 use Rattle.sgt_model.specs.Contents.{Key, Contents, key_eq, put_in}
-use Rattle.sgt_model.specs.Databases.{HasValues, Row, key_lt}
+use Rattle.sgt_model.specs.Databases.{HasValues, Row}
 use Rattle.sgt_c.specs.declared.rows.Row.{Row as CRow}
-use Rattle.sgt_c.specs.Rows.{IsRow, row_of, rows_from, with_rows}
-
--- ---- from a key on
-
-module _ (k : Key) (rows : List Row) (i : ℕ) (d : Row) (within : i < length rows) where
+use Rattle.sgt_c.specs.Rows.{IsRow, row_of, with_rows}
 
 -- ---- rows put in
 

@@ -1,9 +1,9 @@
 -- A run, entry by entry: who is live meanwhile, and which steps were made.
-use Rattle.std.proofs.Common.{◌≡◌, ℕ, ◌+◌, ℤ, Bool, true, false, cond, ◌&&◌, List, [], ◌∷◌, length, Option, Some, None, nat_eq, nat_lt, is_none, refl, sym, ap, ap₂, subst, ◌∙◌, arith}
+use Rattle.std.proofs.Common.{◌≡◌, ℕ, ◌+◌, ℤ, Bool, true, false, cond, ◌&&◌, List, ◌∷◌, length, Option, Some, None, nat_eq, nat_lt, is_none, refl, sym, ap, subst, ◌∙◌, arith}
 use Rattle.std.specs.List.{All}
 use Rattle.std.specs.Prelude.{Result, Ok, Err, OnErr}
 use Rattle.std.proofs.lemmas.Bool.{lt-ltb}
-use Rattle.std.proofs.lemmas.List.Elements.{All-nil, All-cons, All-weaker}
+use Rattle.std.proofs.lemmas.List.Elements.{All-cons, All-weaker}
 use Rattle.sgt_model.specs.declared.entry.Entry.{Entry}
 use Rattle.sgt_model.specs.declared.event.Event.{Event}
 use Rattle.sgt_model.specs.declared.event.Event.TheVariants.{Start, Step, Quit}
@@ -16,7 +16,7 @@ use Rattle.sgt_model.specs.Settings.{Setting, takes}
 use Rattle.sgt_model.specs.StartReply.{args_fit, room_reply, taken_reply}
 use Rattle.sgt_model.proofs.Facts.{unstarted-no_fate}
 use Rattle.sgt_engine.specs.EngineView.{EngineView, setting_of, with_entry}
-use Rattle.sgt_c.specs.Runs.{GivesUp, IsAccess, IsStep, StepsOn, StopsLive, is_access, is_end, with_entries}
+use Rattle.sgt_c.specs.Runs.{GivesUp, IsAccess, IsStep, StepsOn, StopsLive, is_access, with_entries}
 
 -- ---- who is live
 

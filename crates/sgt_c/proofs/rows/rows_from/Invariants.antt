@@ -1,4 +1,4 @@
-use Rattle.std.proofs.Common.{◌≡◌, ℕ, ◌-◌, ◌≤◌, length, drop}
+use Rattle.std.proofs.Common.{◌≡◌, ◌-◌, ◌≤◌, length, drop}
 use Rattle.sgt_c.specs.Rows.{rows_from}
 use Rattle.sgt_c.proofs.rows.rows_from.Given as goal
 
