@@ -4,7 +4,8 @@
 //! An input is an opening and its records, as those of a script, and behind them a job a line; [`read_input`] reads it whole. `specs/Inputs.antt`
 //! says what it asks for, and what its first fault is. [`outcome_line`] is the line of a job's outcome, and [`report_text`] all
 //! of them with the database behind. [`run_jobs`] joins these by `run` of `sgt_workers`, which makes the threads, and
-//! [`run_history`] does the same and writes the run as a history, [`run_records`] the database alone, as records.
+//! [`run_history`] does the same and writes the run as a history, [`run_records`] the database alone, as records, and
+//! [`run_explained`] tells beside it how often each job was tried, and why again.
 //!
 //! ```
 //! let mut reader = Reader::new(rt.reader());
@@ -13,6 +14,7 @@
 //! ```
 #![tactic(auto)]
 
+mod explained;
 mod gate;
 mod input;
 mod jobs;
@@ -20,7 +22,10 @@ mod outcome_text;
 mod records;
 mod report;
 mod run;
+mod tries;
+mod watch;
 
+pub use explained::run_explained;
 pub use input::read_input;
 pub use outcome_text::outcome_line;
 pub use records::run_records;
