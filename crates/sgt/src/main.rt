@@ -1,8 +1,8 @@
 //! The program: `sgt script` runs a script of JSON lines from standard input on an engine, writes a line for each reply to
 //! standard output and then the committed database, and can tell on standard error why transactions are aborted. `sgt bank` runs
-//! jobs on worker threads, and writes a line for what became of each and then the committed database. `sgt check` reads a history,
-//! and writes of which classes it is, or its serialization graph. All tell a fault on standard error, with status 2, and the first two
-//! can tell there what is wrong with the line.
+//! jobs on worker threads, writes a line for what became of each and then the committed database, and can tell on standard error how
+//! often each was tried. `sgt check` reads a history, and writes of which classes it is, or its serialization graph. All tell a fault
+//! on standard error, with status 2, and the first two can tell there what is wrong with the line.
 //!
 //! It has the command line and nothing else: what a script's run writes is said and proved in `sgt_script`, what a bank's run
 //! writes in `sgt_bank`, and what a check writes in `sgt_check`; what is told of a fault beside its line stands in `sgt_diagnosis`.
@@ -24,10 +24,11 @@ use sgt_stream::{Fault, Reader, Source, Writer};
 use std::alloc::{AllocError, Global};
 use std::env;
 use std::fmt::Display;
-use std::io::{self, Eprint, Input, Print, Stderr};
+use std::io::{self, Eprint, Input, IsTerminal, Print, Stderr};
 use std::process::ExitCode;
 use std::sync::Wait;
 use std::thread::Threads;
+use std::time::Clock;
 
 const VERSION: &str = "0.1.0";
 
@@ -119,7 +120,7 @@ fn bank_command<'a>(alloc: Global) -> Result<Command<'a>, AllocError> {
         )?)?
         .arg(explain_flag(
             alloc,
-            "Tells on standard error what is wrong with a faulty line",
+            "Tells on standard error how often each job was tried, and what is wrong with a faulty line",
         )?)
 }
 
@@ -220,25 +221,19 @@ fn script<R: Print + Input>(
 }
 
 /// Runs the jobs of a bank from standard input to standard output.
-fn bank<R: Print + Input + Threads + Wait + Sync>(
+fn bank<R: Print + Eprint + Input + Clock + Threads + Wait + Sync>(
     rt: &R,
     alloc: Global,
+    stderr: Stderr,
     options: &ArgMatches<'_>,
 ) -> Result<(), Failure> {
+    if options.get_flag("explain") {
+        return explained_bank(rt, alloc, stderr, options);
+    }
     let mut reader = Reader::new(rt.reader());
     let mut writer = Writer::new(io::writer(rt));
     let workers = number(options, "workers", WORKERS, MOST_WORKERS);
     let tries = number(options, "tries", TRIES, MOST_TRIES);
-    if options.get_flag("explain") {
-        let mut source = Remembering::new(alloc, reader);
-        let ran = run_jobs(rt, alloc, &mut source, &mut writer, workers, tries);
-        return explained(
-            alloc,
-            sgt_diagnosis::Command::Bank { workers },
-            &source,
-            ran,
-        );
-    }
     unexplained(if options.get_flag("history") {
         sgt_bank::run_history(rt, alloc, &mut reader, &mut writer, workers, tries)
     } else if options.get_flag("records") {
@@ -246,6 +241,37 @@ fn bank<R: Print + Input + Threads + Wait + Sync>(
     } else {
         run_jobs(rt, alloc, &mut reader, &mut writer, workers, tries)
     })
+}
+
+/// The same, and tells on standard error how often each job was tried, and where that is a terminal, how many have ended.
+fn explained_bank<R: Print + Eprint + Input + Clock + Threads + Wait + Sync>(
+    rt: &R,
+    alloc: Global,
+    stderr: Stderr,
+    options: &ArgMatches<'_>,
+) -> Result<(), Failure> {
+    let mut source = Remembering::new(alloc, Reader::new(rt.reader()));
+    let mut writer = Writer::new(io::writer(rt));
+    let tells_progress = stderr.is_terminal();
+    let mut errors = Writer::new(stderr);
+    let workers = number(options, "workers", WORKERS, MOST_WORKERS);
+    let tries = number(options, "tries", TRIES, MOST_TRIES);
+    let ran = sgt_bank::run_explained(
+        rt,
+        alloc,
+        &mut source,
+        &mut writer,
+        &mut errors,
+        workers,
+        tries,
+        tells_progress,
+    );
+    explained(
+        alloc,
+        sgt_diagnosis::Command::Bank { workers },
+        &source,
+        ran,
+    )
 }
 
 /// Checks a history from standard input to standard output, and tells whether it is serializable and recoverable.
@@ -264,7 +290,7 @@ fn check<R: Print + Input>(
 }
 
 /// Runs what the words ask for, and gives the status.
-fn run<R: Print + Eprint + Input + Threads + Wait + Sync>(
+fn run<R: Print + Eprint + Input + Clock + Threads + Wait + Sync>(
     rt: &R,
     alloc: Global,
     stderr: Stderr,
@@ -278,7 +304,7 @@ fn run<R: Print + Eprint + Input + Threads + Wait + Sync>(
                 Err(fault) => tell(rt, fault),
             };
         }
-        Some(("bank", options)) => bank(rt, alloc, options),
+        Some(("bank", options)) => bank(rt, alloc, stderr, options),
         Some((_, options)) => script(rt, alloc, stderr, options),
         None => Ok(()),
     };
