@@ -177,8 +177,7 @@ pub(crate) fn report_run<
 
 /// Runs the jobs of an input on worker threads, and writes what became of them: a line for each job, by number, and then the
 /// committed database. Line 1 opens, as in a script, with room for each worker, record lines may stand behind it, and each later line
-/// asks for a job. All
-/// input is read before the first thread is made, and nothing is written before all jobs have ended.
+/// asks for a job. All input is read before the first thread is made, and nothing is written before all jobs have ended.
 ///
 /// What is written is the text of a report: the history behind it is legal, each outcome stands in it, and run one after
 /// another in commit order the committed jobs' procedures give the answers that were told, and end in that database.
