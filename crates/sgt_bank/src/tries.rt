@@ -7,7 +7,7 @@ use sgt_workers::Outcome;
 use std::alloc::{AllocError, Global};
 
 /// How a transaction came to its end.
-#[derive(Clone, Copy, Debug, PartialEq, Eq)]
+#[derive(Clone, Copy)]
 enum End {
     /// Neither by a cycle nor with another one.
     Own,

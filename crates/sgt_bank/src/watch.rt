@@ -11,7 +11,7 @@ use std::time::{Clock, Duration, Instant};
 const BETWEEN_LINES: u64 = 1;
 
 /// An attempt at a job that failed.
-#[derive(Clone, Copy, Debug, PartialEq, Eq)]
+#[derive(Clone, Copy)]
 pub(crate) struct FailedTry {
     /// The job's number.
     pub job: u32,
