@@ -30,19 +30,12 @@ pub(crate) fn append_tries<N>(
 ) -> Result<(), NoMemory> {
     let ends = ends_of(alloc, history)?;
     failed.sort_by_key(|failed| failed.job)?;
-    let mut first = 0;
+    let mut rest = failed.as_slice();
     for job in 0..outcomes.len() {
-        let behind = end_of_job(failed.as_slice(), first, job);
+        let (own, others) = split_job(rest, job);
         let last = last_transaction(history, &outcomes[job]);
-        append_job(
-            text,
-            job,
-            &failed[first..behind],
-            last,
-            ends.as_slice(),
-            history,
-        )?;
-        first = behind;
+        append_job(text, job, own, last, ends.as_slice(), history)?;
+        rest = others;
     }
     Ok(())
 }
@@ -79,14 +72,14 @@ fn put_end(ends: &mut [End], t: Tid, end: End) {
     }
 }
 
-// Where the attempts at the job end that begin there.
-fn end_of_job(failed: &[FailedTry], first: usize, job: usize) -> usize {
-    for behind in first..failed.len() {
-        if failed[behind].job as usize != job {
-            return behind;
+// The attempts at the job, which stand in front, and the others.
+fn split_job(failed: &[FailedTry], job: usize) -> (&[FailedTry], &[FailedTry]) {
+    for place in 0..failed.len() {
+        if failed[place].job as usize != job {
+            return failed.split_at(place);
         }
     }
-    failed.len()
+    (failed, &[])
 }
 
 // The transaction of the attempt that did not fail, where the outcome names one.
