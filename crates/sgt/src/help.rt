@@ -69,6 +69,11 @@ about, and from whom each that fell had read, and at the end who is live:
   line 25: 3 read 2/101 of 2 at line 20
   1 transaction is live at the end: 4
 
+and behind the line of a fault it tells in another one what is wrong, where there is more to be told:
+
+  line 26: bad line
+  expected ["step",transaction], found ["step"]
+
 Standard output and the status are as without it. It is not given together with --history or --records.
 
 The first bad line ends the script: the replies to the lines before it are written, and the fault on standard error. A line has
@@ -109,6 +114,16 @@ All jobs are read before the first one runs, at most 1000000. A bad line is told
 has at most 65536 bytes, the input 16777216, and a value or a key is a whole number of at most fifteen digits. The first number
 of the limits, from 1 to 32, has to be at least the number of workers. Which of two jobs comes first is not said, but run one
 after another in the order of their commits they give the same answers and the same database.
+With --explain standard error tells behind the report how often each job was tried, with the transaction of each try, and by whom
+those that failed were aborted:
+
+  job 0: 1 try: 0
+  job 1: 3 tries: 1 (cycle with 0, 2), 3 (fell with 2), 4
+  job 2: 0 tries
+
+and where it is a terminal, how many jobs have ended, at most each second while they run. Behind the line of a fault it tells in
+another one what is wrong, as a script's does. Standard output and the status are as without it. It is not given together with
+--history or --records.
 docs/FORMATS.md of the repository has every line, examples/ whole banks."#;
 
 /// What `sgt check --help` tells behind the options.

@@ -1,10 +1,11 @@
 //! The program: `sgt script` runs a script of JSON lines from standard input on an engine, writes a line for each reply to
 //! standard output and then the committed database, and can tell on standard error why transactions are aborted. `sgt bank` runs
-//! jobs on worker threads, and writes a line for what became of each and then the committed database. `sgt check` reads a history,
-//! and writes of which classes it is, or its serialization graph. All tell a fault on standard error, with status 2.
+//! jobs on worker threads, writes a line for what became of each and then the committed database, and can tell on standard error how
+//! often each was tried. `sgt check` reads a history, and writes of which classes it is, or its serialization graph. All tell a fault
+//! on standard error, with status 2, and the first two can tell there what is wrong with the line.
 //!
 //! It has the command line and nothing else: what a script's run writes is said and proved in `sgt_script`, what a bank's run
-//! writes in `sgt_bank`, and what a check writes in `sgt_check`.
+//! writes in `sgt_bank`, and what a check writes in `sgt_check`; what is told of a fault beside its line stands in `sgt_diagnosis`.
 #![tactic(auto)]
 
 mod help;
@@ -17,15 +18,17 @@ use clap::{Arg, ArgAction, ArgMatches, Command};
 use help::{BANK_HELP, CHECK_HELP, HELP, SCRIPT_HELP};
 use sgt_bank::{MOST_TRIES, MOST_WORKERS, run_jobs};
 use sgt_check::{CheckFault, run_check, run_graph};
+use sgt_diagnosis::{Remembering, explain};
 use sgt_script::run_script;
-use sgt_stream::{Fault, Reader, Writer};
+use sgt_stream::{Fault, Reader, Source, Writer};
 use std::alloc::{AllocError, Global};
 use std::env;
 use std::fmt::Display;
-use std::io::{self, Eprint, Input, Print, Stderr};
+use std::io::{self, Eprint, Input, IsTerminal, Print, Stderr};
 use std::process::ExitCode;
 use std::sync::Wait;
 use std::thread::Threads;
+use std::time::Clock;
 
 const VERSION: &str = "0.1.0";
 
@@ -59,11 +62,11 @@ fn records_flag<'a>(alloc: Global, help: &'a str) -> Result<Arg<'a>, AllocError>
         .conflicts_with("history")
 }
 
-/// The option that has a run told why transactions are aborted.
-fn explain_flag<'a>(alloc: Global) -> Result<Arg<'a>, AllocError> {
+/// The option that has more told of a run than it writes.
+fn explain_flag<'a>(alloc: Global, help: &'a str) -> Result<Arg<'a>, AllocError> {
     Arg::new(alloc, "explain")
         .long("explain")
-        .help("Tells on standard error why transactions are aborted")
+        .help(help)
         .action(ArgAction::SetTrue)
         .conflicts_with("history")?
         .conflicts_with("records")
@@ -82,7 +85,10 @@ fn script_command<'a>(alloc: Global) -> Result<Command<'a>, AllocError> {
             alloc,
             "In place of the replies, writes the committed database as records",
         )?)?
-        .arg(explain_flag(alloc)?)
+        .arg(explain_flag(
+            alloc,
+            "Tells on standard error why transactions are aborted, and what is wrong with a faulty line",
+        )?)
 }
 
 /// The words of `sgt bank`.
@@ -111,6 +117,10 @@ fn bank_command<'a>(alloc: Global) -> Result<Command<'a>, AllocError> {
         .arg(records_flag(
             alloc,
             "In place of the outcomes, writes the committed database as records",
+        )?)?
+        .arg(explain_flag(
+            alloc,
+            "Tells on standard error how often each job was tried, and what is wrong with a faulty line",
         )?)
 }
 
@@ -152,44 +162,116 @@ fn number(options: &ArgMatches<'_>, name: &str, default: u32, most: u32) -> u32
         .clamp(1, most)
 }
 
+/// How a run ended that has a fault, and what tells more of that, where it was asked for and there is something.
+#[derive(Drop)]
+struct Failure {
+    fault: Fault,
+    explanation: Option<String>,
+}
+
+/// A fault alone.
+fn unexplained(ran: Result<(), Fault>) -> Result<(), Failure> {
+    match ran {
+        Ok(()) => Ok(()),
+        Err(fault) => Err(Failure {
+            fault,
+            explanation: None,
+        }),
+    }
+}
+
+/// A fault with what tells more of it, of a run that read from this source.
+fn explained<S: Source>(
+    alloc: Global,
+    command: sgt_diagnosis::Command,
+    source: &Remembering<S>,
+    ran: Result<(), Fault>,
+) -> Result<(), Failure> {
+    match ran {
+        Ok(()) => Ok(()),
+        Err(fault) => {
+            let explanation = explain(alloc, &fault, command, source);
+            Err(Failure { fault, explanation })
+        }
+    }
+}
+
 /// Runs a script from standard input to standard output.
 fn script<R: Print + Input>(
     rt: &R,
     alloc: Global,
     stderr: Stderr,
     options: &ArgMatches<'_>,
-) -> Result<(), Fault> {
+) -> Result<(), Failure> {
     let mut reader = Reader::new(rt.reader());
     let mut writer = Writer::new(io::writer(rt));
-    if options.get_flag("history") {
+    if options.get_flag("explain") {
+        let mut source = Remembering::new(alloc, reader);
+        let mut errors = Writer::new(stderr);
+        let ran = sgt_script::run_explained(alloc, &mut source, &mut writer, &mut errors);
+        return explained(alloc, sgt_diagnosis::Command::Script, &source, ran);
+    }
+    unexplained(if options.get_flag("history") {
         sgt_script::run_history(alloc, &mut reader, &mut writer)
     } else if options.get_flag("records") {
         sgt_script::run_records(alloc, &mut reader, &mut writer)
-    } else if options.get_flag("explain") {
-        let mut errors = Writer::new(stderr);
-        sgt_script::run_explained(alloc, &mut reader, &mut writer, &mut errors)
     } else {
         run_script(alloc, &mut reader, &mut writer)
-    }
+    })
 }
 
 /// Runs the jobs of a bank from standard input to standard output.
-fn bank<R: Print + Input + Threads + Wait + Sync>(
+fn bank<R: Print + Eprint + Input + Clock + Threads + Wait + Sync>(
     rt: &R,
     alloc: Global,
+    stderr: Stderr,
     options: &ArgMatches<'_>,
-) -> Result<(), Fault> {
+) -> Result<(), Failure> {
+    if options.get_flag("explain") {
+        return explained_bank(rt, alloc, stderr, options);
+    }
     let mut reader = Reader::new(rt.reader());
     let mut writer = Writer::new(io::writer(rt));
     let workers = number(options, "workers", WORKERS, MOST_WORKERS);
     let tries = number(options, "tries", TRIES, MOST_TRIES);
-    if options.get_flag("history") {
+    unexplained(if options.get_flag("history") {
         sgt_bank::run_history(rt, alloc, &mut reader, &mut writer, workers, tries)
     } else if options.get_flag("records") {
         sgt_bank::run_records(rt, alloc, &mut reader, &mut writer, workers, tries)
     } else {
         run_jobs(rt, alloc, &mut reader, &mut writer, workers, tries)
-    }
+    })
+}
+
+/// The same, and tells on standard error how often each job was tried, and where that is a terminal, how many have ended.
+fn explained_bank<R: Print + Eprint + Input + Clock + Threads + Wait + Sync>(
+    rt: &R,
+    alloc: Global,
+    stderr: Stderr,
+    options: &ArgMatches<'_>,
+) -> Result<(), Failure> {
+    let mut source = Remembering::new(alloc, Reader::new(rt.reader()));
+    let mut writer = Writer::new(io::writer(rt));
+    let tells_progress = stderr.is_terminal();
+    let mut errors = Writer::new(stderr);
+    let workers = number(options, "workers", WORKERS, MOST_WORKERS);
+    let tries = number(options, "tries", TRIES, MOST_TRIES);
+    let ran = sgt_bank::run_explained(
+        rt,
+        alloc,
+        &mut source,
+        &mut writer,
+        &mut errors,
+        workers,
+        tries,
+        tells_progress,
+    );
+    explained(
+        alloc,
+        sgt_diagnosis::Command::Bank { workers },
+        &source,
+        ran,
+    )
 }
 
 /// Checks a history from standard input to standard output, and tells whether it is serializable and recoverable.
@@ -208,7 +290,7 @@ fn check<R: Print + Input>(
 }
 
 /// Runs what the words ask for, and gives the status.
-fn run<R: Print + Eprint + Input + Threads + Wait + Sync>(
+fn run<R: Print + Eprint + Input + Clock + Threads + Wait + Sync>(
     rt: &R,
     alloc: Global,
     stderr: Stderr,
@@ -222,13 +304,23 @@ fn run<R: Print + Eprint + Input + Threads + Wait + Sync>(
                 Err(fault) => tell(rt, fault),
             };
         }
-        Some(("bank", options)) => bank(rt, alloc, options),
+        Some(("bank", options)) => bank(rt, alloc, stderr, options),
         Some((_, options)) => script(rt, alloc, stderr, options),
         None => Ok(()),
     };
     match ran {
         Ok(()) => ExitCode::SUCCESS,
-        Err(fault) => tell(rt, fault),
+        Err(failure) => tell_failure(rt, failure),
+    }
+}
+
+/// Tells a fault on standard error, and behind its line what tells more of it.
+fn tell_failure<R: Eprint>(rt: &R, failure: Failure) -> ExitCode {
+    let Failure { fault, explanation } = failure;
+    let status = tell(rt, fault);
+    match explanation {
+        Some(text) => tell(rt, text),
+        None => status,
     }
 }
 

@@ -2,7 +2,7 @@ use sgt_workers::{Gate, Outcome, Pass};
 use std::convert::Infallible;
 
 /// A gate that lets every worker go on. Its notes are of a type without values, so no job can be left.
-#[derive(Debug, Drop)]
+#[derive(Drop)]
 pub(crate) struct OpenGate;
 
 impl Gate for OpenGate {

@@ -4,6 +4,7 @@ ghost use Rattle.sgt_workers.specs.Banks.{AreWorkers, AreTries};
 ghost use Rattle.sgt_bank.specs.Inputs.{InputFails, IsOfText};
 ghost use Rattle.sgt_bank.specs.Banks.{IsRecords};
 
+use crate::gate::OpenGate;
 use crate::run::{run_input, write_text};
 use sgt_format::append_records;
 use sgt_stream::{Fault, Sink, Source};
@@ -46,7 +47,7 @@ pub fn run_records<S: Source, T: Sink, W: Threads + Wait + Sync>(
     ensures write_failed { result ≡ Err Fault.Writing →
         T.failures sink.new ≡ T.failures sink.old + 1 }
 {
-    let report = run_input(rt, alloc, source, workers, tries)?;
+    let report = run_input(rt, alloc, source, workers, tries, &OpenGate)?;
     let mut text = Vec::new(alloc);
     append_records(&mut text, &report.database)?;
     write_text(sink, text.as_slice())?;

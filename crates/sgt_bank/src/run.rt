@@ -16,7 +16,7 @@ use sgt_program::{SgtAccesses, SgtGraph, SgtRecords, all_procedures, opened_is_b
 use sgt_stream::{Fault, Sink, Source, write_all};
 use sgt_textbook::{legal_are_commit_ordered, legal_are_recoverable, legal_are_serializable};
 use sgt_transcript::{append_transcript, transcripts_spell_textbooks};
-use sgt_workers::{Bank, PoolError, Report, run};
+use sgt_workers::{Bank, Gate, PoolError, Report, run};
 use std::alloc::Global;
 use std::convert::Infallible;
 use std::sync::Wait;
@@ -39,18 +39,19 @@ fn bank_of(alloc: Global, opening: Opening) -> Result<Bank, NoMemory>
     })
 }
 
-/// Runs the jobs behind an opening, each worker in a thread of its own.
+/// Runs the jobs behind an opening, each worker in a thread of its own. The gate is asked and told as by `run` of `sgt_workers`.
 ///
 /// # Errors
 ///
 /// `Spawn`, `Mismatch` and `NoMemory`.
-fn run_behind_opening<W: Threads + Wait + Sync>(
+fn run_behind_opening<G: Gate<Note = Infallible> + Sync, W: Threads + Wait + Sync>(
     rt: &W,
     alloc: Global,
     opening: Opening,
     jobs: &[Job],
     workers: u32,
     tries: u32,
+    gate: &G,
 ) -> Result<Report<Infallible>, Fault>
     requires workers { AreWorkers workers }
     requires tries { AreTries tries }
@@ -62,8 +63,8 @@ fn run_behind_opening<W: Threads + Wait + Sync>(
     ensures own { (result ≢ Err Fault.Reading) × (result ≢ Err Fault.Writing) }
 {
     let bank = bank_of(alloc, opening)?;
-    match run::<SgtRecords, SgtAccesses, SgtGraph, OpenGate, W>(
-        rt, alloc, bank, jobs, workers, tries, &OpenGate,
+    match run::<SgtRecords, SgtAccesses, SgtGraph, G, W>(
+        rt, alloc, bank, jobs, workers, tries, gate,
     ) {
         Ok(report) => Ok(report),
         Err(PoolError::NoMemory) => Err(Fault::NoMemory),
@@ -73,17 +74,18 @@ fn run_behind_opening<W: Threads + Wait + Sync>(
     }
 }
 
-/// Runs the jobs of an input.
+/// Runs the jobs of an input. The gate is asked and told as by `run` of `sgt_workers`.
 ///
 /// # Errors
 ///
 /// The first fault of the input; and `Reading`, `Spawn`, `Mismatch` and `NoMemory`.
-pub(crate) fn run_input<S: Source, W: Threads + Wait + Sync>(
+pub(crate) fn run_input<S: Source, G: Gate<Note = Infallible> + Sync, W: Threads + Wait + Sync>(
     rt: &W,
     alloc: Global,
     source: &mut S,
     workers: u32,
     tries: u32,
+    gate: &G,
 ) -> Result<Report<Infallible>, Fault>
     requires reading { S.failures source.old + 1 < 2 ^ 64 }
     requires workers { AreWorkers workers }
@@ -103,7 +105,7 @@ pub(crate) fn run_input<S: Source, W: Threads + Wait + Sync>(
     // In every legal history behind the opening SmallBank's procedures did the bank's arithmetic.
     opened_is_bank();
     let (opening, jobs) = read_input(alloc, source, workers)?;
-    let report = run_behind_opening(rt, alloc, opening, jobs.as_slice(), workers, tries)?;
+    let report = run_behind_opening(rt, alloc, opening, jobs.as_slice(), workers, tries, gate)?;
     Ok(report)
 }
 
@@ -122,10 +124,60 @@ pub(crate) fn write_text<T: Sink>(sink: &mut T, text: &[u8]) -> Result<(), Fault
     Ok(())
 }
 
+/// Runs the jobs of an input, and writes what became of them. The gate is asked and told as by `run` of `sgt_workers`.
+///
+/// # Errors
+///
+/// As of `run_jobs`.
+pub(crate) fn report_run<
+    S: Source,
+    T: Sink,
+    G: Gate<Note = Infallible> + Sync,
+    W: Threads + Wait + Sync,
+>(
+    rt: &W,
+    alloc: Global,
+    source: &mut S,
+    sink: &mut T,
+    workers: u32,
+    tries: u32,
+    gate: &G,
+) -> Result<Report<Infallible>, Fault>
+    requires reading { S.failures source.old + 1 < 2 ^ 64 }
+    requires writing { T.failures sink.old + 1 < 2 ^ 64 }
+    requires workers { AreWorkers workers }
+    requires tries { AreTries tries }
+    ensures report { OnOk result (IfSome (S.rest source.old) (λ bytes. (out : List ℕ)
+        × IsReport workers tries bytes out × Appends (T.held sink.old) (T.held sink.new) out)) }
+    ensures fault { IfErr result (λ f. IsOfText f → IfSome (S.rest source.old) (λ bytes.
+        InputFails workers bytes f)) }
+    ensures nothing { IfErr result (λ f. f ≢ Fault.Writing → sink.new ≡ sink.old) }
+    ensures part { result ≡ Err Fault.Writing → IfSome (S.rest source.old) (λ bytes. (out : List ℕ) × (k : ℕ)
+        × IsReport workers tries bytes out × Appends (T.held sink.old) (T.held sink.new) (take k out)) }
+    ensures bounded { S.given source.new ≤ S.given source.old + 16777217 }
+    ensures read_well { result ≢ Err Fault.Reading →
+        S.failures source.new ≡ S.failures source.old }
+    ensures read_failed { result ≡ Err Fault.Reading →
+        S.failures source.new ≡ S.failures source.old + 1 }
+    ensures wrote_well { result ≢ Err Fault.Writing →
+        T.failures sink.new ≡ T.failures sink.old }
+    ensures write_failed { result ≡ Err Fault.Writing →
+        T.failures sink.new ≡ T.failures sink.old + 1 }
+{
+    let report = run_input(rt, alloc, source, workers, tries, gate)?;
+    let text = report_text(
+        alloc,
+        &report.history,
+        report.outcomes.as_slice(),
+        &report.database,
+    )?;
+    write_text(sink, text.as_slice())?;
+    Ok(report)
+}
+
 /// Runs the jobs of an input on worker threads, and writes what became of them: a line for each job, by number, and then the
 /// committed database. Line 1 opens, as in a script, with room for each worker, record lines may stand behind it, and each later line
-/// asks for a job. All
-/// input is read before the first thread is made, and nothing is written before all jobs have ended.
+/// asks for a job. All input is read before the first thread is made, and nothing is written before all jobs have ended.
 ///
 /// What is written is the text of a report: the history behind it is legal, each outcome stands in it, and run one after
 /// another in commit order the committed jobs' procedures give the answers that were told, and end in that database.
@@ -164,14 +216,7 @@ pub fn run_jobs<S: Source, T: Sink, W: Threads + Wait + Sync>(
     ensures write_failed { result ≡ Err Fault.Writing →
         T.failures sink.new ≡ T.failures sink.old + 1 }
 {
-    let report = run_input(rt, alloc, source, workers, tries)?;
-    let text = report_text(
-        alloc,
-        &report.history,
-        report.outcomes.as_slice(),
-        &report.database,
-    )?;
-    write_text(sink, text.as_slice())?;
+    report_run(rt, alloc, source, sink, workers, tries, &OpenGate)?;
     Ok(())
 }
 
@@ -211,7 +256,7 @@ pub fn run_history<S: Source, T: Sink, W: Threads + Wait + Sync>(
     ensures write_failed { result ≡ Err Fault.Writing →
         T.failures sink.new ≡ T.failures sink.old + 1 }
 {
-    let report = run_input(rt, alloc, source, workers, tries)?;
+    let report = run_input(rt, alloc, source, workers, tries, &OpenGate)?;
     // What the textbook's own classes say of every legal history.
     legal_are_commit_ordered();
     legal_are_serializable();

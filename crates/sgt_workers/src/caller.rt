@@ -76,6 +76,7 @@ impl<'a, N: Named, R: Records, A: Accesses, G: Graph, T: Gate, W: Wait> Caller<
             match self.attempt(job) {
                 Attempt::Final(outcome) => return outcome,
                 Attempt::Failed(t) => {
+                    self.gate.failed(self.number, job.number, t);
                     if attempts.push(t).is_err() {
                         return Outcome::NoMemory;
                     }

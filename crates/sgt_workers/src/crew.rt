@@ -7,7 +7,7 @@ use crate::gate::Gate;
 use crate::worker::{Ended, SameFeed, Worker, work};
 use sgt_access::Accesses;
 use sgt_audit::Outcome;
-use sgt_dispatch::{Job, Putter, Taker};
+use sgt_dispatch::{Feed, Job, Putter, Taker};
 use sgt_graph::Graph;
 use sgt_records::Records;
 use sgt_session::{Named, Session, Shared};
@@ -17,8 +17,41 @@ use std::sync::{Mutex, Wait};
 use std::thread;
 use std::thread::{PromisedHandle, Scope, Threads};
 
+/// Runs the jobs in a thread for each session, and gives the sessions back. Each worker takes room for so many calls.
+///
+/// `NoMemory` where a growth was refused; `Spawn` where a thread could not be made: then no job was put.
+pub fn run_sessions<
+    N: Named + Send + Sync,
+    R: Records,
+    A: Accesses,
+    G: Graph,
+    T: Gate + Sync,
+    W: Threads + Wait + Sync,
+>(
+    rt: &W,
+    alloc: Global,
+    shared: &Shared<N, R, A, G>,
+    gate: &T,
+    outcomes: &Mutex<Vec<Outcome<T::Note>>>,
+    jobs: &[Job],
+    tries: u32,
+    calls: usize,
+    sessions: Vec<Session<N>>,
+) -> Result<Vec<Session<N>>, PoolError>
+    requires { vec_len sessions ≤ 16 }
+    ensures error { IfErr result IsRunError }
+{
+    // It holds all jobs at once, so that nobody waits for room in it.
+    let Ok((putter, takers)) = Feed::make_for(alloc, jobs.len(), sessions.len()) else {
+        return Err(PoolError::NoMemory);
+    };
+    let team = team_of(alloc, tries, calls, &putter, sessions, takers)?;
+    let (putter, ended) = run_crew(rt, alloc, shared, gate, outcomes, jobs, putter, team)?;
+    join_passes(alloc, putter, ended)
+}
+
 /// A worker for each session and taker, which takes room for so many calls.
-pub fn team_of<N: Named>(
+fn team_of<N: Named>(
     alloc: Global,
     tries: u32,
     calls: usize,
@@ -58,7 +91,7 @@ pub fn team_of<N: Named>(
 /// Runs the jobs in a thread for each worker, and waits until all have ended.
 ///
 /// `NoMemory` where a growth was refused; `Spawn` where a thread could not be made: then no job was put.
-pub fn run_crew<
+fn run_crew<
     N: Named + Send + Sync,
     R: Records,
     A: Accesses,
@@ -197,7 +230,7 @@ fn join_all<N: Named, W: Threads>(
 }
 
 /// Joins the passes of the feed one by one, and gives the sessions.
-pub fn join_passes<N: Named>(
+fn join_passes<N: Named>(
     alloc: Global,
     putter: Putter,
     ended: Vec<Ended<N>>,

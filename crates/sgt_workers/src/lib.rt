@@ -1,9 +1,9 @@
 //! Workers that run jobs as transactions of one engine.
 //!
 //! A job is one call of a procedure. [`run`] has up to 16 threads take jobs from a feed and make their calls to one engine,
-//! with one hold of its lock for each call. A [`Gate`] is asked before each call. What became of a job is an [`Outcome`],
-//! which names entries of the engine's history or transactions in it; `run` hands out no report whose outcomes say what is
-//! not so.
+//! with one hold of its lock for each call. A [`Gate`] is asked before each call, and told of each attempt that failed and of each
+//! job's end. What became of a job is an [`Outcome`], which names entries of the engine's history or transactions in it; `run`
+//! hands out no report whose outcomes say what is not so.
 //!
 //! It knows nothing of procedures, accesses and conflicts: that the history is legal is the engine's promise. Nothing says
 //! that a run comes to its end, nor which worker takes which job.

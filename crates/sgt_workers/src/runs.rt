@@ -6,13 +6,13 @@ ghost use Rattle.sgt_workers.specs.Crews.{IsRunError};
 ghost use Rattle.sgt_workers.specs.Reports.{IsReportOf};
 
 use crate::bank::{Bank, check};
-use crate::crew::{join_passes, run_crew, team_of};
+use crate::crew::run_sessions;
 use crate::errors::PoolError;
 use crate::gate::Gate;
 use crate::report::{Report, report_of};
 use sgt_access::Accesses;
 use sgt_audit::Outcome;
-use sgt_dispatch::{Feed, Job};
+use sgt_dispatch::Job;
 use sgt_engine::Engine;
 use sgt_graph::Graph;
 use sgt_records::Records;
@@ -121,20 +121,10 @@ fn run_named<
     let Ok((shared, sessions)) = Shared::<N, R, A, G>::new(alloc, engine, blank, workers) else {
         return Err(PoolError::NoMemory);
     };
-    // It holds all jobs at once, so that nobody waits for room in it.
-    let Ok((putter, takers)) = Feed::make_for(alloc, jobs.len(), usize::from(workers)) else {
-        return Err(PoolError::NoMemory);
-    };
-    let team = team_of(
-        alloc,
-        tries,
-        calls / usize::from(workers),
-        &putter,
-        sessions,
-        takers,
+    let calls = calls / usize::from(workers);
+    let sessions = run_sessions(
+        rt, alloc, &shared, gate, &outcomes, jobs, tries, calls, sessions,
     )?;
-    let (putter, ended) = run_crew(rt, alloc, &shared, gate, &outcomes, jobs, putter, team)?;
-    let sessions = join_passes(alloc, putter, ended)?;
     let Ok(
         Closed {
             engine,

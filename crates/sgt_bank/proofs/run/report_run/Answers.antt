@@ -2,10 +2,10 @@ use Rattle.std.proofs.Common.{rules, ap, ◌∙◌}
 use Rattle.sgt_bank.specs.Banks.{IsReport, IsRun}
 use Rattle.sgt_bank.specs.Reports.{report_text}
 use Rattle.sgt_bank.proofs.Reported.{is-report, written-all, written-part}
-use Rattle.sgt_bank.proofs.run.run_jobs.Goals as goal
+use Rattle.sgt_bank.proofs.run.report_run.Goals as goal
 
 pub returns-clause-report : goal.returns-clause-report
-returns-clause-report g c = λ well.
+returns-clause-report g c =
     written-all (IsReport c.args.workers c.args.tries)
     (λ bytes. IsRun c.args.workers c.args.tries bytes c.in_ok-report.report.history.entries c.in_ok-report.report.outcomes.items
     c.in_ok-report.report.database) (g.S.Source.rest c.args.source.now) (g.T.Sink.held c.args.sink.now)

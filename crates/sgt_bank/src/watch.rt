@@ -1,0 +1,95 @@
+//! A gate that watches a run.
+use sgt_model::Tid;
+use sgt_workers::{Gate, Outcome, Pass};
+use std::alloc::Global;
+use std::convert::Infallible;
+use std::io::Eprint;
+use std::sync::{Mutex, Wait};
+use std::time::{Clock, Duration, Instant};
+
+/// How many seconds it is from one line of the progress to the next, at least.
+const BETWEEN_LINES: u64 = 1;
+
+/// An attempt at a job that failed.
+#[derive(Clone, Copy)]
+pub(crate) struct FailedTry {
+    /// The job's number.
+    pub job: u32,
+    /// The transaction of the attempt, which was aborted by a cycle, or fell.
+    pub tid: Tid,
+}
+
+/// What a watch has seen.
+#[derive(Drop)]
+pub(crate) struct Seen {
+    /// The attempts that failed, of each job in their order.
+    pub failed: Vec<FailedTry>,
+    /// Whether there was no memory for one of these.
+    pub has_lost: bool,
+    // How many jobs have ended.
+    ended: u32,
+    // When the progress was told last, where it is to be told.
+    told: Option<Instant>,
+}
+
+/// A gate that lets every worker go on and notes the attempts that fail. Where it is asked to, it tells on standard error how many
+/// jobs have ended, a line at most each second. Its notes are of a type without values, so no job can be left.
+#[derive(Drop)]
+pub(crate) struct Watch<'a, W> {
+    rt: &'a W,
+    seen: Mutex<Seen>,
+}
+
+impl<'a, W: Clock> Watch<'a, W> {
+    /// A watch of a run that begins now. Where there is no clock the progress is not told.
+    pub(crate) fn new(rt: &'a W, alloc: Global, tells_progress: bool) -> Self {
+        let told = if tells_progress {
+            Instant::now(rt).ok()
+        } else {
+            None
+        };
+        Watch {
+            rt,
+            seen: Mutex::new(Seen {
+                failed: Vec::new(alloc),
+                has_lost: false,
+                ended: 0,
+                told,
+            }),
+        }
+    }
+
+    /// What it has seen.
+    pub(crate) fn into_seen(self) -> Seen {
+        self.seen.into_inner()
+    }
+}
+
+impl<W: Wait + Clock + Eprint> Gate for Watch<'_, W> {
+    type Note = Infallible;
+
+    fn pass(&self, _worker: u8, _calls: u64) -> Pass<Infallible> {
+        Pass::Go
+    }
+
+    fn failed(&self, _worker: u8, job: u32, t: Tid) {
+        let mut seen = self.seen.lock(self.rt);
+        if seen.failed.push(FailedTry { job, tid: t }).is_err() {
+            seen.has_lost = true;
+        }
+    }
+
+    fn finished(&self, _worker: u8, _job: u32, _outcome: &Outcome<Infallible>) {
+        let mut seen = self.seen.lock(self.rt);
+        seen.ended = seen.ended.saturating_add(1);
+        let Some(told) = seen.told else {
+            return;
+        };
+        if let Ok(now) = Instant::now(self.rt) {
+            if now.saturating_duration_since(told) >= Duration::from_secs(BETWEEN_LINES) {
+                let _ = eprintln!(self.rt; "{} jobs have ended", seen.ended);
+                seen.told = Some(now);
+            }
+        }
+    }
+}

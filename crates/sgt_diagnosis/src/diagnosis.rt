@@ -1,0 +1,140 @@
+use crate::account::account_fault;
+use crate::command::Command;
+use crate::flaw::{find_flaw, flaw_numbered};
+use crate::json_text::json_fault;
+use crate::limit::limit_fault;
+use crate::misfit::misfit;
+use crate::opening::opening_fault;
+use crate::request::{event_fault, job_fault};
+use crate::tree::{items, tree_of};
+use serde_json::Value;
+use sgt_model::NoMemory;
+use sgt_smallbank::PROCEDURES;
+use sgt_stream::Fault;
+use std::alloc::Global;
+
+/// What tells more of a fault than its own line does, in one line without its end: where the fault is in the line of the input that
+/// it is of, which is given without its byte 10, and what was expected there. None where the fault's own line tells all.
+///
+/// # Errors
+///
+/// `NoMemory` where a growth was refused.
+pub fn diagnose(
+    alloc: Global,
+    fault: &Fault,
+    command: Command,
+    line: &[u8],
+) -> Result<Option<String>, NoMemory> {
+    match fault {
+        Fault::NoOpening => Ok(Some(format!(in alloc; "the input is empty")?)),
+        Fault::LongLine(_) => Ok(Some(format!(in alloc; "a line has at most 65536 bytes")?)),
+        Fault::NotJson(_) => json_fault(alloc, line),
+        _ => match tree_of(alloc, line)? {
+            Some(tree) => tree_fault(alloc, fault, command, &tree),
+            None => Ok(None),
+        },
+    }
+}
+
+// What is wrong with the tree of a line.
+fn tree_fault(
+    alloc: Global,
+    fault: &Fault,
+    command: Command,
+    tree: &Value,
+) -> Result<Option<String>, NoMemory> {
+    match fault {
+        Fault::BadLine(1) => opening_fault(alloc, tree),
+        Fault::BadLine(_) => match command {
+            Command::Script => event_fault(alloc, tree),
+            Command::Bank { .. } => job_fault(alloc, tree),
+        },
+        Fault::BadLimits => limit_fault(alloc, least_live(command), member(tree, "limits")),
+        Fault::BadOpening(_) => account_fault(alloc, member(tree, "accounts")),
+        Fault::ProcShape(number, misfit) => {
+            misfit_fault(alloc, *number, tree, misfit.place().as_slice())
+        }
+        Fault::ProcFlaw(number, flaw) => flaw_fault(alloc, *number, tree, *flaw),
+        _ => Ok(None),
+    }
+}
+
+// What is wrong with the opening's procedure of this number, at the place of its first misfit.
+fn misfit_fault(
+    alloc: Global,
+    number: u64,
+    opening: &Value,
+    place: &[u64],
+) -> Result<Option<String>, NoMemory> {
+    let Some(tree) = procedure(opening, number) else {
+        return Ok(None);
+    };
+    match misfit(alloc, tree, place)? {
+        Some(what) => located(alloc, number, place, &what),
+        None => Ok(None),
+    }
+}
+
+// What is wrong with the opening's procedure of this number, which has the flaw of this number.
+fn flaw_fault(
+    alloc: Global,
+    number: u64,
+    opening: &Value,
+    flaw: u8,
+) -> Result<Option<String>, NoMemory> {
+    let (Some(tree), Some(flaw)) = (procedure(opening, number), flaw_numbered(flaw)) else {
+        return Ok(None);
+    };
+    match find_flaw(alloc, tree, flaw)? {
+        Some(found) => located(alloc, number, found.place.as_slice(), &found.what),
+        None => Ok(None),
+    }
+}
+
+// What is wrong at a place of the procedure of this number. A place shows as in the fault's own line.
+fn located(
+    alloc: Global,
+    number: u64,
+    place: &[u64],
+    what: &str,
+) -> Result<Option<String>, NoMemory> {
+    let place = place_text(alloc, place)?;
+    Ok(Some(format!(in alloc; "procedure {number}, at {place}: {what}")?))
+}
+
+// A place's positions, parted by blanks, or `top`.
+fn place_text(alloc: Global, place: &[u64]) -> Result<String, NoMemory> {
+    if place.is_empty() {
+        return Ok(String::from_str(alloc, "top")?);
+    }
+    let mut text = String::new(alloc);
+    for position in place {
+        if !text.is_empty() {
+            text.push_str(" ")?;
+        }
+        text.push_str(format!(in alloc; "{position}")?.as_str())?;
+    }
+    Ok(text)
+}
+
+// How many transactions have to be allowed to be live at least.
+fn least_live(command: Command) -> u32 {
+    match command {
+        Command::Script => 1,
+        Command::Bank { workers } => workers,
+    }
+}
+
+// The items of a member of an object, or none.
+fn member<'a>(tree: &'a Value, name: &str) -> &'a [Value] {
+    match tree.get(name) {
+        Some(member) => items(member).unwrap_or(&[]),
+        None => &[],
+    }
+}
+
+// The opening's procedure of this number.
+fn procedure(opening: &Value, number: u64) -> Option<&Value> {
+    let index = number.checked_sub(u64::from(PROCEDURES))?;
+    member(opening, "procedures").get(index as usize)
+}

@@ -1,0 +1,83 @@
+/// What is so on the paths that lead to a place of a procedure: which registers all of them set, and how many answers the one with
+/// the most has.
+#[derive(Clone, Copy, Debug, PartialEq, Eq)]
+pub(crate) struct Flow {
+    /// Whether there is such a path.
+    is_reached: bool,
+    /// Bit n stands for register n.
+    registers: u16,
+    answers: u8,
+}
+
+impl Flow {
+    /// At the start of a procedure.
+    pub(crate) fn start() -> Self {
+        Flow {
+            is_reached: true,
+            registers: 0,
+            answers: 0,
+        }
+    }
+
+    /// Behind an ask.
+    pub(crate) fn stopped() -> Self {
+        Flow {
+            is_reached: false,
+            registers: 0,
+            answers: 0,
+        }
+    }
+
+    /// Whether some path leads here without setting the register.
+    pub(crate) fn may_lack(self, register: i64) -> bool {
+        self.is_reached && self.registers & bit(register) == 0
+    }
+
+    /// How many answers the path with the most has.
+    pub(crate) fn answers(self) -> u8 {
+        self.answers
+    }
+
+    /// Behind a statement that sets the register.
+    pub(crate) fn setting(self, register: i64) -> Self {
+        Flow {
+            registers: self.registers | bit(register),
+            ..self
+        }
+    }
+
+    /// Behind an answer.
+    pub(crate) fn answering(self) -> Self {
+        if !self.is_reached {
+            return self;
+        }
+        Flow {
+            answers: self.answers.saturating_add(1),
+            ..self
+        }
+    }
+
+    /// Where the paths that lead to two places come together.
+    pub(crate) fn or(self, other: Self) -> Self {
+        if !self.is_reached {
+            return other;
+        }
+        if !other.is_reached {
+            return self;
+        }
+        Flow {
+            is_reached: true,
+            registers: self.registers & other.registers,
+            answers: self.answers.max(other.answers),
+        }
+    }
+}
+
+// The bit of a register; none where there is no such register.
+fn bit(register: i64) -> u16 {
+    if 0 <= register && register < 16 {
+        1 << register
+    } else {
+        0
+    }
+}

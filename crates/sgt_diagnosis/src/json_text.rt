@@ -1,0 +1,66 @@
+use json::{Scratch, is_valid};
+use serde_json::Value;
+use sgt_model::NoMemory;
+use std::alloc::Global;
+
+/// How deep lists and objects may stand in one another.
+const DEEPEST: u64 = 127;
+
+/// Where a line that is no JSON text ends to be one. Columns are bytes, counted from 1.
+pub(crate) fn json_fault(alloc: Global, line: &[u8]) -> Result<Option<String>, NoMemory> {
+    let text = match str::from_utf8(line) {
+        Ok(text) => text,
+        Err(error) => {
+            let column = error.valid_up_to().saturating_add(1);
+            return Ok(Some(format!(in alloc; "column {column}: not UTF-8 from here")?));
+        }
+    };
+    match Value::from_str(alloc, text) {
+        Ok(_) => Ok(None),
+        Err(error) => if error.is_memory() {
+            Err(NoMemory)
+        } else if error.is_eof() {
+            let column = line.len().saturating_add(1);
+            Ok(Some(format!(in alloc;
+                "column {column}: the line ends where its JSON has to go on"
+            )?))
+        } else {
+            Ok(Some(text_fault(alloc, text, error.column())?))
+        },
+    }
+}
+
+// What is wrong with a text, which ends to be JSON at this column.
+fn text_fault(alloc: Global, text: &str, column: usize) -> Result<String, NoMemory> {
+    let before = &text.as_bytes()[..column.min(text.len())];
+    if depth(before) > DEEPEST {
+        return Ok(format!(in alloc;
+            "column {column}: lists and objects are more than {DEEPEST} deep"
+        )?);
+    }
+    if is_valid(text, &mut Scratch::new(alloc))? {
+        return Ok(format!(in alloc; "column {column}: the number before it is too large")?);
+    }
+    Ok(format!(in alloc; "column {column}: not JSON from here")?)
+}
+
+// How many lists and objects are open at the end of a text, as long as it is JSON.
+fn depth(text: &[u8]) -> u64 {
+    let mut open = 0u64;
+    let mut in_string = false;
+    let mut is_escaped = false;
+    for byte in text {
+        if in_string {
+            in_string = is_escaped || *byte != b'"';
+            is_escaped = !is_escaped && *byte == b'\\';
+        } else {
+            match *byte {
+                b'"' => in_string = true,
+                b'[' | b'{' => open = open.saturating_add(1),
+                b']' | b'}' => open = open.saturating_sub(1),
+                _ => (),
+            }
+        }
+    }
+    open
+}

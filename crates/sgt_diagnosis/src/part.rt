@@ -1,0 +1,134 @@
+use sgt_model::NoMemory;
+use std::alloc::Global;
+
+/// What may stand at a place of a procedure that is written as JSON.
+#[derive(Clone, Copy, Debug, PartialEq, Eq)]
+pub(crate) enum Part {
+    /// `[args,[statement,..]]`.
+    Procedure,
+    /// How many arguments a procedure takes.
+    Arguments,
+    /// A list of statements.
+    Block,
+    Statement,
+    Expression,
+    Condition,
+    /// The number of a register.
+    Register,
+    /// The number of an argument.
+    Argument,
+    Table,
+    Code,
+}
+
+impl Part {
+    /// What may stand at a position of a list that is this, and begins with this word, if it begins with one.
+    pub(crate) fn at(self, word: Option<&str>, position: usize) -> Option<Part> {
+        match self {
+            Part::Procedure => match position {
+                0 => Some(Part::Arguments),
+                1 => Some(Part::Block),
+                _ => None,
+            },
+            Part::Block => Some(Part::Statement),
+            _ => {
+                let parts = self.behind(word?)?;
+                Some(*parts.get(position.checked_sub(1)?)?)
+            }
+        }
+    }
+
+    /// What stands behind a word, where a list that begins with it may be this.
+    pub(crate) fn behind(self, word: &str) -> Option<&'static [Part]> {
+        match self {
+            Part::Statement => behind_statement(word),
+            Part::Expression => behind_expression(word),
+            Part::Condition => behind_condition(word),
+            _ => None,
+        }
+    }
+
+    /// How a list that begins with the word and has these parts behind it is written, by the names of the parts.
+    pub(crate) fn form(alloc: Global, word: &str, parts: &[Part]) -> Result<String, NoMemory> {
+        let mut form = format!(in alloc; "[\"{word}\"")?;
+        for part in parts {
+            form.push_str(",")?;
+            form.push_str(part.name())?;
+        }
+        form.push_str("]")?;
+        Ok(form)
+    }
+
+    // What it is called in such a list.
+    fn name(self) -> &'static str {
+        match self {
+            Part::Procedure => "procedure",
+            Part::Arguments => "arguments",
+            Part::Block => "[statement,..]",
+            Part::Statement => "statement",
+            Part::Expression => "expression",
+            Part::Condition => "condition",
+            Part::Register => "register",
+            Part::Argument => "argument",
+            Part::Table => "table",
+            Part::Code => "code",
+        }
+    }
+
+    /// What it is, in words.
+    pub(crate) fn words(self) -> &'static str {
+        match self {
+            Part::Procedure => "[arguments,[statement,..]]",
+            Part::Arguments => "a number of arguments from 0 to 255",
+            Part::Block => "a list of statements",
+            Part::Statement => "a statement",
+            Part::Expression => "an expression",
+            Part::Condition => "a condition",
+            Part::Register => "a register from 0 to 255",
+            Part::Argument => "an argument from 0 to 255",
+            Part::Table => "a table from 0 to 255",
+            Part::Code => "a code from 0 to 65535",
+        }
+    }
+}
+
+/// Whether a list of a procedure may begin with the word.
+pub(crate) fn is_known(word: &str) -> bool {
+    behind_statement(word).is_some()
+        || behind_expression(word).is_some()
+        || behind_condition(word).is_some()
+}
+
+fn behind_statement(word: &str) -> Option<&'static [Part]> {
+    match word {
+        "look" => Some(&[Part::Register, Part::Table, Part::Expression, Part::Code]),
+        "find" => Some(&[
+            Part::Register,
+            Part::Table,
+            Part::Expression,
+            Part::Expression,
+        ]),
+        "put" => Some(&[Part::Table, Part::Expression, Part::Expression]),
+        "let" => Some(&[Part::Register, Part::Expression]),
+        "ask" => Some(&[Part::Code]),
+        "if" => Some(&[Part::Condition, Part::Block, Part::Block]),
+        "answer" => Some(&[Part::Expression]),
+        _ => None,
+    }
+}
+
+fn behind_expression(word: &str) -> Option<&'static [Part]> {
+    match word {
+        "arg" => Some(&[Part::Argument]),
+        "reg" => Some(&[Part::Register]),
+        "sum" | "diff" | "product" | "quotient" => Some(&[Part::Expression, Part::Expression]),
+        _ => None,
+    }
+}
+
+fn behind_condition(word: &str) -> Option<&'static [Part]> {
+    match word {
+        "less" | "most" | "same" => Some(&[Part::Expression, Part::Expression]),
+        _ => None,
+    }
+}

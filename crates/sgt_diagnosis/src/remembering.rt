@@ -1,0 +1,94 @@
+ghost use Rattle.std.specs.Prelude.{◌≡◌, IfOk, OnOk, OnErr, min, ◌+◌, ◌-◌, ◌^◌, ◌<◌, ◌≤◌, length};
+ghost use Rattle.std.specs.Io.KnownBytes.{ReadConsumes};
+
+use memchr::memchr;
+use sgt_stream::{Failed, Source};
+use std::alloc::Global;
+
+/// The most bytes that are kept: as many as an input may have.
+const MOST_KEPT: usize = 16_777_216;
+
+/// A source that gives what another one does, and keeps it. Where there is no memory for that, it keeps nothing any more, and
+/// gives the same.
+#[derive(Drop)]
+pub struct Remembering<S: Source> {
+    source: S,
+    /// The first bytes that were given, unless there was no memory for them.
+    kept: Option<Vec<u8>>,
+}
+
+impl<S: Source> Remembering<S> {
+    /// Gives what this source gives from now on. This takes no memory.
+    pub fn new(alloc: Global, source: S) -> Self
+        ensures rest { S.rest result.source ≡ S.rest source }
+        ensures given { S.given result.source ≡ S.given source }
+        ensures failures { S.failures result.source ≡ S.failures source }
+    {
+        Remembering {
+            source,
+            kept: Some(Vec::new(alloc)),
+        }
+    }
+
+    /// The line of this number, from 1, without its byte 10, if its bytes were kept.
+    pub fn line(&self, number: u64) -> Option<&[u8]> {
+        match &self.kept {
+            Some(kept) => line_in(kept, number),
+            None => None,
+        }
+    }
+
+    // Keeps these bytes, as many as there is room for within the limit, or nothing any more where there is no memory.
+    fn keep(&mut self, bytes: &[u8])
+        ensures same { self.new.source ≡ self.old.source }
+    {
+        let is_kept = match &mut self.kept {
+            Some(kept) => {
+                let room = MOST_KEPT.saturating_sub(kept.len());
+                kept.extend_from_slice(&bytes[..room.min(bytes.len())])
+                    .is_ok()
+            }
+            None => true,
+        };
+        if !is_kept {
+            self.kept = None;
+        }
+    }
+}
+
+impl<S: Source> Source for Remembering<S> {
+    ghost rest = { λ s. S.rest s.source };
+
+    ghost given = { λ s. S.given s.source };
+
+    ghost failures = { λ s. S.failures s.source };
+
+    fn read(&mut self, room: &mut [u8]) -> Result<usize, Failed> {
+        let n = self.source.read(room)?;
+        self.keep(&room[..n]);
+        Ok(n)
+    }
+}
+
+// The line of this number, from 1, if the text has so many.
+fn line_in(text: &[u8], number: u64) -> Option<&[u8]> {
+    let mut rest = text;
+    for _ in 1..number {
+        rest = behind_break(rest)?;
+    }
+    Some(until_break(rest))
+}
+
+// What stands behind the first byte 10, if there is one.
+fn behind_break(bytes: &[u8]) -> Option<&[u8]> {
+    let place = memchr(b'\n', bytes)?;
+    Some(&bytes[place + 1..])
+}
+
+// What stands before the first byte 10, or all.
+fn until_break(bytes: &[u8]) -> &[u8] {
+    match memchr(b'\n', bytes) {
+        Some(place) => &bytes[..place],
+        None => bytes,
+    }
+}

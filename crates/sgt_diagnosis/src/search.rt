@@ -1,0 +1,209 @@
+use crate::flow::Flow;
+use crate::part::Part;
+use crate::tree::{items, word_of};
+use serde_json::Value;
+use sgt_model::{LAST_TABLE, NoMemory, is_value};
+use sgt_proc::Flaw;
+use std::alloc::Global;
+
+/// The greatest number of a register.
+pub(crate) const LAST_REGISTER: i64 = 15;
+
+/// How many statements a procedure has at most.
+pub(crate) const MOST_STATEMENTS: i64 = 64;
+
+/// How deep statements and expressions are at most.
+pub(crate) const DEEPEST: i64 = 16;
+
+/// How many answers a path has at most.
+pub(crate) const MOST_ANSWERS: i64 = 8;
+
+/// The greatest code.
+pub(crate) const LAST_CODE: i64 = 999;
+
+/// How many arguments a procedure takes at most.
+pub(crate) const MOST_ARGUMENTS: i64 = 4;
+
+/// A search through a procedure as JSON, from its top and from left to right, for the first place that has a flaw.
+#[derive(Drop)]
+pub(crate) struct Search {
+    flaw: Flaw,
+    /// How many arguments the procedure takes.
+    arguments: i64,
+    /// What is so on the paths that lead to where the search is.
+    flow: Flow,
+    /// How many statements it has met.
+    statements: i64,
+    /// The positions that lead to where it is.
+    place: Vec<u64>,
+}
+
+impl Search {
+    /// A search for this flaw, in a procedure that takes so many arguments.
+    pub(crate) fn new(alloc: Global, flaw: Flaw, arguments: i64) -> Self {
+        Search {
+            flaw,
+            arguments,
+            flow: Flow::start(),
+            statements: 0,
+            place: Vec::new(alloc),
+        }
+    }
+
+    /// Searches a procedure, and gives the number that the flaw is of, where it is found: of a register, of an argument, of a table, a
+    /// code, a literal, or how many there are of what there may be fewer. The place is where it was found then.
+    pub(crate) fn run(&mut self, procedure: &Value) -> Result<Option<i64>, NoMemory> {
+        self.visit(Part::Procedure, procedure, 1)
+    }
+
+    /// The positions that lead to where the search has ended.
+    pub(crate) fn into_place(self) -> Vec<u64> {
+        self.place
+    }
+
+    // Searches a tree, which stands where this may stand, and so deep.
+    #[cycle(visit)]
+    fn visit(&mut self, part: Part, tree: &Value, depth: i64) -> Result<Option<i64>, NoMemory> {
+        if part == Part::Statement {
+            self.statements = self.statements.saturating_add(1);
+        }
+        let found = self.found_at(part, tree, depth);
+        if found.is_some() {
+            return Ok(found);
+        }
+        match tree {
+            Value::Array(items) => self.visit_items(part, items.as_slice(), depth),
+            _ => Ok(None),
+        }
+    }
+
+    // Searches the items of a list, one after another. Each block of a statement begins where the statement does, and where they have
+    // ended their paths come together.
+    #[cycle(visit)]
+    fn visit_items(
+        &mut self,
+        part: Part,
+        items: &[Value],
+        depth: i64,
+    ) -> Result<Option<i64>, NoMemory> {
+        let before = self.flow;
+        let mut blocks = Flow::stopped();
+        for (position, item) in items.iter().enumerate() {
+            if let Some(next) = part.at(word_of(items), position) {
+                if next == Part::Block {
+                    self.flow = before;
+                }
+                self.place.push(position as u64)?;
+                let found = self.visit(next, item, depth_at(part, next, depth))?;
+                if found.is_some() {
+                    return Ok(found);
+                }
+                self.place.pop();
+                if next == Part::Block {
+                    blocks = blocks.or(self.flow);
+                }
+            }
+        }
+        if part == Part::Statement {
+            self.flow = behind(self.flow, blocks, items);
+        }
+        Ok(None)
+    }
+
+    // The number that the flaw is of, where this tree itself has it.
+    fn found_at(&self, part: Part, tree: &Value, depth: i64) -> Option<i64> {
+        match self.flaw {
+            Flaw::UnsetRegister => self.unset_register(part, tree),
+            Flaw::TooLong => over(self.statements, MOST_STATEMENTS, part == Part::Statement),
+            Flaw::TooDeep => {
+                over(
+                    depth,
+                    DEEPEST,
+                    part == Part::Statement || part == Part::Expression,
+                )
+            }
+            Flaw::ManyAnswers => self.answer(part, tree),
+            _ => match tree.as_i64() {
+                Some(number) if self.is_broken(part, number) => Some(number),
+                _ => None,
+            },
+        }
+    }
+
+    // Whether a number of this part has the flaw.
+    fn is_broken(&self, part: Part, number: i64) -> bool {
+        match (self.flaw, part) {
+            (Flaw::HighRegister, Part::Register) => number > LAST_REGISTER,
+            (Flaw::NoArgument, Part::Argument) => number >= self.arguments,
+            (Flaw::HighTable, Part::Table) => number > i64::from(LAST_TABLE),
+            (Flaw::BadCode, Part::Code) => number < 1 || number > LAST_CODE,
+            (Flaw::ManyArguments, Part::Arguments) => number > MOST_ARGUMENTS,
+            (Flaw::BadLiteral, Part::Expression) => !is_value(number),
+            _ => false,
+        }
+    }
+
+    // The register that a tree uses, where some path leads to it that does not set that one.
+    fn unset_register(&self, part: Part, tree: &Value) -> Option<i64> {
+        let register = match items(tree)? {
+            [word, number] if part == Part::Expression && word.as_str() == Some("reg") => {
+                number.as_i64()?
+            }
+            _ => return None,
+        };
+        if self.flow.may_lack(register) {
+            Some(register)
+        } else {
+            None
+        }
+    }
+
+    // How many answers a path has with this one, where it is one too many.
+    fn answer(&self, part: Part, tree: &Value) -> Option<i64> {
+        let is_answer = part == Part::Statement && word_of(items(tree)?) == Some("answer");
+        over(
+            i64::from(self.flow.answering().answers()),
+            MOST_ANSWERS,
+            is_answer,
+        )
+    }
+}
+
+// The number, where it counts and is over the most.
+fn over(number: i64, most: i64, counts: bool) -> Option<i64> {
+    if counts && number > most {
+        Some(number)
+    } else {
+        None
+    }
+}
+
+// How deep a part is, directly in another one that is so deep. A block is as deep as its statements.
+fn depth_at(part: Part, next: Part, depth: i64) -> i64 {
+    match (part, next) {
+        (Part::Block, Part::Statement) => depth,
+        (Part::Statement, Part::Block) | (Part::Expression, Part::Expression) => {
+            depth.saturating_add(1)
+        }
+        _ => 1,
+    }
+}
+
+// What is so behind a statement of these items, where this was so behind its expressions, and that behind its blocks.
+fn behind(flow: Flow, blocks: Flow, items: &[Value]) -> Flow {
+    match word_of(items) {
+        Some("look" | "find" | "let") => match register_of(items) {
+            Some(register) => flow.setting(register),
+            None => flow,
+        },
+        Some("ask") => Flow::stopped(),
+        Some("if") => blocks,
+        Some("answer") => flow.answering(),
+        _ => flow,
+    }
+}
+
+// The register that a statement sets.
+fn register_of(items: &[Value]) -> Option<i64> {
+    items.get(1)?.as_i64()
+}
