@@ -7,6 +7,9 @@ ghost use Rattle.sgt_access.specs.ByKey.{AreInKeyOrder};
 use crate::access::Access;
 use sgt_model::Key;
 
+/// So many accesses are gone through faster, one after another, than they are searched.
+pub const FEW: usize = 8;
+
 /// How many accesses are of keys before this one.
 pub fn count_before(accesses: &[Access], key: Key) -> usize
     requires { AreInKeyOrder accesses.now }
@@ -24,10 +27,13 @@ pub fn count_through(accesses: &[Access], key: Key) -> usize
     ensures through { AllWithin (λ a. key_lt key a.key ≡ false) accesses.now 0 result }
     ensures after { AllWithin (λ a. key_lt key a.key ≡ true) accesses.now result (length accesses.now) }
 {
+    if accesses.len() <= FEW {
+        return count_along(accesses, key);
+    }
     accesses.partition_point(|access| access.key <= key)
 }
 
-/// The same as `count_through`, for accesses that begin at this key: it looks at those of the key alone.
+/// The same as `count_through`, by looking at one after another: for few accesses, and for those that begin at this key.
 pub fn count_along(accesses: &[Access], key: Key) -> usize
     requires { AreInKeyOrder accesses.now }
     ensures within { result ≤ length accesses.now }

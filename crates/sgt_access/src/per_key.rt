@@ -8,7 +8,7 @@ ghost use Rattle.sgt_access.specs.ByKey.{StandsFor};
 
 use crate::access::Access;
 use crate::accesses::Accesses;
-use crate::bounds::{count_along, count_before, count_through};
+use crate::bounds::{FEW, count_along, count_before, count_through};
 use crate::conflicts::rivals_among;
 use crate::whole_list::WholeList;
 use sgt_model::{Key, Kind, NoMemory, Tid, Tids};
@@ -17,8 +17,8 @@ use std::marker::Model;
 
 /// The accesses in the order of their keys, those of one key side by side and oldest first.
 ///
-/// `rivals` searches for the key and looks at its accesses alone. `note` searches for the index behind them and moves the
-/// accesses of later keys up by one; but where the last of the key's accesses is of the same transaction, the two are kept as
+/// `rivals` searches for the key and looks at its accesses alone; of few accesses it looks at all, which costs less than the search.
+/// `note` searches for the index behind them and moves the accesses of later keys up by one; but where the last of the key's accesses is of the same transaction, the two are kept as
 /// one, a store if either is: it conflicts with whatever one of them does. `forget` goes once through the accesses of those
 /// who are live. Nothing is kept of a key without accesses. The order in which accesses of different keys were noted is there
 /// for proofs alone.
@@ -46,13 +46,16 @@ impl PerKey {
     ghost use Rattle.sgt_model.specs.declared.kind.Kind.{Kind as K};
     ghost use Rattle.sgt_model.specs.AccessList.{lists_conflicting, is_listed};
 
-    // The accesses of a key: they conflict with an access of the key as all accesses do.
+    // The accesses of a key, or all where they are few: they conflict with an access of the key as all accesses do.
     fn of_key(&self, key: Key) -> &[Access]
         ensures conflicting { (u : ℕ) (kind : K) → lists_conflicting result.now u key kind
             ≡ lists_conflicting self.now.0 u key kind }
         ensures listed { (u : ℕ) → is_listed result.now u ≡ true → is_listed self.now.0 u ≡ true }
     {
         let accesses = self.by_key.as_slice();
+        if accesses.len() <= FEW {
+            return accesses;
+        }
         let from = &accesses[count_before(accesses, key)..];
         &from[..count_along(from, key)]
     }

@@ -7,7 +7,8 @@ use Rattle.sgt_model.specs.Legality.{Legal}
 use Rattle.sgt_model.proofs.Facts.{legal_older}
 
 -- one entry more
-pub one_more : (h : List Entry) (i : ℕ) (e : Entry) → take (i + 1) h ≡ take i h ++ e ∷ [] → reverse (take (i + 1) h) ≡ e ∷ reverse (take i h)
+pub one_more : (h : List Entry) (i : ℕ) (e : Entry) → take (i + 1) h ≡ take i h ++ e ∷ []
+    → reverse (take (i + 1) h) ≡ e ∷ reverse (take i h)
 one_more h i e next = ap reverse next ∙ reverse-append (take i h) (e ∷ [])
 
 -- the first entries of a legal history are legal

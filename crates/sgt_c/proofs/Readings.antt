@@ -28,12 +28,14 @@ value_test v value = both_true _ _ (of_test _ value.0.le) (of_test _ value.1.le)
 
 module _ (s : Told) where
   code_reads : (code : ℕ) → s.code ≡ code → code ≤ 65535 → code_in s ≡ Some code
-  code_reads code is fits = cond-true (nat_le s.code 65535) (Some s.code) None (ap (λ n. nat_le n 65535) is ∙ le-leb code 65535 fits) ∙ ap Some is
+  code_reads code is fits = cond-true (nat_le s.code 65535) (Some s.code) None (ap (λ n. nat_le n 65535) is ∙ le-leb code 65535 fits)
+      ∙ ap Some is
 
   key_reads : (table : ℕ) (number : ℤ) → s.table ≡ table → s.number ≡ number → IsKey (table, number) → key_in s ≡ Some (table, number)
   key_reads table number t n key =
       cond-true (nat_le s.table 7 && is_value s.number) (Some (s.table, s.number)) None
-      (both_true (nat_le s.table 7) (is_value s.number) (ap (λ n. nat_le n 7) t ∙ le-leb table 7 key.0) (ap is_value n ∙ value_test number key.1))
+      (both_true (nat_le s.table 7) (is_value s.number) (ap (λ n. nat_le n 7) t ∙ le-leb table 7 key.0)
+      (ap is_value n ∙ value_test number key.1))
       ∙ ap₂ (λ t n. Some (t, n)) t n
 
   found_reads : (value : Option ℤ) → IsFoundTold s value → found_in s ≡ Some value
@@ -53,8 +55,10 @@ module _ (s : Told) where
 
   fate_reads : (how : Fate) → IsFateTold s how → IsFate how → fate_in s ≡ Some how
   fate_reads fate.Committed told fits = fate_at 0 told
-  fate_reads (fate.Aborted (cause.Cycle walk)) told fits = fate_at 1 told.0 ∙ ap (option_map fate.Aborted) (cause_reads (cause.Cycle walk) told fits)
-  fate_reads (fate.Aborted (cause.Asked code)) told fits = fate_at 2 told.0 ∙ ap (option_map fate.Aborted) (cause_reads (cause.Asked code) told fits)
+  fate_reads (fate.Aborted (cause.Cycle walk)) told fits = fate_at 1 told.0
+      ∙ ap (option_map fate.Aborted) (cause_reads (cause.Cycle walk) told fits)
+  fate_reads (fate.Aborted (cause.Asked code)) told fits = fate_at 2 told.0
+      ∙ ap (option_map fate.Aborted) (cause_reads (cause.Asked code) told fits)
   fate_reads (fate.Aborted cause.Quit) told fits = fate_at 3 told ∙ ap (option_map fate.Aborted) (cause_reads cause.Quit told fits)
   fate_reads (fate.Fell first) told fits = fate_at 4 told.0 ∙ ap (λ t. Some (fate.Fell t)) told.1
 

@@ -11,16 +11,6 @@ use Rattle.sgt_c.specs.Rows.{IsRow, row_of, rows_from, with_rows}
 -- ---- from a key on
 
 module _ (k : Key) (rows : List Row) (i : ℕ) (d : Row) (within : i < length rows) where
-  -- a row that comes before the key is left out
-  pub skip_row : key_lt (get_or rows i d).0 k ≡ true → rows_from k (drop i rows) ≡ rows_from k (drop (i + 1) rows)
-  skip_row before = ap (rows_from k) (drop_more rows i d within)
-      ∙ ap (λ b. cond b (rows_from k (drop (i + 1) rows)) (get_or rows i d ∷ drop (i + 1) rows)) before
-
-  -- behind one that does not, none is
-  pub stop_row : key_lt (get_or rows i d).0 k ≡ false → rows_from k (drop i rows) ≡ drop i rows
-  stop_row behind = ap (rows_from k) (drop_more rows i d within)
-      ∙ ap (λ b. cond b (rows_from k (drop (i + 1) rows)) (get_or rows i d ∷ drop (i + 1) rows)) behind
-      ∙ sym (drop_more rows i d within)
 
 -- ---- rows put in
 

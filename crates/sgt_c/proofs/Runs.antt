@@ -68,23 +68,6 @@ module _ (past : List Entry) (t : ℕ) where
   access_live (reply.Aborted why fell) a = absurd cc
   access_live (reply.Refused code fell) a = absurd cc
 
-  pub end_live : (r : Reply) → is_end r ≡ true → live (record { event = Step t; reply = r } ∷ past) t ≡ live past t
-  end_live reply.Ended a = refl
-  end_live (reply.Looked k v) a = absurd cc
-  end_live (reply.Wrote k v) a = absurd cc
-  end_live (reply.Started u) a = absurd cc
-  end_live reply.NoProcedure a = absurd cc
-  end_live reply.BadArgs a = absurd cc
-  end_live reply.Spent a = absurd cc
-  end_live reply.Full a = absurd cc
-  end_live reply.Unknown a = absurd cc
-  end_live (reply.Over fate) a = absurd cc
-  end_live reply.NotEnded a = absurd cc
-  end_live (reply.Waits u) a = absurd cc
-  end_live (reply.Committed answers) a = absurd cc
-  end_live (reply.Aborted why fell) a = absurd cc
-  end_live (reply.Refused code fell) a = absurd cc
-
 -- ---- which steps were made
 
 -- the transaction made accesses alone, and is live
@@ -95,9 +78,6 @@ pub record Stepping (t : ℕ) (e now : EngineView) : Type 0 where
   pub is_live : live now.past t ≡ true
 
 module _ (t : ℕ) (e now : EngineView) where
-  pub no_step : live e.past t ≡ true → Stepping t e e
-  no_step l = record { steps = []; accesses = All-nil (IsAccess t); now_is = refl; is_live = l }
-
   -- one access more
   pub one_more : (r : Reply) (after : EngineView) → Stepping t e now → after ≡ with_entry (Step t) r now → is_access r ≡ true
       → Stepping t e after
@@ -107,15 +87,6 @@ module _ (t : ℕ) (e now : EngineView) where
     now_is = adds ∙ ap (with_entry (Step t) r) s.now_is;
     is_live = ap (λ (v : EngineView). live v.past t) adds ∙ access_live now.past t r a ∙ s.is_live;
   }
-
-  -- the step that makes none
-  pub last_step : (r : Reply) (after : EngineView) → Stepping t e now → after ≡ with_entry (Step t) r now → is_access r ≡ false
-      → StepsOn t r e after
-  last_step r after s adds a = (s.steps, s.accesses, a, adds ∙ ap (with_entry (Step t) r) s.now_is)
-
-  pub live_at_end : (r : Reply) (after : EngineView) → Stepping t e now → after ≡ with_entry (Step t) r now → is_end r ≡ true
-      → live after.past t ≡ true
-  live_at_end r after s adds a = ap (λ (v : EngineView). live v.past t) adds ∙ end_live now.past t r a ∙ s.is_live
 
   -- no memory for the next
   pub stopped : (after : EngineView) → Stepping t e now → after ≡ now → StopsLive t e after

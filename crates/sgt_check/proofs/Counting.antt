@@ -13,7 +13,8 @@ acts_more [] op t = by (op.transaction == t)
     by : (b : Bool) → (b || false) ≡ (false || b)
     by true = refl
     by false = refl
-acts_more (o ∷ ops) op t = ap (λ b. o.transaction == t || b) (acts_more ops op t) ∙ by (o.transaction == t) (acts ops t) (op.transaction == t)
+acts_more (o ∷ ops) op t = ap (λ b. o.transaction == t || b) (acts_more ops op t)
+    ∙ by (o.transaction == t) (acts ops t) (op.transaction == t)
   where
     by : (a b c : Bool) → (a || (b || c)) ≡ ((a || b) || c)
     by true b c = refl
@@ -56,7 +57,8 @@ pub count_one : (p : Operation → Bool) (h : List Operation) (i : ℕ) (d : Ope
 count_one p h i d before after within so_far more = by (p (get_or h i d)) refl
   where
     by : (b : Bool) → p (get_or h i d) ≡ b → after ≡ count_by p (take (i + 1) h)
-    by true holds = more ∙ ap (λ b. before + (if b then 1 else 0)) holds ∙ ap (λ n. n + 1) so_far ∙ sym (count_by_more_yes p h i d within holds)
+    by true holds = more ∙ ap (λ b. before + (if b then 1 else 0)) holds ∙ ap (λ n. n + 1) so_far
+        ∙ sym (count_by_more_yes p h i d within holds)
     by false isnt =
         more ∙ ap (λ b. before + (if b then 1 else 0)) isnt ∙ (let none : before + 0 ≡ before = omega arith in none) ∙ so_far
         ∙ sym (count_by_more_no p h i d within isnt)

@@ -114,7 +114,8 @@ is_drawn (Some bytes) held held' text lines h r conflicts sound same read found 
     (lines, appended, drawn_of bytes text lines h r conflicts sound same read found first written verdict)
 
 -- the first bytes of those lines are written
-pub is_drawn_in_part : (rest held held' : Option (List ℕ)) (text lines : List ℕ) (h : History) (r : Report) (conflicts : List Edge) (sound : Bool)
+pub is_drawn_in_part : (rest held held' : Option (List ℕ)) (text lines : List ℕ) (h : History) (r : Report) (conflicts : List Edge)
+    (sound : Bool)
     → IfSome rest (λ bytes. bytes ≡ text) → AreRead (words_of text) (texts h) h.operations.items → IsReport h.operations.items r
     → AreFirstConflicts h.operations.items conflicts → lines ≡ graph_text h conflicts r.serializability
     → ((k : ℕ) × Appends held held' (take k lines))

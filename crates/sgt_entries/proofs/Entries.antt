@@ -190,21 +190,3 @@ taken-suc (y ∷ xs) (suc n) x is = ap (λ l. y ∷ l) (taken-suc xs n x is)
 -- one more of a list that is read from its front
 pub taken : {X : Type 0} (xs : List X) (n : ℕ) (x : X) → slice_get xs n ≡ Some x → take (n + 1) xs ≡ take n xs ++ x ∷ []
 taken xs n x is = let one : n + 1 ≡ suc n = omega arith in rw one (taken-suc xs n x is)
-
-after-all : {X : Type 0} (xs : List X) (n : ℕ) (x : X) → n ≡ length xs → slice_get (xs ++ x ∷ []) n ≡ Some x
-after-all [] zero x is = refl
-after-all [] (suc n) x is = absurd (omega (arith, is))
-after-all (y ∷ xs) zero x is = absurd (omega (arith, is))
-after-all (y ∷ xs) (suc n) x is = after-all xs n x (omega (arith, is))
-
-first-back : {X : Type 0} (xs ys : List X) → reverse xs ≡ ys → slice_get xs (length xs - 1) ≡ slice_get ys 0
-first-back xs [] is = let empty : xs ≡ [] = sym (reverse-reverse xs) ∙ ap reverse is in rw empty refl
-first-back xs (y ∷ ys) is =
-    let back : xs ≡ reverse ys ++ y ∷ [] = sym (reverse-reverse xs) ∙ (ap reverse is ∙ reverse_onto ys y []) in
-    let long = ap length back ∙ length-append (reverse ys) (y ∷ []) in
-    let place : length xs - 1 ≡ length (reverse ys) = omega (arith, long) in
-    ap (λ l. slice_get l (length xs - 1)) back ∙ after-all (reverse ys) (length xs - 1) y place
-
--- the last of a list is the first of it backwards
-pub last_first : {X : Type 0} (xs : List X) → slice_get xs (length xs - 1) ≡ slice_get (reverse xs) 0
-last_first xs = first-back xs (reverse xs) refl

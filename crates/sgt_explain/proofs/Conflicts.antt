@@ -73,13 +73,6 @@ none_there entries end t k kind within looked stored looks stores no_look no_sto
 
 -- an access that is known
 
-pub made_is : (o : Option Access) (m : Access) → Some m ≡ o → IsAccessBy o m.by m.key m.kind
-made_is o m is = rw (sym is) (refl, refl, refl)
-
-pub made_none : (o : Option Access) (t : ℕ) (k : Key) (kind : Kind) → None ≡ o → IsAccessBy o t k kind → ⊥
-made_none None t k kind h is = is
-made_none (Some a) t k kind h is = absurd (cc)
-
 -- one comes before another
 
 precedes_back : (t u : ℕ) → LooksBack (λ past. Precedes past t u) (λ past o. FollowsIn past o t u)
@@ -95,17 +88,3 @@ pub follows_precede : (entries : List Entry) (end t u n : ℕ) → end ≤ lengt
     → Precedes (before entries end) t u
 follows_precede entries end t u n within below h =
     finds_at (λ past. Precedes past t u) (λ past o. FollowsIn past o t u) (precedes_back t u) entries end n within below h
-
-pub follows_is : (past : List Entry) (o : Option Access) (t u : ℕ) (k : Key) (kind : Kind) → IsAccessBy o u k kind
-    → has_conflicting past t k kind ≡ true → FollowsIn past o t u
-follows_is past None t u k kind is h = absurd is
-follows_is past (Some a) t u k kind (by, key, same) h = (by, rw (key, same) h)
-
-pub follows_by : (past : List Entry) (o : Option Access) (t u v : ℕ) (k : Key) (kind : Kind) → IsAccessBy o v k kind
-    → FollowsIn past o t u → (v ≡ u) × (has_conflicting past t k kind ≡ true)
-follows_by past None t u v k kind is h = absurd is
-follows_by past (Some a) t u v k kind (by, key, same) (own, h) = (sym by ∙ own, rw (sym key, sym same) h)
-
-pub follows_none : (past : List Entry) (o : Option Access) (t u : ℕ) → None ≡ o → FollowsIn past o t u → ⊥
-follows_none past None t u none h = h
-follows_none past (Some a) t u none h = absurd (cc)

@@ -10,10 +10,6 @@ use Rattle.sgt_explain.specs.Places.{before, placed_access}
 use Rattle.sgt_explain.specs.Calls.{placed_call}
 use Rattle.sgt_explain.proofs.Prefixes.{entry_there, before_next, access_there}
 
--- behind the last entry nothing more comes
-pub before_min : (entries : List Entry) (place : ℕ) → before entries (min place (length entries)) ≡ before entries place
-before_min entries place = ap reverse (take_min place entries)
-
 -- one entry more
 
 values-more : (o : Option Access) (t : ℕ) (rest : List Access)

@@ -140,7 +140,8 @@ one_behind a b c d e f g h =
 
 row_line : (row : Row) → record_line row ≡ row_text row.0.0 row.0.1 row.1 ++ codes "\n"
 row_line row =
-    from_right (codes "[\"record\",") (decimal row.0.0) (codes ",") (signed_decimal row.0.1) (codes ",") (signed_decimal row.1) (codes "]\n")
+    from_right (codes "[\"record\",") (decimal row.0.0) (codes ",") (signed_decimal row.0.1) (codes ",") (signed_decimal row.1)
+    (codes "]\n")
     ∙ sym (one_behind (codes "[\"record\",") (decimal row.0.0) (codes ",") (signed_decimal row.0.1) (codes ",") (signed_decimal row.1)
     (codes "]") (codes "\n"))
 

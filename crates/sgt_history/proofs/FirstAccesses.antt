@@ -107,19 +107,6 @@ latest_noted kind h p t x a latest latest' does is here others are u y = elim (c
     other differ not_here = subst (λ o. IsSomeAccess kind h (p + 1) u y o) (sym (others (u, y) differ))
         (some_kept kind h p u y (latest (u, y)) not_here (are u y))
 
--- the operation is no access that counts
-pub firsts_kept : (kind : Kind) (h : List Operation) (p t : ℕ) (a : Action) (tops below : ℕ → Option ℕ) (latest : ℕ × ℕ → Option ℕ)
-    → Does h p t a → accessed kind a ≡ None → AreFirsts kind h p tops below latest → AreFirsts kind h (p + 1) tops below latest
-firsts_kept kind h p t a tops below latest does none are = record {
-  tops_are = λ x. last_kept kind h p x (tops x) (λ u first. not_here u x first.0) (are.tops_are x);
-  below_are = below_kept kind h p below (λ u x first. not_here u x first.0) are.below_are;
-  fresh = λ k most. are.fresh k (omega (arith, most));
-  latest_are = λ u x. some_kept kind h p u x (latest (u, x)) (not_here u x) (are.latest_are u x);
-}
-  where
-    not_here : (u x : ℕ) → ¬ IsAccess kind h p u x
-    not_here u x access = let at = (is_accessed kind h p u t x a does access).0 in absurd (grind (arith, common_steps, at, none))
-
 -- the operation is an access that is not the first
 pub firsts_again : (kind : Kind) (h : List Operation) (p t x s : ℕ) (a : Action) (tops below : ℕ → Option ℕ)
     (latest latest' : ℕ × ℕ → Option ℕ) → Does h p t a → accessed kind a ≡ Some x → latest (t, x) ≡ Some s → latest' (t, x) ≡ Some p

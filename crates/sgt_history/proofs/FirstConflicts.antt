@@ -20,19 +20,6 @@ use Rattle.sgt_history.proofs.Sources.{same_doer, same_action}
 use Rattle.sgt_history.proofs.Edges.{pushed, has_kept, has_new}
 use Rattle.sgt_history.proofs.Projection.{edge_by, conflict_by}
 
--- there is none yet
-pub no_conflicts : (q : List Operation) (pairs : ℕ × ℕ → Option ℕ) → ((r : ℕ × ℕ) → pairs r ≡ None) → AreConflicts q 0 0 [] pairs
-no_conflicts q pairs none = record {
-  are_first = λ k e at. absurd (grind (arith, common_steps, at));
-  are_told = λ i t k u less order differ conflict. absurd (omega (arith, less));
-  are_pairs = λ t u. (
-    λ some. absurd (grind (arith, common_steps, none (t, u), some)),
-    λ has. absurd (grind (arith, common_steps, has.2)),
-  );
-  order = λ i k e f less at other. absurd (grind (arith, common_steps, at));
-  tellable = λ k e at. absurd (grind (arith, common_steps, at));
-}
-
 -- more of the earlier ones may come
 pub conflicts_lower : (q : List Operation) (p n m : ℕ) (es : List Edge) (pairs : ℕ × ℕ → Option ℕ) → m ≤ n → AreConflicts q p n es pairs
     → AreConflicts q p m es pairs

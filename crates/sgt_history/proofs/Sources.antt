@@ -269,7 +269,8 @@ reads_none h p t x does top i y w r reads = reads.standing (top i w reads.earlie
     (subst (λ z. Does h i w (Write z)) (sym (read_item h p t r x y does reads.read)) reads.written))
 
 -- what is no read reads from none
-pub no_read_reads : (h : List Operation) (p t : ℕ) (a : Action) → Does h p t a → ((x : ℕ) → a ≢ Read x) → (i y w r : ℕ) → ¬ ReadsFrom h i p y w r
+pub no_read_reads : (h : List Operation) (p t : ℕ) (a : Action) → Does h p t a → ((x : ℕ) → a ≢ Read x) → (i y w r : ℕ)
+    → ¬ ReadsFrom h i p y w r
 no_read_reads h p t a does other i y w r reads = other y (same_action h p t r a (Read y) does reads.read)
 
 -- the same of a place that may be none

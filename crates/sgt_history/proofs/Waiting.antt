@@ -38,11 +38,6 @@ leads_to w u k e waits top at =
     let here = subst (λ o. IsTopEdge w.edges.items (entry_of w.left) u o) top (waits.tops_are u) in
     ap (λ (f : Edge). f.to) (same_at w.edges.items k e here.0.0 at here.0.1) ∙ here.0.2
 
--- an edge that is watched is so after another is looked at
-pub before_still : (ws ws' : List Edge) (m : ℕ) (e : Edge)
-    → ((k : ℕ) (f : Edge) → slice_get ws k ≡ Some f → slice_get ws' k ≡ Some f) → HasBefore ws m e → HasBefore ws' m e
-before_still ws ws' m e kept has = (has.0, has.1, kept has.0 e has.2)
-
 -- the edge by which one waits stays watched, after another is looked at
 pub watched_still : (w w' : Waits) (t u : ℕ) → w'.edges ≡ w.edges
     → ((v : ℕ) → v ≢ t → entry_of w'.incoming.tops v ≡ entry_of w.incoming.tops v)

@@ -49,7 +49,17 @@ refusal_takes_reader =
     ∷ []
 
 refusal_takes_reader-legal : Legal refusing refusal_takes_reader
-refusal_takes_reader-legal = ((((((((tt, refl), refl), inr (made_by (0 ∷ []) refl)), inr (made_by (1 ∷ []) refl)), refl), inr (refuses_by (1 ∷ []) ((1 ∷ []) ∷ []) (0 ∷ 1 ∷ []) refl refl refl refl)), refl), refl)
+refusal_takes_reader-legal = (
+  (
+    (
+      (((((tt, refl), refl), inr (made_by (0 ∷ []) refl)), inr (made_by (1 ∷ []) refl)), refl),
+      inr
+          (refuses_by (1 ∷ []) ((1 ∷ []) ∷ []) (0 ∷ 1 ∷ []) refl refl refl refl),
+    ),
+    refl,
+  ),
+  refl,
+)
 
 -- what it stored is no more, and alone it asks the same
 refusal_takes_reader-settled : settled refusing.opening refusal_takes_reader (3, pos 7) ≡ None
@@ -76,7 +86,27 @@ falls_and_tries_again =
     ∷ []
 
 falls_and_tries_again-legal : Legal refusing falls_and_tries_again
-falls_and_tries_again-legal = ((((((((((((tt, refl), inr (made_by (0 ∷ []) refl)), inr (made_by (0 ∷ []) refl)), refl), inr (made_by (1 ∷ []) refl)), refl), inl (waits_by refl)), aborts_by (1 ∷ []) ((1 ∷ []) ∷ []) (0 ∷ 1 ∷ []) refl refl refl), refl), inr (made_by (2 ∷ []) refl)), inr (made_by (2 ∷ []) refl)), inr (commits_by refl))
+falls_and_tries_again-legal = (
+  (
+    (
+      (
+        (
+          (
+            ((((((tt, refl), inr (made_by (0 ∷ []) refl)), inr (made_by (0 ∷ []) refl)), refl), inr (made_by (1 ∷ []) refl)), refl),
+            inl
+                (waits_by refl),
+          ),
+          aborts_by (1 ∷ []) ((1 ∷ []) ∷ []) (0 ∷ 1 ∷ []) refl refl refl,
+        ),
+        refl,
+      ),
+      inr (made_by (2 ∷ []) refl),
+    ),
+    inr
+        (made_by (2 ∷ []) refl),
+  ),
+  inr (commits_by refl),
+)
 
 falls_and_tries_again-results : (folded refusing falls_and_tries_again).results ≡ GaveAnswers [] ∷ []
 falls_and_tries_again-results = refl
@@ -96,7 +126,19 @@ refused_in_turn =
     ∷ []
 
 refused_in_turn-legal : Legal refusing refused_in_turn
-refused_in_turn-legal = (((((((((tt, refl), inr (made_by (0 ∷ []) refl)), inr (made_by (0 ∷ []) refl)), refl), inr (made_by (1 ∷ []) refl)), refl), inl (waits_by refl)), inr (commits_by refl)), inr (refuses_by [] [] (1 ∷ []) refl refl refl refl))
+refused_in_turn-legal = (
+  (
+    (
+      (
+        (((((tt, refl), inr (made_by (0 ∷ []) refl)), inr (made_by (0 ∷ []) refl)), refl), inr (made_by (1 ∷ []) refl)),
+        refl,
+      ),
+      inl (waits_by refl),
+    ),
+    inr (commits_by refl),
+  ),
+  inr (refuses_by [] [] (1 ∷ []) refl refl refl refl),
+)
 
 refused_in_turn-told : told refused_in_turn ≡ AskedCode 3 ∷ GaveAnswers [] ∷ []
 refused_in_turn-told = refl

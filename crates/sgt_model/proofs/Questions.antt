@@ -50,7 +50,8 @@ ends_named event (reply.Aborted why fell) t own e = (
 )
 ends_named event (reply.Refused code fell) t own e = (
   fate.Aborted (cause.Asked code),
-  ap (λ b. cond b (Some (fate.Aborted (cause.Asked code))) (cond (list_any (λ u. nat_eq u t) fell) (Some (fate.Fell (subject event))) None)) own,
+  ap (λ b. cond b (Some (fate.Aborted (cause.Asked code))) (cond (list_any (λ u. nat_eq u t) fell) (Some (fate.Fell (subject event))) None))
+      own,
 )
 ends_named event _ t own e = absurd (cc)
 

@@ -153,7 +153,8 @@ at_refusal : (s : Setting) (e : Entry) (past : List Entry) → Legal s (e ∷ pa
     → IsSerializable s past → IsSerializable s (e ∷ past)
 at_refusal s e past h x ih =
     let asked = run_asked s past e.event e.reply h.0 x ih in
-    let call : told_call_in past e.event e.reply ≡ call_of past x.undoing.t ∷ [] = ap₂ (λ ev r. told_call_in past ev r) x.event_is x.reply_is in
+    let call : told_call_in past e.event e.reply ≡ call_of past x.undoing.t ∷ [] = ap₂ (λ ev r. told_call_in past ev r) x.event_is
+    x.reply_is in
     record {
       answers = ap (λ l. (run_in_turn s (l ++ told_calls past)).results) call
           ∙ (ap₂ (λ r l. r ∷ l) (ap result_of asked) ih.answers ∙ ap (λ l. l ++ told past) (sym (ap told_in x.reply_is)));

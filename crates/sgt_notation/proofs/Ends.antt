@@ -64,17 +64,6 @@ ended_by ops op t (i, less, ends) = elim ends [
   ]
 ]
 
--- an operation that is no end
-pub no_end : (ops : List Operation) (op : Operation) (ends : ℕ → Option ℕ) → ¬ IsEnd op.action → KnowsEnds ops ends
-    → KnowsEnds (ops ++ op ∷ []) ends
-no_end ops op ends other known t = (
-  λ some. ended_kept ops op t ((known t).0 some),
-  λ ended. elim (ended_by ops op t ended) [
-    | inl before ↦ (known t).1 before
-    | inr now ↦ absurd (other now.1)
-  ],
-)
-
 -- an end
 pub one_end : (ops : List Operation) (op : Operation) (ends new : ℕ → Option ℕ) (place : ℕ) → IsEnd op.action → KnowsEnds ops ends
     → new op.transaction ≡ Some place → ((t : ℕ) → t ≢ op.transaction → new t ≡ ends t) → KnowsEnds (ops ++ op ∷ []) new

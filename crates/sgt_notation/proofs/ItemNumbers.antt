@@ -42,7 +42,8 @@ knows_more old new text n count known absent updates grown other x = elim (cases
     last : slice_get (texts_of new) (length (texts_of old)) ≡ Some text
     last = ap (λ l. slice_get l (length (texts_of old))) grown ∙ get_seam (texts_of old) text []
 
-    found : (o : List ℕ) → slice_get (texts_of new) x ≡ Some o → (slice_get (texts_of old) x ≡ Some o) ⊎ ((x ≡ length (texts_of old)) × (text ≡ o))
+    found : (o : List ℕ) → slice_get (texts_of new) x ≡ Some o
+        → (slice_get (texts_of old) x ≡ Some o) ⊎ ((x ≡ length (texts_of old)) × (text ≡ o))
     found o at = got_append (texts_of old) text o x (sym (ap (λ l. slice_get l x) grown) ∙ at)
 
     here : (number_of new text ≡ Some x) ↔ (slice_get (texts_of new) x ≡ Some text)
@@ -56,7 +57,8 @@ knows_more old new text n count known absent updates grown other x = elim (cases
 
     to : bytes_eq text other ≡ false → number_of new other ≡ Some x → slice_get (texts_of new) x ≡ Some other
     to differ is = ap (λ l. slice_get l x) grown
-        ∙ get_before (texts_of old) (text ∷ []) x other ((known other x).0 (sym (other_number text other old.numbers new.numbers _ updates differ) ∙ is))
+        ∙ get_before (texts_of old) (text ∷ []) x other ((known other x).0
+        (sym (other_number text other old.numbers new.numbers _ updates differ) ∙ is))
 
     from : bytes_eq text other ≡ false → slice_get (texts_of new) x ≡ Some other → number_of new other ≡ Some x
     from differ at = elim (found other at) [

@@ -36,7 +36,8 @@ opens_at rest x t small is (Some k) (before, found) = ap Some (omega (arith, up,
     down : ¬ (k < length (decimal t))
     down less =
         let digit : IsInRange 48 57 (get_or (decimal t) k 0) = text_is_digits t (decimal t) small refl k less in
-        let same : slice_index rest k ≡ get_or (decimal t) k 0 = ap (λ l. get_or l k 0) is ∙ get_or-append (decimal t) (bracketed x) 0 k less in
+        let same : slice_index rest k ≡ get_or (decimal t) k 0 = ap (λ l. get_or l k 0) is
+        ∙ get_or-append (decimal t) (bracketed x) 0 k less in
         grind (arith, digit, same, found)
 
 -- the parts of what stands behind the letter
@@ -57,15 +58,6 @@ pub data IsKind (word : List ℕ) : Type 0 where
   IsWrite : (t : ℕ) (x : List ℕ) → t < 2 ^ 32 → IsItem x → word ≡ 119 ∷ (decimal t ++ bracketed x) → IsKind word
   IsCommit : (t : ℕ) → t < 2 ^ 32 → word ≡ 99 ∷ decimal t → IsKind word
   IsAbort : (t : ℕ) → t < 2 ^ 32 → word ≡ 97 ∷ decimal t → IsKind word
-
-pub kind_of : (word : List ℕ) → IsOperation word → IsKind word
-kind_of word (items, op, s) = by op.action refl
-  where
-    by : (a : Action) → op.action ≡ a → IsKind word
-    by (Read x) is = IsRead op.transaction (text_at items x) s.transaction (s.item x (ap item_of is)).1 (s.text ∙ ap (act_text items op.transaction) is)
-    by (Write x) is = IsWrite op.transaction (text_at items x) s.transaction (s.item x (ap item_of is)).1 (s.text ∙ ap (act_text items op.transaction) is)
-    by Commit is = IsCommit op.transaction s.transaction (s.text ∙ ap (act_text items op.transaction) is)
-    by Abort is = IsAbort op.transaction s.transaction (s.text ∙ ap (act_text items op.transaction) is)
 
 -- the parts behind the letter, at the first bracket
 pub behind_letter : (rest x : List ℕ) (t k : ℕ) → t < 2 ^ 32 → rest ≡ decimal t ++ bracketed x → IsFirstByte (is_byte 91) rest (Some k)

@@ -62,11 +62,6 @@ text_leads (suc n) ds small is zero_first =
     let more = first_decimal (suc n) (omega arith) (omega (arith, small)) in
     absurd (omega (arith, more, sym zero_first ∙ ap (λ l. get_or l 0 0) is))
 
--- the bytes of an item from a place on
-pub item_bytes_at : (i : ℕ) (bs : List ℕ) → i < length bs
-    → are_item_bytes (drop i bs) ≡ (is_item_byte (slice_index bs i) && are_item_bytes (drop (suc i) bs))
-item_bytes_at i bs less = ap are_item_bytes (dropped i bs less)
-
 taken_at : (i j : ℕ) (ds : List ℕ) → j < i → get_or (take i ds) j 0 ≡ get_or ds j 0
 taken_at zero j ds less = absurd (omega (arith, less))
 taken_at (suc i) j [] less = refl
@@ -94,5 +89,6 @@ spelled_number i ds value is whole are some leading small =
     spells_value ds digits some leading (omega (arith, small, same)) ∙ ap decimal (sym same)
 
 -- what digits spell
-pub spelled_value : (i : ℕ) (ds : List ℕ) (value n : ℕ) → value ≡ read_on 0 (take i ds) → length ds ≤ i → n < 2 ^ 32 → ds ≡ decimal n → value ≡ n
+pub spelled_value : (i : ℕ) (ds : List ℕ) (value n : ℕ) → value ≡ read_on 0 (take i ds) → length ds ≤ i → n < 2 ^ 32 → ds ≡ decimal n
+    → value ≡ n
 spelled_value i ds value n is whole small text = is ∙ ap (read_on 0) (take_all i ds whole) ∙ value_of_text n ds small text

@@ -41,48 +41,6 @@ spelled_kept items more word op s = record {
   );
 }
 
-text_got : (items : List (List ℕ)) (x : ℕ) (text : List ℕ) → slice_get items x ≡ Some text → text_at items x ≡ text
-text_got items x text at = ap (λ o. option_map_or (λ text. text) o []) at
-
--- a read of the only item of a list, and of the same one of others
-pub read_numbered : (word text : List ℕ) (items : List (List ℕ)) (t y x : ℕ) → IsSpelled word (text ∷ []) (record { transaction = t; action = Read y })
-    → slice_get items x ≡ Some text → IsSpelled word items (record { transaction = t; action = Read x })
-read_numbered word text items t zero x s at = record {
-  text = s.text ∙ rw (text_got items x text at) refl;
-  transaction = s.transaction;
-  item = λ z is. subst (λ z. (z < length items) × IsItem (text_at items z)) (cc)
-      (slice_get_within items x text at, subst IsItem (sym (text_got items x text at)) (s.item 0 refl).1);
-}
-read_numbered word text items t (suc y) x s at = absurd (omega (arith, (s.item (suc y) refl).0))
-
--- a write of the only item of a list, and of the same one of others
-pub write_numbered : (word text : List ℕ) (items : List (List ℕ)) (t y x : ℕ) → IsSpelled word (text ∷ []) (record { transaction = t; action = Write y })
-    → slice_get items x ≡ Some text → IsSpelled word items (record { transaction = t; action = Write x })
-write_numbered word text items t zero x s at = record {
-  text = s.text ∙ rw (text_got items x text at) refl;
-  transaction = s.transaction;
-  item = λ z is. subst (λ z. (z < length items) × IsItem (text_at items z)) (cc)
-      (slice_get_within items x text at, subst IsItem (sym (text_got items x text at)) (s.item 0 refl).1);
-}
-write_numbered word text items t (suc y) x s at = absurd (omega (arith, (s.item (suc y) refl).0))
-
--- an end
-pub commit_numbered : (word : List ℕ) (some items : List (List ℕ)) (t : ℕ) → IsSpelled word some (record { transaction = t; action = Commit })
-    → IsSpelled word items (record { transaction = t; action = Commit })
-commit_numbered word some items t s = record { text = s.text; transaction = s.transaction; item = λ x is. absurd (cc) }
-
-pub abort_numbered : (word : List ℕ) (some items : List (List ℕ)) (t : ℕ) → IsSpelled word some (record { transaction = t; action = Abort })
-    → IsSpelled word items (record { transaction = t; action = Abort })
-abort_numbered word some items t s = record { text = s.text; transaction = s.transaction; item = λ x is. absurd (cc) }
-
--- no word has been read
-pub none_read : (ws : List Word) → AreRead (take 0 ws) [] []
-none_read ws = record {
-  spelled = tt;
-  ends_are_last = λ i t a does. absurd (cc);
-  apart = λ x y text at. absurd (cc);
-}
-
 -- one word more
 pub read_more : (all rest : List Word) (w : Word) (n : ℕ) (items more new : List (List ℕ)) (ops : List Operation) (op : Operation)
     → n ≡ length ops → drop n all ≡ w ∷ rest → AreRead (take n all) items ops → new ≡ items ++ more
@@ -90,7 +48,8 @@ pub read_more : (all rest : List Word) (w : Word) (n : ℕ) (items more new : Li
     → ((x y : ℕ) (text : List ℕ) → slice_get new x ≡ Some text → slice_get new y ≡ Some text → x ≡ y)
     → AreRead (take (suc n) all) new (ops ++ op ∷ [])
 read_more all rest w n items more new ops op many next read grown one active distinct = record {
-  spelled = subst (λ ws. AllZip (λ (w : Word) (op : Operation). IsSpelled w.text new op) ws (ops ++ op ∷ [])) (sym (take_next n all rest w next).0)
+  spelled = subst (λ ws. AllZip (λ (w : Word) (op : Operation). IsSpelled w.text new op) ws (ops ++ op ∷ []))
+      (sym (take_next n all rest w next).0)
       (zip_more _ (take n all) ops w op older one);
   ends_are_last = λ i t a does ended. elim (got_append ops op _ i does) [
     | inl before ↦ read.ends_are_last i t a before

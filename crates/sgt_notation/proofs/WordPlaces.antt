@@ -33,12 +33,6 @@ first_word n (suc (suc k)) (b ∷ c ∷ cs) some bounds inside ends =
     (λ less. ends (omega (arith, less))) in
     in_word n b (c ∷ cs) (inside 0 (omega arith)) ∙ rw plain (ap (in_front b) rest)
 
--- the bytes from a place on: the one there, and those behind it
-pub dropped : (i : ℕ) (bs : List ℕ) → i < length bs → drop i bs ≡ slice_index bs i ∷ drop (suc i) bs
-dropped i [] less = absurd (omega (arith, less))
-dropped zero (b ∷ bs) less = refl
-dropped (suc i) (b ∷ bs) less = dropped i bs (omega (arith, less))
-
 -- the word that begins at one place and ends at another
 pub word_between : (n from end : ℕ) (text : List ℕ) → from < end → end ≤ length text
     → ((i : ℕ) → from ≤ i → i < end → parts_words (slice_index text i) ≡ false)

@@ -24,7 +24,8 @@ record-value said put is = of-key (key_of said.table said.number) is
         value_in None = said.value
     of-test false k fits found = absurd (cc found)
 
-    of-key : (key : Option Key) → option_and_then (λ k. cond (is_value said.value) (Some (record { key = k; value = said.value })) None) key ≡ Some put
+    of-key : (key : Option Key) → option_and_then (λ k. cond (is_value said.value) (Some (record { key = k; value = said.value })) None) key
+        ≡ Some put
         → IsValue put.value
     of-key None found = absurd (cc found)
     of-key (Some k) found = of-test (is_value said.value) k refl found

@@ -4,6 +4,7 @@ pub mod RecordsRead
 pub mod PendingWrites
 pub mod LastWrites
 pub mod ChainIndices
+pub mod TableIndices
 pub mod RecordSlots
 pub mod ChainsKept
 pub mod EntriesRead

@@ -1,6 +1,7 @@
 -- The live writes, read one by one, and what is left of them.
-use Rattle.std.proofs.Common.{◌≡◌, ◌≢◌, ℕ, ◌+◌, ◌<◌, ℤ, Bool, true, false, cond, not, ◌&&◌, ◌||◌, nat_eq, List, [], ◌∷◌, ◌++◌, length, take, get_or, Option, refl, sym, ap, ◌∙◌, subst, add-one}
+use Rattle.std.proofs.Common.{◌≡◌, ◌≢◌, ℕ, ◌+◌, ◌<◌, ℤ, Bool, true, false, cond, not, ◌&&◌, ◌||◌, nat_eq, List, [], ◌∷◌, ◌++◌, length, take, get_or, Option, Some, refl, sym, ap, ◌∙◌, subst, add-one}
 use Rattle.std.proofs.lemmas.Bool.{true≢false, eq-eqb, ne_eqb, eqb-true}
+use Rattle.std.proofs.lemmas.List.Elements.{All-filter, All-push}
 use Rattle.std.proofs.Math.Seq.{take-suc}
 use Rattle.std.specs.List.{filter}
 use Rattle.std.specs.Option.{option_or}
@@ -8,7 +9,7 @@ use Rattle.sgt_model.specs.Contents.{Key, key_eq}
 use Rattle.sgt_model.specs.Chains.{chain_without, write_last, value_in, writes_in}
 use Rattle.sgt_model.proofs.Stores.{key_eq-true}
 use Rattle.sgt_records.specs.declared.live_write.LiveWrite.{LiveWrite}
-use Rattle.sgt_records.specs.LiveWrites.{is_live}
+use Rattle.sgt_records.specs.LiveWrites.{is_live, TellIndices}
 use Rattle.sgt_records.proofs.ChainIndices.{left_whole, no_value}
 
 -- on booleans
@@ -179,11 +180,11 @@ live_ended t u k writes left opening after are gone out = ap (is_live u k) gone
     ∙ (live_left t u k writes ∙ (ap (λ b. not (nat_eq u t) && b) are ∙ (sym (writers_left t u opening) ∙ sym (ap (writes_in u) out))))
 
 -- and so with a new writer
-pub live_added : (t u : ℕ) (key k : Key) (v : ℤ) (writes more : List LiveWrite) (opening after : List (ℕ × ℤ))
-    → is_live u k writes ≡ writes_in u opening → more ≡ writes ++ record { by = t; key = key } ∷ []
+pub live_added : (t u : ℕ) (key k : Key) (index : ℕ) (v : ℤ) (writes more : List LiveWrite) (opening after : List (ℕ × ℤ))
+    → is_live u k writes ≡ writes_in u opening → more ≡ writes ++ record { by = t; key = key; index = index } ∷ []
     → after ≡ cond (key_eq key k) (write_last t v opening) opening → is_live u k more ≡ writes_in u after
-live_added t u key k v writes more opening after are added put = ap (is_live u k) added
-    ∙ (live_more u k writes (record { by = t; key = key })
+live_added t u key k index v writes more opening after are added put = ap (is_live u k) added
+    ∙ (live_more u k writes (record { by = t; key = key; index = index })
     ∙ (ap (λ b. b || (nat_eq t u && key_eq key k)) are
     ∙ (go (key_eq key k) (nat_eq t u) (writers_after t u v opening) ∙ sym (ap (writes_in u) put))))
   where
@@ -213,3 +214,27 @@ live_again t u key k v writes chains after again are put = are
         (subst (λ j. writes_in t (chains j) ≡ true) (key_eq-true key k e) again)) ∙ sym h
     go true e false f h = sym (h ∙ or_false (writes_in u (chains k)))
     go false e b f h = refl
+
+-- on the indices that they tell
+
+-- each tells that of its key
+pub tell_at : (indices : Key → Option ℕ) (writes : List LiveWrite) (i : ℕ) (w : LiveWrite) → i < length writes → w ≡ get_or writes i w
+    → TellIndices indices writes → indices w.key ≡ Some w.index
+tell_at indices writes i w short is all = subst (λ x. indices x.key ≡ Some x.index) (sym is) (all i w short)
+
+-- also where there are more
+pub tell_on : (indices more : Key → Option ℕ) (writes same : List LiveWrite)
+    → ((k : Key) (p : ℕ) → indices k ≡ Some p → more k ≡ Some p) → same ≡ writes → TellIndices indices writes → TellIndices more same
+tell_on indices more writes same stay is all = subst (TellIndices more) (sym is) (λ i d short. stay _ _ (all i d short))
+
+-- with one more
+pub tell_more : (indices : Key → Option ℕ) (writes more : List LiveWrite) (w : LiveWrite) → more ≡ writes ++ w ∷ []
+    → indices w.key ≡ Some w.index → TellIndices indices writes → TellIndices indices more
+tell_more indices writes more w is here all = subst (TellIndices indices) (sym is)
+    (All-push (λ (x : LiveWrite). indices x.key ≡ Some x.index) writes w all here)
+
+-- and without t's
+pub tell_left : (indices : Key → Option ℕ) (t : ℕ) (writes left : List LiveWrite) → left ≡ filter (not_by t) writes
+    → TellIndices indices writes → TellIndices indices left
+tell_left indices t writes left is all = subst (TellIndices indices) (sym is)
+    (All-filter (not_by t) (λ (x : LiveWrite). indices x.key ≡ Some x.index) writes all)

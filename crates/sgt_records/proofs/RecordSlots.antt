@@ -2,21 +2,19 @@
 use Rattle.std.proofs.Common.{◌≡◌, ◌≢◌, ℕ, ◌<◌, nat_eq, length, unwrap_or, ℤ, Bool, true, false, cond, List, [], ◌⊎◌, inl, inr, Option, Some, None, Result, Ok, Err, OnOk, OnErr, IfSome, refl, sym, ap, ◌∙◌, subst}
 use Rattle.std.proofs.lemmas.Bool.{true≢false, eq-eqb, eqb-true}
 use Rattle.std.specs.Option.{is_some, option_and_then, option_or}
-use Rattle.std.specs.Map.{lookup}
-use Rattle.std.specs.BTreeMap.{BTreeMap, get, is_at, Updates, IsUnchanged}
 use Rattle.slab.specs.Slab.{Slab}
 use Rattle.slab.specs.Slab as slab
 use Rattle.sgt_model.specs.Numbers.{IsValue}
 use Rattle.sgt_model.specs.Contents.{Key, key_eq}
-use Rattle.sgt_model.specs.Databases.{key_cmp}
 use Rattle.sgt_model.specs.Chains.{value_in}
 use Rattle.sgt_model.specs.StoredValues.{HoldValues}
 use Rattle.sgt_model.proofs.Stores.{key_eq-true, key_eq-refl}
 use Rattle.sgt_records.specs.declared.chain.Chain.{Chain}
 use Rattle.sgt_records.specs.declared.record.Record.{Record}
-use Rattle.sgt_records.specs.Slots.{writes_of, chain_at, IsHeld, Moves, slot_of, key_chain, committed_of, IsIndex}
+use Rattle.sgt_records.specs.declared.written.Written.{Written}
+use Rattle.sgt_records.specs.declared.written.Written.TheVariants.{Nothing, Once, InSlot}
+use Rattle.sgt_records.specs.Slots.{writes_of, chain_at, slot_in, IsHeld, Moves, written_by, slot_of, key_chain, committed_of, IsIndex}
 use Rattle.sgt_records.specs.Validity.{IsChain}
-use Rattle.sgt_records.proofs.SettledValues.{same_key}
 use Rattle.sgt_records.proofs.ChainsKept.{chain_empty}
 
 -- a chain where none is
@@ -28,9 +26,10 @@ same_slot : (p q : ℕ) → Some p ≡ Some q → p ≡ q
 same_slot p q e = ap (λ (o : Option ℕ). unwrap_or o p) e
 
 -- equal slabs give equal chains
-chain_alike : (a b : Slab Chain) → ((p : ℕ) → slab.get b p ≡ slab.get a p) → (o : Option ℕ) → chain_at b o ≡ chain_at a o
-chain_alike a b same None = refl
-chain_alike a b same (Some p) = ap writes_of (same p)
+chain_alike : (a b : Slab Chain) → ((p : ℕ) → slab.get b p ≡ slab.get a p) → (w : Written) → chain_at b w ≡ chain_at a w
+chain_alike a b same Nothing = refl
+chain_alike a b same (Once t v) = refl
+chain_alike a b same (InSlot p) = ap writes_of (same p)
 
 -- nothing moves where nothing changes
 pub stays : (a b : Slab Chain) (from to : Option ℕ) → ((p : ℕ) → slab.get b p ≡ slab.get a p) → from ≡ None → to ≡ None → Moves a b from to
@@ -42,14 +41,14 @@ stays a b from to same was is = record {
   others = λ p _ _. same p;
 }
 
-module _ (m n : BTreeMap Key Record) (a b : Slab Chain) (records : (k : Key) → get key_cmp n k ≡ get key_cmp m k)
+module _ (m n : Key → Option Record) (a b : Slab Chain) (records : (k : Key) → n k ≡ m k)
     (same : (p : ℕ) → slab.get b p ≡ slab.get a p) where
   slot_alike : (k : Key) → slot_of n k ≡ slot_of m k
-  slot_alike k = ap (option_and_then (λ (r : Record). r.slot)) (records k)
+  slot_alike k = ap (λ o. slot_in (written_by o)) (records k)
 
   -- the chains are as before
   pub chains_alike : (k : Key) → key_chain n b k ≡ key_chain m a k
-  chains_alike k = ap (chain_at b) (slot_alike k) ∙ chain_alike a b same (slot_of m k)
+  chains_alike k = ap (λ o. chain_at b (written_by o)) (records k) ∙ chain_alike a b same (written_by (m k))
 
   -- and so are the committed values
   pub committed_alike : (k : Key) → committed_of n k ≡ committed_of m k
@@ -59,7 +58,7 @@ module _ (m n : BTreeMap Key Record) (a b : Slab Chain) (records : (k : Key) →
   pub index_alike : IsIndex m a → IsIndex n b
   index_alike index = record {
     held = λ k p at. ap is_some (same p) ∙ index.held k p (sym (slot_alike k) ∙ at);
-    filled = λ k p at. subst (λ l. 0 < length l) (sym (chains_alike k)) (index.filled k p (sym (slot_alike k) ∙ at));
+    filled = λ k p at. subst (λ o. 0 < length (writes_of o)) (sym (same p)) (index.filled k p (sym (slot_alike k) ∙ at));
     owned = λ p none. ap is_some (same p) ∙ index.owned p (λ k at. none k (slot_alike k ∙ at));
     apart = λ j k p at at'. index.apart j k p (sym (slot_alike j) ∙ at) (sym (slot_alike k) ∙ at');
     are_chains = λ k. subst IsChain (sym (chains_alike k)) (index.are_chains k);
@@ -67,54 +66,57 @@ module _ (m n : BTreeMap Key Record) (a b : Slab Chain) (records : (k : Key) →
   }
 
 -- records with no chain
-module _ (m : BTreeMap Key Record) (a : Slab Chain) (none : (k : Key) → slot_of m k ≡ None) where
+module _ (m : Key → Option Record) (a : Slab Chain) (none : (k : Key) → written_by (m k) ≡ Nothing) where
   pub chains_none : (k : Key) → key_chain m a k ≡ []
   chains_none k = ap (chain_at a) (none k)
 
+  no_slot : (k : Key) (p : ℕ) → slot_of m k ≡ Some p → ⊥
+  no_slot k p at = true≢false (sym (ap is_some (sym (ap slot_in (none k)) ∙ at)))
+
   pub index_none : HoldValues (committed_of m) → ((k : Key) → IsChain []) → ((p : ℕ) → is_some (slab.get a p) ≡ false) → IsIndex m a
   index_none values empty vacant = record {
-    held = λ k p at. absurd (true≢false (sym (ap is_some (sym (none k) ∙ at))));
-    filled = λ k p at. absurd (true≢false (sym (ap is_some (sym (none k) ∙ at))));
+    held = λ k p at. absurd (no_slot k p at);
+    filled = λ k p at. absurd (no_slot k p at);
     owned = λ p _. vacant p;
-    apart = λ j k p at at'. absurd (true≢false (sym (ap is_some (sym (none k) ∙ at'))));
+    apart = λ j k p at at'. absurd (no_slot k p at');
     are_chains = λ k. subst IsChain (sym (chains_none k)) (empty k);
     in_range = values;
   }
 
 -- what a record that is found tells of its key
-module _ (m : BTreeMap Key Record) (a : Slab Chain) (key : Key) (r : Record) (is : get key_cmp m key ≡ Some r) (index : IsIndex m a) where
-  pub slot_is : slot_of m key ≡ r.slot
-  slot_is = ap (option_and_then (λ (r : Record). r.slot)) is
+module _ (m : Key → Option Record) (a : Slab Chain) (key : Key) (r : Record) (is : m key ≡ Some r) (index : IsIndex m a) where
+  pub written_is : written_by (m key) ≡ r.written
+  written_is = ap written_by is
 
   pub committed_is : committed_of m key ≡ r.committed
   committed_is = ap (option_and_then (λ (r : Record). r.committed)) is
 
-  pub held_there : IsHeld a r.slot
-  held_there p at = index.held key p (slot_is ∙ at)
-
-  pub chain_there : IsChain (chain_at a r.slot)
-  chain_there = subst (λ o. IsChain (chain_at a o)) slot_is (index.are_chains key)
+  pub chain_there : IsChain (chain_at a r.written)
+  chain_there = subst (λ w. IsChain (chain_at a w)) written_is (index.are_chains key)
 
   pub value_there : IfSome r.committed IsValue
   value_there = subst (λ (o : Option ℤ). IfSome o IsValue) committed_is (index.in_range key)
 
-module _ (m n : BTreeMap Key Record) (key : Key) (r : Record) (told : Updates key_cmp m n key (Some r)) where
-  record_told : (k : Key) → get key_cmp n k ≡ cond (key_eq key k) (Some r) (get key_cmp m k)
-  record_told k = told.0 k ∙ ap (λ b. cond b (Some r) (get key_cmp m k)) (same_key key k)
-
-  slot_told : (k : Key) → slot_of n k ≡ cond (key_eq key k) r.slot (slot_of m k)
-  slot_told k = ap (option_and_then (λ (r : Record). r.slot)) (record_told k) ∙ go (key_eq key k)
+module _ (m n : Key → Option Record) (key : Key) (r : Record) (told : (k : Key) → n k ≡ cond (key_eq key k) (Some r) (m k)) where
+  written_told : (k : Key) → written_by (n k) ≡ cond (key_eq key k) r.written (written_by (m k))
+  written_told k = ap written_by (told k) ∙ go (key_eq key k)
     where
-      go : (b : Bool) → option_and_then (λ (r : Record). r.slot) (cond b (Some r) (get key_cmp m k)) ≡ cond b r.slot (slot_of m k)
+      go : (b : Bool) → written_by (cond b (Some r) (m k)) ≡ cond b r.written (written_by (m k))
+      go true = refl
+      go false = refl
+
+  slot_told : (k : Key) → slot_of n k ≡ cond (key_eq key k) (slot_in r.written) (slot_of m k)
+  slot_told k = ap slot_in (written_told k) ∙ go (key_eq key k)
+    where
+      go : (b : Bool) → slot_in (cond b r.written (written_by (m k))) ≡ cond b (slot_in r.written) (slot_of m k)
       go true = refl
       go false = refl
 
   -- the record's committed value is the key's, and every other is as before
   pub committed_told : (k : Key) → committed_of n k ≡ cond (key_eq key k) r.committed (committed_of m k)
-  committed_told k = ap (option_and_then (λ (r : Record). r.committed)) (record_told k) ∙ go (key_eq key k)
+  committed_told k = ap (option_and_then (λ (r : Record). r.committed)) (told k) ∙ go (key_eq key k)
     where
-      go : (b : Bool) → option_and_then (λ (r : Record). r.committed) (cond b (Some r) (get key_cmp m k)) ≡ cond b r.committed
-          (committed_of m k)
+      go : (b : Bool) → option_and_then (λ (r : Record). r.committed) (cond b (Some r) (m k)) ≡ cond b r.committed (committed_of m k)
       go true = refl
       go false = refl
 
@@ -126,48 +128,52 @@ module _ (m n : BTreeMap Key Record) (key : Key) (r : Record) (told : Updates ke
       go true e = same ∙ ap (committed_of m) (key_eq-true key k e)
       go false e = refl
 
-  -- no key has a chain, if the record has none
-  pub still_none : r.slot ≡ None → ((k : Key) → slot_of m k ≡ None) → (k : Key) → slot_of n k ≡ None
-  still_none here none k = slot_told k ∙ go (key_eq key k)
+  -- no key has been written, if the record has not
+  pub still_none : r.written ≡ Nothing → ((k : Key) → written_by (m k) ≡ Nothing) → (k : Key) → written_by (n k) ≡ Nothing
+  still_none here none k = written_told k ∙ go (key_eq key k)
     where
-      go : (b : Bool) → cond b r.slot (slot_of m k) ≡ None
+      go : (b : Bool) → cond b r.written (written_by (m k)) ≡ Nothing
       go true = here
       go false = none k
 
-  module _ (a b : Slab Chain) (index : IsIndex m a) (from : Option ℕ) (was : slot_of m key ≡ from) (moves : Moves a b from r.slot) where
+  module _ (a b : Slab Chain) (index : IsIndex m a) (from : Written) (was : written_by (m key) ≡ from)
+      (moves : Moves a b (slot_in from) (slot_in r.written)) where
     -- another key's slot is not the one from before
-    not_from : (k : Key) (p : ℕ) → key_eq key k ≡ false → slot_of m k ≡ Some p → from ≢ Some p
-    not_from k p other at own =
-        absurd (true≢false (sym (subst (λ j. key_eq key j ≡ true) (index.apart key k p (was ∙ own) at) (key_eq-refl key)) ∙ other))
+    not_from : (k : Key) (p : ℕ) → key_eq key k ≡ false → slot_of m k ≡ Some p → slot_in from ≢ Some p
+    not_from k p other at own = absurd (true≢false
+        (sym (subst (λ j. key_eq key j ≡ true) (index.apart key k p (ap slot_in was ∙ own) at) (key_eq-refl key)) ∙ other))
 
     -- and not the new one
-    not_to : (k : Key) (p : ℕ) → key_eq key k ≡ false → slot_of m k ≡ Some p → r.slot ≢ Some p
+    not_to : (k : Key) (p : ℕ) → key_eq key k ≡ false → slot_of m k ≡ Some p → slot_in r.written ≢ Some p
     not_to k p other at here = go (moves.free p here)
       where
-        go : (from ≡ Some p) ⊎ (slab.get a p ≡ None) → ⊥
+        go : (slot_in from ≡ Some p) ⊎ (slab.get a p ≡ None) → ⊥
         go (inl own) = not_from k p other at own
         go (inr vacant) = nothing_held (slab.get a p) vacant (index.held k p at)
 
     -- so its chain stays
-    same_chain : (k : Key) → key_eq key k ≡ false → (o : Option ℕ) → slot_of m k ≡ o → chain_at b o ≡ chain_at a o
-    same_chain k other None at = refl
-    same_chain k other (Some p) at = ap writes_of (moves.others p (not_from k p other at) (not_to k p other at))
+    same_chain : (k : Key) → key_eq key k ≡ false → (w : Written) → written_by (m k) ≡ w → chain_at b w ≡ chain_at a w
+    same_chain k other Nothing at = refl
+    same_chain k other (Once t v) at = refl
+    same_chain k other (InSlot p) at = ap writes_of
+        (moves.others p (not_from k p other (ap slot_in at)) (not_to k p other (ap slot_in at)))
 
     -- the record's chain is the key's, and every other is as before
-    pub chain_told : (k : Key) → key_chain n b k ≡ cond (key_eq key k) (chain_at b r.slot) (key_chain m a k)
-    chain_told k = go (key_eq key k) refl (slot_told k)
+    pub chain_told : (k : Key) → key_chain n b k ≡ cond (key_eq key k) (chain_at b r.written) (key_chain m a k)
+    chain_told k = go (key_eq key k) refl (written_told k)
       where
-        go : (e : Bool) → key_eq key k ≡ e → slot_of n k ≡ cond e r.slot (slot_of m k)
-            → chain_at b (slot_of n k) ≡ cond e (chain_at b r.slot) (key_chain m a k)
+        go : (e : Bool) → key_eq key k ≡ e → written_by (n k) ≡ cond e r.written (written_by (m k))
+            → chain_at b (written_by (n k)) ≡ cond e (chain_at b r.written) (key_chain m a k)
         go true e at = ap (chain_at b) at
-        go false e at = ap (chain_at b) at ∙ same_chain k e (slot_of m k) refl
+        go false e at = ap (chain_at b) at ∙ same_chain k e (written_by (m k)) refl
 
     -- a change of the chain is a change of the key's
-    pub chain_by : (f : List (ℕ × ℤ) → List (ℕ × ℤ)) → chain_at b r.slot ≡ f (chain_at a from) → (k : Key)
+    pub chain_by : (f : List (ℕ × ℤ) → List (ℕ × ℤ)) → chain_at b r.written ≡ f (chain_at a from) → (k : Key)
         → key_chain n b k ≡ cond (key_eq key k) (f (key_chain m a k)) (key_chain m a k)
     chain_by f changed k = chain_told k ∙ go (key_eq key k) refl
       where
-        go : (e : Bool) → key_eq key k ≡ e → cond e (chain_at b r.slot) (key_chain m a k) ≡ cond e (f (key_chain m a k)) (key_chain m a k)
+        go : (e : Bool) → key_eq key k ≡ e → cond e (chain_at b r.written) (key_chain m a k)
+            ≡ cond e (f (key_chain m a k)) (key_chain m a k)
         go true e = changed ∙ ap f (ap (chain_at a) (sym was) ∙ ap (key_chain m a) (key_eq-true key k e))
         go false e = refl
 
@@ -188,58 +194,60 @@ module _ (m n : BTreeMap Key Record) (key : Key) (r : Record) (told : Updates ke
         go false e = refl
 
     -- the index stands
-    pub index_told : IsChain (chain_at b r.slot) → IfSome r.committed IsValue → IsIndex n b
+    pub index_told : IsChain (chain_at b r.written) → IfSome r.committed IsValue → IsIndex n b
     index_told chain value = record {
       held = λ k p at. here k p (key_eq key k) refl (sym (slot_told k) ∙ at);
-      filled = λ k p at. subst (λ l. 0 < length l) (sym (chain_told k)) (full k p (key_eq key k) (sym (slot_told k) ∙ at));
-      owned = λ p none. left p none from refl;
+      filled = λ k p at. full k p (key_eq key k) refl (sym (slot_told k) ∙ at);
+      owned = λ p none. left p none (slot_in from) refl;
       apart = λ j k p at at'. one j k p (key_eq key j) (key_eq key k) refl refl (sym (slot_told j) ∙ at) (sym (slot_told k) ∙ at');
       are_chains = λ k. subst IsChain (sym (chain_told k)) (kept k (key_eq key k));
       in_range = λ k. subst (λ (o : Option ℤ). IfSome o IsValue) (sym (committed_told k)) (valued k (key_eq key k));
     }
       where
-        here : (k : Key) (p : ℕ) (e : Bool) → key_eq key k ≡ e → cond e r.slot (slot_of m k) ≡ Some p → is_some (slab.get b p) ≡ true
+        here : (k : Key) (p : ℕ) (e : Bool) → key_eq key k ≡ e → cond e (slot_in r.written) (slot_of m k) ≡ Some p
+            → is_some (slab.get b p) ≡ true
         here k p true e at = moves.held p at
         here k p false e at = ap is_some (moves.others p (not_from k p e at) (not_to k p e at)) ∙ index.held k p at
 
-        full : (k : Key) (p : ℕ) (e : Bool) → cond e r.slot (slot_of m k) ≡ Some p
-            → 0 < length (cond e (chain_at b r.slot) (key_chain m a k))
-        full k p true at = moves.filled p at
-        full k p false at = index.filled k p at
+        full : (k : Key) (p : ℕ) (e : Bool) → key_eq key k ≡ e → cond e (slot_in r.written) (slot_of m k) ≡ Some p
+            → 0 < length (writes_of (slab.get b p))
+        full k p true e at = moves.filled p at
+        full k p false e at = subst (λ o. 0 < length (writes_of o)) (sym (moves.others p (not_from k p e at) (not_to k p e at)))
+            (index.filled k p at)
 
         -- a slot that is no key's was none's before, or was given back
-        not_here : (p : ℕ) → ((k : Key) → slot_of n k ≢ Some p) → r.slot ≢ Some p
-        not_here p none at = none key (slot_told key ∙ (ap (λ e. cond e r.slot (slot_of m key)) (key_eq-refl key) ∙ at))
+        not_here : (p : ℕ) → ((k : Key) → slot_of n k ≢ Some p) → slot_in r.written ≢ Some p
+        not_here p none at = none key (slot_told key ∙ (ap (λ e. cond e (slot_in r.written) (slot_of m key)) (key_eq-refl key) ∙ at))
 
-        not_before : (p : ℕ) → ((k : Key) → slot_of n k ≢ Some p) → from ≢ Some p → (k : Key) → slot_of m k ≢ Some p
+        not_before : (p : ℕ) → ((k : Key) → slot_of n k ≢ Some p) → slot_in from ≢ Some p → (k : Key) → slot_of m k ≢ Some p
         not_before p none away k at = go (key_eq key k) refl
           where
             go : (e : Bool) → key_eq key k ≡ e → ⊥
-            go true e = away (sym was ∙ (ap (slot_of m) (key_eq-true key k e) ∙ at))
-            go false e = none k (slot_told k ∙ (ap (λ d. cond d r.slot (slot_of m k)) e ∙ at))
+            go true e = away (sym (ap slot_in was) ∙ (ap (slot_of m) (key_eq-true key k e) ∙ at))
+            go false e = none k (slot_told k ∙ (ap (λ d. cond d (slot_in r.written) (slot_of m k)) e ∙ at))
 
-        stayed : (p : ℕ) → ((k : Key) → slot_of n k ≢ Some p) → from ≢ Some p → is_some (slab.get b p) ≡ false
+        stayed : (p : ℕ) → ((k : Key) → slot_of n k ≢ Some p) → slot_in from ≢ Some p → is_some (slab.get b p) ≡ false
         stayed p none away = ap is_some (moves.others p away (not_here p none)) ∙ index.owned p (not_before p none away)
 
-        left : (p : ℕ) → ((k : Key) → slot_of n k ≢ Some p) → (o : Option ℕ) → from ≡ o → is_some (slab.get b p) ≡ false
+        left : (p : ℕ) → ((k : Key) → slot_of n k ≢ Some p) → (o : Option ℕ) → slot_in from ≡ o → is_some (slab.get b p) ≡ false
         left p none None at = stayed p none (λ own. true≢false (sym (ap is_some (sym at ∙ own))))
         left p none (Some q) at = go (nat_eq q p) refl
           where
-            other : nat_eq q p ≡ false → from ≢ Some p
+            other : nat_eq q p ≡ false → slot_in from ≢ Some p
             other e own = absurd (true≢false (sym (eq-eqb q p (same_slot q p (sym at ∙ own))) ∙ e))
 
             go : (e : Bool) → nat_eq q p ≡ e → is_some (slab.get b p) ≡ false
             go true e = moves.given_back p (at ∙ ap (λ i. Some i) (eqb-true q p e)) (not_here p none)
             go false e = stayed p none (other e)
 
-        one : (j k : Key) (p : ℕ) (d e : Bool) → key_eq key j ≡ d → key_eq key k ≡ e → cond d r.slot (slot_of m j) ≡ Some p
-            → cond e r.slot (slot_of m k) ≡ Some p → j ≡ k
+        one : (j k : Key) (p : ℕ) (d e : Bool) → key_eq key j ≡ d → key_eq key k ≡ e → cond d (slot_in r.written) (slot_of m j) ≡ Some p
+            → cond e (slot_in r.written) (slot_of m k) ≡ Some p → j ≡ k
         one j k p true true d e at at' = sym (key_eq-true key j d) ∙ key_eq-true key k e
         one j k p true false d e at at' = absurd (not_to k p e at' at)
         one j k p false true d e at at' = absurd (not_to j p d at at')
         one j k p false false d e at at' = index.apart j k p at at'
 
-        kept : (k : Key) (e : Bool) → IsChain (cond e (chain_at b r.slot) (key_chain m a k))
+        kept : (k : Key) (e : Bool) → IsChain (cond e (chain_at b r.written) (key_chain m a k))
         kept k true = chain
         kept k false = index.are_chains k
 
@@ -248,28 +256,25 @@ module _ (m n : BTreeMap Key Record) (key : Key) (r : Record) (told : Updates ke
         valued k false = index.in_range k
 
 -- an empty record for a key that has none
-module _ (m n : BTreeMap Key Record) (a b : Slab Chain) (key : Key) (r : Record) (absent : get key_cmp m key ≡ None) (here : r.slot ≡ None)
-    (none : r.committed ≡ None) (same : (p : ℕ) → slab.get b p ≡ slab.get a p) (index : IsIndex m a) where
-  no_slot : slot_of m key ≡ None
-  no_slot = ap (option_and_then (λ (r : Record). r.slot)) absent
+module _ (m n : Key → Option Record) (a b : Slab Chain) (key : Key) (r : Record) (absent : m key ≡ None) (here : r.written ≡ Nothing)
+    (none : r.committed ≡ None) (same : (p : ℕ) → slab.get b p ≡ slab.get a p) (index : IsIndex m a)
+    (told : (k : Key) → n k ≡ cond (key_eq key k) (Some r) (m k)) where
+  -- nothing was written
+  unwritten : written_by (m key) ≡ Nothing
+  unwritten = ap written_by absent
 
-  module _ (told : Updates key_cmp m n key (Some r)) where
-    -- no chain changes
-    pub blank_chains : (k : Key) → key_chain n b k ≡ key_chain m a k
-    blank_chains k = chain_by m n key r told a b index None no_slot (stays a b None r.slot same refl here) (λ c. c) (ap (chain_at b) here)
-        k ∙ go (key_eq key k)
-      where
-        go : (e : Bool) → cond e (key_chain m a k) (key_chain m a k) ≡ key_chain m a k
-        go true = refl
-        go false = refl
+  unmoved : Moves a b None (slot_in r.written)
+  unmoved = stays a b None (slot_in r.written) same refl (ap slot_in here)
 
-    -- no committed value does
-    pub blank_committed : (k : Key) → committed_of n k ≡ committed_of m k
-    blank_committed = committed_same m n key r told (none ∙ sym (ap (option_and_then (λ (r : Record). r.committed)) absent))
+  -- and the index stands
+  pub index_blank : IsIndex n b
+  index_blank = index_told m n key r told a b index Nothing unwritten unmoved (subst IsChain (sym (ap (chain_at b) here)) chain_empty)
+      (subst (λ (o : Option ℤ). IfSome o IsValue) (sym none) tt)
 
-  -- whatever came of it, the index stands
-  pub index_inserted : {T F : Type 0} (result : Result T F) → OnOk result (Updates key_cmp m n key (Some r))
-      → OnErr result (IsUnchanged m n) → IsIndex n b
-  index_inserted (Ok x) told unchanged = index_told m n key r told a b index None no_slot (stays a b None r.slot same refl here)
-      (subst IsChain (sym (ap (chain_at b) here)) chain_empty) (subst (λ (o : Option ℤ). IfSome o IsValue) (sym none) tt)
-  index_inserted (Err e) told unchanged = index_alike m n a b (λ k. ap (λ es. lookup (is_at (key_cmp k)) es) unchanged) same index
+-- whatever came of adding it
+module _ (m n : Key → Option Record) (a b : Slab Chain) (key : Key) (r : Record) (absent : m key ≡ None) (here : r.written ≡ Nothing)
+    (none : r.committed ≡ None) (same : (p : ℕ) → slab.get b p ≡ slab.get a p) (index : IsIndex m a) {T F : Type 0} where
+  pub index_added : (result : Result T F) → OnOk result ((k : Key) → n k ≡ cond (key_eq key k) (Some r) (m k))
+      → OnErr result ((k : Key) → n k ≡ m k) → IsIndex n b
+  index_added (Ok x) told alike = index_blank m n a b key r absent here none same index told
+  index_added (Err e) told alike = index_alike m n a b alike same index

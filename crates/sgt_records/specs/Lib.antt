@@ -3,5 +3,7 @@ pub mod Validity
 pub mod Settleds
 pub mod Pendings
 pub mod PendingChains
+pub mod Indices
+pub mod Tables
 pub mod Slots
 pub mod LiveWrites

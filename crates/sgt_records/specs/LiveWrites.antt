@@ -1,6 +1,6 @@
 -- The live writes: which live transaction has written which key.
-use Rattle.std.specs.Prelude.{◌≡◌, ℕ, Bool, false, ◌&&◌, ◌||◌, nat_eq, List, [], ◌∷◌}
-use Rattle.std.specs.BTreeMap.{BTreeMap}
+use Rattle.std.specs.Prelude.{◌≡◌, ℕ, Bool, false, ◌&&◌, ◌||◌, nat_eq, List, [], ◌∷◌, Option, Some}
+use Rattle.std.specs.List.{All}
 use Rattle.slab.specs.Slab.{Slab}
 use Rattle.sgt_model.specs.Contents.{Key, key_eq}
 use Rattle.sgt_model.specs.Chains.{writes_in}
@@ -15,5 +15,9 @@ is_live t k [] = false
 is_live t k (w ∷ writes) = (nat_eq w.by t && key_eq w.key k) || is_live t k writes
 
 -- they tell just who stands in the chains
-abbrev pub AreLive : BTreeMap Key Record → Slab Chain → List LiveWrite → Type 0
+abbrev pub AreLive : (Key → Option Record) → Slab Chain → List LiveWrite → Type 0
 AreLive records chains writes = (t : ℕ) (k : Key) → is_live t k writes ≡ writes_in t (key_chain records chains k)
+
+-- each tells the index of its key's record
+abbrev pub TellIndices : (Key → Option ℕ) → List LiveWrite → Type 0
+TellIndices indices writes = All (λ (w : LiveWrite). indices w.key ≡ Some w.index) writes

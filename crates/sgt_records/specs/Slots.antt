@@ -1,14 +1,14 @@
--- Records by key, each with the slot of its chain in a slab.
-use Rattle.std.specs.Prelude.{◌≡◌, ◌≢◌, ℕ, ◌<◌, ℤ, Bool, true, false, List, [], length, Option, Some, None, ◌⊎◌}
+-- Records by key, each with what is written there: in place, or as a chain in a slab.
+use Rattle.std.specs.Prelude.{◌≡◌, ◌≢◌, ℕ, ◌<◌, ℤ, true, false, List, [], ◌∷◌, length, Option, Some, None, ◌⊎◌}
 use Rattle.std.specs.Option.{is_some, option_and_then}
-use Rattle.std.specs.BTreeMap.{BTreeMap, get}
 use Rattle.slab.specs.Slab.{Slab}
 use Rattle.slab.specs.Slab as slab
 use Rattle.sgt_model.specs.Contents.{Key, Contents}
-use Rattle.sgt_model.specs.Databases.{key_cmp}
 use Rattle.sgt_model.specs.StoredValues.{HoldValues}
 use Rattle.sgt_records.specs.declared.chain.Chain.{Chain}
 use Rattle.sgt_records.specs.declared.record.Record.{Record}
+use Rattle.sgt_records.specs.declared.written.Written.{Written}
+use Rattle.sgt_records.specs.declared.written.Written.TheVariants.{Nothing, Once, InSlot}
 use Rattle.sgt_records.specs.Validity.{IsChain}
 
 -- what a chain holds: one that is not there holds nothing
@@ -16,10 +16,17 @@ abbrev pub writes_of : Option Chain → List (ℕ × ℤ)
 writes_of None = []
 writes_of (Some chain) = chain.writes.items
 
--- the chain at a slot
-abbrev pub chain_at : Slab Chain → Option ℕ → List (ℕ × ℤ)
-chain_at chains None = []
-chain_at chains (Some slot) = writes_of (slab.get chains slot)
+-- what is written, oldest first
+abbrev pub chain_at : Slab Chain → Written → List (ℕ × ℤ)
+chain_at chains Nothing = []
+chain_at chains (Once t v) = (t, v) ∷ []
+chain_at chains (InSlot slot) = writes_of (slab.get chains slot)
+
+-- its slot, if it stands in one
+abbrev pub slot_in : Written → Option ℕ
+slot_in Nothing = None
+slot_in (Once t v) = None
+slot_in (InSlot slot) = Some slot
 
 -- at the slot, if there is one, stands a chain
 abbrev pub IsHeld : Slab Chain → Option ℕ → Type 0
@@ -27,7 +34,7 @@ IsHeld chains slot = (p : ℕ) → slot ≡ Some p → is_some (slab.get chains 
 
 -- the chain at the slot, if there is one, holds a write
 abbrev pub IsFilled : Slab Chain → Option ℕ → Type 0
-IsFilled chains slot = (p : ℕ) → slot ≡ Some p → 0 < length (chain_at chains slot)
+IsFilled chains slot = (p : ℕ) → slot ≡ Some p → 0 < length (writes_of (slab.get chains p))
 
 -- one record's chain has changed: it holds a write, if it still stands, and stands where it stood or where none stood; a slot
 -- that it leaves is given back, and the other chains are as before
@@ -38,24 +45,25 @@ pub record Moves (old new : Slab Chain) (from to : Option ℕ) : Type 0 where
   pub given_back : (p : ℕ) → from ≡ Some p → to ≢ Some p → is_some (slab.get new p) ≡ false
   pub others : (p : ℕ) → from ≢ Some p → to ≢ Some p → slab.get new p ≡ slab.get old p
 
--- the slot of a key's chain
-abbrev pub slot_of : BTreeMap Key Record → Key → Option ℕ
-slot_of records k = option_and_then (λ (r : Record). r.slot) (get key_cmp records k)
+-- what is written by a record: where there is none, nothing
+abbrev pub written_by : Option Record → Written
+written_by None = Nothing
+written_by (Some r) = r.written
+
+-- the slot of a key's chain, if it has one
+abbrev pub slot_of : (Key → Option Record) → Key → Option ℕ
+slot_of records k = slot_in (written_by (records k))
 
 -- a key's chain: who has written it, and what, oldest first
-abbrev pub key_chain : BTreeMap Key Record → Slab Chain → Key → List (ℕ × ℤ)
-key_chain records chains k = chain_at chains (slot_of records k)
+abbrev pub key_chain : (Key → Option Record) → Slab Chain → Key → List (ℕ × ℤ)
+key_chain records chains k = chain_at chains (written_by (records k))
 
 -- a key's committed value: one whose record has none, or that has no record, has none
-abbrev pub committed_of : BTreeMap Key Record → Contents
-committed_of records k = option_and_then (λ (r : Record). r.committed) (get key_cmp records k)
-
--- the key has a record, perhaps one that holds nothing
-abbrev pub is_kept : BTreeMap Key Record → Key → Bool
-is_kept records k = is_some (get key_cmp records k)
+abbrev pub committed_of : (Key → Option Record) → Contents
+committed_of records k = option_and_then (λ (r : Record). r.committed) (records k)
 
 -- each slot is that of one key's chain, which holds a write, and no slot is taken but these
-pub record IsIndex (records : BTreeMap Key Record) (chains : Slab Chain) : Type 0 where
+pub record IsIndex (records : Key → Option Record) (chains : Slab Chain) : Type 0 where
   pub held : (k : Key) → IsHeld chains (slot_of records k)
   pub filled : (k : Key) → IsFilled chains (slot_of records k)
   pub owned : (p : ℕ) → ((k : Key) → slot_of records k ≢ Some p) → is_some (slab.get chains p) ≡ false

@@ -13,12 +13,13 @@ pub struct Chain {
 }
 
 impl Chain {
-    /// One write.
-    pub fn of(t: Tid, value: i64) -> Chain
-        ensures { result.writes.items ≡ (t, value) ∷ [] }
+    /// Two writes.
+    pub fn of(first: (Tid, i64), second: (Tid, i64)) -> Chain
+        ensures { result.writes.items ≡ first ∷ second ∷ [] }
     {
         let mut writes = ArrayVec::new();
-        writes.push((t, value));
+        writes.push(first);
+        writes.push(second);
         Chain { writes }
     }
 

@@ -23,8 +23,10 @@ mod live_write;
 mod record;
 mod records;
 mod slab_records;
+mod table;
 mod top;
 mod write;
+mod written;
 
 pub use list_records::ListRecords;
 pub use records::Records;

@@ -1,8 +1,9 @@
 use sgt_model::{Key, Tid};
 
-/// Which live transaction has written which key.
+/// Which live transaction has written which key, and the index of the key's record.
 #[derive(Clone, Copy)]
 pub struct LiveWrite {
     pub by: Tid,
     pub key: Key,
+    pub index: usize,
 }

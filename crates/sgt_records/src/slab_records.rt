@@ -1,4 +1,5 @@
-ghost use Rattle.sgt_records.specs.LiveWrites.{AreLive};
+ghost use Rattle.sgt_records.specs.LiveWrites.{AreLive, TellIndices};
+ghost use Rattle.sgt_records.specs.Tables.{index_in, record_in};
 
 use crate::index::Index;
 use crate::live_write::LiveWrite;
@@ -7,34 +8,37 @@ use crate::top::Top;
 use sgt_model::{Database, Key, NoMemory, Tid};
 use std::alloc::Global;
 
-/// The committed values in an ordered index, the chains of the keys that live transactions have written in a slab, and one
-/// list of who has written which key.
+/// The records in a list, the index of each in it by its key, the chains of the keys that several live transactions have written in a slab,
+/// and one list of who has written which key.
 ///
-/// `top`, `reserve`, `write` and `committed` go down the index once, twice where `reserve` finds no record, and along that
-/// key's chain alone. `settle` and `undo` go once through the list and down the index for each key that the transaction has
-/// written; `build` and `all` go once through the index.
+/// `top`, `reserve` and `committed` go down the map of indices once, twice where `reserve` finds no record; `write`, which comes
+/// behind `reserve`, does not. All go along that key's chain alone. `settle` and `undo` go once through the list of who has
+/// written, which tells the indices of the records; `build` and `all` go once through the map.
 ///
-/// A chain holds 32 writes, which takes 520 bytes, so a record has one only while a live transaction has written it: it is
-/// made by the first write, and is dropped with the last one. Its slot in the slab then serves the next chain, so there
-/// are never more chains than live transactions have written keys.
+/// A chain holds 32 writes, which takes 520 bytes, so a record has one only where a second live transaction has written it, until
+/// none is left that has. Its slot in the slab then serves the next chain, so there are never more chains than live transactions
+/// have written keys.
 #[derive(Drop)]
 pub struct SlabRecords {
     index: Index,
     live: Vec<LiveWrite>,
-    ghost are_live: { AreLive index.records index.chains live.items },
+    // The index of the record for which room was made last.
+    reserved: usize,
+    ghost are_live: { AreLive (record_in index.table) index.chains live.items },
+    ghost tell_indices: { TellIndices (index_in index.table) live.items },
 }
 
 impl Records for SlabRecords {
-    ghost use Rattle.std.specs.Prelude.{◌≡◌, true, ◌<◌};
+    ghost use Rattle.std.specs.Prelude.{◌≡◌, Some, ◌<◌};
     ghost use Rattle.std.specs.Vec.{vec_len, vec_capacity};
     ghost use Rattle.slab.specs.Slab.{HasRoomFor};
-    ghost use Rattle.sgt_records.specs.Slots.{key_chain, committed_of, is_kept};
+    ghost use Rattle.sgt_records.specs.Slots.{key_chain, committed_of};
 
-    ghost chain = { λ r k. key_chain r.index.records r.index.chains k };
+    ghost chain = { λ r k. key_chain (record_in r.index.table) r.index.chains k };
 
-    ghost settled = { λ r k. committed_of r.index.records k };
+    ghost settled = { λ r k. committed_of (record_in r.index.table) k };
 
-    ghost is_ready = { λ r k. (is_kept r.index.records k ≡ true)
+    ghost is_ready = { λ r k. (index_in r.index.table k ≡ Some r.reserved)
         × HasRoomFor r.index.chains 1
         × (vec_len r.live < vec_capacity r.live) };
 
@@ -46,6 +50,7 @@ impl Records for SlabRecords {
         Ok(SlabRecords {
             index: Index::of(alloc, opening)?,
             live: Vec::new(alloc),
+            reserved: 0,
         })
     }
 
@@ -55,13 +60,15 @@ impl Records for SlabRecords {
 
     fn reserve(&mut self, key: Key) -> Result<(), NoMemory> {
         self.live.reserve(1)?;
-        self.index.reserve(key)
+        self.reserved = self.index.reserve(key)?;
+        Ok(())
     }
 
     fn write(&mut self, t: Tid, key: Key, value: i64) {
-        let again = self.index.write(t, key, value);
+        let index = self.reserved;
+        let again = self.index.write(t, key, index, value);
         if !again {
-            self.live.push_reserved(LiveWrite { by: t, key });
+            self.live.push_reserved(LiveWrite { by: t, key, index });
         }
     }
 

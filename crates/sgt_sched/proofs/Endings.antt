@@ -190,8 +190,10 @@ pub call_counts : (rules : Rules) (event : Event) (before : State) (r : Reply) (
 call_counts rules (Start p args) before r after live x = start_count (rules.procedures p) args before r after
     (ap is_ending x.reply ∙ start_quiet rules.limits before.starts (length before.live) (takes rules p) args) x.does
 call_counts rules (Step t) before r after live x = open_count t before r after _
-    (λ u. step_count rules.limits.asks t (next_left (before.left t)) before r after (live t u)) (nat_lt t before.starts) (before.fates t) refl refl x
+    (λ u. step_count rules.limits.asks t (next_left (before.left t)) before r after (live t u)) (nat_lt t before.starts) (before.fates t)
+    refl refl x
 call_counts rules (Commit t) before r after live x = open_count t before r after _
-    (λ u. commit_count rules.limits.asks t (next_left (before.left t)) before r after (live t u)) (nat_lt t before.starts) (before.fates t) refl refl x
+    (λ u. commit_count rules.limits.asks t (next_left (before.left t)) before r after (live t u)) (nat_lt t before.starts) (before.fates t)
+    refl refl x
 call_counts rules (Quit t) before r after live x = open_count t before r after _ (λ u. abort_count t _ r before after (live t u))
     (nat_lt t before.starts) (before.fates t) refl refl x

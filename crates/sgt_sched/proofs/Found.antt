@@ -36,6 +36,7 @@ module _ {R A G : Type 0} {chain : R → Key → List (ℕ × ℤ)} {settled : R
   index_node None e some = absurd (cc)
   index_node (Some i) e some = found_node i (sym e)
 
-  pub index_unended : (o : Option ℕ) → o ≡ position (has_number t) p.live → IsSome o ↔ IsUnended (state_of chain settled list nodes pairs p) t
+  pub index_unended : (o : Option ℕ) → o ≡ position (has_number t) p.live
+      → IsSome o ↔ IsUnended (state_of chain settled list nodes pairs p) t
   index_unended None e = ((λ s. absurd (cc)), (λ u. absurd (not_unended (sym e) u)))
   index_unended (Some i) e = ((λ _. unended (found_node i (sym e))), (λ _. refl))

@@ -19,7 +19,8 @@ if_unended b ended before r after X begun none x =
     subst (λ c. IfOpen c ended before r after X) (sym begun) (subst (λ o. IfOpen true o before r after X) (sym none) x)
 
 -- a step, by what comes next
-pub steps_on : (asks : When) (t : ℕ) (before : State) (r : Reply) (after : State) (n : Next) → nat_lt t before.starts ≡ true → before.fates t ≡ None
+pub steps_on : (asks : When) (t : ℕ) (before : State) (r : Reply) (after : State) (n : Next) → nat_lt t before.starts ≡ true
+    → before.fates t ≡ None
     → n ≡ next_left (before.left t) → StepOn asks t n before r after → StepEffect asks t before r after
 steps_on asks t before r after n begun none next done = if_unended _ _ before r after _ begun none
     (subst (λ m. StepOn asks t m before r after) next done)

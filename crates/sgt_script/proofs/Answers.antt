@@ -27,7 +27,8 @@ begin-next n m k (Some a) None c answers x first next = absurd first
 begin-next n m k (Some a) (Some b) None answers x first next = next
 begin-next n m k (Some a) (Some b) (Some c) answers x first next =
     let more : lines_of answers ++ asked x ∷ spelled script_line_at k c.given ≡ lines_of (x ∷ answers) ++ spelled script_line_at k c.given =
-    sym (append_assoc (lines_of answers) (asked x ∷ []) (spelled script_line_at k c.given)) ∙ ap (λ l. l ++ spelled script_line_at k c.given)
+    sym (append_assoc (lines_of answers) (asked x ∷ []) (spelled script_line_at k c.given))
+    ∙ ap (λ l. l ++ spelled script_line_at k c.given)
     (sym (lines_of-answer x answers)) in
     (first.0 ∙ ap (λ l. lines_of answers ++ l) next.0 ∙ more, first.1 ∙ next.1)
 
@@ -55,7 +56,8 @@ Output w s n known held held' end =
 -- a run whose lines are all answered, with what it wrote
 pub output-all : (w : Telling) (s : Setting) (n : ℕ) (known : Option Cut) (answers : List Answer) (end : End) (last : List ℕ)
     (held held' : Option (List ℕ)) → LegalRun s answers → AllAnswered n known answers end
-    → Closing w (left_by (part_of s answers)) end last → Appends held held' (answers_text w answers ++ last) → Output w s n known held held' end
+    → Closing w (left_by (part_of s answers)) end last → Appends held held' (answers_text w answers ++ last)
+    → Output w s n known held held' end
 output-all w s n None answers end last held held' legal all closing written = tt
 output-all w s n (Some c) answers end last held held' legal all closing written = (
   record { setting = s; answers = answers },

@@ -45,7 +45,8 @@ Gathers w old now answers gathered = (bytes : List ℕ) × Appends old now bytes
 abbrev pub Flushed : Option (List ℕ) → Option (List ℕ) → List ℕ → List ℕ → Type 0
 Flushed old now gathered left = (bytes : List ℕ) × Appends old now bytes × (gathered ≡ bytes ++ left)
 
-gathers-less : (w : Telling) (a b c : Option (List ℕ)) (answers : List Answer) (held held' : List ℕ) → Gathers w a b answers held → Flushed b c held held'
+gathers-less : (w : Telling) (a b c : Option (List ℕ)) (answers : List Answer) (held held' : List ℕ) → Gathers w a b answers held
+    → Flushed b c held held'
     → Gathers w a c answers held'
 gathers-less w a b c answers held held' (xs, first, all) (ys, second, rest) = (
   xs ++ ys,
@@ -87,7 +88,8 @@ on-failed {P} r f is holds = subst (λ (e : End). OnErr e P) is holds
 -- behind some lines
 
 -- of known lines from number n on, those before this intake were answered, and here an engine's part and what is gathered stand
-pub record IsAnsweredSo (w : Telling) (s : Setting) (n : ℕ) (known : Option Cut) (from old : Option (List ℕ)) (i : Intake) (rest held : Option (List ℕ)) (gathered : List ℕ) (p : Part) : Type 0 where
+pub record IsAnsweredSo (w : Telling) (s : Setting) (n : ℕ) (known : Option Cut) (from old : Option (List ℕ)) (i : Intake)
+    (rest held : Option (List ℕ)) (gathered : List ℕ) (p : Part) : Type 0 where
   pub answers : List Answer
   pub legal : LegalRun s answers
   pub part : part_of s answers ≡ p
@@ -104,7 +106,8 @@ consumes-none None = tt
 consumes-none (Some xs) = refl
 
 -- before the first
-pub answered-none : (w : Telling) (i : Intake) (rest held : Option (List ℕ)) (gathered : List ℕ) (s : Setting) (past : List Entry) → gathered ≡ []
+pub answered-none : (w : Telling) (i : Intake) (rest held : Option (List ℕ)) (gathered : List ℕ) (s : Setting) (past : List Entry)
+    → gathered ≡ []
     → past ≡ []
     → IsAnsweredSo w s (i.number + 1) (cut_left i rest) (bytes_left i rest) held i rest held gathered (record { setting = s; past = past })
 answered-none w i rest held gathered s past empty none = record {
@@ -351,7 +354,8 @@ fails-last w s n (Some c) q gathered held held' held'' (all, present) is part = 
         lines_are = sym all.all.0;
         end_is = sym all.all.1;
         closing = closes-part w (part_of s all.answers) q gathered present is;
-        text = append_assoc (answers_text w all.answers) part.written part.rest ∙ ap (λ l. answers_text w all.answers ++ l) (sym part.parts);
+        text = append_assoc (answers_text w all.answers) part.written part.rest
+            ∙ ap (λ l. answers_text w all.answers ++ l) (sym part.parts);
       },
     );
   },
@@ -361,7 +365,8 @@ fails-last w s n (Some c) q gathered held held' held'' (all, present) is part = 
 
 -- a whole run behind an opening is one of the script
 of-script : (w : Telling) (s : Setting) (bytes line : List ℕ) (n : ℕ) (c : Cut) (o : Opening) (answered : List Answer) (out : List ℕ)
-    → HaveBegun 1 bytes line o n c → s ≡ opened_setting o → Begins (LineRuns w s n c) answered out → Begins (ScriptRuns w bytes) answered out
+    → HaveBegun 1 bytes line o n c → s ≡ opened_setting o → Begins (LineRuns w s n c) answered out
+    → Begins (ScriptRuns w bytes) answered out
 of-script w s bytes line n c o answered out opened is begun = record {
   run = begun.run;
   newer = begun.newer;

@@ -50,7 +50,8 @@ answer-to some p (script_line.Event e) =
 answer-to some p script_line.Cut = cut-answer p (live_ones p.past) refl
 
 -- the text of answers with newer ones
-pub replies-newer : (w : Telling) (newer answers : List Answer) → answers_text w (newer ++ answers) ≡ answers_text w answers ++ answers_text w newer
+pub replies-newer : (w : Telling) (newer answers : List Answer)
+    → answers_text w (newer ++ answers) ≡ answers_text w answers ++ answers_text w newer
 replies-newer w [] answers = sym (append-nil (answers_text w answers))
 replies-newer w (a ∷ newer) answers = ap (λ l. l ++ answer_text w a) (replies-newer w newer answers)
     ∙ append_assoc (answers_text w answers) (answers_text w newer) (answer_text w a)
@@ -91,7 +92,8 @@ nobody : (lives : List ℕ) → ¬ ¬ (lives ≡ []) → lives ≡ []
 nobody [] not = refl
 nobody (t ∷ ts) not = absurd (not (λ none. absurd (cc none)))
 
-pub was-cut : (w : Telling) (old new : EngineView) (items : List Entry) (n : ℕ) (before after : List ℕ) → GoesOn old new → reverse items ≡ old.past
+pub was-cut : (w : Telling) (old new : EngineView) (items : List Entry) (n : ℕ) (before after : List ℕ) → GoesOn old new
+    → reverse items ≡ old.past
     → n ≡ length items → ¬ ¬ NobodyLive old.past → after ≡ before ++ answer_text w (WasCut n)
     → AnswersLine w script_line.Cut (part_at old) (part_at new) before after
 was-cut w old new items n before after goes entries counted not told = record {

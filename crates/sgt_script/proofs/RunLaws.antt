@@ -50,7 +50,8 @@ tells-one (reply.Waits t) results before telling is = ap (λ l. l ++ text (reply
 tells-one (reply.Aborted why fell) results before telling is = ap (λ l. l ++ text (reply.Aborted why fell)) is
 
 -- contents that are the same, at the end
-pub closing-same : (w : Telling) (m n : Contents) (end : End) (last : List ℕ) → ((k : Key) → n k ≡ m k) → Closing w m end last → Closing w n end last
+pub closing-same : (w : Telling) (m n : Contents) (end : End) (last : List ℕ) → ((k : Key) → n k ≡ m k) → Closing w m end last
+    → Closing w n end last
 closing-same Replies m n (Ok done) last same (rows, by_key, contents, is) = (rows, by_key, (λ k. contents k ∙ sym (same k)), is)
 closing-same Operations m n (Ok done) last same is = is
 closing-same Records m n (Ok done) last same (rows, by_key, contents, is) = (rows, by_key, (λ k. contents k ∙ sym (same k)), is)
@@ -66,7 +67,8 @@ transcript-more s e past [] = refl
 transcript-more s e past (q ∷ parts) =
     append_assoc (behind_cut q parts ++ cut_comment (length q.past)) (transcript past) (operations_text e.event e.reply)
 
-transcribed : (s : Setting) (answers : List Answer) → LegalRun s answers → answers_text Operations answers ≡ transcripts (parts_of s answers)
+transcribed : (s : Setting) (answers : List Answer) → LegalRun s answers
+    → answers_text Operations answers ≡ transcripts (parts_of s answers)
 transcribed s [] legal = refl
 transcribed s (Replied e ∷ answers) legal =
     let p = part_of s answers in
@@ -86,7 +88,8 @@ closes-nothing m (Err fault) last is = is
 transcribed-run : (run : Execution) (n : ℕ) (later : List (List ℕ)) (ending : Ending) (out : List ℕ) (end : End)
     → RunOutput Operations run n later ending out end → out ≡ transcripts (parts_of run.setting run.answers)
 transcribed-run run n later ending out end output =
-    output.text ∙ ap (λ l. answers_text Operations run.answers ++ l) (closes-nothing (left_by (part_of run.setting run.answers)) end output.last output.closing)
+    output.text ∙ ap (λ l. answers_text Operations run.answers ++ l)
+    (closes-nothing (left_by (part_of run.setting run.answers)) end output.last output.closing)
     ∙ append-nil (answers_text Operations run.answers) ∙ transcribed run.setting run.answers output.legal
 
 module _ (headline : HeadlineHolds) where
@@ -154,7 +157,8 @@ module _ (headline : HeadlineHolds) where
       part-values s [] is values legal = values
       part-values s (Replied e ∷ answers) is values legal = part-values s answers is values legal.0
       part-values s (WasCut entries ∷ answers) is values legal =
-          settle (part_of s answers).setting.opening (procedures ++ others) limits (part_of s answers).past (part-values s answers is values legal.0)
+          settle (part_of s answers).setting.opening (procedures ++ others) limits (part_of s answers).past
+          (part-values s answers is values legal.0)
           (subst (λ (t : Setting). Legal t (part_of s answers).past) (same-setting s answers is legal.0) (legal-part s answers legal.0))
       part-values s (StillLive ∷ answers) is values legal = part-values s answers is values legal.0
 

@@ -95,7 +95,8 @@ wrote-opened w s (Some bytes) held held' line n (Some c) o r begun is (run, from
 )
 
 -- line 1 is too long, or the input is
-wrote-fault : (w : Telling) (i : Intake) (rest held : Option (List ℕ)) (f : Fault) → i ≡ before_input → Explains f i.number (cut_left i rest)
+wrote-fault : (w : Telling) (i : Intake) (rest held : Option (List ℕ)) (f : Fault) → i ≡ before_input
+    → Explains f i.number (cut_left i rest)
     → IsExact (Err f) → Wrote w rest held held (Err f)
 wrote-fault w i rest held (fault.LongLine n) start explained exact =
     let one : n ≡ 1 = explained.0 ∙ ap (λ (j : Intake). j.number + 1) start in

@@ -66,7 +66,8 @@ read-line n m m' a b c answers x line read taken unbroken is next = record {
   bytes = read.bytes ++ (line ++ 10 ∷ []);
   lines = read.lines ++ line ∷ [];
   consumes = consumes-trans a b c read.bytes (line ++ 10 ∷ []) read.consumes taken;
-  whole = λ rest. ap whole_lines (append_assoc read.bytes (line ++ 10 ∷ []) rest ∙ ap (λ l. read.bytes ++ l) (append_assoc line (10 ∷ []) rest))
+  whole = λ rest. ap whole_lines (append_assoc read.bytes (line ++ 10 ∷ []) rest
+      ∙ ap (λ l. read.bytes ++ l) (append_assoc line (10 ∷ []) rest))
       ∙ read.whole (line ++ 10 ∷ rest) ∙ ap (λ ls. read.lines ++ ls) (whole_lines-first line rest unbroken)
       ∙ sym (append_assoc read.lines (line ∷ []) (whole_lines rest));
   are = answered-more n read.lines line answers x read.are (ap (λ k. script_line_at k line) (sym read.number) ∙ is);

@@ -66,12 +66,6 @@ put-same before values after said same (put, is, new, moved) = (
   λ k. moved k ∙ ap (λ o. cond (key_eq put.key k) (Some put.value) o) (same k),
 )
 
-cant-same : (before values : Contents) (said : RecordLine) → ((key : Key) → before key ≡ values key) → CantPut before said
-    → put_record values said ≡ None
-cant-same before values said same (inl none) = rw none refl
-cant-same before values said same (inr (put, is, there)) =
-    rw is (ap (λ b. cond b None (Some (put_in values put.key put.value))) (ap is_some (sym (same put.key)) ∙ there))
-
 fills-cut : (n n1 n2 : ℕ) (m m1 m2 : Contents) (a b c : Cut) (line : List ℕ) (said : RecordLine) → FillsCut n m a n1 m1 b → n2 ≡ n1 + 1
     → GivesRecord (Some b) line said (Some c) → PutsNew m1 said m2 → FillsCut n m a n2 m2 c
 fills-cut n n1 n2 m m1 m2 a b c line said fills more (given, ending, is) puts =
@@ -91,52 +85,14 @@ fills-cut n n1 n2 m m1 m2 a b c line said fills more (given, ending, is) puts =
     }
 
 -- one more record is put
-pub fills-more : (n n1 n2 : ℕ) (m m1 m2 : Contents) (a b c : Option Cut) (line : List ℕ) (said : RecordLine) → Fills n m a n1 m1 b → n2 ≡ n1 + 1
+pub fills-more : (n n1 n2 : ℕ) (m m1 m2 : Contents) (a b c : Option Cut) (line : List ℕ) (said : RecordLine) → Fills n m a n1 m1 b
+    → n2 ≡ n1 + 1
     → GivesRecord b line said c → PutsNew m1 said m2 → Fills n m a n2 m2 c
 fills-more n n1 n2 m m1 m2 None b c line said fills more gives puts = tt
 fills-more n n1 n2 m m1 m2 (Some a) None c line said fills more gives puts = absurd fills
 fills-more n n1 n2 m m1 m2 (Some a) (Some b) None line said fills more gives puts = absurd gives
 fills-more n n1 n2 m m1 m2 (Some a) (Some b) (Some c) line said fills more gives puts =
     fills-cut n n1 n2 m m1 m2 a b c line said fills more gives puts
-
--- no other record line leads
-pub fills-last : (n n1 n2 : ℕ) (m m1 : Contents) (a b c : Option Cut) → Fills n m a n1 m1 b → n2 ≡ n1 → LeadsNone b → Stays b c
-    → Leaves n m a n2 m1 c
-fills-last n n1 n2 m m1 None b c fills same none stays = tt
-fills-last n n1 n2 m m1 (Some a) None c fills same none stays = absurd fills
-fills-last n n1 n2 m m1 (Some a) (Some b) None fills same none stays = absurd stays
-fills-last n n1 n2 m m1 (Some a) (Some b) (Some c) fills same none stays = record {
-  values = fills.values;
-  put = fills.put ∙ ap (put_records (n1 + 1) fills.values) none.0;
-  contents = fills.contents;
-  left = ap (λ (x : Cut). x.given) stays ∙ sym none.1 ∙ sym fills.left;
-  ending = ap (λ (x : Cut). x.ending) stays ∙ fills.ending;
-  number =
-      let counts : length (leading_records b.given) ≡ 0 = ap length none.0 in
-      omega (arith, same, counts, fills.number);
-}
-
--- the next record can't be put
-pub fills-bad : (n n1 n2 : ℕ) (m m1 : Contents) (a b c : Option Cut) (line : List ℕ) (said : RecordLine) (f : Fault) → Fills n m a n1 m1 b → n2 ≡ n1 + 1
-    → GivesRecord b line said c → f ≡ fault.BadRecord n2 → CantPut m1 said → IsBadRecord f n m a
-fills-bad n n1 n2 m m1 None b c line said f fills more gives is cant = tt
-fills-bad n n1 n2 m m1 (Some a) None c line said f fills more gives is cant = absurd fills
-fills-bad n n1 n2 m m1 (Some a) (Some b) None line said f fills more gives is cant = absurd gives
-fills-bad n n1 n2 m m1 (Some a) (Some b) (Some c) line said f fills more (given, ending, says) is cant =
-    let leads : leading_records b.given ≡ said ∷ leading_records c.given = ap leading_records given ∙ leads-some line c.given said says in (
-      n2,
-      is,
-      fills.put ∙ ap (put_records (n1 + 1) fills.values) leads
-          ∙ ap (λ o. and_then_put (n1 + 1) o (λ x. put_records (n1 + 1 + 1) x (leading_records c.given)))
-          (cant-same m1 fills.values said fills.contents cant)
-          ∙ ap (λ k. Err k) (sym more),
-    )
-
--- where no line is known, no fault is explained
-pub fills-unknown : (n n1 : ℕ) (m m1 : Contents) (a b : Option Cut) (f : Fault) → Fills n m a n1 m1 b → b ≡ None → IsBadRecord f n m a
-fills-unknown n n1 m m1 None b f fills none = tt
-fills-unknown n n1 m m1 (Some a) None f fills none = absurd fills
-fills-unknown n n1 m m1 (Some a) (Some b) f fills none = absurd (cc)
 
 -- ---- the line ahead
 
@@ -157,24 +113,6 @@ keeps-leads k k' (Some xs) (Some ys) kept same none =
     subst (λ (l : ℕ). LeadsNone (option_map (cut_within l) (Some xs))) same
     (subst (λ (l : List ℕ). LeadsNone (option_map (cut_within k') (Some l))) kept none)
 
-pub keeps-stays : (k k' : ℕ) (old mid : Option (List ℕ)) → Keeps old mid → k' ≡ k
-    → Stays (option_map (cut_within k) old) (option_map (cut_within k') mid)
-keeps-stays k k' None mid kept same = tt
-keeps-stays k k' (Some xs) None kept same = absurd kept
-keeps-stays k k' (Some xs) (Some ys) kept same = ap (cut_within k') kept ∙ ap (λ l. cut_within l xs) same
-
--- the line given is the one that was ahead
-pub gives-ahead : (said : RecordLine) (line : List ℕ) (old new : Option Cut) → IsAhead said old → Gives old line new
-    → GivesRecord old line said new
-gives-ahead said line None new ahead gives = tt
-gives-ahead said line (Some old) None ahead gives = absurd gives
-gives-ahead said line (Some old) (Some new) (first, later, given, is) gives =
-    let same : first ≡ line = heads first line later new.given (sym given ∙ gives.0) in
-    (gives.0, gives.1, ap record_line_of (sym same) ∙ is)
-  where
-    heads : (x y : List ℕ) (xs ys : List (List ℕ)) → x ∷ xs ≡ y ∷ ys → x ≡ y
-    heads x y xs ys same = cc
-
 -- where lines end, no record leads
 pub ends-none : (ending : Ending) (known : Option Cut) → EndsAs ending known → LeadsNone known
 ends-none ending None ends = tt
@@ -183,14 +121,6 @@ ends-none ending (Some c) ends = (
   ap (λ (x : Cut). behind_records x.given) ends
       ∙ sym (ap (λ (x : Cut). x.given) ends),
 )
-
--- where a line is ahead, lines do not end
-pub ahead-not-end : (ending : Ending) (said : RecordLine) (known : Option Cut) → IsAhead said known → EndsAs ending known → known ≡ None
-ahead-not-end ending said None ahead ends = refl
-ahead-not-end ending said (Some c) (line, later, given, is) ends = absurd (no line later (sym given ∙ ap (λ (x : Cut). x.given) ends))
-  where
-    no : (x : List ℕ) (xs : List (List ℕ)) → ¬ (x ∷ xs ≡ [])
-    no x xs same = absurd (cc)
 
 -- a line given that is no record line leads none
 pub other-leads : (i k : Intake) (rest : Option (List ℕ)) → IsGiven i k → record_line_of k.line ≡ None → LeadsNone (cut_left i rest)
@@ -256,7 +186,8 @@ passed-line n m m' a b c line said passed took unbroken is more = record {
   read = passed.read ++ (line ++ 10 ∷ []);
   lines = passed.lines ++ line ∷ [];
   bytes = passed.bytes ∙ ap (λ l. passed.read ++ l) took ∙ sym (append_assoc passed.read (line ++ 10 ∷ []) c);
-  whole = λ rest. ap whole_lines (append_assoc passed.read (line ++ 10 ∷ []) rest ∙ ap (λ l. passed.read ++ l) (append_assoc line (10 ∷ []) rest))
+  whole = λ rest. ap whole_lines (append_assoc passed.read (line ++ 10 ∷ []) rest
+      ∙ ap (λ l. passed.read ++ l) (append_assoc line (10 ∷ []) rest))
       ∙ passed.whole (line ++ 10 ∷ rest) ∙ ap (λ ls. passed.lines ++ ls) (whole_lines-first line rest unbroken)
       ∙ sym (append_assoc passed.lines (line ∷ []) (whole_lines rest));
   are = are-more passed.lines line said passed.are is;
@@ -275,27 +206,14 @@ passes-more n m m' i j from rest rest' said passes gives took unbroken more goin
     line-of : j.ended ≡ false → taken j ≡ j.line ++ 10 ∷ []
     line-of still = rw still refl
 
-    go : (a b c : Option (List ℕ)) → Passes n a m b → GivesRecord (option_map (cut_within i.within) b) j.line said (option_map (cut_within j.within) c)
+    go : (a b c : Option (List ℕ)) → Passes n a m b → GivesRecord (option_map (cut_within i.within) b) j.line said
+        (option_map (cut_within j.within) c)
         → Consumes b c (j.line ++ 10 ∷ []) → Passes n a m' c
     go None b c passed given consumed = tt
     go (Some xs) None c passed given consumed = absurd passed
     go (Some xs) (Some ys) None passed given consumed = absurd consumed
     go (Some xs) (Some ys) (Some zs) passed given consumed =
         passed-line n m m' xs ys zs j.line said passed consumed unbroken given.2 more
-
--- where the bytes stay
-pub passes-same : (n m m' : ℕ) (from old now : Option (List ℕ)) → Passes n from m old → Keeps old now → m' ≡ m → Passes n from m' now
-passes-same n m m' None old now passes kept same = tt
-passes-same n m m' (Some xs) None now passes kept same = absurd passes
-passes-same n m m' (Some xs) (Some ys) None passes kept same = absurd kept
-passes-same n m m' (Some xs) (Some ys) (Some zs) passes kept same = record {
-  read = passes.read;
-  lines = passes.lines;
-  bytes = passes.bytes ∙ ap (λ l. passes.read ++ l) (sym kept);
-  whole = passes.whole;
-  are = passes.are;
-  number = same ∙ passes.number;
-}
 
 -- where a read failed behind them, what is held was read, too
 pub reads-records : (n m : ℕ) (i j : Intake) (from rest rest' : Option (List ℕ)) → Passes n from m (bytes_left i rest)
@@ -315,18 +233,6 @@ reads-records n m i j from rest rest' passes (kept, none, going) =
       passed.bytes ∙ ap (λ l. passed.read ++ l) (sym stays) ∙ sym (append_assoc passed.read j.held zs),
       subst AreRecordLines (sym (passed.whole j.held ∙ ap (λ ls. passed.lines ++ ls) none ∙ append-nil passed.lines)) passed.are,
     )
-
--- what stays and is then consumed is consumed
-pub keeps-consumes : (a b c : Option (List ℕ)) (bytes : List ℕ) → Keeps a b → Consumes b c bytes → Consumes a c bytes
-keeps-consumes None b c bytes kept took = tt
-keeps-consumes (Some xs) None c bytes kept took = absurd kept
-keeps-consumes (Some xs) (Some ys) None bytes kept took = took
-keeps-consumes (Some xs) (Some ys) (Some zs) bytes kept took = sym kept ∙ took
-
--- where the lines of some bytes are not known, the bytes are not, and stay
-pub unknown-keeps : (k : ℕ) (old now : Option (List ℕ)) → option_map (cut_within k) old ≡ None → Keeps old now
-unknown-keeps k None now unknown = tt
-unknown-keeps k (Some xs) now unknown = absurd (cc unknown)
 
 -- ---- where no line is ahead
 

@@ -8,7 +8,8 @@ use Rattle.sgt_check.proofs.placed_text.append_item.Goals as goal
 pub returns : goal.returns
 returns c =
     (grow c.args.text.now.items c.append_name.new.text.items c.extend_from_slice-2.new.self.items _ (codes "]")
-    (grow c.args.text.now.items c.extend_from_slice.new.self.items c.append_name.new.text.items (codes "[") (text_at (texts c.args.history.now) c.args.item)
+    (grow c.args.text.now.items c.extend_from_slice.new.self.items c.append_name.new.text.items (codes "[")
+    (text_at (texts c.args.history.now) c.args.item)
     c.in_ok-extend_from_slice.ensures.items
     (c.in_ok-append_name.ensures ∙ ap (λ l. c.extend_from_slice.new.self.items ++ l) (name_text c.args.history.now c.args.item)))
     c.in_ok-extend_from_slice-2.ensures.items)

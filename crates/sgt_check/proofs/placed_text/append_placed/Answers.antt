@@ -16,7 +16,8 @@ returns c =
     c.in-Some.ensures.lookup.1 ∙ ap (λ l. slice_index_or l c.args.place op) c.deref.ensures.value in
     let there : slice_get items c.args.place ≡ Some op = slice_get-get_or items c.args.place op within ∙ ap Some (sym is) in
     (grow c.args.text.now.items c.append_numbered.new.line.items c.extend_from_slice.new.self.items _ (codes ")")
-    (grow_number c.args.text.now.items c.append_operation.new.text.items c.append_numbered.new.line.items (spelling (texts c.args.history.now) c.in-Some.operation.now) (codes " (") (decimal (c.args.place + 1))
+    (grow_number c.args.text.now.items c.append_operation.new.text.items c.append_numbered.new.line.items
+    (spelling (texts c.args.history.now) c.in-Some.operation.now) (codes " (") (decimal (c.args.place + 1))
     c.in_ok-append_operation.ensures
     c.in_ok-append_numbered.ensures.ok)
     c.in_ok-extend_from_slice.ensures.items)

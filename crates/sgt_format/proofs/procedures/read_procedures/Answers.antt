@@ -5,7 +5,8 @@ use Rattle.sgt_format.proofs.procedures.read_procedures.Goals as goal
 pub loop-index-preserved : goal.loop-index-preserved
 loop-index-preserved c = record {
   so_far = rw c.push_reserved.ensures.items
-      (one_more c.args.trees.now c.loop-index.index _ c.loop-index.list.items c.in_ok-read_procedure.field-0 c.loop-index-test.true c.index-trees-index.is c.loop-index.invariant.so_far c.in_ok-read_procedure.ensures.procedure);
+      (one_more c.args.trees.now c.loop-index.index _ c.loop-index.list.items c.in_ok-read_procedure.field-0 c.loop-index-test.true
+      c.index-trees-index.is c.loop-index.invariant.so_far c.in_ok-read_procedure.ensures.procedure);
   room = search rules;
   count = search rules;
 }

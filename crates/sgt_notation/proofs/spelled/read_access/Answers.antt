@@ -14,4 +14,5 @@ returns-in_default-read_number-clause-none c = λ none t x small item is.
 pub returns-in_default-read_item-clause-none : goal.returns-in_default-read_item-clause-none
 returns-in_default-read_item-clause-none c = λ none t x small item is.
     let parts = behind_letter c.args.rest.now x t c.in-Some.open small is c.in-Some.ensures in
-    c.in_default-read_item.ensures.none refl x item (take_all _ (drop (c.in-Some.open + 1) c.args.rest.now) (omega (arith, length-drop (c.in-Some.open + 1) c.args.rest.now)) ∙ parts.1)
+    c.in_default-read_item.ensures.none refl x item (take_all _ (drop (c.in-Some.open + 1) c.args.rest.now)
+    (omega (arith, length-drop (c.in-Some.open + 1) c.args.rest.now)) ∙ parts.1)

@@ -54,7 +54,8 @@ loop-digit-preserved c =
 
 pub returns-then-value-from-clause-none : goal.returns-then-value-from-clause-none
 returns-then-value-from-clause-none c = λ none n small is.
-    let value = spelled_value c.loop-digit.digit-index c.args.digits.now c.loop-digit.value n c.loop-digit.invariant.value (omega (arith, c.loop-digit-test.false)) small is in
+    let value = spelled_value c.loop-digit.digit-index c.args.digits.now c.loop-digit.value n c.loop-digit.invariant.value
+    (omega (arith, c.loop-digit-test.false)) small is in
     grind (arith, common_steps, value, small)
 
 pub returns-clause-some : goal.returns-clause-some
@@ -65,5 +66,8 @@ returns-clause-some c =
     let leading : get_or c.args.digits.now 0 0 ≡ 48 → length c.args.digits.now ≡ 1 = (λ e. elim c.else-digits-eq48.either [
       | inl short ↦ omega (arith, short.1, some)
       | inr other ↦ absurd (grind (arith, other, e))
-    ]) in
-    (small, spelled_number c.loop-digit.digit-index c.args.digits.now c.loop-digit.value i.value (omega (arith, c.loop-digit-test.false)) i.digits some leading small)
+    ]) in (
+      small,
+      spelled_number c.loop-digit.digit-index c.args.digits.now c.loop-digit.value i.value (omega (arith, c.loop-digit-test.false))
+          i.digits some leading small,
+    )

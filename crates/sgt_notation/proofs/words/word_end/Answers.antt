@@ -10,4 +10,5 @@ returns-else-not-parts_words-clause-word c =
 pub returns-after-loop-end-clause-word : goal.returns-after-loop-end-clause-word
 returns-after-loop-end-clause-word c =
     let i = c.loop-end.invariant in
-    word_between c.args.line c.args.from c.loop-end.end c.args.text.now i.onwards i.bounds i.inside (λ less. absurd (omega (arith, less, c.loop-end-test.false)))
+    word_between c.args.line c.args.from c.loop-end.end c.args.text.now i.onwards i.bounds i.inside
+    (λ less. absurd (omega (arith, less, c.loop-end-test.false)))

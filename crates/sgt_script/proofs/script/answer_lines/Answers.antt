@@ -10,7 +10,8 @@ use Rattle.sgt_script.proofs.script.answer_lines.Goals as goal
 
 pub loop-gathered-init : goal.loop-gathered-init
 loop-gathered-init g c = record {
-  so = answered-none c.args.telling c.args.lines.now (g.S.Source.rest c.args.source.now) (g.T.Sink.held c.args.sink.now) c.new-gathered.result.items
+  so = answered-none c.args.telling c.args.lines.now (g.S.Source.rest c.args.source.now) (g.T.Sink.held c.args.sink.now)
+      c.new-gathered.result.items
       (setting_of c.args.engine.now) c.args.engine.now.past (search rules) c.requires.fresh;
   ended = λ going. going;
   counted = search rules;
@@ -23,17 +24,25 @@ pub loop-gathered-preserved-in-Ok : goal.loop-gathered-preserved-in-Ok
 loop-gathered-preserved-in-Ok g c =
     let one = c.in-Ok.ensures.answered in
     record {
-      so = answered-next c.args.telling (setting_of c.args.engine.now) (c.args.lines.now.number + 1) (cut_left c.args.lines.now (g.S.Source.rest c.args.source.now))
+      so = answered-next c.args.telling (setting_of c.args.engine.now) (c.args.lines.now.number + 1)
+          (cut_left c.args.lines.now (g.S.Source.rest c.args.source.now))
           (bytes_left c.args.lines.now (g.S.Source.rest c.args.source.now)) (g.T.Sink.held c.args.sink.now)
-          c.loop-gathered.lines c.next_script_line.new.lines (g.S.Source.rest c.loop-gathered.source) (g.S.Source.rest c.next_script_line.new.source) (g.T.Sink.held c.flush_before_read.new.sink) c.flush_before_read.new.gathered.items
-          c.answer_event.new.text.items (part_at c.loop-gathered.engine) (part_at c.answer_event.new.engine) (script_line.Event c.in-Ok-Some-Event.event)
-          (answered-flushed c.args.telling (setting_of c.args.engine.now) (c.args.lines.now.number + 1) (cut_left c.args.lines.now (g.S.Source.rest c.args.source.now))
+          c.loop-gathered.lines c.next_script_line.new.lines (g.S.Source.rest c.loop-gathered.source)
+          (g.S.Source.rest c.next_script_line.new.source) (g.T.Sink.held c.flush_before_read.new.sink)
+          c.flush_before_read.new.gathered.items
+          c.answer_event.new.text.items (part_at c.loop-gathered.engine) (part_at c.answer_event.new.engine)
+          (script_line.Event c.in-Ok-Some-Event.event)
+          (answered-flushed c.args.telling (setting_of c.args.engine.now) (c.args.lines.now.number + 1)
+          (cut_left c.args.lines.now (g.S.Source.rest c.args.source.now))
           (bytes_left c.args.lines.now (g.S.Source.rest c.args.source.now)) (g.T.Sink.held c.args.sink.now)
-          c.loop-gathered.lines (g.S.Source.rest c.loop-gathered.source) (g.T.Sink.held c.loop-gathered.sink) (g.T.Sink.held c.flush_before_read.new.sink) c.loop-gathered.gathered.items c.flush_before_read.new.gathered.items (part_at c.loop-gathered.engine)
+          c.loop-gathered.lines (g.S.Source.rest c.loop-gathered.source) (g.T.Sink.held c.loop-gathered.sink)
+          (g.T.Sink.held c.flush_before_read.new.sink) c.loop-gathered.gathered.items c.flush_before_read.new.gathered.items
+          (part_at c.loop-gathered.engine)
           c.loop-gathered.invariant.so c.in_ok-flush_before_read.ensures.bytes)
           (search rules) (search rules) (search rules) (search rules)
           (search rules) c.next_script_line.ensures.ended
-          (replied c.args.telling one.0 c.in-Ok-Some-Event.event c.loop-gathered.engine c.answer_event.new.engine _ _ c.answer_event.ensures.setting one.1 one.2 one.3
+          (replied c.args.telling one.0 c.in-Ok-Some-Event.event c.loop-gathered.engine c.answer_event.new.engine _ _
+          c.answer_event.ensures.setting one.1 one.2 one.3
           c.answer_event.ensures.legal);
       ended = λ going. c.loop-gathered.invariant.ended (c.next_script_line.ensures.ended going);
       counted = search rules;
@@ -45,13 +54,19 @@ loop-gathered-preserved-in-Ok g c =
 pub loop-gathered-preserved : goal.loop-gathered-preserved
 loop-gathered-preserved g c =
     record {
-      so = answered-next c.args.telling (setting_of c.args.engine.now) (c.args.lines.now.number + 1) (cut_left c.args.lines.now (g.S.Source.rest c.args.source.now))
+      so = answered-next c.args.telling (setting_of c.args.engine.now) (c.args.lines.now.number + 1)
+          (cut_left c.args.lines.now (g.S.Source.rest c.args.source.now))
           (bytes_left c.args.lines.now (g.S.Source.rest c.args.source.now)) (g.T.Sink.held c.args.sink.now)
-          c.loop-gathered.lines c.next_script_line.new.lines (g.S.Source.rest c.loop-gathered.source) (g.S.Source.rest c.next_script_line.new.source) (g.T.Sink.held c.flush_before_read.new.sink) c.flush_before_read.new.gathered.items
+          c.loop-gathered.lines c.next_script_line.new.lines (g.S.Source.rest c.loop-gathered.source)
+          (g.S.Source.rest c.next_script_line.new.source) (g.T.Sink.held c.flush_before_read.new.sink)
+          c.flush_before_read.new.gathered.items
           c.answer_cut.new.text.items (part_at c.loop-gathered.engine) (part_at c.answer_cut.new.engine) script_line.Cut
-          (answered-flushed c.args.telling (setting_of c.args.engine.now) (c.args.lines.now.number + 1) (cut_left c.args.lines.now (g.S.Source.rest c.args.source.now))
+          (answered-flushed c.args.telling (setting_of c.args.engine.now) (c.args.lines.now.number + 1)
+          (cut_left c.args.lines.now (g.S.Source.rest c.args.source.now))
           (bytes_left c.args.lines.now (g.S.Source.rest c.args.source.now)) (g.T.Sink.held c.args.sink.now)
-          c.loop-gathered.lines (g.S.Source.rest c.loop-gathered.source) (g.T.Sink.held c.loop-gathered.sink) (g.T.Sink.held c.flush_before_read.new.sink) c.loop-gathered.gathered.items c.flush_before_read.new.gathered.items (part_at c.loop-gathered.engine)
+          c.loop-gathered.lines (g.S.Source.rest c.loop-gathered.source) (g.T.Sink.held c.loop-gathered.sink)
+          (g.T.Sink.held c.flush_before_read.new.sink) c.loop-gathered.gathered.items c.flush_before_read.new.gathered.items
+          (part_at c.loop-gathered.engine)
           c.loop-gathered.invariant.so c.in_ok-flush_before_read.ensures.bytes)
           (search rules) (search rules) (search rules) (search rules)
           (search rules) c.next_script_line.ensures.ended
@@ -65,78 +80,104 @@ loop-gathered-preserved g c =
 
 pub returns-in_err-flush_before_read-clause-some : goal.returns-in_err-flush_before_read-clause-some
 returns-in_err-flush_before_read-clause-some g c =
-    some-failed c.args.telling (setting_of c.args.engine.now) (c.args.lines.now.number + 1) (cut_left c.args.lines.now (g.S.Source.rest c.args.source.now))
+    some-failed c.args.telling (setting_of c.args.engine.now) (c.args.lines.now.number + 1)
+    (cut_left c.args.lines.now (g.S.Source.rest c.args.source.now))
     (bytes_left c.args.lines.now (g.S.Source.rest c.args.source.now)) (g.T.Sink.held c.args.sink.now)
-    c.loop-gathered.lines (g.S.Source.rest c.loop-gathered.source) (g.S.Source.rest c.loop-gathered.source) (g.T.Sink.held c.loop-gathered.sink) (g.T.Sink.held c.flush_before_read.new.sink) c.loop-gathered.gathered.items (part_at c.loop-gathered.engine) c.from_residual.result
+    c.loop-gathered.lines (g.S.Source.rest c.loop-gathered.source) (g.S.Source.rest c.loop-gathered.source)
+    (g.T.Sink.held c.loop-gathered.sink) (g.T.Sink.held c.flush_before_read.new.sink) c.loop-gathered.gathered.items
+    (part_at c.loop-gathered.engine) c.from_residual.result
     c.loop-gathered.invariant.so c.in_err-flush_before_read.ensures.part (search rules)
 
 pub returns-in-Err-answer_event-clause-some : goal.returns-in-Err-answer_event-clause-some
 returns-in-Err-answer_event-clause-some g c =
-    let so = answered-flushed c.args.telling (setting_of c.args.engine.now) (c.args.lines.now.number + 1) (cut_left c.args.lines.now (g.S.Source.rest c.args.source.now))
+    let so = answered-flushed c.args.telling (setting_of c.args.engine.now) (c.args.lines.now.number + 1)
+    (cut_left c.args.lines.now (g.S.Source.rest c.args.source.now))
     (bytes_left c.args.lines.now (g.S.Source.rest c.args.source.now)) (g.T.Sink.held c.args.sink.now) c.loop-gathered.lines
     (g.S.Source.rest c.loop-gathered.source) (g.T.Sink.held c.loop-gathered.sink) (g.T.Sink.held c.flush_before_read.new.sink)
     c.loop-gathered.gathered.items c.flush_before_read.new.gathered.items (part_at c.loop-gathered.engine) c.loop-gathered.invariant.so
     c.in_ok-flush_before_read.ensures.bytes in
-    some-refused c.args.telling (setting_of c.args.engine.now) (c.args.lines.now.number + 1) (cut_left c.args.lines.now (g.S.Source.rest c.args.source.now))
+    some-refused c.args.telling (setting_of c.args.engine.now) (c.args.lines.now.number + 1)
+    (cut_left c.args.lines.now (g.S.Source.rest c.args.source.now))
     (bytes_left c.args.lines.now (g.S.Source.rest c.args.source.now)) (g.T.Sink.held c.args.sink.now)
-    c.loop-gathered.lines (g.S.Source.rest c.loop-gathered.source) (g.S.Source.rest c.next_script_line.new.source) (g.T.Sink.held c.flush_before_read.new.sink) _ c.flush_before_read.new.gathered.items c.answer_event.new.text.items (part_at c.loop-gathered.engine) _ _ so
+    c.loop-gathered.lines (g.S.Source.rest c.loop-gathered.source) (g.S.Source.rest c.next_script_line.new.source)
+    (g.T.Sink.held c.flush_before_read.new.sink) _ c.flush_before_read.new.gathered.items c.answer_event.new.text.items
+    (part_at c.loop-gathered.engine) _ _ so
     c.in-Err-answer_event.ensures.kept c.stop.ensures.written refl
 
 pub returns-in-Err-answer_cut-clause-some : goal.returns-in-Err-answer_cut-clause-some
 returns-in-Err-answer_cut-clause-some g c =
-    let so = answered-flushed c.args.telling (setting_of c.args.engine.now) (c.args.lines.now.number + 1) (cut_left c.args.lines.now (g.S.Source.rest c.args.source.now))
+    let so = answered-flushed c.args.telling (setting_of c.args.engine.now) (c.args.lines.now.number + 1)
+    (cut_left c.args.lines.now (g.S.Source.rest c.args.source.now))
     (bytes_left c.args.lines.now (g.S.Source.rest c.args.source.now)) (g.T.Sink.held c.args.sink.now) c.loop-gathered.lines
     (g.S.Source.rest c.loop-gathered.source) (g.T.Sink.held c.loop-gathered.sink) (g.T.Sink.held c.flush_before_read.new.sink)
     c.loop-gathered.gathered.items c.flush_before_read.new.gathered.items (part_at c.loop-gathered.engine) c.loop-gathered.invariant.so
     c.in_ok-flush_before_read.ensures.bytes in
-    some-refused c.args.telling (setting_of c.args.engine.now) (c.args.lines.now.number + 1) (cut_left c.args.lines.now (g.S.Source.rest c.args.source.now))
+    some-refused c.args.telling (setting_of c.args.engine.now) (c.args.lines.now.number + 1)
+    (cut_left c.args.lines.now (g.S.Source.rest c.args.source.now))
     (bytes_left c.args.lines.now (g.S.Source.rest c.args.source.now)) (g.T.Sink.held c.args.sink.now)
-    c.loop-gathered.lines (g.S.Source.rest c.loop-gathered.source) (g.S.Source.rest c.next_script_line.new.source) (g.T.Sink.held c.flush_before_read.new.sink) _ c.flush_before_read.new.gathered.items c.answer_cut.new.text.items (part_at c.loop-gathered.engine) _ _ so
+    c.loop-gathered.lines (g.S.Source.rest c.loop-gathered.source) (g.S.Source.rest c.next_script_line.new.source)
+    (g.T.Sink.held c.flush_before_read.new.sink) _ c.flush_before_read.new.gathered.items c.answer_cut.new.text.items
+    (part_at c.loop-gathered.engine) _ _ so
     c.in-Err-answer_cut.ensures.kept c.stop-in-Err-answer_cut.ensures.written refl
 
 pub returns-in_err-flush-in-Ok-None-clause-some : goal.returns-in_err-flush-in-Ok-None-clause-some
 returns-in_err-flush-in-Ok-None-clause-some g c =
-    let so = answered-flushed c.args.telling (setting_of c.args.engine.now) (c.args.lines.now.number + 1) (cut_left c.args.lines.now (g.S.Source.rest c.args.source.now))
+    let so = answered-flushed c.args.telling (setting_of c.args.engine.now) (c.args.lines.now.number + 1)
+    (cut_left c.args.lines.now (g.S.Source.rest c.args.source.now))
     (bytes_left c.args.lines.now (g.S.Source.rest c.args.source.now)) (g.T.Sink.held c.args.sink.now) c.loop-gathered.lines
     (g.S.Source.rest c.loop-gathered.source) (g.T.Sink.held c.loop-gathered.sink) (g.T.Sink.held c.flush_before_read.new.sink)
     c.loop-gathered.gathered.items c.flush_before_read.new.gathered.items (part_at c.loop-gathered.engine) c.loop-gathered.invariant.so
     c.in_ok-flush_before_read.ensures.bytes in
-    some-failed c.args.telling (setting_of c.args.engine.now) (c.args.lines.now.number + 1) (cut_left c.args.lines.now (g.S.Source.rest c.args.source.now))
+    some-failed c.args.telling (setting_of c.args.engine.now) (c.args.lines.now.number + 1)
+    (cut_left c.args.lines.now (g.S.Source.rest c.args.source.now))
     (bytes_left c.args.lines.now (g.S.Source.rest c.args.source.now)) (g.T.Sink.held c.args.sink.now)
-    c.loop-gathered.lines (g.S.Source.rest c.loop-gathered.source) (g.S.Source.rest c.next_script_line.new.source) (g.T.Sink.held c.flush_before_read.new.sink) _ c.flush_before_read.new.gathered.items (part_at c.loop-gathered.engine) _ so (search rules) (search rules)
+    c.loop-gathered.lines (g.S.Source.rest c.loop-gathered.source) (g.S.Source.rest c.next_script_line.new.source)
+    (g.T.Sink.held c.flush_before_read.new.sink) _ c.flush_before_read.new.gathered.items (part_at c.loop-gathered.engine) _ so
+    (search rules) (search rules)
 
 pub returns-in-Ok-None-clause-all : goal.returns-in-Ok-None-clause-all
 returns-in-Ok-None-clause-all g c =
-    let so = answered-flushed c.args.telling (setting_of c.args.engine.now) (c.args.lines.now.number + 1) (cut_left c.args.lines.now (g.S.Source.rest c.args.source.now))
+    let so = answered-flushed c.args.telling (setting_of c.args.engine.now) (c.args.lines.now.number + 1)
+    (cut_left c.args.lines.now (g.S.Source.rest c.args.source.now))
     (bytes_left c.args.lines.now (g.S.Source.rest c.args.source.now)) (g.T.Sink.held c.args.sink.now) c.loop-gathered.lines
     (g.S.Source.rest c.loop-gathered.source) (g.T.Sink.held c.loop-gathered.sink) (g.T.Sink.held c.flush_before_read.new.sink)
     c.loop-gathered.gathered.items c.flush_before_read.new.gathered.items (part_at c.loop-gathered.engine) c.loop-gathered.invariant.so
     c.in_ok-flush_before_read.ensures.bytes in
-    all-so c.args.telling (setting_of c.args.engine.now) (c.args.lines.now.number + 1) (cut_left c.args.lines.now (g.S.Source.rest c.args.source.now))
+    all-so c.args.telling (setting_of c.args.engine.now) (c.args.lines.now.number + 1)
+    (cut_left c.args.lines.now (g.S.Source.rest c.args.source.now))
     (bytes_left c.args.lines.now (g.S.Source.rest c.args.source.now)) (g.T.Sink.held c.args.sink.now)
-    c.loop-gathered.lines (g.S.Source.rest c.loop-gathered.source) (g.T.Sink.held c.flush_before_read.new.sink) _ c.flush_before_read.new.gathered.items (part_at c.loop-gathered.engine) _ so (search rules) (search rules)
+    c.loop-gathered.lines (g.S.Source.rest c.loop-gathered.source) (g.T.Sink.held c.flush_before_read.new.sink) _
+    c.flush_before_read.new.gathered.items (part_at c.loop-gathered.engine) _ so (search rules) (search rules)
 
 pub returns-in-Ok-None-clause-some : goal.returns-in-Ok-None-clause-some
 returns-in-Ok-None-clause-some g c =
-    let so = answered-flushed c.args.telling (setting_of c.args.engine.now) (c.args.lines.now.number + 1) (cut_left c.args.lines.now (g.S.Source.rest c.args.source.now))
+    let so = answered-flushed c.args.telling (setting_of c.args.engine.now) (c.args.lines.now.number + 1)
+    (cut_left c.args.lines.now (g.S.Source.rest c.args.source.now))
     (bytes_left c.args.lines.now (g.S.Source.rest c.args.source.now)) (g.T.Sink.held c.args.sink.now) c.loop-gathered.lines
     (g.S.Source.rest c.loop-gathered.source) (g.T.Sink.held c.loop-gathered.sink) (g.T.Sink.held c.flush_before_read.new.sink)
     c.loop-gathered.gathered.items c.flush_before_read.new.gathered.items (part_at c.loop-gathered.engine) c.loop-gathered.invariant.so
     c.in_ok-flush_before_read.ensures.bytes in
-    some-written c.args.telling (setting_of c.args.engine.now) (c.args.lines.now.number + 1) (cut_left c.args.lines.now (g.S.Source.rest c.args.source.now))
+    some-written c.args.telling (setting_of c.args.engine.now) (c.args.lines.now.number + 1)
+    (cut_left c.args.lines.now (g.S.Source.rest c.args.source.now))
     (bytes_left c.args.lines.now (g.S.Source.rest c.args.source.now)) (g.T.Sink.held c.args.sink.now)
-    c.loop-gathered.lines (g.S.Source.rest c.loop-gathered.source) (g.S.Source.rest c.next_script_line.new.source) (g.T.Sink.held c.flush_before_read.new.sink) _ c.flush_before_read.new.gathered.items (part_at c.loop-gathered.engine) _ _ so (search rules) (λ reading. absurd (cc reading))
+    c.loop-gathered.lines (g.S.Source.rest c.loop-gathered.source) (g.S.Source.rest c.next_script_line.new.source)
+    (g.T.Sink.held c.flush_before_read.new.sink) _ c.flush_before_read.new.gathered.items (part_at c.loop-gathered.engine) _ _ so
+    (search rules) (λ reading. absurd (cc reading))
 
 pub returns-in-Err-clause-some : goal.returns-in-Err-clause-some
 returns-in-Err-clause-some g c =
-    let so = answered-flushed c.args.telling (setting_of c.args.engine.now) (c.args.lines.now.number + 1) (cut_left c.args.lines.now (g.S.Source.rest c.args.source.now))
+    let so = answered-flushed c.args.telling (setting_of c.args.engine.now) (c.args.lines.now.number + 1)
+    (cut_left c.args.lines.now (g.S.Source.rest c.args.source.now))
     (bytes_left c.args.lines.now (g.S.Source.rest c.args.source.now)) (g.T.Sink.held c.args.sink.now) c.loop-gathered.lines
     (g.S.Source.rest c.loop-gathered.source) (g.T.Sink.held c.loop-gathered.sink) (g.T.Sink.held c.flush_before_read.new.sink)
     c.loop-gathered.gathered.items c.flush_before_read.new.gathered.items (part_at c.loop-gathered.engine) c.loop-gathered.invariant.so
     c.in_ok-flush_before_read.ensures.bytes in
-    some-stop c.args.telling (setting_of c.args.engine.now) (c.args.lines.now.number + 1) (cut_left c.args.lines.now (g.S.Source.rest c.args.source.now))
+    some-stop c.args.telling (setting_of c.args.engine.now) (c.args.lines.now.number + 1)
+    (cut_left c.args.lines.now (g.S.Source.rest c.args.source.now))
     (bytes_left c.args.lines.now (g.S.Source.rest c.args.source.now)) (g.T.Sink.held c.args.sink.now)
-    c.loop-gathered.lines (g.S.Source.rest c.loop-gathered.source) (g.S.Source.rest c.next_script_line.new.source) (g.T.Sink.held c.flush_before_read.new.sink) _ c.flush_before_read.new.gathered.items (part_at c.loop-gathered.engine) _ c.in-Err.fault c.stop-in-Err.result so c.stop-in-Err.ensures.written refl
+    c.loop-gathered.lines (g.S.Source.rest c.loop-gathered.source) (g.S.Source.rest c.next_script_line.new.source)
+    (g.T.Sink.held c.flush_before_read.new.sink) _ c.flush_before_read.new.gathered.items (part_at c.loop-gathered.engine) _
+    c.in-Err.fault c.stop-in-Err.result so c.stop-in-Err.ensures.written refl
     (λ reading.
     let none = c.next_script_line.ensures.unread (search rules) in
     read-failed (c.args.lines.now.number + 1) (c.loop-gathered.lines.number + 1)
@@ -146,11 +187,15 @@ returns-in-Err-clause-some g c =
 
 pub returns-in-Err-clause-fault : goal.returns-in-Err-clause-fault
 returns-in-Err-clause-fault g c =
-    let so = answered-flushed c.args.telling (setting_of c.args.engine.now) (c.args.lines.now.number + 1) (cut_left c.args.lines.now (g.S.Source.rest c.args.source.now))
+    let so = answered-flushed c.args.telling (setting_of c.args.engine.now) (c.args.lines.now.number + 1)
+    (cut_left c.args.lines.now (g.S.Source.rest c.args.source.now))
     (bytes_left c.args.lines.now (g.S.Source.rest c.args.source.now)) (g.T.Sink.held c.args.sink.now) c.loop-gathered.lines
     (g.S.Source.rest c.loop-gathered.source) (g.T.Sink.held c.loop-gathered.sink) (g.T.Sink.held c.flush_before_read.new.sink)
     c.loop-gathered.gathered.items c.flush_before_read.new.gathered.items (part_at c.loop-gathered.engine) c.loop-gathered.invariant.so
     c.in_ok-flush_before_read.ensures.bytes in
-    fault-stop c.args.telling (setting_of c.args.engine.now) (c.args.lines.now.number + 1) (cut_left c.args.lines.now (g.S.Source.rest c.args.source.now))
+    fault-stop c.args.telling (setting_of c.args.engine.now) (c.args.lines.now.number + 1)
+    (cut_left c.args.lines.now (g.S.Source.rest c.args.source.now))
     (bytes_left c.args.lines.now (g.S.Source.rest c.args.source.now)) (g.T.Sink.held c.args.sink.now)
-    c.loop-gathered.lines (g.S.Source.rest c.loop-gathered.source) (g.T.Sink.held c.flush_before_read.new.sink) _ c.flush_before_read.new.gathered.items (part_at c.loop-gathered.engine) c.in-Err.fault c.stop-in-Err.result so c.stop-in-Err.ensures.written (search rules)
+    c.loop-gathered.lines (g.S.Source.rest c.loop-gathered.source) (g.T.Sink.held c.flush_before_read.new.sink) _
+    c.flush_before_read.new.gathered.items (part_at c.loop-gathered.engine) c.in-Err.fault c.stop-in-Err.result so
+    c.stop-in-Err.ensures.written (search rules)

@@ -9,13 +9,15 @@ use Rattle.sgt_script.proofs.script.run_opened.Goals as goal
 
 pub returns-in_err-answer_lines-clause-output : goal.returns-in_err-answer_lines-clause-output
 returns-in_err-answer_lines-clause-output g c = λ exact.
-    output-fault c.args.telling (setting_of c.args.engine) (c.args.lines.now.number + 1) (cut_left c.args.lines.now (g.S.Source.rest c.args.source.now))
+    output-fault c.args.telling (setting_of c.args.engine) (c.args.lines.now.number + 1)
+    (cut_left c.args.lines.now (g.S.Source.rest c.args.source.now))
     c.from_residual.result c.in_err-answer_lines.field-0.0 (g.T.Sink.held c.args.sink.now) (g.T.Sink.held c.answer_lines.new.sink)
     (search rules) (search rules) exact
 
 pub returns-clause-output : goal.returns-clause-output
 returns-clause-output g c = λ exact.
-    output-well c.args.telling (setting_of c.args.engine) (c.args.lines.now.number + 1) (cut_left c.args.lines.now (g.S.Source.rest c.args.source.now))
+    output-well c.args.telling (setting_of c.args.engine) (c.args.lines.now.number + 1)
+    (cut_left c.args.lines.now (g.S.Source.rest c.args.source.now))
     (part_at c.answer_lines.new.engine) c.flush.result c.in_ok-text.text.items
     (g.T.Sink.held c.args.sink.now) (g.T.Sink.held c.answer_lines.new.sink) (g.T.Sink.held c.flush.new.sink)
     (exact-flush c.flush.result c.flush.ensures.err exact) c.in_ok-answer_lines.ensures.all
@@ -29,7 +31,8 @@ returns-in_err-answer_lines-clause-stops g c = λ stop.
     (g.T.Sink.held c.args.sink.now) (g.T.Sink.held c.answer_lines.new.sink)
     (c.answer_lines.result ≢ Err fault.Writing) (c.answer_lines.result ≡ Err fault.Reading) c.from_residual.result refl
     (stop-well c.answer_lines.result c.from_residual.result c.in_err-answer_lines.field-0.0 c.in_err-answer_lines.was (search rules) stop)
-    (same-fault c.answer_lines.result c.from_residual.result c.in_err-answer_lines.field-0.0 fault.Reading c.in_err-answer_lines.was (search rules)) c.answer_lines.ensures.some
+    (same-fault c.answer_lines.result c.from_residual.result c.in_err-answer_lines.field-0.0 fault.Reading c.in_err-answer_lines.was
+    (search rules)) c.answer_lines.ensures.some
 
 pub returns-in_err-answer_lines-clause-part : goal.returns-in_err-answer_lines-clause-part
 returns-in_err-answer_lines-clause-part g c = λ failed.
@@ -50,7 +53,8 @@ returns-in_err-text-clause-stops g c = λ stop.
 
 pub returns-clause-part : goal.returns-clause-part
 returns-clause-part g c = λ failed.
-    fails-last c.args.telling (setting_of c.args.engine) (c.args.lines.now.number + 1) (cut_left c.args.lines.now (g.S.Source.rest c.args.source.now))
+    fails-last c.args.telling (setting_of c.args.engine) (c.args.lines.now.number + 1)
+    (cut_left c.args.lines.now (g.S.Source.rest c.args.source.now))
     (part_at c.answer_lines.new.engine) c.in_ok-text.text.items
     (g.T.Sink.held c.args.sink.now) (g.T.Sink.held c.answer_lines.new.sink) (g.T.Sink.held c.flush.new.sink)
     c.in_ok-answer_lines.ensures.all

@@ -56,7 +56,8 @@ returns-clause-script g c = λ exact.
 
 pub returns-in_err-next_line-clause-stops : goal.returns-in_err-next_line-clause-stops
 returns-in_err-next_line-clause-stops g c = λ stop.
-    stops-nothing c.args.telling (g.S.Source.rest c.args.source.now) (g.S.Source.rest c.next_line.new.source) (g.T.Sink.held c.args.sink.now)
+    stops-nothing c.args.telling (g.S.Source.rest c.args.source.now) (g.S.Source.rest c.next_line.new.source)
+    (g.T.Sink.held c.args.sink.now)
     c.from_residual-in_err-next_line.result
     (λ reading.
     let failed : c.next_line.result ≡ Err fault.Reading = search rules in

@@ -34,7 +34,8 @@ pub loop-opening-preserved : goal.loop-opening-preserved
 loop-opening-preserved g c =
     let gives : GivesRecord (cut_left c.loop-opening.lines (g.S.Source.rest c.loop-opening.source)) c.next_record.new.lines.line
     c.in-Some.said (cut_left c.next_record.new.lines (g.S.Source.rest c.next_record.new.source)) = search rules in
-    let puts : PutsNew (contents_of c.loop-opening.opening.database) c.in-Some.said (contents_of c.put_record.new.database) = search rules in
+    let puts : PutsNew (contents_of c.loop-opening.opening.database) c.in-Some.said (contents_of c.put_record.new.database) = search rules
+    in
     let more : c.next_record.new.lines.number ≡ c.loop-opening.lines.number + 1 = search rules in
     record {
       limits = search rules;

@@ -34,4 +34,5 @@ still_quiet inside (leaves L l S s first) q = λ d. q (inside d)
 pub send : IsSend the_row
 send =
     let all : AllSend (fields the_type) = (search sendable, (handle.the_field_send, tt)) in
-    owning_send the_type all (λ s. owns_keyless s.alloc s.at s.held) (λ k. still_quiet (to the_type) (exits_of k (fields the_type)) ((struct_send (shape the_type) all).leaving k))
+    owning_send the_type all (λ s. owns_keyless s.alloc s.at s.held)
+    (λ k. still_quiet (to the_type) (exits_of k (fields the_type)) ((struct_send (shape the_type) all).leaving k))

@@ -34,10 +34,12 @@ stayed = (stay_dropped from yes, tt)
 pub cast_spec : {M : Type 1} → statement M
 cast_spec 𝓤 𝓛 𝓜 𝓡 wired =
     let c = clauses 𝓛 𝓜.mem 𝓡.returns in let 𝓣 = tables 𝓤 𝓛.H 𝓜 𝓡 𝓡.env in
-    proved_at 𝓛 ended stayed c 𝓜 𝓡 (Goes-dropped 𝓛 0 from yes (λ κs x f. refl), tt) name code.function (code.unfolded 𝓤 𝓛.H 𝓜 𝓡 wired) (λ y are.
+    proved_at 𝓛 ended stayed c 𝓜 𝓡 (Goes-dropped 𝓛 0 from yes (λ κs x f. refl), tt) name code.function (code.unfolded 𝓤 𝓛.H 𝓜 𝓡 wired)
+    (λ y are.
     let u = y.0.3.0 in let vs = y.0.4.0 in let Post = (walk_of 𝓛 ended stayed c).post y in
     let made : slot.the_row.Denot = record { at = u.at; alloc = u.alloc; held = Some u.value } in
-    qed 𝓛 ((‵ ftrue ⊛ ‵ (fsep ((unboxed.the_row the_row heap.row heap.g).own_val u vs) ftrue)) ∷ raw (emp 𝓤) ∷ []) ∵ split ! $ drop ! $ fsplit ! $ fsplit ! $ move ! (2 ∷ 3 ∷ []) $ drop ! $ drop ! $
+    qed 𝓛 ((‵ ftrue ⊛ ‵ (fsep ((unboxed.the_row the_row heap.row heap.g).own_val u vs) ftrue)) ∷ raw (emp 𝓤) ∷ []) ∵ split ! $ drop ! $
+    fsplit ! $ fsplit ! $ move ! (2 ∷ 3 ∷ []) $ drop ! $ drop ! $
     -- [the fields; what the box owned]
     fields_out heap ! u.at u.alloc vs (λ h e fits.
     fields_in heap ! u.at u.alloc h $ fjoin ! $

@@ -50,14 +50,17 @@ module _ {M : Type 1} {𝓤 : Ura M} (𝓛 : Logic 𝓤) (at_mem : Memory → SP
   abbrev taken : Ptr → Global → Option Held → List Val → W.Ghost
   taken at alloc held vs = ((tt, tt, tt, (record { at = at; alloc = alloc; held = held }, tt), (vs, tt)), tt)
 
-  walk : (at : Ptr) (alloc : Global) (held : Option Held) (vs : List Val) → let y = taken at alloc held vs in ent 𝓤 (W.pre y) (WpFn 𝓤 𝓛.H 𝓣.C 𝓣.Λ code.function (vs ++ []) (W.post y))
+  walk : (at : Ptr) (alloc : Global) (held : Option Held) (vs : List Val)
+      → let y = taken at alloc held vs in ent 𝓤 (W.pre y) (WpFn 𝓤 𝓛.H 𝓣.C 𝓣.Λ code.function (vs ++ []) (W.post y))
   walk at alloc None vs =
-      qed 𝓛 ((‵ ftrue ⊛ ‵ (owns (slot.the_row ∷ []) (record { at = at; alloc = alloc; held = None }, tt) (vs, tt))) ∷ raw (fact 𝓤 (IsSome {T = Held} None)) ∷ []) ∵
+      qed 𝓛 ((‵ ftrue ⊛ ‵ (owns (slot.the_row ∷ []) (record { at = at; alloc = alloc; held = None }, tt) (vs, tt))) ∷ raw
+      (fact 𝓤 (IsSome {T = Held} None)) ∷ []) ∵
       move ! (1 ∷ []) $ heard ! _ (λ some. absurd (false≢true some))
   walk at alloc (Some x) vs =
       let y = taken at alloc (Some x) vs in let s : slot.the_row.Denot = record { at = at; alloc = alloc; held = Some x } in
       let made : (unboxed.the_row the_row heap.row heap.g).Denot = record { at = at; alloc = alloc; value = x } in
-      qed 𝓛 ((‵ ftrue ⊛ ‵ (fsep (slot.the_row.own_val s vs) ftrue)) ∷ raw (fact 𝓤 (IsSome (Some x))) ∷ []) ∵ split ! $ drop ! $ fsplit ! $ fsplit ! $ move ! (2 ∷ 3 ∷ []) $ drop ! $ drop ! $
+      qed 𝓛 ((‵ ftrue ⊛ ‵ (fsep (slot.the_row.own_val s vs) ftrue)) ∷ raw (fact 𝓤 (IsSome (Some x))) ∷ []) ∵ split ! $ drop ! $ fsplit ! $
+      fsplit ! $ move ! (2 ∷ 3 ∷ []) $ drop ! $ drop ! $
       -- [the fields; what the box owned]
       fields_out heap ! at alloc vs (λ h e fits.
       fields_in heap ! at alloc h $ fjoin ! $
@@ -75,5 +78,6 @@ pub cast_back_spec : {M : Type 1} → statement M
 unfolding tables_of
 cast_back_spec 𝓤 𝓛 𝓜 𝓡 wired =
     let 𝓣 = tables_of 𝓤 𝓛.H 𝓜 (tables 𝓤 𝓛.H 𝓜 𝓡 𝓡.env) in
-    proved_at 𝓛 ended stayed (clauses 𝓛 𝓜.mem 𝓡.returns) 𝓜 𝓡 (Goes-dropped 𝓛 0 from yes (λ κs x f. refl), tt) name code.function (code.unfolded 𝓤 𝓛.H 𝓜 𝓡 wired)
+    proved_at 𝓛 ended stayed (clauses 𝓛 𝓜.mem 𝓡.returns) 𝓜 𝓡 (Goes-dropped 𝓛 0 from yes (λ κs x f. refl), tt) name code.function
+    (code.unfolded 𝓤 𝓛.H 𝓜 𝓡 wired)
     (λ y are. walk 𝓛 𝓜.mem 𝓡.returns 𝓣 y.0.3.0.at y.0.3.0.alloc y.0.3.0.held y.0.4.0)

@@ -34,10 +34,12 @@ stayed = (stay_dropped from yes, tt)
 pub empty_spec : {M : Type 1} → statement M
 empty_spec 𝓤 𝓛 𝓜 𝓡 wired =
     let c = clauses 𝓛 𝓜.mem 𝓡.returns in let 𝓣 = tables 𝓤 𝓛.H 𝓜 𝓡 𝓡.env in
-    proved_at 𝓛 ended stayed c 𝓜 𝓡 (Goes-dropped 𝓛 0 from yes (λ κs x f. refl), tt) name code.function (code.unfolded 𝓤 𝓛.H 𝓜 𝓡 wired) (λ y are.
+    proved_at 𝓛 ended stayed c 𝓜 𝓡 (Goes-dropped 𝓛 0 from yes (λ κs x f. refl), tt) name code.function (code.unfolded 𝓤 𝓛.H 𝓜 𝓡 wired)
+    (λ y are.
     let alloc = y.0.3.0 in let vs = y.0.4.0 in let Post = (walk_of 𝓛 ended stayed c).post y in
     let made : slot.the_row.Denot = record { at = null_ptr; alloc = alloc; held = None } in
-    qed 𝓛 ((‵ ftrue ⊛ ‵ (fsep (heap.row.own_val alloc vs) ftrue)) ∷ raw (emp 𝓤) ∷ []) ∵ split ! $ drop ! $ fsplit ! $ move ! (1 ∷ 2 ∷ []) $ drop ! $ drop ! $
+    qed 𝓛 ((‵ ftrue ⊛ ‵ (fsep (heap.row.own_val alloc vs) ftrue)) ∷ raw (emp 𝓤) ∷ []) ∵ split ! $ drop ! $ fsplit ! $ move ! (1 ∷ 2 ∷ []) $
+    drop ! $ drop ! $
     handle_tells heap ! alloc vs (λ h e fits.
     fields_in heap ! null_ptr alloc h $ nothing ! $ move ! (1 ∷ 0 ∷ []) $ fjoin ! $
     regoal ! (λ us. prop (WpFn 𝓤 𝓛.H 𝓣.C 𝓣.Λ code.function us Post)) (λ i. e i ++ []) refl $

@@ -3,7 +3,8 @@ use Rattle.sgt_entries.proofs.short_entry.ShortEntry.of.Goals as goal
 
 pub returns-clause-entry : goal.returns-clause-entry
 returns-clause-entry c =
-    joined_is _ _ _ c.of-event.result c.of-reply.result _ _ c.of-reply.ensures.more_values c.of-event.ensures.within c.of-event.ensures.event
+    joined_is _ _ _ c.of-event.result c.of-reply.result _ _ c.of-reply.ensures.more_values c.of-event.ensures.within
+    c.of-event.ensures.event
     c.of-reply.ensures.reply
 
 pub returns-clause-within : goal.returns-clause-within

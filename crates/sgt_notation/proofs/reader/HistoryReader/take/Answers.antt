@@ -14,6 +14,8 @@ returns-clause-taken c =
       more = e.kept.0;
       operations = c.in_ok-note.ensures.operations ∙ ap (λ o. o.items ++ op ∷ []) e.same.0;
       items = ap texts_of c.in_ok-note.ensures.items ∙ e.kept.1;
-      spelled = subst (λ i. IsSpelled c.args.word.now (texts_of i) op) (sym c.in_ok-note.ensures.items) (e.spelled c.args.word.now c.in-Some.ensures.some);
-      active = λ ended. let known = (c.requires.known.ends op.transaction).1 ended in grind (arith, common_steps, known, c.contains_key.ensures, c.if-contains_key.false);
+      spelled = subst (λ i. IsSpelled c.args.word.now (texts_of i) op) (sym c.in_ok-note.ensures.items)
+          (e.spelled c.args.word.now c.in-Some.ensures.some);
+      active = λ ended. let known = (c.requires.known.ends op.transaction).1 ended in grind
+          (arith, common_steps, known, c.contains_key.ensures, c.if-contains_key.false);
     }

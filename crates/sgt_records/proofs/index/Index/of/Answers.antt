@@ -6,6 +6,7 @@ use Rattle.sgt_model.specs.Numbers.{IsValue}
 use Rattle.sgt_model.specs.Contents.{key_eq}
 use Rattle.sgt_model.specs.Databases.{Row, contents_of, IsByKey, HasValues}
 use Rattle.sgt_records.specs.Slots.{committed_of}
+use Rattle.sgt_records.specs.Tables.{record_in}
 use Rattle.sgt_records.proofs.RowsRead.{row_more, rows_values}
 use Rattle.sgt_records.proofs.ChainsKept.{chain_empty}
 use Rattle.sgt_records.proofs.RecordSlots.{committed_told, still_none, index_none}
@@ -15,19 +16,16 @@ pub loop-key-preserved : goal.loop-key-preserved
 loop-key-preserved c =
     let row : Row = c.loop-key-item.result in
     let rows = c.args.opening.now in
-    let records = c.loop-key.records in
+    let records = record_in c.loop-key.table in
     let at : slice_get rows c.loop-key.key-index ≡ Some row = rw (← c.rows-key-items.ensures.rows)
     (slice_get_read c.rows-key-items.result.now _ c.loop-key.key-index row refl c.loop-key-test.true c.loop-key-item.is) in
-    let value : c.settled.result.committed ≡ Some row.1 = c.settled.ensures.committed
-    ∙ ap (λ (v : ℤ). Some v) (to_z-of_z w64 row.1 (search rules)) in
     record {
-      values = λ k. committed_told records c.insert.new.self row.0 c.settled.result c.in_ok-insert.ensures.updates k
-          ∙ (ap (λ o. cond (key_eq row.0 k) o (committed_of records k)) value
+      values = λ k. committed_told records (record_in c.add.new.self) row.0 _ c.in_ok-add.ensures.added k
+          ∙ (ap (λ o. cond (key_eq row.0 k) o (committed_of records k)) (ap (λ (v : ℤ). Some v) (to_z-of_z w64 row.1 (search rules)))
           ∙ (ap (λ o. cond (key_eq row.0 k) (Some row.1) o) (c.loop-key.invariant.values k)
           ∙ sym (row_more rows c.loop-key.key-index row (subst IsByKey c.rows-key-items.ensures.rows c.rows-key-items.ensures.by_key) at
           k)));
-      none = still_none records c.insert.new.self row.0 c.settled.result c.in_ok-insert.ensures.updates c.settled.ensures.slot
-          c.loop-key.invariant.none;
+      none = still_none records (record_in c.add.new.self) row.0 _ c.in_ok-add.ensures.added refl c.loop-key.invariant.none;
     }
 
 pub invariant_of-result : goal.invariant_of-result
@@ -35,9 +33,15 @@ invariant_of-result c =
     let rows = c.args.opening.now in
     let whole = take_all c.loop-key.key-index rows (rw (← c.rows-key-items.ensures.rows) c.loop-key-test.false) in
     record {
-      is_index = index_none c.loop-key.records c.new.result c.loop-key.invariant.none
+      is_index = index_none (record_in c.loop-key.table) c.new.result c.loop-key.invariant.none
           (λ k. subst (λ (o : Option ℤ). IfSome o IsValue) (ap (λ l. contents_of l k) (sym whole) ∙ sym (c.loop-key.invariant.values k))
           (rows_values rows (subst HasValues c.rows-key-items.ensures.rows c.rows-key-items.ensures.values) k))
           (λ k. chain_empty)
           (λ p. rw c.new.ensures.empty refl);
     }
+
+pub returns-clause-settled : goal.returns-clause-settled
+returns-clause-settled c k =
+    let rows = c.args.opening.now in
+    c.loop-key.invariant.values k
+    ∙ ap (λ l. contents_of l k) (take_all c.loop-key.key-index rows (rw (← c.rows-key-items.ensures.rows) c.loop-key-test.false))

@@ -1,50 +1,30 @@
-use Rattle.std.proofs.Common.{rules, ◌≡◌, ℕ, None, refl, ap}
-use Rattle.std.specs.BTreeMap.{get}
+use Rattle.std.proofs.Common.{rules, ◌≡◌, ℕ, refl, ap, None}
 use Rattle.slab.specs.Slab as slab
-use Rattle.sgt_model.specs.Databases.{key_cmp}
-use Rattle.sgt_records.proofs.RecordSlots.{index_alike, index_inserted, blank_chains, blank_committed}
+use Rattle.sgt_records.specs.Tables.{record_in}
+use Rattle.sgt_records.proofs.RecordSlots.{index_alike, index_added}
 use Rattle.sgt_records.proofs.index.Index.reserve.Goals as goal
 
 pub invariant_of-self : goal.invariant_of-self
 invariant_of-self c =
-    let records = c.args.self.now.records in
-    let same : (p : ℕ) → slab.get c.reserve.new.self p ≡ slab.get c.args.self.now.chains p =
-    λ p. ap (λ s. slab.get s p) c.reserve.ensures.rest_kept in
-    record { is_index = index_alike records records c.args.self.now.chains c.reserve.new.self (λ k. refl) same c.args.self.now.is_index }
+    let records = record_in c.args.self.now.table in
+    let chains = c.args.self.now.chains in
+    let same : (p : ℕ) → slab.get c.reserve.new.self p ≡ slab.get chains p = λ p. ap (λ s. slab.get s p) c.reserve.ensures.rest_kept in
+    record { is_index = index_alike records records chains c.reserve.new.self (λ k. refl) same c.args.self.now.is_index }
 
-pub invariant_of-self-else-not-contains_key : goal.invariant_of-self-else-not-contains_key
-invariant_of-self-else-not-contains_key c =
-    let records = c.args.self.now.records in
-    let same : (p : ℕ) → slab.get c.reserve.new.self p ≡ slab.get c.args.self.now.chains p =
-    λ p. ap (λ s. slab.get s p) c.reserve.ensures.rest_kept in
-    record { is_index = index_alike records records c.args.self.now.chains c.reserve.new.self (λ k. refl) same c.args.self.now.is_index }
+pub invariant_of-self-in-Some-1 : goal.invariant_of-self-in-Some-1
+invariant_of-self-in-Some-1 c =
+    let records = record_in c.args.self.now.table in
+    let chains = c.args.self.now.chains in
+    let same : (p : ℕ) → slab.get c.reserve.new.self p ≡ slab.get chains p = λ p. ap (λ s. slab.get s p) c.reserve.ensures.rest_kept in
+    record { is_index = index_alike records records chains c.reserve.new.self (λ k. refl) same c.args.self.now.is_index }
 
-pub invariant_of-self-then-not-contains_key : goal.invariant_of-self-then-not-contains_key
-invariant_of-self-then-not-contains_key c =
-    let records = c.args.self.now.records in
-    let same : (p : ℕ) → slab.get c.reserve.new.self p ≡ slab.get c.args.self.now.chains p =
-    λ p. ap (λ s. slab.get s p) c.reserve.ensures.rest_kept in
-    let absent : get key_cmp records c.args.key ≡ None = search rules in
+pub invariant_of-self-in-None : goal.invariant_of-self-in-None
+invariant_of-self-in-None c =
+    let records = record_in c.args.self.now.table in
+    let chains = c.args.self.now.chains in
+    let same : (p : ℕ) → slab.get c.reserve.new.self p ≡ slab.get chains p = λ p. ap (λ s. slab.get s p) c.reserve.ensures.rest_kept in
+    let absent : records c.args.key ≡ None = search rules in
     record {
-      is_index = index_inserted records c.insert.new.self c.args.self.now.chains c.reserve.new.self c.args.key c.empty.result absent
-          c.empty.ensures.slot c.empty.ensures.committed same c.args.self.now.is_index c.insert.result c.insert.ensures.updates
-          c.insert.ensures.err;
+      is_index = index_added records (record_in c.add.new.self) chains c.reserve.new.self c.args.key _ absent refl refl same
+          c.args.self.now.is_index c.add.result c.add.ensures.added c.add.ensures.unchanged;
     }
-
-pub returns-in_ok-insert-clause-chain : goal.returns-in_ok-insert-clause-chain
-returns-in_ok-insert-clause-chain c =
-    let records = c.args.self.now.records in
-    let same : (p : ℕ) → slab.get c.reserve.new.self p ≡ slab.get c.args.self.now.chains p =
-    λ p. ap (λ s. slab.get s p) c.reserve.ensures.rest_kept in
-    let absent : get key_cmp records c.args.key ≡ None = search rules in
-    blank_chains records c.insert.new.self c.args.self.now.chains c.reserve.new.self c.args.key c.empty.result absent c.empty.ensures.slot
-    c.empty.ensures.committed same c.args.self.now.is_index c.in_ok-insert.ensures.updates
-
-pub returns-in_ok-insert-clause-settled : goal.returns-in_ok-insert-clause-settled
-returns-in_ok-insert-clause-settled c =
-    let records = c.args.self.now.records in
-    let same : (p : ℕ) → slab.get c.reserve.new.self p ≡ slab.get c.args.self.now.chains p =
-    λ p. ap (λ s. slab.get s p) c.reserve.ensures.rest_kept in
-    let absent : get key_cmp records c.args.key ≡ None = search rules in
-    blank_committed records c.insert.new.self c.args.self.now.chains c.reserve.new.self c.args.key c.empty.result absent
-    c.empty.ensures.slot c.empty.ensures.committed same c.args.self.now.is_index c.in_ok-insert.ensures.updates

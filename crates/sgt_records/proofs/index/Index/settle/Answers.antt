@@ -1,61 +1,53 @@
-use Rattle.std.proofs.Common.{rules, ◌≡◌, Some, sym, subst, ℤ, Option, IfSome}
-use Rattle.std.specs.BTreeMap.{get, Updates}
+use Rattle.std.proofs.Common.{◌≡◌, ℤ, Option, Some, IfSome, ap, sym, subst, ◌∙◌}
+use Rattle.std.specs.Option.{option_or}
 use Rattle.sgt_model.specs.Numbers.{IsValue}
-use Rattle.sgt_model.specs.Databases.{key_cmp}
-use Rattle.sgt_model.specs.Chains.{chain_without}
+use Rattle.sgt_model.specs.Chains.{chain_without, value_in}
+use Rattle.sgt_records.specs.Slots.{chain_at}
+use Rattle.sgt_records.specs.Tables.{record_in}
 use Rattle.sgt_records.specs.Validity.{IsChain}
-use Rattle.sgt_records.proofs.RecordSlots.{held_there, chain_there, value_there, slot_is, committed_is, index_told, chain_by, committed_by}
+use Rattle.sgt_records.proofs.RecordSlots.{chain_there, value_there, written_is, committed_is, index_told, chain_by, committed_by}
 use Rattle.sgt_records.proofs.ChainsKept.{chain_left, value_settled}
 use Rattle.sgt_records.proofs.index.Index.settle.Goals as goal
 
-pub settle-requires-clause-held : goal.settle-requires-clause-held
-settle-requires-clause-held c =
-    held_there c.args.self.now.records c.args.self.now.chains c.args.key c.in-Some.record.now (search rules) c.args.self.now.is_index
-
-pub settle-requires-clause-chain : goal.settle-requires-clause-chain
-settle-requires-clause-chain c =
-    chain_there c.args.self.now.records c.args.self.now.chains c.args.key c.in-Some.record.now (search rules) c.args.self.now.is_index
-
 pub invariant_of-self : goal.invariant_of-self
 invariant_of-self c =
-    let records = c.args.self.now.records in
+    let records = record_in c.args.self.now.table in
     let chains = c.args.self.now.chains in
-    let old = c.in-Some.record.now in
-    let new = c.settle.new.self in
-    let is : get key_cmp records c.args.key ≡ Some old = search rules in
-    let told : Updates key_cmp records (c.get_mut.follows.lender new) c.args.key (Some new) =
-    (c.get_mut.follows.holds new).3 (search rules) in
-    let chain = chain_there records chains c.args.key old is c.args.self.now.is_index in
-    let value = value_there records chains c.args.key old is c.args.self.now.is_index in
+    let index = c.args.self.now.is_index in
+    let old = c.at-committed.result in
+    let is : records c.args.key ≡ Some old = c.at-committed.ensures in
+    let was = written_is records chains c.args.key old is index in
+    let value : c.or-committed.result ≡ option_or (value_in c.args.t (chain_at chains old.written)) old.committed = c.or-committed.ensures
+    ∙ ap (λ v. option_or v old.committed) c.take_out-written.ensures.value in
+    let chain = chain_there records chains c.args.key old is index in
     record {
-      is_index = index_told records (c.get_mut.follows.lender new) c.args.key new told chains c.settle.new.chains c.args.self.now.is_index
-          old.slot (slot_is records chains c.args.key old is c.args.self.now.is_index) c.settle.ensures.moves
-          (subst IsChain (sym c.settle.ensures.left) (chain_left c.args.t _ chain))
-          (subst (λ (o : Option ℤ). IfSome o IsValue) (sym c.settle.ensures.committed) (value_settled c.args.t _ _ chain.values value));
+      is_index = index_told records (record_in c.put.new.self) c.args.key _ c.put.ensures.put chains c.take_out-written.new.chains index
+          old.written was c.take_out-written.ensures.moves (subst IsChain (sym c.take_out-written.ensures.left)
+          (chain_left c.args.t _ chain))
+          (subst (λ (o : Option ℤ). IfSome o IsValue) (sym value)
+          (value_settled c.args.t _ _ chain.values (value_there records chains c.args.key old is index)));
     }
 
-pub returns-in-Some-clause-chain : goal.returns-in-Some-clause-chain
-returns-in-Some-clause-chain c =
-    let records = c.args.self.now.records in
+pub returns-clause-chain : goal.returns-clause-chain
+returns-clause-chain c =
+    let records = record_in c.args.self.now.table in
     let chains = c.args.self.now.chains in
-    let old = c.in-Some.record.now in
-    let new = c.settle.new.self in
-    let is : get key_cmp records c.args.key ≡ Some old = search rules in
-    let told : Updates key_cmp records (c.get_mut.follows.lender new) c.args.key (Some new) =
-    (c.get_mut.follows.holds new).3 (search rules) in
-    chain_by records (c.get_mut.follows.lender new) c.args.key new told chains c.settle.new.chains c.args.self.now.is_index old.slot
-    (slot_is records chains c.args.key old is c.args.self.now.is_index) c.settle.ensures.moves
-    (chain_without c.args.t) c.settle.ensures.left
+    let index = c.args.self.now.is_index in
+    let old = c.at-committed.result in
+    let is : records c.args.key ≡ Some old = c.at-committed.ensures in
+    let was = written_is records chains c.args.key old is index in
+    chain_by records (record_in c.put.new.self) c.args.key _ c.put.ensures.put chains c.take_out-written.new.chains index old.written was
+    c.take_out-written.ensures.moves (chain_without c.args.t) c.take_out-written.ensures.left
 
-pub returns-in-Some-clause-settled : goal.returns-in-Some-clause-settled
-returns-in-Some-clause-settled c =
-    let records = c.args.self.now.records in
+pub returns-clause-settled : goal.returns-clause-settled
+returns-clause-settled c =
+    let records = record_in c.args.self.now.table in
     let chains = c.args.self.now.chains in
-    let old = c.in-Some.record.now in
-    let new = c.settle.new.self in
-    let is : get key_cmp records c.args.key ≡ Some old = search rules in
-    let told : Updates key_cmp records (c.get_mut.follows.lender new) c.args.key (Some new) =
-    (c.get_mut.follows.holds new).3 (search rules) in
-    committed_by records (c.get_mut.follows.lender new) c.args.key new told chains c.settle.new.chains c.args.self.now.is_index old.slot
-    (slot_is records chains c.args.key old is c.args.self.now.is_index) c.settle.ensures.moves c.args.t old.committed
-    (committed_is records chains c.args.key old is c.args.self.now.is_index) c.settle.ensures.committed
+    let index = c.args.self.now.is_index in
+    let old = c.at-committed.result in
+    let is : records c.args.key ≡ Some old = c.at-committed.ensures in
+    let was = written_is records chains c.args.key old is index in
+    let value : c.or-committed.result ≡ option_or (value_in c.args.t (chain_at chains old.written)) old.committed = c.or-committed.ensures
+    ∙ ap (λ v. option_or v old.committed) c.take_out-written.ensures.value in
+    committed_by records (record_in c.put.new.self) c.args.key _ c.put.ensures.put chains c.take_out-written.new.chains index old.written
+    was c.take_out-written.ensures.moves c.args.t old.committed (committed_is records chains c.args.key old is index) value

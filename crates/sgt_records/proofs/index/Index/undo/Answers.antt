@@ -1,60 +1,39 @@
-use Rattle.std.proofs.Common.{rules, ◌≡◌, Some, sym, subst, ◌∙◌, ℤ, Option, IfSome}
-use Rattle.std.specs.BTreeMap.{get, Updates}
-use Rattle.sgt_model.specs.Numbers.{IsValue}
-use Rattle.sgt_model.specs.Databases.{key_cmp}
+use Rattle.std.proofs.Common.{◌≡◌, Some, sym, subst}
 use Rattle.sgt_model.specs.Chains.{chain_without}
+use Rattle.sgt_records.specs.Tables.{record_in}
 use Rattle.sgt_records.specs.Validity.{IsChain}
-use Rattle.sgt_records.proofs.RecordSlots.{held_there, chain_there, value_there, slot_is, committed_is, index_told, chain_by, committed_same}
+use Rattle.sgt_records.proofs.RecordSlots.{chain_there, value_there, written_is, committed_is, index_told, chain_by, committed_same}
 use Rattle.sgt_records.proofs.ChainsKept.{chain_left}
 use Rattle.sgt_records.proofs.index.Index.undo.Goals as goal
 
-pub take_out-requires-clause-held : goal.take_out-requires-clause-held
-take_out-requires-clause-held c =
-    held_there c.args.self.now.records c.args.self.now.chains c.args.key c.in-Some.record.now (search rules) c.args.self.now.is_index
-
-pub take_out-requires-clause-chain : goal.take_out-requires-clause-chain
-take_out-requires-clause-chain c =
-    chain_there c.args.self.now.records c.args.self.now.chains c.args.key c.in-Some.record.now (search rules) c.args.self.now.is_index
-
 pub invariant_of-self : goal.invariant_of-self
 invariant_of-self c =
-    let records = c.args.self.now.records in
+    let records = record_in c.args.self.now.table in
     let chains = c.args.self.now.chains in
-    let old = c.in-Some.record.now in
-    let new = c.take_out.new.self in
-    let is : get key_cmp records c.args.key ≡ Some old = search rules in
-    let told : Updates key_cmp records (c.get_mut.follows.lender new) c.args.key (Some new) =
-    (c.get_mut.follows.holds new).3 (search rules) in
-    let chain = chain_there records chains c.args.key old is c.args.self.now.is_index in
-    let value = value_there records chains c.args.key old is c.args.self.now.is_index in
+    let index = c.args.self.now.is_index in
+    let old = c.at-committed.result in
+    let is : records c.args.key ≡ Some old = c.at-committed.ensures in
+    let was = written_is records chains c.args.key old is index in
     record {
-      is_index = index_told records (c.get_mut.follows.lender new) c.args.key new told chains c.take_out.new.chains c.args.self.now.is_index
-          old.slot (slot_is records chains c.args.key old is c.args.self.now.is_index) c.take_out.ensures.moves
-          (subst IsChain (sym c.take_out.ensures.left) (chain_left c.args.t _ chain))
-          (subst (λ (o : Option ℤ). IfSome o IsValue) (sym c.take_out.ensures.committed) value);
+      is_index = index_told records (record_in c.put.new.self) c.args.key _ c.put.ensures.put chains c.take_out-written.new.chains index
+          old.written was c.take_out-written.ensures.moves (subst IsChain (sym c.take_out-written.ensures.left)
+          (chain_left c.args.t _ (chain_there records chains c.args.key old is index)))
+          (value_there records chains c.args.key old is index);
     }
 
-pub returns-in-Some-clause-chain : goal.returns-in-Some-clause-chain
-returns-in-Some-clause-chain c =
-    let records = c.args.self.now.records in
+pub returns-clause-chain : goal.returns-clause-chain
+returns-clause-chain c =
+    let records = record_in c.args.self.now.table in
     let chains = c.args.self.now.chains in
-    let old = c.in-Some.record.now in
-    let new = c.take_out.new.self in
-    let is : get key_cmp records c.args.key ≡ Some old = search rules in
-    let told : Updates key_cmp records (c.get_mut.follows.lender new) c.args.key (Some new) =
-    (c.get_mut.follows.holds new).3 (search rules) in
-    chain_by records (c.get_mut.follows.lender new) c.args.key new told chains c.take_out.new.chains c.args.self.now.is_index old.slot
-    (slot_is records chains c.args.key old is c.args.self.now.is_index) c.take_out.ensures.moves (chain_without c.args.t)
-    c.take_out.ensures.left
+    let index = c.args.self.now.is_index in
+    let old = c.at-committed.result in
+    let is : records c.args.key ≡ Some old = c.at-committed.ensures in
+    let was = written_is records chains c.args.key old is index in
+    chain_by records (record_in c.put.new.self) c.args.key _ c.put.ensures.put chains c.take_out-written.new.chains index old.written was
+    c.take_out-written.ensures.moves (chain_without c.args.t) c.take_out-written.ensures.left
 
-pub returns-in-Some-clause-settled : goal.returns-in-Some-clause-settled
-returns-in-Some-clause-settled c =
-    let records = c.args.self.now.records in
-    let chains = c.args.self.now.chains in
-    let old = c.in-Some.record.now in
-    let new = c.take_out.new.self in
-    let is : get key_cmp records c.args.key ≡ Some old = search rules in
-    let told : Updates key_cmp records (c.get_mut.follows.lender new) c.args.key (Some new) =
-    (c.get_mut.follows.holds new).3 (search rules) in
-    committed_same records (c.get_mut.follows.lender new) c.args.key new told
-    (c.take_out.ensures.committed ∙ sym (committed_is records chains c.args.key old is c.args.self.now.is_index))
+pub returns-clause-settled : goal.returns-clause-settled
+returns-clause-settled c =
+    let records = record_in c.args.self.now.table in
+    committed_same records (record_in c.put.new.self) c.args.key _ c.put.ensures.put
+    (sym (committed_is records c.args.self.now.chains c.args.key c.at-committed.result c.at-committed.ensures c.args.self.now.is_index))

@@ -3,12 +3,15 @@ use Rattle.sgt_model.specs.Contents.{Key}
 use Rattle.sgt_model.specs.Chains.{chain_without}
 use Rattle.sgt_records.specs.LiveWrites.{is_live}
 use Rattle.sgt_records.specs.Slots.{key_chain, committed_of}
+use Rattle.sgt_records.specs.Tables.{record_in}
 use Rattle.sgt_records.proofs.index.Index.undo_all.Given as goal
 
 -- t's writes so far are undone
 abbrev pub invariant-loop-write : goal.invariant-loop-write
 invariant-loop-write l = record {
-  chain : (k : Key) → key_chain l.self.records l.self.chains k ≡ cond (is_live l.t k (take l.write-index l.writes))
-      (chain_without l.t (key_chain l.fn.self.records l.fn.self.chains k)) (key_chain l.fn.self.records l.fn.self.chains k);
-  settled : (k : Key) → committed_of l.self.records k ≡ committed_of l.fn.self.records k;
+  chain : (k : Key) → key_chain (record_in l.self.table) l.self.chains k ≡ cond (is_live l.t k (take l.write-index l.writes))
+      (chain_without l.t (key_chain (record_in l.fn.self.table) l.fn.self.chains k))
+      (key_chain (record_in l.fn.self.table) l.fn.self.chains k);
+  settled : (k : Key) → committed_of (record_in l.self.table) k ≡ committed_of (record_in l.fn.self.table) k;
+  indices : l.self.table.indices ≡ l.fn.self.table.indices;
 }

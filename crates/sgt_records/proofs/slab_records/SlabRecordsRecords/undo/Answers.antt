@@ -1,11 +1,14 @@
-use Rattle.std.proofs.Common.{rules, ◌≡◌, ap, ◌∙◌}
+use Rattle.std.proofs.Common.{rules, ◌≡◌, ap, sym, subst, ◌∙◌}
 use Rattle.std.proofs.lemmas.Fn.{filter_same}
 use Rattle.std.specs.List.{filter}
 use Rattle.sgt_model.specs.Contents.{Key}
 use Rattle.sgt_model.specs.Chains.{chain_without}
-use Rattle.sgt_records.specs.LiveWrites.{is_live}
+use Rattle.std.specs.BTreeMap.{get}
+use Rattle.sgt_model.specs.Databases.{key_cmp}
+use Rattle.sgt_records.specs.Tables.{index_in, record_in}
+use Rattle.sgt_records.specs.LiveWrites.{is_live, TellIndices}
 use Rattle.sgt_records.specs.Slots.{key_chain}
-use Rattle.sgt_records.proofs.LiveWritesLeft.{not_by, undone, live_ended}
+use Rattle.sgt_records.proofs.LiveWritesLeft.{not_by, undone, live_ended, tell_left}
 use Rattle.sgt_records.proofs.slab_records.SlabRecordsRecords.undo.Goals as goal
 
 pub invariant_of-self : goal.invariant_of-self
@@ -15,14 +18,19 @@ invariant_of-self c =
     let new = c.undo_all.new.self in
     let left : c.retain.new.self.items ≡ filter (not_by c.args.t) live =
     filter_same _ (not_by c.args.t) _ (λ x b f call. search rules) _ _ c.retain.ensures.filtered in
-    let out : (k : Key) → key_chain new.records new.chains k ≡ chain_without c.args.t (key_chain old.records old.chains k) =
+    let out : (k : Key) → key_chain (record_in new.table) new.chains k
+    ≡ chain_without c.args.t (key_chain (record_in old.table) old.chains k) =
     λ k. undone c.args.t
-    (is_live c.args.t k c.as_slice.result.now) (key_chain old.records old.chains k) _
+    (is_live c.args.t k c.as_slice.result.now) (key_chain (record_in old.table) old.chains k) _
     (ap (is_live c.args.t k) c.as_slice.ensures.value ∙ c.args.self.now.are_live c.args.t k) (c.undo_all.ensures.chain k) in
-    record { are_live = λ u k. live_ended c.args.t u k live _ _ _ (c.args.self.now.are_live u k) left (out k) }
+    record {
+      are_live = λ u k. live_ended c.args.t u k live _ _ _ (c.args.self.now.are_live u k) left (out k);
+      tell_indices = subst (λ m. TellIndices (get key_cmp m) c.retain.new.self.items) (sym c.undo_all.ensures.indices)
+          (tell_left (index_in old.table) c.args.t live _ left c.args.self.now.tell_indices);
+    }
 
 pub returns-clause-chain : goal.returns-clause-chain
 returns-clause-chain c k =
     let old = c.args.self.now.index in
-    undone c.args.t (is_live c.args.t k c.as_slice.result.now) (key_chain old.records old.chains k) _
+    undone c.args.t (is_live c.args.t k c.as_slice.result.now) (key_chain (record_in old.table) old.chains k) _
     (ap (is_live c.args.t k) c.as_slice.ensures.value ∙ c.args.self.now.are_live c.args.t k) (c.undo_all.ensures.chain k)

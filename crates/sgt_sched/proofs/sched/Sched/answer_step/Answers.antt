@@ -12,7 +12,8 @@ use Rattle.sgt_sched.proofs.sched.Sched.answer_step.Goals as goal
 pub returns-in-Look-clause-done : goal.returns-in-Look-clause-done
 returns-in-Look-clause-done g c = record {
   done = IfOk-weaker c.look.result _ _
-      (λ b done. in_brief (steps_on c.args.self.now.limits.asks c.args.t _ (in_full b c.look.new.out) _ _ (c.in-Some.ensures.unended.0 refl).begun
+      (λ b done. in_brief (steps_on c.args.self.now.limits.asks c.args.t _ (in_full b c.look.new.out) _ _
+      (c.in-Some.ensures.unended.0 refl).begun
       (c.in-Some.ensures.unended.0 refl).unended (ap seen (sym c.in-Look.is) ∙ c.next_at-next.ensures.next)) done) c.look.ensures.done.done;
   refused = search rules;
   kept = search rules;
@@ -24,7 +25,8 @@ returns-in-Put-clause-done g c =
     let next = ap (Puts c.in-Put.key) (to_z-of_z w64 c.in-Put.value fits) ∙ (ap seen (sym c.in-Put.is) ∙ c.next_at-next.ensures.next) in
     record {
       done = IfOk-weaker c.store.result _ _ (λ b done. in_brief
-          (steps_on c.args.self.now.limits.asks c.args.t (state c.args.self.now) (in_full b c.store.new.out) _ (Puts c.in-Put.key (to_z w64 (of_z w64 c.in-Put.value)))
+          (steps_on c.args.self.now.limits.asks c.args.t (state c.args.self.now) (in_full b c.store.new.out) _
+          (Puts c.in-Put.key (to_z w64 (of_z w64 c.in-Put.value)))
           (c.in-Some.ensures.unended.0 refl).begun (c.in-Some.ensures.unended.0 refl).unended next) done) c.store.ensures.done.done;
       refused = search rules;
       kept = search rules;
@@ -33,7 +35,8 @@ returns-in-Put-clause-done g c =
 pub returns-in-Ends-clause-done : goal.returns-in-Ends-clause-done
 returns-in-Ends-clause-done g c = record {
   done = record {
-    does = steps_on c.args.self.now.limits.asks c.args.t (state c.args.self.now) reply.Ended (state c.args.self.now) (Ends c.in-Ends.field-0)
+    does = steps_on c.args.self.now.limits.asks c.args.t (state c.args.self.now) reply.Ended (state c.args.self.now)
+        (Ends c.in-Ends.field-0)
         (c.in-Some.ensures.unended.0 refl).begun (c.in-Some.ensures.unended.0 refl).unended
         (ap seen (sym c.in-Ends.is) ∙ c.next_at-next.ensures.next) (record { reply = refl; same = refl });
     short = tt;
@@ -45,7 +48,8 @@ returns-in-Ends-clause-done g c = record {
 pub returns-in-Asks-clause-done : goal.returns-in-Asks-clause-done
 returns-in-Asks-clause-done g c = record {
   done = in_brief
-      (steps_on c.args.self.now.limits.asks c.args.t (state c.args.self.now) (in_full c.step_asked.result c.step_asked.new.out) _ (Asks c.in-Asks.code)
+      (steps_on c.args.self.now.limits.asks c.args.t (state c.args.self.now) (in_full c.step_asked.result c.step_asked.new.out) _
+      (Asks c.in-Asks.code)
       (c.in-Some.ensures.unended.0 refl).begun (c.in-Some.ensures.unended.0 refl).unended
       (ap seen (sym c.in-Asks.is) ∙ c.next_at-next.ensures.next)) c.step_asked.ensures.turn;
   refused = search rules;

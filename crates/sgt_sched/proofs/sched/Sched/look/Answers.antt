@@ -114,7 +114,8 @@ returns-in_err-reserve-2-clause-no_memory g c =
     (parts c.args.self.now) seen free b)
 
 pub follow-requires-clause-planned : goal.follow-requires-clause-planned
-follow-requires-clause-planned g c = λ κs lives. subst (λ p. c.rivals-writers.result ≢ [] → g.G.Graph.is_planned p.graph c.args.t c.rivals-writers.result
+follow-requires-clause-planned g c = λ κs lives. subst (λ p. c.rivals-writers.result ≢ []
+    → g.G.Graph.is_planned p.graph c.args.t c.rivals-writers.result
     c.in-Some.link) (sym (ap parts c.in-Some.ensures.free.0)) c.in-Some.ensures.free.3
 
 pub look-requires-clause-at : goal.look-requires-clause-at

@@ -157,7 +157,8 @@ returns-in_err-reserve-2-clause-no_memory g c =
     (parts c.args.self.now) seen free b)
 
 pub follow-requires-clause-planned : goal.follow-requires-clause-planned
-follow-requires-clause-planned g c = λ κs lives. subst (λ p. c.rivals-rivals.result ≢ [] → g.G.Graph.is_planned p.graph c.args.t c.rivals-rivals.result
+follow-requires-clause-planned g c = λ κs lives. subst (λ p. c.rivals-rivals.result ≢ []
+    → g.G.Graph.is_planned p.graph c.args.t c.rivals-rivals.result
     c.in-Some.link) (sym (ap parts c.in-Some.ensures.free.0)) c.in-Some.ensures.free.3
 
 pub store-requires-clause-at : goal.store-requires-clause-at

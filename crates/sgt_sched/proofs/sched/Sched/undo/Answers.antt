@@ -24,7 +24,8 @@ end_aborted-requires-in-loop-reader-clause-live g c = λ κs lives. next_node c.
 pub loop-reader-preserved : goal.loop-reader-preserved
 loop-reader-preserved g c = record {
   falls = c.loop-reader.invariant.falls;
-  drops = next_falls c.args.t c.args.cause.now c.as_slice-reader-items.result.now _ _ c.loop-reader.invariant.falls c.loop-reader.reader-index
+  drops = next_falls c.args.t c.args.cause.now c.as_slice-reader-items.result.now _ _ c.loop-reader.invariant.falls
+      c.loop-reader.reader-index
       c.reader-item.result c.loop-reader-test.true c.reader-item.is c.loop-reader.invariant.drops _
       c.end_aborted-in-loop-reader.ensures.ends;
   kept = (

@@ -8,7 +8,8 @@ returns c =
     let is = ap (λ r. r.receipts) c.self.view_is in (
       (λ t. let none : vec_len c.self.inside.numbers ≡ 0 = search rules in
           let empty : c.self.inside.numbers.items ≡ [] =
-          no-items c.self.inside.numbers.items (omega (arith, none, c.self.inside.numbers.ok.0)) in sym is ∙ ap (λ ns. receipts_of ns c.self.inside.calls.entries) empty),
+          no-items c.self.inside.numbers.items (omega (arith, none, c.self.inside.numbers.ok.0)) in sym is
+          ∙ ap (λ ns. receipts_of ns c.self.inside.calls.entries) empty),
       λ none. let empty : c.self.inside.numbers.items ≡ [] =
           receipts-none c.self.inside.numbers.items c.self.inside.calls.entries c.self.invariant (is ∙ none) in search rules,
     )

@@ -20,7 +20,8 @@ returns-then-len-gt-LONGEST_LINE-clause-fault c = (
         (let len : c.match-self.len.0 ≡ length w.held.result.now = ap (λ (p : ℕ × ℕ). p.0) w.len-is in
         let held : length w.held.result.now ≡ length c.self.inside.buffer.held = ap length w.held.ensures.held in
         let short : length c.self.inside.buffer.held ≤ 65536 =
-        ready-short c.self.inside.number c.self.inside.within c.self.inside.ended c.self.inside.buffer.held c.self.inside.found c.self.invariant w.in-None.is (subst IsReady (sym c.self.view_is) c.requires) in
+        ready-short c.self.inside.number c.self.inside.within c.self.inside.ended c.self.inside.buffer.held c.self.inside.found
+        c.self.invariant w.in-None.is (subst IsReady (sym c.self.view_is) c.requires) in
         absurd (omega (arith, len, held, short)))
   ]),
 )

@@ -9,7 +9,8 @@ use Rattle.sgt_stream.proofs.lines.Lines.next_line.Goals as goal
 pub returns-clause-line : goal.returns-clause-line
 returns-clause-line g c =
     IfOk-weaker c.give.result _ _
-    (λ more given is. keeps-gives c.args.self.now.within c.fill.new.self.within _ _ c.give.new.self.line _ c.fill.ensures.bytes c.fill.ensures.within
+    (λ more given is. keeps-gives c.args.self.now.within c.fill.new.self.within _ _ c.give.new.self.line _ c.fill.ensures.bytes
+    c.fill.ensures.within
     (after-give c.fill.new.self c.give.new.self (g.S.Source.rest c.fill.new.source) (given is)))
     c.give.ensures.given
 

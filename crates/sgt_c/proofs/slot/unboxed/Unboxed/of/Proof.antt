@@ -45,7 +45,8 @@ of_spec 𝓤 𝓛 𝓜 𝓡 wired X Z LX LZ g d dd dx allocator md mx =
     let Box = boxed.the_row (param 0 X) (param 1 Z) g in let from : Slot 2 = plain (λ _. Box) in
     let stayed : Stays ended.signature.params ended.kept = (stay_dropped from no, tt) in
     let Opens = triple_of 𝓛 (opens.signature X Z g d dd dx) (opens.spec X Z g d dd dx 𝓛 𝓜.mem 𝓡.returns) in
-    proved_at 𝓛 ended stayed c 𝓜 𝓡 (Goes-blank 𝓛 2 from no (λ κs x f. tt), tt) (name inst) fn (code.unfolded 𝓤 𝓛.H 𝓜 𝓡 wired (X, (Z, tt)) d dd dx) (λ y are.
+    proved_at 𝓛 ended stayed c 𝓜 𝓡 (Goes-blank 𝓛 2 from no (λ κs x f. tt), tt) (name inst) fn
+    (code.unfolded 𝓤 𝓛.H 𝓜 𝓡 wired (X, (Z, tt)) d dd dx) (λ y are.
     let κs = y.0.0 in let qs = y.0.1 in let b = y.0.3.0 in let vs = y.0.4.0 in let Post = (walk_of 𝓛 ended stayed c).post y in
     let lent : Item 𝓤 = ‵ (flft κs.0 qs.0) ⊛ ‵ (flft κs.1.0 qs.1.0) ⊛ ‵ ftrue in
     let alive : Item 𝓤 = raw (fact 𝓤 (κs.0 ⊑ X.lives)) ⊛ raw (fact 𝓤 (κs.1.0 ⊑ Z.lives)) ⊛ ‵ ftrue in
@@ -56,7 +57,8 @@ of_spec 𝓤 𝓛 𝓜 𝓡 wired X Z LX LZ g d dd dx allocator md mx =
     regoal ! (λ us. prop (WpFn 𝓤 𝓛.H 𝓣.C 𝓣.Λ fn us Post)) (λ i. e i ++ []) refl $
     enter ! 𝓣.C 𝓣.Λ fn (laid b.ptr h ∷ []) Post $ alloc_all ! (λ l. pass_all ! refl (laid_fits A b.ptr h fits, tt) $
     sets ! (of_opd ! (get ! refl)) refl (laid_fits A b.ptr h fits) $
-    calls_at ! (framed 𝓤 𝓛.H 𝓜 𝓣) Opens (met 𝓤 𝓛 𝓜 𝓡 (code.calls-std_alloc::boxed::Box::into_raw_with_allocator 𝓡.env wired) X Z LX LZ g d dd dx allocator md mx) z
+    calls_at ! (framed 𝓤 𝓛.H 𝓜 𝓣) Opens (met 𝓤 𝓛 𝓜 𝓡 (code.calls-std_alloc::boxed::Box::into_raw_with_allocator 𝓡.env wired) X Z LX LZ g d
+    dd dx allocator md mx) z
     (and_then ! (get ! refl) (no_more !)) (λ v.
     use1 𝓛 (later (some (λ (r : Ptr × Z.Denot). (lent ⊛ ‵ ((Tuple (RawPtr ∷ param 1 Z ∷ [])).own_val r (v ∷ []))) ⊛
     some (λ (ws : Lasts (opens.ended X Z g d dd dx) κs z.0.3). ‵ (lasts (opens.ended X Z g d dd dx) κs z.0.3 ws) ⊛

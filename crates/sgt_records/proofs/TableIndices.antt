@@ -1,0 +1,109 @@
+-- What a record that is put or added changes for the keys of a table.
+use Rattle.std.proofs.Common.{◌≡◌, ◌≢◌, ℕ, zero, suc, ◌<◌, ◌+◌, arith, Bool, true, false, cond, List, [], ◌∷◌, ◌++◌, length, Option, Some, None, slice_get, slice_set, refl, sym, ap, ◌∙◌, subst, unwrap_or}
+use Rattle.std.proofs.lemmas.Bool.{true≢false}
+use Rattle.std.specs.Option.{is_some, option_and_then}
+use Rattle.std.specs.BTreeMap.{BTreeMap, get, Updates}
+use Rattle.sgt_model.specs.Contents.{Key, key_eq}
+use Rattle.sgt_model.specs.Databases.{key_cmp}
+use Rattle.sgt_model.proofs.Stores.{key_eq-true, key_eq-refl}
+use Rattle.sgt_records.specs.declared.record.Record.{Record}
+use Rattle.sgt_records.specs.Indices.{AreIndices}
+use Rattle.sgt_records.proofs.SettledValues.{same_key}
+
+-- on lists
+
+-- an element that is set
+set_there : (xs : List Record) (i : ℕ) (x : Record) → i < length xs → slice_get (slice_set xs i x) i ≡ Some x
+set_there [] i x within = absurd (omega arith)
+set_there (y ∷ xs) zero x within = refl
+set_there (y ∷ xs) (suc i) x within = set_there xs i x (omega arith)
+
+-- and the others
+set_elsewhere : (xs : List Record) (i j : ℕ) (x : Record) → i ≢ j → slice_get (slice_set xs i x) j ≡ slice_get xs j
+set_elsewhere [] i j x other = refl
+set_elsewhere (y ∷ xs) zero zero x other = absurd (other refl)
+set_elsewhere (y ∷ xs) zero (suc j) x other = refl
+set_elsewhere (y ∷ xs) (suc i) zero x other = refl
+set_elsewhere (y ∷ xs) (suc i) (suc j) x other = set_elsewhere xs i j x (λ same. other (ap suc same))
+
+-- those before one that is added
+before_added : (xs : List Record) (x : Record) (i : ℕ) → i < length xs → slice_get (xs ++ x ∷ []) i ≡ slice_get xs i
+before_added [] x i within = absurd (omega arith)
+before_added (y ∷ xs) x zero within = refl
+before_added (y ∷ xs) x (suc i) within = before_added xs x i (omega arith)
+
+-- and that one
+added : (xs : List Record) (x : Record) → slice_get (xs ++ x ∷ []) (length xs) ≡ Some x
+added [] x = refl
+added (y ∷ xs) x = added xs x
+
+added_length : (xs : List Record) (x : Record) → length (xs ++ x ∷ []) ≡ length xs + 1
+added_length [] x = refl
+added_length (y ∷ xs) x = let rest = added_length xs x in omega (arith, rest)
+
+-- one index
+same_index : (p q : ℕ) → Some p ≡ Some q → p ≡ q
+same_index p q e = ap (λ (o : Option ℕ). unwrap_or o p) e
+
+-- a record that is put
+module _ (indices : BTreeMap Key ℕ) (records : List Record) (are : AreIndices indices records) (key : Key) (p : ℕ)
+    (at : get key_cmp indices key ≡ Some p) (r : Record) where
+  -- it is the key's, and every other is as before
+  pub put_told : (k : Key) → option_and_then (slice_get (slice_set records p r)) (get key_cmp indices k)
+      ≡ cond (key_eq key k) (Some r) (option_and_then (slice_get records) (get key_cmp indices k))
+  put_told k = go (get key_cmp indices k) refl (key_eq key k) refl
+    where
+      go : (o : Option ℕ) → get key_cmp indices k ≡ o → (e : Bool) → key_eq key k ≡ e
+          → option_and_then (slice_get (slice_set records p r)) o ≡ cond e (Some r) (option_and_then (slice_get records) o)
+      go None is true e = absurd (true≢false (sym (ap is_some (sym is ∙ (ap (get key_cmp indices) (sym (key_eq-true key k e)) ∙ at)))))
+      go None is false e = refl
+      go (Some q) is true e =
+          let same : p ≡ q = same_index p q (sym at ∙ (ap (get key_cmp indices) (key_eq-true key k e) ∙ is)) in
+          subst (λ n. slice_get (slice_set records p r) n ≡ Some r) same (set_there records p r (are.within key p at))
+      go (Some q) is false e = set_elsewhere records p q r (λ same. true≢false
+          (sym (subst (λ j. key_eq key j ≡ true) (are.apart key k p at (is ∙ ap Some (sym same))) (key_eq-refl key)) ∙ e))
+
+-- a record that is added
+module _ (old new : BTreeMap Key ℕ) (records : List Record) (are : AreIndices old records) (key : Key) (r : Record)
+    (told : Updates key_cmp old new key (Some (length records))) where
+  pub index_told : (k : Key) → get key_cmp new k ≡ cond (key_eq key k) (Some (length records)) (get key_cmp old k)
+  index_told k = told.0 k ∙ ap (λ b. cond b (Some (length records)) (get key_cmp old k)) (same_key key k)
+
+  -- and where it had none, the others keep theirs
+  pub indices_stay : get key_cmp old key ≡ None → (k : Key) (p : ℕ) → get key_cmp old k ≡ Some p → get key_cmp new k ≡ Some p
+  indices_stay absent k p is = index_told k ∙ go (key_eq key k) refl
+    where
+      go : (e : Bool) → key_eq key k ≡ e → cond e (Some (length records)) (get key_cmp old k) ≡ Some p
+      go true e = absurd (true≢false (ap is_some (sym is ∙ (ap (get key_cmp old) (sym (key_eq-true key k e)) ∙ absent))))
+      go false e = is
+
+  pub added_indices : AreIndices new (records ++ r ∷ [])
+  added_indices = record {
+    within = λ k p is. subst (λ n. p < n) (sym (added_length records r)) (low k p (key_eq key k) (sym (index_told k) ∙ is));
+    apart = λ j k p at at'. one j k p (key_eq key j) (key_eq key k) refl refl (sym (index_told j) ∙ at) (sym (index_told k) ∙ at');
+  }
+    where
+      low : (k : Key) (p : ℕ) (e : Bool) → cond e (Some (length records)) (get key_cmp old k) ≡ Some p → p < length records + 1
+      low k p true is = let same = same_index (length records) p is in omega (arith, same)
+      low k p false is = let lt = are.within k p is in omega (arith, lt)
+
+      one : (j k : Key) (p : ℕ) (d e : Bool) → key_eq key j ≡ d → key_eq key k ≡ e
+          → cond d (Some (length records)) (get key_cmp old j) ≡ Some p → cond e (Some (length records)) (get key_cmp old k) ≡ Some p
+          → j ≡ k
+      one j k p true true d e at at' = sym (key_eq-true key j d) ∙ key_eq-true key k e
+      one j k p true false d e at at' =
+          let lt = are.within k p at' in let same = same_index (length records) p at in absurd (omega (arith, lt, same))
+      one j k p false true d e at at' =
+          let lt = are.within j p at in let same = same_index (length records) p at' in absurd (omega (arith, lt, same))
+      one j k p false false d e at at' = are.apart j k p at at'
+
+  pub added_told : (k : Key) → option_and_then (slice_get (records ++ r ∷ [])) (get key_cmp new k)
+      ≡ cond (key_eq key k) (Some r) (option_and_then (slice_get records) (get key_cmp old k))
+  added_told k = ap (option_and_then (slice_get (records ++ r ∷ []))) (index_told k) ∙ go (key_eq key k) (get key_cmp old k) refl
+    where
+      go : (e : Bool) (o : Option ℕ) → get key_cmp old k ≡ o
+          → option_and_then (slice_get (records ++ r ∷ [])) (cond e (Some (length records)) o)
+          ≡ cond e (Some r) (option_and_then (slice_get records) o)
+      go true o is = added records r
+      go false None is = refl
+      go false (Some p) is = before_added records r p (are.within k p is)

@@ -1,0 +1,78 @@
+//! The records by key, or by an index that was found before.
+ghost use Rattle.std.specs.Prelude.{◌≡◌, ℕ, None, Some, cond, IfOk, OnOk, OnErr};
+ghost use Rattle.sgt_model.specs.Contents.{Key as K, key_eq};
+ghost use Rattle.sgt_records.specs.declared.written.Written.TheVariants.{Nothing};
+ghost use Rattle.sgt_records.specs.Tables.{index_in, record_in};
+
+use crate::record::Record;
+use crate::table::Table;
+use crate::written::Written;
+use sgt_model::{Key, NoMemory};
+use std::alloc::Global;
+use std::collections::BTreeMap;
+
+impl Table {
+    /// No records. This takes no memory.
+    pub fn new(alloc: Global) -> Table
+        ensures { (k : K) → record_in result k ≡ None }
+    {
+        Table {
+            indices: BTreeMap::new(alloc),
+            records: Vec::new(alloc),
+        }
+    }
+
+    /// The index of the key's record, if it has one.
+    pub fn index(&self, key: Key) -> Option<usize>
+        ensures { result ≡ index_in self.now key }
+    {
+        self.indices.get(&key).copied()
+    }
+
+    /// The record of the key, if it has one.
+    pub fn get(&self, key: Key) -> Option<Record>
+        ensures { result ≡ record_in self.now key }
+    {
+        match self.index(key) {
+            Some(index) => Some(self.at(key, index)),
+            None => None,
+        }
+    }
+
+    /// The record of a key that has this index.
+    pub fn at(&self, _key: Key, index: usize) -> Record
+        requires { index_in self.now _key ≡ Some index }
+        ensures { record_in self.now _key ≡ Some result }
+    {
+        self.records[index]
+    }
+
+    /// Puts a record in the place of the key's, which has this index.
+    pub fn put(&mut self, _key: Key, index: usize, given: Record)
+        requires { index_in self.old _key ≡ Some index }
+        ensures put { (k : K) → record_in self.new k ≡ cond (key_eq _key k) (Some given) (record_in self.old k) }
+        ensures indices { self.new.indices ≡ self.old.indices }
+    {
+        self.records[index] = given;
+    }
+
+    /// Adds a record, which is the key's from now on, with a committed value, or none, and nothing written above it. It tells the
+    /// record's index. `NoMemory` where a growth was refused.
+    pub fn add(&mut self, key: Key, committed: Option<i64>) -> Result<usize, NoMemory>
+        ensures added { OnOk result ((k : K) → record_in self.new k
+            ≡ cond (key_eq key k) (Some (record { committed = committed; written = Nothing })) (record_in self.old k)) }
+        ensures index { IfOk result (λ index. index_in self.new key ≡ Some index) }
+        ensures stay { index_in self.old key ≡ None
+            → (k : K) (p : ℕ) → index_in self.old k ≡ Some p → index_in self.new k ≡ Some p }
+        ensures unchanged { OnErr result ((k : K) → record_in self.new k ≡ record_in self.old k) }
+    {
+        let index = self.records.len();
+        self.records.reserve(1)?;
+        self.indices.insert(key, index)?;
+        self.records.push_reserved(Record {
+            committed,
+            written: Written::Nothing,
+        });
+        Ok(index)
+    }
+}
