@@ -6,7 +6,6 @@ use Rattle.std.specs.Int.{IsInRange}
 use Rattle.std.proofs.lemmas.Fmt.{decimal_nonempty, length-decimal-le, first_decimal, decimal_digit, digits_decimal, digits_value-decimal, decimal-digits_value}
 use Rattle.std.proofs.lemmas.Str.Parse.{IsNumeralModel, numerals_by_fold, tells_by_index, digits_value_short}
 use Rattle.sgt_notation.specs.Spellings.{is_item_byte, are_item_bytes}
-use Rattle.sgt_notation.proofs.WordPlaces.{dropped}
 
 -- each is a digit
 abbrev pub AreDigits : List ℕ → Type 0
