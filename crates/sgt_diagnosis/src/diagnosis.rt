@@ -1,3 +1,6 @@
+ghost use Rattle.std.specs.Prelude.{◌≡◌, None, IfOk};
+ghost use Rattle.sgt_diagnosis.specs.FaultyLines.{line_of};
+
 use crate::account::account_fault;
 use crate::command::Command;
 use crate::flaw::{find_flaw, flaw_numbered};
@@ -5,6 +8,7 @@ use crate::json_text::json_fault;
 use crate::limit::limit_fault;
 use crate::misfit::misfit;
 use crate::opening::opening_fault;
+use crate::record::record_fault;
 use crate::request::{event_fault, job_fault};
 use crate::tree::{items, tree_of};
 use serde_json::Value;
@@ -24,7 +28,9 @@ pub fn diagnose(
     fault: &Fault,
     command: Command,
     line: &[u8],
-) -> Result<Option<String>, NoMemory> {
+) -> Result<Option<String>, NoMemory>
+    ensures none { IfOk result (λ text. line_of fault.now ≡ None → text ≡ None) }
+{
     match fault {
         Fault::NoOpening => Ok(Some(format!(in alloc; "the input is empty")?)),
         Fault::LongLine(_) => Ok(Some(format!(in alloc; "a line has at most 65536 bytes")?)),
@@ -42,13 +48,16 @@ fn tree_fault(
     fault: &Fault,
     command: Command,
     tree: &Value,
-) -> Result<Option<String>, NoMemory> {
+) -> Result<Option<String>, NoMemory>
+    ensures { IfOk result (λ text. line_of fault.now ≡ None → text ≡ None) }
+{
     match fault {
         Fault::BadLine(1) => opening_fault(alloc, tree),
         Fault::BadLine(_) => match command {
             Command::Script => event_fault(alloc, tree),
             Command::Bank { .. } => job_fault(alloc, tree),
         },
+        Fault::BadRecord(_) => record_fault(alloc, tree),
         Fault::BadLimits => limit_fault(alloc, least_live(command), member(tree, "limits")),
         Fault::BadOpening(_) => account_fault(alloc, member(tree, "accounts")),
         Fault::ProcShape(number, misfit) => {

@@ -1,3 +1,6 @@
+ghost use Rattle.std.specs.Prelude.{◌≡◌, None};
+ghost use Rattle.sgt_diagnosis.specs.FaultyLines.{line_of};
+
 use crate::command::Command;
 use crate::diagnosis::diagnose;
 use crate::remembering::Remembering;
@@ -11,7 +14,9 @@ pub fn explain<S: Source>(
     fault: &Fault,
     command: Command,
     source: &Remembering<S>,
-) -> Option<String> {
+) -> Option<String>
+    ensures none { line_of fault.now ≡ None → result ≡ None }
+{
     let line = source.line(line_of(fault)?)?;
     match diagnose(alloc, fault, command, line) {
         Ok(text) => text,
@@ -20,9 +25,14 @@ pub fn explain<S: Source>(
 }
 
 // The number of the line that a fault is of, if it is of one.
-fn line_of(fault: &Fault) -> Option<u64> {
+fn line_of(fault: &Fault) -> Option<u64>
+    ensures { result ≡ line_of fault.now }
+{
     match fault {
-        Fault::NotJson(number) | Fault::BadLine(number) | Fault::LongLine(number) => Some(*number),
+        Fault::NotJson(number)
+        | Fault::BadLine(number)
+        | Fault::BadRecord(number)
+        | Fault::LongLine(number) => Some(*number),
         Fault::NoOpening
         | Fault::BadLimits
         | Fault::BadOpening(_)

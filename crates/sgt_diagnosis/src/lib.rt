@@ -30,6 +30,7 @@ mod limit;
 mod misfit;
 mod opening;
 mod part;
+mod record;
 mod remembering;
 mod request;
 mod search;

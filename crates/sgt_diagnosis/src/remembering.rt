@@ -1,5 +1,6 @@
-ghost use Rattle.std.specs.Prelude.{◌≡◌, IfOk, OnOk, OnErr, min, ◌+◌, ◌-◌, ◌^◌, ◌<◌, ◌≤◌, length};
+ghost use Rattle.std.specs.Prelude.{◌≡◌, IfOk, OnOk, OnErr, IfSome, false, min, ◌+◌, ◌-◌, ◌^◌, ◌<◌, ◌≤◌, length};
 ghost use Rattle.std.specs.Io.KnownBytes.{ReadConsumes};
+ghost use Rattle.sgt_stream.specs.Lines.{has_break};
 
 use memchr::memchr;
 use sgt_stream::{Failed, Source};
@@ -31,7 +32,9 @@ impl<S: Source> Remembering<S> {
     }
 
     /// The line of this number, from 1, without its byte 10, if its bytes were kept.
-    pub fn line(&self, number: u64) -> Option<&[u8]> {
+    pub fn line(&self, number: u64) -> Option<&[u8]>
+        ensures unbroken { IfSome result (λ l. has_break l.now ≡ false) }
+    {
         match &self.kept {
             Some(kept) => line_in(kept, number),
             None => None,
@@ -71,7 +74,9 @@ impl<S: Source> Source for Remembering<S> {
 }
 
 // The line of this number, from 1, if the text has so many.
-fn line_in(text: &[u8], number: u64) -> Option<&[u8]> {
+fn line_in(text: &[u8], number: u64) -> Option<&[u8]>
+    ensures { IfSome result (λ l. has_break l.now ≡ false) }
+{
     let mut rest = text;
     for _ in 1..number {
         rest = behind_break(rest)?;
@@ -86,7 +91,9 @@ fn behind_break(bytes: &[u8]) -> Option<&[u8]> {
 }
 
 // What stands before the first byte 10, or all.
-fn until_break(bytes: &[u8]) -> &[u8] {
+fn until_break(bytes: &[u8]) -> &[u8]
+    ensures { has_break result.now ≡ false }
+{
     match memchr(b'\n', bytes) {
         Some(place) => &bytes[..place],
         None => bytes,

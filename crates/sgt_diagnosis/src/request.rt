@@ -1,4 +1,5 @@
 use crate::excerpt::excerpt;
+use crate::record::numbers;
 use crate::tree::{items, word_of};
 use serde_json::Value;
 use sgt_model::NoMemory;
@@ -13,6 +14,9 @@ const START: &str = "[\"start\",procedure,[argument,..]]";
 /// How a job is written.
 const JOB: &str = "[\"job\",procedure,[argument,..]]";
 
+/// How a record is written.
+const RECORD: &str = "[\"record\",table,number,value]";
+
 /// Why a tree is no event of a script.
 pub(crate) fn event_fault(alloc: Global, tree: &Value) -> Result<Option<String>, NoMemory> {
     match word_in(tree) {
@@ -21,6 +25,7 @@ pub(crate) fn event_fault(alloc: Global, tree: &Value) -> Result<Option<String>,
         Some("commit") => transaction_fault(alloc, "[\"commit\",transaction]", tree),
         Some("quit") => transaction_fault(alloc, "[\"quit\",transaction]", tree),
         Some("cut") => Ok(Some(unexpected(alloc, "[\"cut\"]", tree)?)),
+        Some("record") => misplaced_record(alloc, "event or cut", tree),
         Some("job") => Ok(Some(format!(in alloc;
             "a job stands in the input of \"sgt script\", which takes events: {START}"
         )?)),
@@ -33,6 +38,7 @@ pub(crate) fn event_fault(alloc: Global, tree: &Value) -> Result<Option<String>,
 pub(crate) fn job_fault(alloc: Global, tree: &Value) -> Result<Option<String>, NoMemory> {
     match word_in(tree) {
         Some("job") => call_fault(alloc, JOB, tree),
+        Some("record") => misplaced_record(alloc, "job", tree),
         Some("start" | "step" | "commit" | "quit" | "cut") => Ok(Some(format!(in alloc;
             "an event stands in the input of \"sgt bank\", which takes jobs: {JOB}"
         )?)),
@@ -55,6 +61,14 @@ fn unknown(alloc: Global, word: &str) -> Result<String, NoMemory> {
 fn unexpected(alloc: Global, wanted: &str, tree: &Value) -> Result<String, NoMemory> {
     let found = excerpt(alloc, tree)?;
     Ok(format!(in alloc; "expected {wanted}, found {found}")?)
+}
+
+// Why a list that begins with the word of a record puts none: its form, or that records end where the first of these comes.
+fn misplaced_record(alloc: Global, first: &str, tree: &Value) -> Result<Option<String>, NoMemory> {
+    match numbers(tree) {
+        Some(_) => Ok(Some(format!(in alloc; "records stand before the first {first}")?)),
+        None => Ok(Some(unexpected(alloc, RECORD, tree)?)),
+    }
 }
 
 // What is wrong with a list that is to be a word and a transaction, in this form.
