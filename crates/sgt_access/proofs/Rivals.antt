@@ -77,6 +77,15 @@ listed_at [] i a short is = absurd (omega arith)
 listed_at (b ∷ list) zero a short is = or_left _ _ (eq-eqb b.by a.by (ap (λ (x : ListedAccess). x.by) (sym is)))
 listed_at (b ∷ list) (suc i) a short is = or_right _ _ (listed_at list i a (omega arith) is)
 
+-- whose conflicting access is at an index has one in the list
+pub conflicting_there : (list : List ListedAccess) (i : ℕ) (a : ListedAccess) (u : ℕ) (k : Key) (kind : Kind) → i < length list
+    → a ≡ get_or list i a → is_conflicting u k kind a ≡ true → lists_conflicting list u k kind ≡ true
+conflicting_there [] i a u k kind short is conflicting = absurd (omega arith)
+conflicting_there (b ∷ list) zero a u k kind short is conflicting =
+    or_left _ _ (ap (is_conflicting u k kind) (sym is) ∙ conflicting)
+conflicting_there (b ∷ list) (suc i) a u k kind short is conflicting =
+    or_right _ _ (conflicting_there list i a u k kind (omega arith) is conflicting)
+
 -- a short list is of few transactions
 pub short_few : (most : ℕ) (list : List ListedAccess) → length list ≤ most → AtMost most (is_listed list)
 short_few most list short = record { among = makers list; few = same_length list most short; all = λ t h. made list t h }

@@ -1,4 +1,4 @@
-ghost use Rattle.std.specs.Prelude.{◌≡◌, ◌≢◌, ℕ, true, List, [], ◌∷◌, ◌++◌, ◌↔◌, OnOk};
+ghost use Rattle.std.specs.Prelude.{◌≡◌, ◌≢◌, ℕ, true, List, [], ◌∷◌, ◌++◌, ◌↔◌, IsTrue, OnOk};
 ghost use Rattle.sgt_model.specs.Contents.{Key as K};
 ghost use Rattle.sgt_model.specs.AccessList.{ListedAccess, lists_conflicting, is_listed, forgotten};
 ghost use Rattle.sgt_model.specs.Walks.{Member, Rising, AtMost};
@@ -28,6 +28,12 @@ pub trait Accesses: Drop + Send {
         requires ready { is_ready self.old key }
         ensures noted { list self.new
             ≡ list self.old ++ record { by = t; key = key; kind = kind } ∷ [] };
+
+    /// Whether a transaction other than t has an access that conflicts with this one: whether there are `rivals`. Most accesses
+    /// have none.
+    fn has_rival(&self, t: Tid, key: Key, kind: Kind) -> bool
+        ensures exact { IsTrue result
+            ↔ ((u : ℕ) × (u ≢ t) × (lists_conflicting (list self.now) u key kind ≡ true)) };
 
     /// The transactions other than t with an access that conflicts with this one: of the same key, and one of the two
     /// stores. They rise. This takes no memory.

@@ -1,4 +1,4 @@
-ghost use Rattle.std.specs.Prelude.{◌≡◌, ◌≢◌, ℕ, true, ◌↔◌};
+ghost use Rattle.std.specs.Prelude.{◌≡◌, ◌≢◌, ℕ, true, ◌↔◌, IsTrue};
 ghost use Rattle.sgt_model.specs.AccessList.{lists_conflicting, is_listed};
 ghost use Rattle.sgt_model.specs.Walks.{Member, Rising, AtMost};
 
@@ -7,27 +7,22 @@ use crate::rising::add_rising;
 use arrayvec::ArrayVec;
 use sgt_model::{Key, Kind, Tid, Tids};
 
-/// The transactions other than t with one of these accesses that conflicts with this one. They rise.
-///
-/// Most accesses have no rival, and the list is begun at the first one.
+/// Whether one of these accesses is another's than t's and conflicts with this one.
 #[inline(always)]
-pub fn rivals_among(accesses: &[Access], t: Tid, key: Key, kind: Kind) -> Tids
-    requires few { AtMost 32 (is_listed accesses.now) }
-    ensures exact { (u : ℕ) → Member u result
-        ↔ ((u ≢ t) × (lists_conflicting accesses.now u key kind ≡ true)) }
-    ensures rising { Rising result }
+pub fn has_rival_among(accesses: &[Access], t: Tid, key: Key, kind: Kind) -> bool
+    ensures exact { IsTrue result
+        ↔ ((u : ℕ) × (u ≢ t) × (lists_conflicting accesses.now u key kind ≡ true)) }
 {
     for access in accesses {
         if access.is_rival_of(t, key, kind) {
-            return list_rivals(accesses, t, key, kind);
+            return true;
         }
     }
-    Tids::new()
+    false
 }
 
-// The same, where there may be some.
-#[inline(never)]
-fn list_rivals(accesses: &[Access], t: Tid, key: Key, kind: Kind) -> Tids
+/// The transactions other than t with one of these accesses that conflicts with this one. They rise.
+pub fn rivals_among(accesses: &[Access], t: Tid, key: Key, kind: Kind) -> Tids
     requires few { AtMost 32 (is_listed accesses.now) }
     ensures exact { (u : ℕ) → Member u result
         ↔ ((u ≢ t) × (lists_conflicting accesses.now u key kind ≡ true)) }

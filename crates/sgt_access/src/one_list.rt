@@ -1,6 +1,6 @@
 use crate::access::Access;
 use crate::accesses::Accesses;
-use crate::conflicts::rivals_among;
+use crate::conflicts::{has_rival_among, rivals_among};
 use sgt_model::{Key, Kind, NoMemory, Tid, Tids};
 use std::alloc::Global;
 
@@ -31,6 +31,10 @@ impl Accesses for OneList {
 
     fn note(&mut self, t: Tid, key: Key, kind: Kind) {
         self.accesses.push_reserved(Access { by: t, key, kind });
+    }
+
+    fn has_rival(&self, t: Tid, key: Key, kind: Kind) -> bool {
+        has_rival_among(self.accesses.as_slice(), t, key, kind)
     }
 
     fn rivals(&self, t: Tid, key: Key, kind: Kind) -> Tids {

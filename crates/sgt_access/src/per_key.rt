@@ -9,7 +9,7 @@ ghost use Rattle.sgt_access.specs.ByKey.{StandsFor};
 use crate::access::Access;
 use crate::accesses::Accesses;
 use crate::bounds::{FEW, count_along, count_before, count_through};
-use crate::conflicts::rivals_among;
+use crate::conflicts::{has_rival_among, rivals_among};
 use crate::whole_list::WholeList;
 use sgt_model::{Key, Kind, NoMemory, Tid, Tids};
 use std::alloc::Global;
@@ -17,9 +17,10 @@ use std::marker::Model;
 
 /// The accesses in the order of their keys, those of one key side by side and oldest first.
 ///
-/// `rivals` searches for the key and looks at its accesses alone; of few accesses it looks at all, which costs less than the search.
-/// `note` searches for the index behind them and moves the accesses of later keys up by one; but where the last of the key's accesses is of the same transaction, the two are kept as
-/// one, a store if either is: it conflicts with whatever one of them does. `forget` goes once through the accesses of those
+/// `has_rival` and `rivals` search for the key and look at its accesses alone; of few accesses they look at all, which costs less
+/// than the search. `note` searches for the index behind them and moves the accesses of later keys up by one; but where the last of
+/// the key's accesses is of the same transaction, the two are kept as one, a store if either is: it conflicts with whatever one of
+/// them does. `forget` goes once through the accesses of those
 /// who are live. Nothing is kept of a key without accesses. The order in which accesses of different keys were noted is there
 /// for proofs alone.
 #[derive(Drop)]
@@ -88,6 +89,10 @@ impl Accesses for PerKey {
     }
 
     #[inline(always)]
+    fn has_rival(&self, t: Tid, key: Key, kind: Kind) -> bool {
+        has_rival_among(self.of_key(key), t, key, kind)
+    }
+
     fn rivals(&self, t: Tid, key: Key, kind: Kind) -> Tids {
         rivals_among(self.of_key(key), t, key, kind)
     }

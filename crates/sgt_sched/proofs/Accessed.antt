@@ -85,11 +85,6 @@ pub rivals_seen : {R A G : Type 0} (list : A → List ListedAccess) (before now 
 rivals_seen list before now seen t k kind rivals exact = subst
     (λ p. (u : ℕ) → Member u rivals ↔ ((u ≢ t) × (lists_conflicting (list p.accesses) u k kind ≡ true))) seen exact
 
--- and so are the walks to them
-pub free_walk_seen : {R A G : Type 0} (pairs : G → ℕ → ℕ → Bool) (before now : SchedulerView R A G) → before ≡ now
-    → (t : ℕ) (rivals : List ℕ) → NoWalk (pairs now.graph) t rivals → NoWalk (pairs before.graph) t rivals
-free_walk_seen pairs before now seen t rivals free = subst (λ p. NoWalk (pairs p.graph) t rivals) (sym seen) free
-
 module _ {R A G : Type 0} {chain : R → Key → List (ℕ × ℤ)} {settled : R → Key → Option ℤ} {list : A → List ListedAccess}
     {nodes : G → ℕ → Bool} {pairs : G → ℕ → ℕ → Bool} {before : SchedulerView R A G}
     (kept : IsKept chain settled list nodes pairs before) where

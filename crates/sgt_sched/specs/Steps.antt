@@ -1,9 +1,13 @@
 -- What a scheduler's calls ask of each other.
-use Rattle.std.specs.Prelude.{◌≡◌, ℕ, Bool, true, false, not, ◌&&◌, cond, nat_eq, nat_lt, List, [], ◌∷◌, ◌++◌, filter, Option, Some, None}
+use Rattle.std.specs.Prelude.{◌≡◌, ◌≢◌, ◌↔◌, ℕ, Bool, true, false, not, ◌&&◌, cond, nat_eq, nat_lt, List, [], ◌∷◌, ◌++◌, filter, Option, Some, None}
+use Rattle.sgt_model.specs.declared.kind.Kind.{Kind}
 use Rattle.sgt_model.specs.declared.reply.Fate.{Fate}
 use Rattle.sgt_model.specs.declared.reply.Reply.{Reply}
 use Rattle.sgt_model.specs.declared.reply.Reply.TheVariants as reply
+use Rattle.sgt_model.specs.AccessList.{lists_conflicting}
+use Rattle.sgt_model.specs.Contents.{Key}
 use Rattle.sgt_model.specs.State.{State}
+use Rattle.sgt_model.specs.Walks.{Member}
 use Rattle.sgt_records.specs.declared.top.Top.{Top}
 use Rattle.sgt_records.specs.declared.top.Top.TheVariants as top
 
@@ -31,3 +35,7 @@ abbrev pub with_source : Top → ℕ → List (ℕ × ℕ) → List (ℕ × ℕ)
 with_source (top.Pending u v) t reads = cond (nat_eq u t) reads (reads ++ (u, t) ∷ [])
 with_source (top.Settled v) t reads = reads
 with_source top.Nothing t reads = reads
+
+-- these are the rivals of an access of t: the others with a listed access that conflicts with it
+abbrev pub AreRivals : State → ℕ → Key → Kind → List ℕ → Type 0
+AreRivals c t k kind rivals = (u : ℕ) → Member u rivals ↔ ((u ≢ t) × (lists_conflicting c.accesses u k kind ≡ true))

@@ -1,16 +1,18 @@
 //! Steps.
-ghost use Rattle.std.specs.Prelude.{◌≡◌, ◌≢◌, ℕ, true, position, Some, IsTrue, OnErr, ◌↔◌};
+ghost use Rattle.std.specs.Prelude.{◌≡◌, ◌≢◌, ℕ, true, [], position, Some, IsTrue, OnErr, ◌↔◌};
 ghost use Rattle.std.specs.Result.{IsOk};
 ghost use Rattle.sgt_model.specs.declared.event.Event.TheVariants.{Step};
 ghost use Rattle.sgt_model.specs.declared.kind.Kind.TheVariants.{Look, Store};
-ghost use Rattle.sgt_model.specs.CallEffects.{StepEffect, StepOn};
+ghost use Rattle.sgt_model.specs.CallEffects.{StepEffect, StepOn, MakesLook, MakesStore};
 ghost use Rattle.sgt_model.specs.Numbers.{IsValue};
 ghost use Rattle.sgt_model.specs.Traces.{Looks, Puts, Asks as AsksNext};
 ghost use Rattle.sgt_model.specs.Walks.{Member};
-ghost use Rattle.sgt_sched.specs.Briefs.{InBrief};
+ghost use Rattle.sgt_cycle.specs.Walk.{NoWalk};
+ghost use Rattle.sgt_sched.specs.Briefs.{InBrief, Unplaced};
 ghost use Rattle.sgt_sched.specs.Endings.{EndsOne, IsBlocked};
 ghost use Rattle.sgt_sched.specs.LiveList.{has_number};
 ghost use Rattle.sgt_sched.specs.Scheduler.{parts, state, asks_of, Turns, Tries, LinksOrAborts};
+ghost use Rattle.sgt_sched.specs.Steps.{AreRivals};
 
 use crate::brief::Brief;
 use crate::follow::follow;
@@ -57,7 +59,7 @@ impl<R: Records, A: Accesses, G: Graph> Sched<R, A, G> {
         }
     }
 
-    // Makes a look of a live transaction, which has this index, or aborts it where the look would close a cycle.
+    // Makes a look of a live transaction, which has this index, or aborts it where the look would close a cycle. Most have no rival.
     fn look(&mut self, t: Tid, index: usize, key: Key, out: &mut Reply) -> Result<Brief, NoMemory>
         requires live { (state self.old).nodes t ≡ true }
         requires at { position (has_number t) (parts self.old).live ≡ Some index }
@@ -65,22 +67,63 @@ impl<R: Records, A: Accesses, G: Graph> Sched<R, A, G> {
         ensures out { OnErr result (out.new ≡ out.old) }
         ensures no_memory { IsBlocked (state self.old) t key Look → IsOk result }
     {
+        if self.accesses.has_rival(t, key, Kind::Look) {
+            return self.look_behind(t, index, key, out);
+        }
+        self.make_look(t, index, key, &Tids::new(), Link::default())
+    }
+
+    // The same, where others have conflicting accesses.
+    #[inline(never)]
+    fn look_behind(
+        &mut self,
+        t: Tid,
+        index: usize,
+        key: Key,
+        out: &mut Reply,
+    ) -> Result<Brief, NoMemory>
+        requires live { (state self.old).nodes t ≡ true }
+        requires at { position (has_number t) (parts self.old).live ≡ Some index }
+        ensures done { Tries (InBrief (StepOn (asks_of self.old) t (Looks key)) out.new) self.old result self.new }
+        ensures out { OnErr result (out.new ≡ out.old) }
+        ensures no_memory { IsBlocked (state self.old) t key Look → IsOk result }
+    {
         let writers = self.accesses.rivals(t, key, Kind::Look);
-        let Some(link) = self.link_or_abort(t, &writers, out) else {
+        let Some(link) = self.plan_or_abort(t, &writers, out) else {
             return Ok(Brief::Placed);
         };
+        self.make_look(t, index, key, &writers, link)
+    }
+
+    // Makes a look of a live transaction, which has this index, behind these writers.
+    #[inline(always)]
+    fn make_look(
+        &mut self,
+        t: Tid,
+        index: usize,
+        key: Key,
+        writers: &Tids,
+        link: Link,
+    ) -> Result<Brief, NoMemory>
+        requires live { (state self.old).nodes t ≡ true }
+        requires at { position (has_number t) (parts self.old).live ≡ Some index }
+        requires writers { AreRivals (state self.old) t key Look writers.now }
+        requires free { NoWalk (state self.old).pairs t writers.now }
+        requires planned { writers.now ≢ [] → G.is_planned (parts self.old).graph t writers.now link }
+        ensures { Tries (Unplaced (MakesLook t key)) self.old result self.new }
+    {
         let top = self.records.top(key);
         let value = top.value();
         self.accesses.reserve(key)?;
         self.read_from.reserve(1)?;
-        follow(&mut self.graph, t, &writers, link);
+        follow(&mut self.graph, t, writers, link);
         self.accesses.note(t, key, Kind::Look);
         note_read(&mut self.read_from, &top, t);
         self.live.look(t, index, self.procedures.as_slice(), value);
         Ok(Brief::Looked { key, value })
     }
 
-    // Makes a store of a live transaction, which has this index, or aborts it where the store would close a cycle.
+    // Makes a store of a live transaction, which has this index, or aborts it where the store would close a cycle. Most have no rival.
     fn store(
         &mut self,
         t: Tid,
@@ -96,33 +139,65 @@ impl<R: Records, A: Accesses, G: Graph> Sched<R, A, G> {
         ensures out { OnErr result (out.new ≡ out.old) }
         ensures no_memory { IsBlocked (state self.old) t key Store → IsOk result }
     {
+        if self.accesses.has_rival(t, key, Kind::Store) {
+            return self.store_behind(t, index, key, value, out);
+        }
+        self.make_store(t, index, key, value, &Tids::new(), Link::default())
+    }
+
+    // The same, where others have conflicting accesses.
+    #[inline(never)]
+    fn store_behind(
+        &mut self,
+        t: Tid,
+        index: usize,
+        key: Key,
+        value: i64,
+        out: &mut Reply,
+    ) -> Result<Brief, NoMemory>
+        requires live { (state self.old).nodes t ≡ true }
+        requires at { position (has_number t) (parts self.old).live ≡ Some index }
+        requires in_range { IsValue value }
+        ensures done { Tries (InBrief (StepOn (asks_of self.old) t (Puts key value)) out.new) self.old result self.new }
+        ensures out { OnErr result (out.new ≡ out.old) }
+        ensures no_memory { IsBlocked (state self.old) t key Store → IsOk result }
+    {
         let rivals = self.accesses.rivals(t, key, Kind::Store);
-        let Some(link) = self.link_or_abort(t, &rivals, out) else {
+        let Some(link) = self.plan_or_abort(t, &rivals, out) else {
             return Ok(Brief::Placed);
         };
+        self.make_store(t, index, key, value, &rivals, link)
+    }
+
+    // Makes a store of a live transaction, which has this index, behind these rivals.
+    #[inline(always)]
+    fn make_store(
+        &mut self,
+        t: Tid,
+        index: usize,
+        key: Key,
+        value: i64,
+        rivals: &Tids,
+        link: Link,
+    ) -> Result<Brief, NoMemory>
+        requires live { (state self.old).nodes t ≡ true }
+        requires at { position (has_number t) (parts self.old).live ≡ Some index }
+        requires in_range { IsValue value }
+        requires rivals { AreRivals (state self.old) t key Store rivals.now }
+        requires free { NoWalk (state self.old).pairs t rivals.now }
+        requires planned { rivals.now ≢ [] → G.is_planned (parts self.old).graph t rivals.now link }
+        ensures { Tries (Unplaced (MakesStore t key value)) self.old result self.new }
+    {
         self.records.reserve(key)?;
         self.accesses.reserve(key)?;
-        follow(&mut self.graph, t, &rivals, link);
+        follow(&mut self.graph, t, rivals, link);
         self.records.write(t, key, value);
         self.accesses.note(t, key, Kind::Store);
         self.live.store(t, index, self.procedures.as_slice());
         Ok(Brief::Wrote { key, value })
     }
 
-    // What links pairs from these rivals to a live transaction; or aborts it, where they would close a cycle. Most accesses have
-    // no rival, and nothing to be linked.
-    fn link_or_abort(&mut self, t: Tid, rivals: &Tids, out: &mut Reply) -> Option<Link>
-        requires live { (state self.old).nodes t ≡ true }
-        requires others { (u : ℕ) → Member u rivals.now → ((state self.old).nodes u ≡ true) × (u ≢ t) }
-        ensures { LinksOrAborts t rivals.now self.old out.old result out.new self.new }
-    {
-        if rivals.is_empty() {
-            return Some(Link::default());
-        }
-        self.plan_or_abort(t, rivals, out)
-    }
-
-    // The same, where there are rivals.
+    // What links pairs from these rivals to a live transaction; or aborts it, where they would close a cycle.
     #[inline(never)]
     fn plan_or_abort(&mut self, t: Tid, rivals: &Tids, out: &mut Reply) -> Option<Link>
         requires live { (state self.old).nodes t ≡ true }

@@ -1,7 +1,11 @@
-use Rattle.std.proofs.Common.{[], take}
+use Rattle.std.proofs.Common.{take}
 use Rattle.sgt_access.proofs.Rivals.{AreRivals}
+use Rattle.sgt_model.specs.Walks.{Rising}
 use Rattle.sgt_access.proofs.conflicts.rivals_among.Given as goal
 
--- there is none among the accesses so far
+-- the rivals among the accesses so far
 abbrev pub invariant-loop-access : goal.invariant-loop-access
-invariant-loop-access l = AreRivals l.t l.key l.kind (take l.access-index l.accesses) []
+invariant-loop-access l = record {
+  exact : AreRivals l.t l.key l.kind (take l.access-index l.accesses) l.rivals.items;
+  rising : Rising l.rivals.items;
+}

@@ -1,0 +1,41 @@
+use Rattle.std.proofs.Common.{rules, refl, ap, ◌∙◌, ◌++◌, ◌∷◌, []}
+use Rattle.sgt_model.specs.declared.kind.Kind.TheVariants.{Look}
+use Rattle.sgt_records.specs.Tops.{value_of_top}
+use Rattle.sgt_sched.specs.Steps.{with_source}
+use Rattle.sgt_sched.proofs.Accessed.{rivals_are_nodes}
+use Rattle.sgt_sched.proofs.Looks.{kept_look, makes_look}
+use Rattle.sgt_sched.proofs.sched.Sched.make_look.Goals as goal
+
+pub follow-requires-clause-others : goal.follow-requires-clause-others
+follow-requires-clause-others g c κs lives = rivals_are_nodes c.args.self.now.kept c.args.t c.requires.live c.args.key Look
+    c.args.writers.now c.requires.writers
+
+pub invariant_of-self-2 : goal.invariant_of-self-2
+invariant_of-self-2 g c = record {
+  kept = kept_look refl c.args.self.now.kept c.args.t c.requires.live c.args.key c.args.writers.now c.requires.free c.requires.writers
+      c.note.new.self c.follow.new.graph c.look.new.self c.note_read.new.read_from.items c.value-value.result
+      (c.note.ensures.noted ∙ ap (λ l. l ++ record { by = c.args.t; key = c.args.key; kind = Look } ∷ []) c.reserve.ensures.same)
+      c.follow.ensures.nodes
+      c.follow.ensures.pairs
+      (c.value-value.ensures ∙ ap value_of_top c.top-top.ensures.top) c.look.ensures
+      (c.note_read.ensures ∙ ap (with_source c.top-top.result c.args.t) c.reserve-2.ensures.items
+      ∙ ap (λ top. with_source top c.args.t c.args.self.now.read_from.items) c.top-top.ensures.top);
+}
+
+pub returns : goal.returns
+returns g c = record {
+  done = λ out. record {
+    does = makes_look refl c.args.self.now.kept c.args.t c.requires.live c.args.key c.args.writers.now c.requires.free
+        c.requires.writers
+        c.note.new.self c.follow.new.graph c.look.new.self c.note_read.new.read_from.items c.value-value.result
+        (c.note.ensures.noted ∙ ap (λ l. l ++ record { by = c.args.t; key = c.args.key; kind = Look } ∷ []) c.reserve.ensures.same)
+        c.follow.ensures.nodes
+        c.follow.ensures.pairs
+        (c.value-value.ensures ∙ ap value_of_top c.top-top.ensures.top) c.look.ensures
+        (c.note_read.ensures ∙ ap (with_source c.top-top.result c.args.t) c.reserve-2.ensures.items
+        ∙ ap (λ top. with_source top c.args.t c.args.self.now.read_from.items) c.top-top.ensures.top);
+    short = tt;
+  };
+  refused = search rules;
+  kept = search rules;
+}
