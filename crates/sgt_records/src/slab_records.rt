@@ -58,6 +58,7 @@ impl Records for SlabRecords {
         self.index.top(key)
     }
 
+    #[inline(always)]
     fn reserve(&mut self, key: Key) -> Result<(), NoMemory> {
         self.live.reserve(1)?;
         self.reserved = self.index.reserve(key)?;

@@ -89,6 +89,7 @@ impl Live {
     }
 
     /// Goes on with t, which is live and has this index, behind a look that found this. This takes no memory.
+    #[inline(always)]
     pub fn look(&mut self, _t: Tid, index: usize, procedures: &[Checked], value: Option<i64>)
         requires at { position (has_number _t) self.old ≡ Some index }
         requires along { IsAlong procedures.now (progress_at self.old _t) }
@@ -98,6 +99,7 @@ impl Live {
     }
 
     /// Goes on with t, which is live and has this index, behind a store. This takes no memory.
+    #[inline(always)]
     pub fn store(&mut self, _t: Tid, index: usize, procedures: &[Checked])
         requires at { position (has_number _t) self.old ≡ Some index }
         requires along { IsAlong procedures.now (progress_at self.old _t) }

@@ -49,6 +49,7 @@ impl Running {
     }
 
     /// Goes on behind a look, which found this.
+    #[inline(always)]
     pub fn look(&mut self, procedures: &[Checked], value: Option<i64>)
         requires along { IsAlong procedures.now self.old.1 }
         ensures { self.new ≡ (self.old.0, with_look value self.old.1) }
@@ -58,6 +59,7 @@ impl Running {
     }
 
     /// Goes on behind a store.
+    #[inline(always)]
     pub fn store(&mut self, procedures: &[Checked])
         requires along { IsAlong procedures.now self.old.1 }
         ensures { self.new ≡ (self.old.0, with_store self.old.1) }
