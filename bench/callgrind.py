@@ -13,11 +13,13 @@ def is_there():
     return shutil.which("valgrind") is not None
 
 
-def instructions(words, path, statuses=(0,)):
-    """The instructions of one run over an input, which ends with one of these statuses."""
+def instructions(words, path, statuses=(0,), within=()):
+    """The instructions of one run over an input, which ends with one of these statuses; where functions are named, of their calls
+    alone, with all that these call."""
     with tempfile.TemporaryDirectory() as folder, open(path) as lines, open(os.devnull, "w") as nothing:
         profile = os.path.join(folder, "profile")
         valgrind = ["valgrind", "--tool=callgrind", f"--callgrind-out-file={profile}"]
+        valgrind += [f"--toggle-collect={name}" for name in within]
         ran = subprocess.run(valgrind + words, stdin=lines, stdout=nothing, stderr=nothing, check=False)
         if ran.returncode not in statuses:
             raise subprocess.CalledProcessError(ran.returncode, words)
