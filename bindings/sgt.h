@@ -96,7 +96,7 @@ enum sgt_kind {
     SGT_REFUSED = 15       /* its procedure asks `code`: the transaction is aborted at its commit, and with it those of `fell` */
 };
 
-/* How a transaction ended: in SGT_ABORTED one of the first three. */
+/* How a transaction ended: in SGT_ABORTED a cycle, a code or a quit, and in SGT_OVER any. */
 enum sgt_cause {
     SGT_BY_COMMIT = 0,
     SGT_BY_CYCLE = 1, /* its step would close a cycle of conflicts: the first `walked` of `walk`, the transaction itself first */
@@ -105,7 +105,7 @@ enum sgt_cause {
     SGT_BY_FALL = 4    /* it had read from an aborted one; `tid` is the one whose abort began it */
 };
 
-/* `kind` says which other fields count. */
+/* `kind` says which other fields count; the others keep what they held, so a `tid` is copied at SGT_STARTED. */
 typedef struct sgt_reply {
     uint32_t kind;
     uint32_t cause;
@@ -156,7 +156,8 @@ typedef struct sgt_row {
 /*
  * Opens an engine. `opening` is `length` bytes of JSON as the first line of a script has them, without its end: limits,
  * accounts and procedures, as docs/FORMATS.md says. `{"limits":[8,1000],"accounts":[[1,101,500,1000]],"procedures":[]}` allows 8 live
- * transactions and 1000 in all, and opens one account: name 1, customer 101, saving 500, checking 1000, in cents.
+ * transactions and 1000 in all, and opens one account: name 1, customer 101, saving 500, checking 1000, in cents. With `[8,1000,1]` a
+ * procedure's code is told at the commit, as SGT_REFUSED; else at a step, as SGT_ABORTED with SGT_BY_CODE. It may be of any length.
  *
  * SGT_OPEN where the engine is open, tested first; SGT_NO_MEMORY; from SGT_NOT_JSON on the first fault of the opening, which is
  * written into `fault`. But for SGT_OK the engine stays as it was.
@@ -289,7 +290,8 @@ uint32_t sgt_cut(sgt_engine *engine, uint64_t *live);
 uint32_t sgt_reply_text(const sgt_reply *reply, char *text, size_t room, uint64_t *length);
 
 /*
- * The text of a fault in the same way: what the program tells of it behind `line 1: `.
+ * The text of a fault in the same way: what the program tells of it behind `line 1: `. That of SGT_PROC_SHAPE tells the whole place, and
+ * may be longer than 1024 bytes. It is called behind a status from SGT_NOT_JSON on, which alone fill a fault.
  *
  * SGT_BAD_CALL where `kind` is no fault's; SGT_NO_MEMORY. But for SGT_OK text and length stay as they were.
  */
