@@ -1,7 +1,7 @@
 ghost use Rattle.std.specs.Prelude.{◌≡◌, ◌++◌, take, vec_len, slice_get, IfOk, OnOk, OnErr};
 ghost use Rattle.sgt_bank.specs.OutcomeText.{commit_words, code_words, ask_words, refusal_words, words_at, outcome_words, outcome_text};
 
-use sgt_entries::History;
+use sgt_entries::{EntryRef, History};
 use sgt_format::{append_answers, append_number, append_numbered};
 use sgt_model::{Cause, NoMemory, Reply};
 use sgt_workers::Outcome;
@@ -68,21 +68,21 @@ fn append_commit(line: &mut Vec<u8>, history: &History, n: u64) -> Result<(), Al
     ensures err { OnErr result (take (vec_len line.old) line.new.items ≡ line.old.items) }
 {
     match history.get_entry(n as usize) {
-        Some(entry) => append_commit_words(line, &entry.reply()),
+        Some(entry) => append_commit_words(line, &entry),
         None => Ok(()),
     }
 }
 
-fn append_commit_words(line: &mut Vec<u8>, reply: &Reply) -> Result<(), AllocError>
-    ensures ok { OnOk result (line.new.items ≡ line.old.items ++ commit_words reply.now) }
+fn append_commit_words(line: &mut Vec<u8>, entry: &EntryRef<'_>) -> Result<(), AllocError>
+    ensures ok { OnOk result (line.new.items ≡ line.old.items ++ commit_words entry.now.reply) }
     ensures err { OnErr result (take (vec_len line.old) line.new.items ≡ line.old.items) }
 {
-    match reply {
-        Reply::Committed(answers) => {
+    match entry.committed() {
+        Some(answers) => {
             line.extend_from_slice(b"committed")?;
-            append_answers(line, answers)
+            append_answers(line, &answers)
         }
-        _ => Ok(()),
+        None => Ok(()),
     }
 }
 

@@ -39,6 +39,7 @@ pub fn make_room<R: Records, A: Accesses, G: Graph>(
 
 /// Adds an entry, for which there is room, and leaves its reply in full in `out`, where it stands already if it is placed. This
 /// takes no memory.
+#[inline(always)]
 pub fn file(history: &mut History, event: &Event, brief: &Brief, out: &mut Reply)
     requires { 0 < history.old.room }
     ensures out { out.new ≡ in_full brief.now out.old }

@@ -1,9 +1,8 @@
 -- More transactions and values keep the entries, and an entry is seen where it was filed.
-use Rattle.std.proofs.Common.{◌≡◌, ◌+◌, ℕ, ℤ, zero, suc, ◌-◌, reverse, ◌<◌, ◌≤◌, arith, List}
+use Rattle.std.proofs.Common.{◌≡◌, ◌+◌, ℕ, ℤ, zero, suc, ◌<◌, ◌≤◌, arith, List}
 use Rattle.std.proofs.Common.{[], ◌∷◌, ◌++◌, length, Some, refl, ap, sym, subst, ◌∙◌, take, drop, map}
 use Rattle.std.specs.Prelude.{slice_get, slice_index_or}
-use Rattle.std.proofs.lemmas.Grind.{reverse_onto}
-use Rattle.std.proofs.lemmas.List.{length-map, reverse-reverse, take-append-le, drop-append-le}
+use Rattle.std.proofs.lemmas.List.{length-map, take-append-le, drop-append-le}
 use Rattle.std.proofs.lemmas.List.{length-drop, length-append, append_assoc, map-append}
 use Rattle.sgt_model.specs.declared.entry.Entry.{Entry}
 use Rattle.sgt_model.specs.declared.event.Event.{Event}

@@ -1,5 +1,5 @@
 -- What the lists of an entry hold, and an entry without them.
-use Rattle.std.specs.Prelude.{ℕ, ℤ, Bool, true, false, List, []}
+use Rattle.std.specs.Prelude.{ℕ, ℤ, Bool, true, false, List, [], Option, Some, None}
 use Rattle.sgt_model.specs.declared.event.Event.{Event}
 use Rattle.sgt_model.specs.declared.event.Event.TheVariants as event
 use Rattle.sgt_model.specs.declared.reply.Cause.{Cause}
@@ -74,6 +74,11 @@ fell_in (reply.Committed answers) = []
 abbrev pub answers_in : Reply → List ℤ
 answers_in (reply.Committed answers) = answers
 answers_in _ = []
+
+-- the same, if it is a commit
+abbrev pub committed_in : Reply → Option (List ℤ)
+committed_in (reply.Committed answers) = Some answers
+committed_in _ = None
 
 -- what else is asked of a reply
 

@@ -2,13 +2,13 @@ ghost use Rattle.std.specs.Prelude.{◌≡◌, ◌↔◌, IsTrue};
 ghost use Rattle.sgt_model.specs.Fates.{is_start};
 ghost use Rattle.sgt_model.specs.Questions.{named_by, started_in, over_in};
 ghost use Rattle.sgt_model.specs.Questions.{refuses_start, is_wait, is_commit, is_ask, is_quit, is_ending, tells_end};
-ghost use Rattle.sgt_entries.specs.EntryParts.{bare_event, bare_reply, args_in, walk_in, fell_in, answers_in, is_by_cycle, tells_fall, is_access, is_at_end};
+ghost use Rattle.sgt_entries.specs.EntryParts.{bare_event, bare_reply, args_in, walk_in, fell_in, answers_in, committed_in, is_by_cycle, tells_fall, is_access, is_at_end};
 
 use crate::short_cause::{ShortCause, ShortFate};
 use crate::short_entry::ShortEntry;
 use crate::short_event::ShortEvent;
 use crate::short_reply::ShortReply;
-use sgt_model::{Entry, Event, Reply, Tid};
+use sgt_model::{Answers, Entry, Event, Reply, Tid};
 use std::marker::Model;
 
 /// An entry of a history, read where it stands. Contracts see it as the entry.
@@ -64,7 +64,18 @@ impl<'a> EntryRef<'a> {
     pub fn is_same(&self, other: &EntryRef<'_>) -> bool
         ensures { IsTrue result ↔ (self.now ≡ other.now) }
     {
-        self.is_surely_same(other) || self.is_same_in_all(other)
+        self.is_surely_same(other) || self.copied().is_same_in_all(&other.copied())
+    }
+
+    // The same once more. Where only a copy goes to a call, the other is never written to memory.
+    fn copied(&self) -> EntryRef<'a>
+        ensures { result ≡ self.now }
+    {
+        EntryRef {
+            short: self.short,
+            tids: self.tids,
+            values: self.values,
+        }
     }
 
     // Whether both are the same entry, of a kind that is frequent. Of others it tells nothing.
@@ -328,6 +339,16 @@ impl<'a> EntryRef<'a> {
                 self.tids,
             ),
             _ => &[],
+        }
+    }
+
+    /// The answers of its commit, if it commits a transaction.
+    pub fn committed(&self) -> Option<Answers>
+        ensures { result ≡ committed_in self.now.reply }
+    {
+        match self.short.reply {
+            ShortReply::Committed(answers) => Some(answers.values(self.values)),
+            _ => None,
         }
     }
 
