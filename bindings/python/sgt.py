@@ -272,26 +272,29 @@ def _ended(told: _Reply, kind: Kind) -> Reply:
 
 _KINDS = [None, *Kind]
 _PLAIN = [kind and Reply(kind) for kind in _KINDS]
-_LOOKED, _WROTE, _COMMITTED = Kind.LOOKED, Kind.WROTE, Kind.COMMITTED
+# The numbers of the kinds whose other fields count: a number is compared faster than a member of an enum is looked up.
+_STARTED, _OVER, _LOOKED, _WROTE, _WAITS, _COMMITTED, _ABORTED, _REFUSED = map(
+    int, (Kind.STARTED, Kind.OVER, Kind.LOOKED, Kind.WROTE, Kind.WAITS, Kind.COMMITTED, Kind.ABORTED, Kind.REFUSED)
+)
 _plain_fields = struct.Struct("6I2q").unpack_from  # those before the counts
 _made = tuple.__new__
 
 
 def _reply(told: _Reply) -> Reply:
     number, _, tid, code, table, found, key, value = _plain_fields(told)
-    # A tuple's own maker is called with all fields, as that of a NamedTuple takes twice as long.
-    if number == 8:
-        return _made(Reply, (_LOOKED, None, table, key, value if found else None, (), None, None, (), ()))
-    if number == 9:
-        return _made(Reply, (_WROTE, None, table, key, value, (), None, None, (), ()))
-    if number == 13:
-        return _made(Reply, (_COMMITTED, None, None, None, None, tuple(told.answer[: told.answers]), None, None, (), ()))
     kind = _KINDS[number]
-    if kind is Kind.STARTED or kind is Kind.WAITS:
+    # A tuple's own maker is called with all fields, as that of a NamedTuple takes twice as long.
+    if number == _LOOKED:
+        return _made(Reply, (kind, None, table, key, value if found else None, (), None, None, (), ()))
+    if number == _WROTE:
+        return _made(Reply, (kind, None, table, key, value, (), None, None, (), ()))
+    if number == _STARTED or number == _WAITS:
         return _made(Reply, (kind, tid, None, None, None, (), None, None, (), ()))
-    if kind is Kind.REFUSED:
+    if number == _COMMITTED:
+        return _made(Reply, (kind, None, None, None, None, tuple(told.answer[: told.answers]), None, None, (), ()))
+    if number == _REFUSED:
         return Reply(kind, code=code, fell=tuple(told.fell[: told.fallen]))
-    if kind is Kind.ABORTED or kind is Kind.OVER:
+    if number == _ABORTED or number == _OVER:
         return _ended(told, kind)
     return _PLAIN[number]
 
