@@ -34,16 +34,17 @@ module _ (A : Al) where
   abbrev pub Fields : RattleType
   Fields = Struct shape
 
-  module _ {M : Type 1} {𝓤 : Ura M} {𝓛 : Logic 𝓤} {K : Type 0} {Γ : List (Item 𝓤)} {G : Goal 𝓤 𝓛.H} (k : K) (at : Ptr) (a : A.row.Denot)
-    where
-      pub fields_out : (vs : List Val) → ((h : Val) → vs ≡ laid at h ∷ [] → Fits A h → Seq K 𝓛 (‵ (A.row.own_val a (h ∷ [])) ∷ Γ) G)
-          → Seq K 𝓛 (‵ (Fields.own_val (at, (a, tt)) vs) ∷ Γ) G
-      fields_out vs next =
-          fpick k (λ parts. fsplit k $ feq_l k (λ all. fsplit k $ feq_l k (λ first. fsplit k $ handle_tells A k a parts.1.0 (λ h second fits.
-          move k (1 ∷ []) $ drop k $ next h (all ∙ (λ i. vstruct (of_list (first i ++ (second i ++ []))) ∷ [])) fits))))
+  module _ {M : Type 1} {𝓤 : Ura M} {𝓛 : Logic 𝓤} {K : Type 0} {Γ : List (Item 𝓤)} {G : Goal 𝓤 𝓛.H}
+      (k : K) (at : Ptr) (a : A.row.Denot) where
+    pub fields_out : (vs : List Val) → ((h : Val) → vs ≡ laid at h ∷ [] → Fits A h → Seq K 𝓛 (‵ (A.row.own_val a (h ∷ [])) ∷ Γ) G)
+        → Seq K 𝓛 (‵ (Fields.own_val (at, (a, tt)) vs) ∷ Γ) G
+    fields_out vs next =
+        fpick k (λ parts. fsplit k $ feq_l k (λ all. fsplit k $ feq_l k (λ first. fsplit k $
+        handle_tells A k a parts.1.0 (λ h second fits.
+        move k (1 ∷ []) $ drop k $ next h (all ∙ (λ i. vstruct (of_list (first i ++ (second i ++ []))) ∷ [])) fits))))
 
-      pub fields_in : (h : Val) → Step K 𝓛 (‵ (Fields.own_val (at, (a, tt)) (laid at h ∷ [])) ∷ Γ) G (‵ (A.row.own_val a (h ∷ [])) ∷ Γ) G
-      fields_in h = step (λ rest.
-          nothing k $ move k (1 ∷ 0 ∷ []) $ fjoin k $ feq_i k (List Val) (ptr_val at ∷ []) (ptr_val at ∷ []) refl $ fjoin k $
-          feq_i k (List Val) (laid at h ∷ []) (laid at h ∷ []) refl $ fjoin k $
-          fpack k (Valss (RawPtr ∷ A.row ∷ [])) (within shape (at, (a, tt)) (laid at h ∷ [])) (ptr_val at ∷ [], (h ∷ [], tt)) $ rest)
+    pub fields_in : (h : Val) → Step K 𝓛 (‵ (Fields.own_val (at, (a, tt)) (laid at h ∷ [])) ∷ Γ) G (‵ (A.row.own_val a (h ∷ [])) ∷ Γ) G
+    fields_in h = step (λ rest.
+        nothing k $ move k (1 ∷ 0 ∷ []) $ fjoin k $ feq_i k (List Val) (ptr_val at ∷ []) (ptr_val at ∷ []) refl $ fjoin k $
+        feq_i k (List Val) (laid at h ∷ []) (laid at h ∷ []) refl $ fjoin k $
+        fpack k (Valss (RawPtr ∷ A.row ∷ [])) (within shape (at, (a, tt)) (laid at h ∷ [])) (ptr_val at ∷ [], (h ∷ [], tt)) $ rest)

@@ -24,7 +24,8 @@ pub returns-in_err-call-clause-fault : goal.returns-in_err-call-clause-fault
 returns-in_err-call-clause-fault g c =
     let start = c.loop-jobs.invariant.asked in
     let failed : c.from_residual.result ≡ Err c.in_err-call.field-0.0 = search rules in
-    subst (λ r. IfErr r (λ f. IsOfInput f → EndsWith (c.args.lines.now.number + 1) (c.args.lines.now.number + 1) (Err f) (cut_left c.args.lines.now (g.S.Source.rest c.args.source.now))))
+    subst (λ r. IfErr r (λ f. IsOfInput f → EndsWith (c.args.lines.now.number + 1) (c.args.lines.now.number + 1) (Err f)
+    (cut_left c.args.lines.now (g.S.Source.rest c.args.source.now))))
     (sym failed)
     (λ exact. asked-fault (c.args.lines.now.number + 1) _ (cut_left c.loop-jobs.lines (g.S.Source.rest c.loop-jobs.source)) start.0
     (c.loop-jobs.lines.number + 1) _ (search (rules, arith)) start.4

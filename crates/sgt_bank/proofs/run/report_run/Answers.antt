@@ -11,7 +11,8 @@ returns-clause-report g c =
     c.in_ok-report.report.database) (g.S.Source.rest c.args.source.now) (g.T.Sink.held c.args.sink.now)
     (g.T.Sink.held c.write_text.new.sink) c.in_ok-text.text.items
     (λ bytes ran. is-report c.args.workers c.args.tries bytes c.in_ok-report.report.history.entries c.in_ok-report.report.outcomes.items
-    c.in_ok-report.report.database c.in_ok-text.text.items ran (c.in_ok-text.ensures ∙ ap (λ os. report_text c.in_ok-report.report.history.entries os c.in_ok-report.report.database)
+    c.in_ok-report.report.database c.in_ok-text.text.items ran
+    (c.in_ok-text.ensures ∙ ap (λ os. report_text c.in_ok-report.report.history.entries os c.in_ok-report.report.database)
     c.as_slice.ensures.value))
     c.in_ok-report.ensures.run (search rules)
 
@@ -22,6 +23,7 @@ returns-in_err-write_text-clause-part g c = λ failed.
     c.in_ok-report.report.database) (g.S.Source.rest c.args.source.now) (g.T.Sink.held c.args.sink.now)
     (g.T.Sink.held c.write_text.new.sink) c.in_ok-text.text.items
     (λ bytes ran. is-report c.args.workers c.args.tries bytes c.in_ok-report.report.history.entries c.in_ok-report.report.outcomes.items
-    c.in_ok-report.report.database c.in_ok-text.text.items ran (c.in_ok-text.ensures ∙ ap (λ os. report_text c.in_ok-report.report.history.entries os c.in_ok-report.report.database)
+    c.in_ok-report.report.database c.in_ok-text.text.items ran
+    (c.in_ok-text.ensures ∙ ap (λ os. report_text c.in_ok-report.report.history.entries os c.in_ok-report.report.database)
     c.as_slice.ensures.value))
     c.in_ok-report.ensures.run (search rules)

@@ -14,7 +14,8 @@ loop-worker-preserved g c =
     let steps = c.in-Some.ensures.steps in
     let push = c.push_reserved.ensures in
     let F = c.args.putter.now.feed in
-    let all = one_by_one c.loop-worker.worker-iterator.rest.items c.next.new.self.rest.items c.in-Some.worker c.loop-worker.running.items c.push_reserved.new.self.items c.in-Ok.handle (λ w. w.taker.feed ≡ F) (λ h. h.promise.0.value.feed ≡ F)
+    let all = one_by_one c.loop-worker.worker-iterator.rest.items c.next.new.self.rest.items c.in-Some.worker c.loop-worker.running.items
+    c.push_reserved.new.self.items c.in-Ok.handle (λ w. w.taker.feed ≡ F) (λ h. h.promise.0.value.feed ≡ F)
     steps.0 push.items (λ p. ap (λ (s : SameFeed). s.0.value.feed) c.in-Ok.ensures.ok
     ∙ (ap (λ (t : TakerState). t.feed) c.of.ensures ∙ p)) i.4 i.5 in
     (tt, tt, omega (arith, i.2, push.len, ap length steps.0), omega (arith, i.3, push.capacity), all.0, all.1)

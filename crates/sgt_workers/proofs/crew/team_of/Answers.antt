@@ -9,7 +9,8 @@ loop-taker-preserved g c =
     let push = c.push_reserved.ensures in
     let F = c.args.putter.now.feed in
     let count = ap length steps.0 in
-    let all = one_by_one c.loop-taker.taker-iterator.rest.items c.next.new.self.rest.items c.in-Some.taker c.loop-taker.team.items c.push_reserved.new.self.items _ (λ t. t.feed ≡ F) (λ w. w.taker.feed ≡ F)
+    let all = one_by_one c.loop-taker.taker-iterator.rest.items c.next.new.self.rest.items c.in-Some.taker c.loop-taker.team.items
+    c.push_reserved.new.self.items _ (λ t. t.feed ≡ F) (λ w. w.taker.feed ≡ F)
     steps.0 push.items (λ p. p) i.4 i.5 in (
       tt,
       tt,

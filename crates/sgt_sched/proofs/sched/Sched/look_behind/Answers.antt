@@ -28,5 +28,6 @@ returns-in_default-clause-done g c =
     }
 
 pub make_look-requires-clause-writers : goal.make_look-requires-clause-writers
-make_look-requires-clause-writers g c κs lives = rivals_seen g.A.Accesses.list _ _ (sym (ap parts c.in-Some.ensures.free.0)) c.args.t c.args.key Look
+make_look-requires-clause-writers g c κs lives = rivals_seen g.A.Accesses.list _ _ (sym (ap parts c.in-Some.ensures.free.0)) c.args.t
+    c.args.key Look
     c.rivals-writers.result c.rivals-writers.ensures.exact

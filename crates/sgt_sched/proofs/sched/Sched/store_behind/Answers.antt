@@ -28,5 +28,6 @@ returns-in_default-clause-done g c =
     }
 
 pub make_store-requires-clause-rivals : goal.make_store-requires-clause-rivals
-make_store-requires-clause-rivals g c κs lives = rivals_seen g.A.Accesses.list _ _ (sym (ap parts c.in-Some.ensures.free.0)) c.args.t c.args.key Store
+make_store-requires-clause-rivals g c κs lives = rivals_seen g.A.Accesses.list _ _ (sym (ap parts c.in-Some.ensures.free.0)) c.args.t
+    c.args.key Store
     c.rivals-rivals.result c.rivals-rivals.ensures.exact
