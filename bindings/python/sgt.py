@@ -215,9 +215,12 @@ _OK, _NO_MEMORY, _CLOSED, _NONE, _STILL_LIVE, _BEGUN, _TAKEN, _TOO_MANY, _FIRST_
 _NO_TID = 2**32 - 1  # the limits never allow this number
 
 
+_EVENTS = ctypes.PyDLL(_LIBRARY._name)  # keeps the interpreter's lock: an event is over sooner than that is given up and taken
+
+
 def _quick(name: str) -> Callable[..., int]:
     """A function whose arguments are pointers and whole numbers: such are passed as they are, three times as fast as by argtypes."""
-    return _LIBRARY[name]
+    return _EVENTS[name]
 
 
 _start, _run, _step, _commit, _quit = map(_quick, ("sgt_start", "sgt_run", "sgt_step", "sgt_commit", "sgt_quit"))
@@ -276,12 +279,12 @@ _PLAIN = [kind and Reply(kind) for kind in _KINDS]
 _STARTED, _OVER, _LOOKED, _WROTE, _WAITS, _COMMITTED, _ABORTED, _REFUSED = map(
     int, (Kind.STARTED, Kind.OVER, Kind.LOOKED, Kind.WROTE, Kind.WAITS, Kind.COMMITTED, Kind.ABORTED, Kind.REFUSED)
 )
-_plain_fields = struct.Struct("6I2q").unpack_from  # those before the counts
+_plain_fields = struct.Struct("6I2q").unpack_from  # those before the counts, of a structure or, faster, of its bytes
 _made = tuple.__new__
 
 
-def _reply(told: _Reply) -> Reply:
-    number, _, tid, code, table, found, key, value = _plain_fields(told)
+def _reply(told: _Reply, fields: Union[_Reply, memoryview]) -> Reply:
+    number, _, tid, code, table, found, key, value = _plain_fields(fields)
     kind = _KINDS[number]
     # A tuple's own maker is called with all fields, as that of a NamedTuple takes twice as long.
     if number == _LOOKED:
@@ -326,6 +329,14 @@ def _table(table: int) -> int:
     return table
 
 
+def _tid(tid: int) -> int:
+    """A transaction's number. ValueError where it is out of its range."""
+    number = operator.index(tid)
+    if number >> 32:
+        raise ValueError("sgt: a number is out of its range")
+    return number
+
+
 def _value(value: int) -> int:
     if not LEAST <= value <= MOST:
         raise ValueError("sgt: a number is out of its range")
@@ -361,6 +372,7 @@ class Engine:
             raise OpeningRefused(status, _written(_LIBRARY.sgt_fault_text, fault))
         _check(status)
         self._told, self._args = _Reply(), (ctypes.c_int64 * 4)()
+        self._bytes = memoryview(self._told).cast("B")
         # What every event is passed.
         self._at, self._to, self._with = map(ctypes.byref, (self._engine, self._told, self._args))
 
@@ -394,14 +406,14 @@ class Engine:
         status = _start(self._at, self._packed(procedure, args), self._with, _SIZES[len(args)], self._to)
         if status:
             _check(status)
-        return _reply(self._told)
+        return _reply(self._told, self._bytes)
 
     def run(self, procedure: int, *args: int) -> tuple[Optional[int], Reply]:
         """Runs a procedure from its start to its commit: its transaction's number, if one was started, and the last reply."""
         tid = ctypes.c_uint32(_NO_TID)
         number = self._packed(procedure, args)
         _check(_run(self._at, number, self._with, _SIZES[len(args)], ctypes.byref(tid), self._to))
-        return (None if tid.value == _NO_TID else tid.value), _reply(self._told)
+        return (None if tid.value == _NO_TID else tid.value), _reply(self._told, self._bytes)
 
     def _packed(self, procedure: int, args: tuple[int, ...]) -> int:
         """Puts the arguments where a call finds them. The procedure's number."""
@@ -416,25 +428,25 @@ class Engine:
         return procedure
 
     def step(self, tid: int) -> Reply:
-        """Lets the transaction make its next access."""
-        status = _step(self._at, tid if tid.__class__ is int else operator.index(tid), self._to)
+        """Lets the transaction make its next access. ValueError where the number is none of 32 bits, as of each call that names one."""
+        status = _step(self._at, tid if tid.__class__ is int and not tid >> 32 else _tid(tid), self._to)
         if status:
             _check(status)
-        return _reply(self._told)
+        return _reply(self._told, self._bytes)
 
     def commit(self, tid: int) -> Reply:
         """Commits the transaction, unless it has to wait."""
-        status = _commit(self._at, tid if tid.__class__ is int else operator.index(tid), self._to)
+        status = _commit(self._at, tid if tid.__class__ is int and not tid >> 32 else _tid(tid), self._to)
         if status:
             _check(status)
-        return _reply(self._told)
+        return _reply(self._told, self._bytes)
 
     def quit(self, tid: int) -> Reply:
         """Quits the transaction: it is aborted."""
-        status = _quit(self._at, tid if tid.__class__ is int else operator.index(tid), self._to)
+        status = _quit(self._at, tid if tid.__class__ is int and not tid >> 32 else _tid(tid), self._to)
         if status:
             _check(status)
-        return _reply(self._told)
+        return _reply(self._told, self._bytes)
 
     def get(self, table: int, number: int) -> Optional[int]:
         """The committed value of a record, or None where there is no such record."""
@@ -466,7 +478,7 @@ class Engine:
         if status == _NONE:
             raise IndexError("sgt: there are not so many entries")
         _check(status)
-        return _event(asked), _reply(told)
+        return _event(asked), _reply(told, told)
 
     def reserve(self, entries: int) -> None:
         """Takes memory for so many more entries."""
