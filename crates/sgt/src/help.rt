@@ -114,6 +114,7 @@ All jobs are read before the first one runs, at most 1000000. A bad line is told
 has at most 65536 bytes, the input 16777216, and a value or a key is a whole number of at most fifteen digits. The first number
 of the limits, from 1 to 32, has to be at least the number of workers. Which of two jobs comes first is not said, but run one
 after another in the order of their commits they give the same answers and the same database.
+
 With --explain standard error tells behind the report how often each job was tried, with the transaction of each try, and by whom
 those that failed were aborted:
 

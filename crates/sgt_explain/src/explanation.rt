@@ -2,9 +2,10 @@ ghost use Rattle.std.specs.Prelude.{◌≡◌, take, OnErr, vec_len};
 
 use crate::edge::{Edge, cycle_edge};
 use crate::source::{Source, fall_source};
-use crate::text::{append_edge, append_source};
+use crate::text::{append_edge_line, append_source_line};
 use sgt_entries::History;
 use sgt_model::{Key, Kind, NoMemory};
+use std::alloc::AllocError;
 
 /// How many transactions a walk has at most, and how many fall with an abort.
 const MOST: usize = 32;
@@ -33,40 +34,34 @@ pub fn append_explanation(
     ensures kept { take (vec_len text.old) text.new.items ≡ text.old.items }
     ensures err { OnErr result (text.new.items ≡ text.old.items) }
 {
-    let before = text.len();
-    if append_all(text, history, place, pending, lines).is_err() {
-        text.truncate(before);
-        return Err(NoMemory);
-    }
+    let mut told = Vec::new(*text.allocator());
+    append_all(&mut told, history, place, pending, lines)?;
+    text.extend_from_slice(told.as_slice())?;
     Ok(())
 }
 
-// Adds the lines of both kinds. On an error the text still begins with what it held.
+// Adds the lines of both kinds.
 fn append_all(
     text: &mut Vec<u8>,
     history: &History,
     place: usize,
     pending: Option<Pending>,
     lines: &[u64],
-) -> Result<(), NoMemory>
-    ensures kept { take (vec_len text.old) text.new.items ≡ text.old.items }
-{
+) -> Result<(), AllocError> {
     if let Some(pending) = pending {
         append_edges(text, history, place, pending, lines)?;
     }
     append_sources(text, history, place, lines)
 }
 
-// Adds a line for each edge of the walk. On an error the text still begins with what it held.
+// Adds a line for each edge of the walk.
 fn append_edges(
     text: &mut Vec<u8>,
     history: &History,
     place: usize,
     pending: Pending,
     lines: &[u64],
-) -> Result<(), NoMemory>
-    ensures kept { take (vec_len text.old) text.new.items ≡ text.old.items }
-{
+) -> Result<(), AllocError> {
     for number in 0..MOST {
         let edge = cycle_edge(history, place, number, pending.key, pending.kind);
         append_if_edge(text, edge, place, lines)?;
@@ -74,30 +69,26 @@ fn append_edges(
     Ok(())
 }
 
-// Adds an edge's line, if there is one. On an error the text still begins with what it held.
+// Adds an edge's line, if there is one.
 fn append_if_edge(
     text: &mut Vec<u8>,
     edge: Option<Edge>,
     place: usize,
     lines: &[u64],
-) -> Result<(), NoMemory>
-    ensures kept { take (vec_len text.old) text.new.items ≡ text.old.items }
-{
+) -> Result<(), AllocError> {
     match edge {
-        Some(edge) => append_edge(text, &edge, place, lines),
+        Some(edge) => append_edge_line(text, &edge, place, lines),
         None => Ok(()),
     }
 }
 
-// Adds a line for each that falls. On an error the text still begins with what it held.
+// Adds a line for each that falls.
 fn append_sources(
     text: &mut Vec<u8>,
     history: &History,
     place: usize,
     lines: &[u64],
-) -> Result<(), NoMemory>
-    ensures kept { take (vec_len text.old) text.new.items ≡ text.old.items }
-{
+) -> Result<(), AllocError> {
     for number in 0..MOST {
         let source = fall_source(history, place, number);
         append_if_source(text, source, place, lines)?;
@@ -105,17 +96,15 @@ fn append_sources(
     Ok(())
 }
 
-// Adds a source's line, if there is one. On an error the text still begins with what it held.
+// Adds a source's line, if there is one.
 fn append_if_source(
     text: &mut Vec<u8>,
     source: Option<Source>,
     place: usize,
     lines: &[u64],
-) -> Result<(), NoMemory>
-    ensures kept { take (vec_len text.old) text.new.items ≡ text.old.items }
-{
+) -> Result<(), AllocError> {
     match source {
-        Some(source) => append_source(text, &source, place, lines),
+        Some(source) => append_source_line(text, &source, place, lines),
         None => Ok(()),
     }
 }

@@ -23,11 +23,9 @@ pub fn append_edge(
     ensures kept { take (vec_len text.old) text.new.items ≡ text.old.items }
     ensures err { OnErr result (text.new.items ≡ text.old.items) }
 {
-    let before = text.len();
-    if append_edge_line(text, edge, place, lines).is_err() {
-        text.truncate(before);
-        return Err(NoMemory);
-    }
+    let mut line = Vec::new(*text.allocator());
+    append_edge_line(&mut line, edge, place, lines)?;
+    text.extend_from_slice(line.as_slice())?;
     Ok(())
 }
 
@@ -44,23 +42,19 @@ pub fn append_source(
     ensures kept { take (vec_len text.old) text.new.items ≡ text.old.items }
     ensures err { OnErr result (text.new.items ≡ text.old.items) }
 {
-    let before = text.len();
-    if append_source_line(text, source, place, lines).is_err() {
-        text.truncate(before);
-        return Err(NoMemory);
-    }
+    let mut line = Vec::new(*text.allocator());
+    append_source_line(&mut line, source, place, lines)?;
+    text.extend_from_slice(line.as_slice())?;
     Ok(())
 }
 
-// Adds an edge's line. On an error the text still begins with what it held.
-fn append_edge_line(
+/// Adds an edge's line.
+pub fn append_edge_line(
     text: &mut Vec<u8>,
     edge: &Edge,
     place: usize,
     lines: &[u64],
-) -> Result<(), AllocError>
-    ensures kept { take (vec_len text.old) text.new.items ≡ text.old.items }
-{
+) -> Result<(), AllocError> {
     append_place(text, place, lines)?;
     append_number(text, b": ", edge.to.0)?;
     append_later(text, edge, lines)?;
@@ -69,15 +63,13 @@ fn append_edge_line(
     text.extend_from_slice(b"\n")
 }
 
-// Adds a source's line. On an error the text still begins with what it held.
-fn append_source_line(
+/// Adds a source's line.
+pub fn append_source_line(
     text: &mut Vec<u8>,
     source: &Source,
     place: usize,
     lines: &[u64],
-) -> Result<(), AllocError>
-    ensures kept { take (vec_len text.old) text.new.items ≡ text.old.items }
-{
+) -> Result<(), AllocError> {
     append_place(text, place, lines)?;
     append_number(text, b": ", source.reader.0)?;
     append_key(text, b" read ", source.key)?;
@@ -87,10 +79,8 @@ fn append_source_line(
     text.extend_from_slice(b"\n")
 }
 
-// Adds what the later access of an edge does, or would have done. On an error the text still begins with what it held.
-fn append_later(text: &mut Vec<u8>, edge: &Edge, lines: &[u64]) -> Result<(), AllocError>
-    ensures kept { take (vec_len text.old) text.new.items ≡ text.old.items }
-{
+// Adds what the later access of an edge does, or would have done.
+fn append_later(text: &mut Vec<u8>, edge: &Edge, lines: &[u64]) -> Result<(), AllocError> {
     match edge.place {
         Some(place) => {
             append_key(text, done_by(edge.kind), edge.key)?;
@@ -117,10 +107,8 @@ fn wanted_by(kind: Kind) -> &'static [u8] {
     }
 }
 
-// Adds the earlier accesses of an edge. On an error the text still begins with what it held.
-fn append_earlier(text: &mut Vec<u8>, earlier: &Earlier, lines: &[u64]) -> Result<(), AllocError>
-    ensures kept { take (vec_len text.old) text.new.items ≡ text.old.items }
-{
+// Adds the earlier accesses of an edge.
+fn append_earlier(text: &mut Vec<u8>, earlier: &Earlier, lines: &[u64]) -> Result<(), AllocError> {
     if let Some(place) = earlier.looked {
         text.extend_from_slice(b" read at ")?;
         append_place(text, place, lines)?;
@@ -135,10 +123,8 @@ fn append_earlier(text: &mut Vec<u8>, earlier: &Earlier, lines: &[u64]) -> Resul
     Ok(())
 }
 
-// Adds the line of the entry at a place. On an error the text still begins with what it held.
-fn append_place(text: &mut Vec<u8>, place: usize, lines: &[u64]) -> Result<(), AllocError>
-    ensures kept { take (vec_len text.old) text.new.items ≡ text.old.items }
-{
+// Adds the line of the entry at a place.
+fn append_place(text: &mut Vec<u8>, place: usize, lines: &[u64]) -> Result<(), AllocError> {
     if place < lines.len() {
         append_number(text, b"line ", lines[place])
     } else {
@@ -146,18 +132,18 @@ fn append_place(text: &mut Vec<u8>, place: usize, lines: &[u64]) -> Result<(), A
     }
 }
 
-// Adds words and a key. On an error the text still begins with what it held.
-fn append_key(text: &mut Vec<u8>, words: &[u8], key: Key) -> Result<(), AllocError>
-    ensures kept { take (vec_len text.old) text.new.items ≡ text.old.items }
-{
+// Adds words and a key.
+fn append_key(text: &mut Vec<u8>, words: &[u8], key: Key) -> Result<(), AllocError> {
     append_number(text, words, key.table())?;
     append_number(text, b"/", key.id())
 }
 
-// Adds words and a number. On an error the text still begins with what it held.
-fn append_number<I: Integer>(text: &mut Vec<u8>, words: &[u8], number: I) -> Result<(), AllocError>
-    ensures kept { take (vec_len text.old) text.new.items ≡ text.old.items }
-{
+// Adds words and a number.
+fn append_number<I: Integer>(
+    text: &mut Vec<u8>,
+    words: &[u8],
+    number: I,
+) -> Result<(), AllocError> {
     text.extend_from_slice(words)?;
     text.extend_from_slice(Buffer::new().format(number).as_bytes())
 }

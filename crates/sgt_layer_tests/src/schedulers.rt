@@ -210,7 +210,6 @@ fn least_pred<R: Records, A: Accesses, G: Graph>(sched: &Sched<R, A, G>, t: Tid)
     sched.graph().least_pred(t)
 }
 
-/// Two live ones have looked at a record, and then the first stores in it.
 /// What is live, as text: the transactions, and how many they are.
 fn live<R: Records, A: Accesses, G: Graph>(
     alloc: Global,
