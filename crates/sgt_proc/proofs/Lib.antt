@@ -5,10 +5,9 @@ pub mod Caps
 pub mod AllFlaws
 pub mod Clean
 pub mod Sounds
-pub mod Lefts
-pub mod Executed
 pub mod Fews
 pub mod Followed
 pub mod PathTexts
 pub mod Stepped
 pub mod Moved
+pub mod Passed

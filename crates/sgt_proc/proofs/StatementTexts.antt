@@ -1,4 +1,4 @@
--- PassesStore statements and the text that they are.
+-- Stored statements and the text that they are.
 use Rattle.std.proofs.Common.{◌≡◌, refl, sym, ◌∙◌, ap, ℕ, suc, ◌+◌, ◌<◌, length, get_or, drop, add-one, drop-cons, List, [], ◌∷◌, ◌++◌}
 use Rattle.std.specs.declared.vec.Vec.{Vec}
 use Rattle.std.specs.declared.alloc.Global.{Global}
@@ -32,11 +32,6 @@ pub onto_last : (list : List Statement) (s : Statement) (rest : Way)
 onto_last [] s rest = refl
 onto_last (x ∷ xs) s rest = onto_before x (block_of (xs ++ s ∷ [])) rest
     ∙ (ap (onto (before x empty)) (onto_last xs s rest) ∙ sym (onto_before x (block_of xs) (onto (before s empty) rest)))
-
--- the ways on from place i of a list begin with the statement there
-pub onto_drop : (list : List Statement) (i : ℕ) (s : Statement) (rest : Way) → i < length list → s ≡ get_or list i s
-    → onto (block_of (drop i list)) rest ≡ onto (before s empty) (onto (block_of (drop (i + 1) list)) rest)
-onto_drop list i s rest h e = ap (λ b. onto b rest) (block_drop list i s h e) ∙ onto_before s (block_of (drop (i + 1) list)) rest
 
 -- an If is a fork, whose branches go on behind it
 pub onto_if : (c : Cond) (ys ns : Vec Statement Global) (rest : Way)

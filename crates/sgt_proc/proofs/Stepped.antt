@@ -1,5 +1,5 @@
 -- Steps from place to place.
-use Rattle.std.proofs.Common.{◌≡◌, refl, sym, ap, ◌∙◌, subst, ◌+◌, ◌<◌, ◌≤◌, ℤ, Bool, true, false, cond, List, [], ◌∷◌, ◌++◌, length, length-append, get_or, arith}
+use Rattle.std.proofs.Common.{◌≡◌, refl, sym, ap, ◌∙◌, subst, ◌+◌, ◌<◌, ◌≤◌, ℤ, Bool, true, false, cond, List, [], ◌∷◌, ◌++◌, length, length-append, get_or, Ok, arith}
 use Rattle.std.specs.declared.vec.Vec.{Vec}
 use Rattle.std.specs.declared.alloc.Global.{Global}
 use Rattle.sgt_model.specs.declared.procedure.Statement.{Statement}
@@ -7,8 +7,8 @@ use Rattle.sgt_model.specs.declared.procedure.Statement.TheVariants.{If}
 use Rattle.sgt_model.specs.declared.procedure.Cond.{Cond}
 use Rattle.sgt_model.specs.Syntax.{Test, Block, empty, choose}
 use Rattle.sgt_model.specs.Programs.{test_of, before, block_of}
-use Rattle.sgt_model.specs.Meaning.{holds, Registers, truth_of}
-use Rattle.sgt_model.specs.Left.{followed_by, reach}
+use Rattle.sgt_model.specs.Meaning.{Truth, holds, too_far, unknown, Registers, truth_of}
+use Rattle.sgt_model.specs.Left.{followed_by, choice_or_code, reach}
 use Rattle.sgt_model.proofs.Texts.{before_if}
 use Rattle.sgt_proc.specs.declared.place.Turn.{Turn}
 use Rattle.sgt_proc.specs.declared.place.Place.{Place}
@@ -23,6 +23,12 @@ both_followed : (a a' b b' : Block) → a ≡ a' → b ≡ b' → followed_by a 
 both_followed a a' b b' e f = ap (λ x. followed_by x b) e ∙ ap (followed_by a') f
 
 -- into a branch
+
+-- what an answer of the code says of a condition
+pub test_is : (h : Truth) (b : Bool) → Ok b ≡ choice_or_code h → h ≡ holds b
+test_is (holds v) b e = cc
+test_is too_far b e = cc
+test_is unknown b e = cc
 
 to_come_branch : (path : List Turn) (t : Turn) (b : Block) (test : Test) (ys ns rest : Block)
     → behind t.at (inner path b) ≡ choose test ys ns rest

@@ -1,5 +1,4 @@
 pub mod Nexts
-pub mod Execution
 pub mod Flaws
 pub mod NumberFlaws
 pub mod Dataflow

@@ -1,5 +1,4 @@
 -- What a procedure does next, as the code has it.
-use Rattle.std.specs.Prelude.{Result, Ok, Err}
 use Rattle.sgt_model.specs.Numbers.{IsValue}
 use Rattle.sgt_model.specs.Traces as trace
 use Rattle.sgt_proc.specs.declared.next.Next.{Next}
@@ -18,11 +17,6 @@ StoresValue (Look k) = Unit {0}
 StoresValue (Put k v) = IsValue v
 StoresValue (Ends answers) = Unit {0}
 StoresValue (Asks code) = Unit {0}
-
--- what comes next behind a result, or the error itself, which comes next
-abbrev pub or_next : {A : Type 0} → Result A Next → (A → trace.Next) → trace.Next
-or_next (Ok x) go = go x
-or_next (Err n) go = seen n
 
 -- an access is next
 abbrev pub IsAccess : Next → Type 0

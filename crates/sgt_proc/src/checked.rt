@@ -6,12 +6,10 @@ ghost use Rattle.sgt_proc.specs.Nexts.{seen, IsAccess, StoresValue};
 ghost use Rattle.sgt_proc.specs.Flaws.{IsFlawless, IsLeastFlaw};
 ghost use Rattle.sgt_proc.specs.Places.{IsIn, Stops, StopsAtValue};
 
-use crate::execute::execute_block;
 use crate::flaw::{Flaw, Flawed};
-use crate::interpreter::Interpreter;
 use crate::next::Next;
 use crate::place::{Place, Stop};
-use sgt_model::{Answers, Args, Procedure};
+use sgt_model::{Args, Procedure};
 use std::marker::Model;
 
 /// A procedure without a flaw.
@@ -75,21 +73,25 @@ impl Checked {
         ensures in_range { StoresValue result }
         ensures few { IsAccess result → Used (run_with self.now args.now) read.now made → made < 64 }
     {
-        let mut interpreter = Interpreter {
-            registers: [None; 16],
-            answers: Answers::new(),
-            used: 0,
-            left: made,
-        };
-        match execute_block(
-            &self.procedure.body,
-            args.as_slice(),
-            read,
-            &mut interpreter,
-        ) {
-            Ok(()) => Next::Ends(interpreter.answers),
-            Err(next) => next,
+        // Where a field is used it is known that the procedure has no flaw.
+        let _ = &self.procedure;
+        let mut cursor = self.begin(args);
+        let mut used = 0;
+        for _ in 0..made {
+            match cursor.next(self) {
+                Next::Look(key) => {
+                    if used == read.len() {
+                        return Next::Look(key);
+                    }
+                    cursor.looked(self, read[used]);
+                    used += 1;
+                }
+                Next::Put(..) => cursor.stored(self),
+                Next::Ends(answers) => return Next::Ends(answers),
+                Next::Asks(code) => return Next::Asks(code),
+            }
         }
+        cursor.next(self)
     }
 
     /// Goes on from a place in it to the next access, or to the end or a code.

@@ -14,7 +14,7 @@ use arrayvec::ArrayVec;
 use sgt_model::{Answers, Args, Expr, Key, Statement, is_value};
 
 /// An If that a place is in.
-#[derive(Clone, Copy, Debug, Default, PartialEq, Eq)]
+#[derive(Clone, Copy, Default)]
 pub struct Turn {
     /// Its place in its list.
     pub at: u8,
@@ -23,7 +23,7 @@ pub struct Turn {
 }
 
 /// Where a procedure has stopped: at an access, at its end or at a code.
-#[derive(Clone, Copy, Debug, PartialEq, Eq)]
+#[derive(Clone, Copy)]
 pub enum Stop {
     /// At a look, which sets the register, or asks the code where it finds no record.
     Look { key: Key, reg: u8, absent: u16 },

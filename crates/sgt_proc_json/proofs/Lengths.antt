@@ -1,9 +1,10 @@
--- Lists of another length than a row's, and errors.
-use Rattle.std.proofs.Common.{◌≡◌, ◌≢◌, refl, ◌∙◌, ◌<◌, ◌≤◌, ◌⊎◌, List, [], ◌∷◌, length, arith}
+-- Lists of a row's length and of another, and errors.
+use Rattle.std.proofs.Common.{◌≡◌, ◌≢◌, refl, ◌∙◌, ◌<◌, ◌≤◌, ◌⊎◌, List, [], ◌∷◌, length, get_or, arith}
 use Rattle.serde_json.specs.Data.{array}
-use Rattle.serde_json.specs.View.{items_view}
+use Rattle.serde_json.specs.Find.{as_str}
+use Rattle.serde_json.specs.View.{view, items_view}
 use Rattle.serde_json.specs.declared.value.Value.{Value}
-use Rattle.sgt_proc_json.specs.Readings.{Reading, here, expression, condition, statement, reading}
+use Rattle.sgt_proc_json.specs.Readings.{Reading, here, at, byte, arg_or_reg, expression, comparison, condition, statement, reading}
 use Rattle.sgt_proc_json.specs.Refusals.{Tells}
 use Rattle.sgt_proc_json.specs.declared.errors.ReadError.{ReadError}
 use Rattle.sgt_proc_json.specs.declared.errors.ReadError.TheVariants.{Shape}
@@ -44,3 +45,23 @@ no_procedure [] other = refl
 no_procedure (a ∷ []) other = refl
 no_procedure (a ∷ b ∷ []) other = absurd (other refl)
 no_procedure (a ∷ b ∷ c ∷ rest) other = refl
+
+-- lists of as many items as a row has
+
+-- an argument or a register
+pub two_are : (items : List Value) (w n : Value) → 2 ≤ length items → length items < 3 → w ≡ get_or items 0 w → n ≡ get_or items 1 n
+    → expression (array (items_view items)) ≡ arg_or_reg (as_str (view w)) (at 1 (byte (view n)))
+two_are [] w n most least is-w is-n = absurd (omega arith)
+two_are (x ∷ []) w n most least is-w is-n = absurd (omega arith)
+two_are (x ∷ y ∷ []) w n most least is-w is-n = rw (is-w, is-n) refl
+two_are (x ∷ y ∷ z ∷ items) w n most least is-w is-n = absurd (omega arith)
+
+-- a condition
+pub three_are : (items : List Value) (w a b : Value) → 3 ≤ length items → length items < 4 → w ≡ get_or items 0 w → a ≡ get_or items 1 a
+    → b ≡ get_or items 2 b
+    → condition (array (items_view items)) ≡ comparison (as_str (view w)) (at 1 (expression (view a))) (at 2 (expression (view b)))
+three_are [] w a b most least is-w is-a is-b = absurd (omega arith)
+three_are (x ∷ []) w a b most least is-w is-a is-b = absurd (omega arith)
+three_are (x ∷ y ∷ []) w a b most least is-w is-a is-b = absurd (omega arith)
+three_are (x ∷ y ∷ z ∷ []) w a b most least is-w is-a is-b = rw (is-w, is-a, is-b) refl
+three_are (x ∷ y ∷ z ∷ v ∷ items) w a b most least is-w is-a is-b = absurd (omega arith)

@@ -1,11 +1,11 @@
 -- Statements that are written one after another.
-use Rattle.std.proofs.Common.{◌≡◌, refl, ap, sym, ◌∙◌, subst, ℕ, ◌+◌, ◌<◌, length, get_or, take, List, [], ◌∷◌, ◌++◌}
+use Rattle.std.proofs.Common.{◌≡◌, refl, ap, sym, ◌∙◌, subst, ℕ, ◌+◌, ◌<◌, length, get_or, take, List, [], ◌∷◌, ◌++◌, Ok, Err, Result}
 use Rattle.std.proofs.lemmas.List.{take_more, map-append}
-use Rattle.std.specs.Prelude.{codes, map}
+use Rattle.std.specs.Prelude.{codes, map, IfOk}
 use Rattle.std.specs.declared.vec.Vec.{Vec}
 use Rattle.std.specs.declared.alloc.Global.{Global}
-use Rattle.serde_json.specs.Data.{Data, array, string, Items, no_items, item}
-use Rattle.serde_json.specs.View.{view, items_of, items_view}
+use Rattle.serde_json.specs.Data.{Data, Items, no_items, item}
+use Rattle.serde_json.specs.View.{view, items_of}
 use Rattle.serde_json.proofs.Views.{view-Array}
 use Rattle.serde_json.specs.declared.value.Value.{Value, Array}
 use Rattle.sgt_model.specs.declared.procedure.Cond.{Cond}
@@ -14,24 +14,27 @@ use Rattle.sgt_model.specs.declared.procedure.Statement.TheVariants.{If}
 use Rattle.sgt_model.specs.Syntax.{Block, empty, choose}
 use Rattle.sgt_model.specs.Programs.{test_of, before, block_of}
 use Rattle.sgt_model.proofs.Texts.{before_if}
-use Rattle.sgt_proc_json.specs.Spelling.{SpellsTest, Listed, SpellsBlock}
+use Rattle.sgt_proc_json.specs.Spelling.{WordAnd, SpellsTest, Listed, SpellsBlock}
 use Rattle.sgt_proc_json.proofs.StatementsRead.{onto_block, onto_last, onto_all}
 
 -- the tree of an If, in front of others
-pub if_spelled : (s : Statement) (test : Cond) (ys ns : Vec Statement Global) (row : Vec Value Global) (word first second third : Value)
-    → s ≡ If test ys ns → row.items ≡ word ∷ first ∷ second ∷ third ∷ [] → view word ≡ string (codes "if")
-    → SpellsTest (test_of test) (view first) → Listed (SpellsBlock (block_of ys.items)) (view second)
-    → Listed (SpellsBlock (block_of ns.items)) (view third)
-    → (b : Block) (items : Items) → SpellsBlock b items → SpellsBlock (before s b) (item (view (Array row)) items)
-if_spelled s test ys ns row word first second third is made says spelled spelled' spelled'' b items others =
-    let tree : view (Array row) ≡ array (item (string (codes "if")) (item (view first) (item (view second) (item (view third) no_items)))) =
-    view-Array row ∙ (ap (λ l. array (items_view l)) made
-    ∙ ap (λ w. array (item w (item (view first) (item (view second) (item (view third) no_items))))) says) in
+if_spelled : (s : Statement) (test : Cond) (ys ns : Vec Statement Global) (tree : Data) → s ≡ If test ys ns → WordAnd (codes "if")
+    (SpellsTest (test_of test) ∷ Listed (SpellsBlock (block_of ys.items)) ∷ Listed (SpellsBlock (block_of ns.items)) ∷ []) tree
+    → (b : Block) (items : Items) → SpellsBlock b items → SpellsBlock (before s b) (item tree items)
+if_spelled s test ys ns tree is spelled b items others =
     let text : before s b ≡ choose (test_of test) (block_of ys.items) (block_of ns.items) b = ap (λ x. before x b) is
     ∙ before_if test ys ns b in
-    subst (λ x. SpellsBlock x (item (view (Array row)) items)) (sym text)
-    (subst (λ d. SpellsBlock (choose (test_of test) (block_of ys.items) (block_of ns.items) b) (item d items)) (sym tree)
-    ((refl, (spelled, (spelled', (spelled'', tt)))), others))
+    subst (λ x. SpellsBlock x (item tree items)) (sym text) (spelled, others)
+
+-- if it was written
+pub if_written : {E : Type 0} (result : Result Value E) (s : Statement) (test : Cond) (ys ns : Vec Statement Global) (first second : Value)
+    → s ≡ If test ys ns → Listed (SpellsBlock (block_of ys.items)) (view first) → Listed (SpellsBlock (block_of ns.items)) (view second)
+    → IfOk result (λ v. (b c : Block) → Listed (SpellsBlock b) (view first) → Listed (SpellsBlock c) (view second)
+    → WordAnd (codes "if") (SpellsTest (test_of test) ∷ Listed (SpellsBlock b) ∷ Listed (SpellsBlock c) ∷ []) (view v))
+    → IfOk result (λ v. (b : Block) (items : Items) → SpellsBlock b items → SpellsBlock (before s b) (item (view v) items))
+if_written (Ok v) s test ys ns first second is spelled spelled' written =
+    if_spelled s test ys ns (view v) is (written (block_of ys.items) (block_of ns.items) spelled spelled')
+if_written (Err e) s test ys ns first second is spelled spelled' written = tt
 
 -- trees in front of items
 abbrev pub onto_items : List Data → Items → Items

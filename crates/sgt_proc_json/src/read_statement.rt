@@ -5,6 +5,7 @@ ghost use Rattle.serde_json.specs.View.{view, items_view};
 ghost use Rattle.sgt_model.specs.Programs.{before, block_of};
 ghost use Rattle.sgt_proc_json.specs.Readings.{at, statement, block, one_item, two_items, three_items, four_items};
 ghost use Rattle.sgt_proc_json.specs.Refusals.{Tells};
+ghost use Rattle.sgt_proc_json.specs.Rows.{ask_of, answer_of, let_of, put_of, look_of, find_of};
 
 use crate::errors::ReadError;
 use crate::read_cond::cond_at;
@@ -60,12 +61,8 @@ fn one_item(alloc: Global, word: &Value, a: &Value) -> Result<Statement, ReadErr
     ensures err { IfErr result (Tells (one_item (as_str (view word.now)) (view a.now))) }
 {
     match word.as_str() {
-        Some("ask") => Ok(Statement::Ask {
-            code: short_at(1, a)?,
-        }),
-        Some("answer") => Ok(Statement::Answer {
-            value: expr_at(alloc, 1, a)?,
-        }),
+        Some("ask") => ask_of(a),
+        Some("answer") => answer_of(alloc, a),
         _ => Err(ReadError::here()),
     }
 }
@@ -78,10 +75,7 @@ fn two_items(alloc: Global, word: &Value, a: &Value, b: &Value) -> Result<Statem
         (Tells (two_items (as_str (view word.now)) (view a.now) (view b.now))) }
 {
     match word.as_str() {
-        Some("let") => Ok(Statement::Let {
-            reg: byte_at(1, a)?,
-            value: expr_at(alloc, 2, b)?,
-        }),
+        Some("let") => let_of(alloc, a, b),
         _ => Err(ReadError::here()),
     }
 }
@@ -101,11 +95,7 @@ fn three_items(
         (three_items (as_str (view word.now)) (view a.now) (view b.now) (view c.now))) }
 {
     match word.as_str() {
-        Some("put") => Ok(Statement::Put {
-            table: byte_at(1, a)?,
-            id: expr_at(alloc, 2, b)?,
-            value: expr_at(alloc, 3, c)?,
-        }),
+        Some("put") => put_of(alloc, a, b, c),
         _ => Err(ReadError::here()),
     }
 }
@@ -126,20 +116,91 @@ fn four_items(
         (four_items (as_str (view word.now)) (view a.now) (view b.now) (view c.now) (view d.now))) }
 {
     match word.as_str() {
-        Some("look") => Ok(Statement::Look {
-            reg: byte_at(1, a)?,
-            table: byte_at(2, b)?,
-            id: expr_at(alloc, 3, c)?,
-            absent: short_at(4, d)?,
-        }),
-        Some("find") => Ok(Statement::Find {
-            reg: byte_at(1, a)?,
-            table: byte_at(2, b)?,
-            id: expr_at(alloc, 3, c)?,
-            absent: expr_at(alloc, 4, d)?,
-        }),
+        Some("look") => look_of(alloc, a, b, c, d),
+        Some("find") => find_of(alloc, a, b, c, d),
         _ => Err(ReadError::here()),
     }
+}
+
+/// The Ask that this item spells.
+fn ask_of(a: &Value) -> Result<Statement, ReadError>
+    ensures ok { IfOk result (λ s. ask_of (view a.now) ≡ Ok (before s)) }
+    ensures err { IfErr result (Tells (ask_of (view a.now))) }
+{
+    Ok(Statement::Ask {
+        code: short_at(1, a)?,
+    })
+}
+
+/// The Answer that this item spells.
+fn answer_of(alloc: Global, a: &Value) -> Result<Statement, ReadError>
+    ensures ok { IfOk result (λ s. answer_of (view a.now) ≡ Ok (before s)) }
+    ensures err { IfErr result (Tells (answer_of (view a.now))) }
+{
+    Ok(Statement::Answer {
+        value: expr_at(alloc, 1, a)?,
+    })
+}
+
+/// The Let that these items spell.
+fn let_of(alloc: Global, a: &Value, b: &Value) -> Result<Statement, ReadError>
+    ensures ok { IfOk result (λ s. let_of (view a.now) (view b.now) ≡ Ok (before s)) }
+    ensures err { IfErr result (Tells (let_of (view a.now) (view b.now))) }
+{
+    Ok(Statement::Let {
+        reg: byte_at(1, a)?,
+        value: expr_at(alloc, 2, b)?,
+    })
+}
+
+/// The Put that these items spell.
+fn put_of(alloc: Global, a: &Value, b: &Value, c: &Value) -> Result<Statement, ReadError>
+    ensures ok { IfOk result (λ s. put_of (view a.now) (view b.now) (view c.now) ≡ Ok (before s)) }
+    ensures err { IfErr result (Tells (put_of (view a.now) (view b.now) (view c.now))) }
+{
+    Ok(Statement::Put {
+        table: byte_at(1, a)?,
+        id: expr_at(alloc, 2, b)?,
+        value: expr_at(alloc, 3, c)?,
+    })
+}
+
+/// The Look that these items spell.
+fn look_of(
+    alloc: Global,
+    a: &Value,
+    b: &Value,
+    c: &Value,
+    d: &Value,
+) -> Result<Statement, ReadError>
+    ensures ok { IfOk result (λ s. look_of (view a.now) (view b.now) (view c.now) (view d.now) ≡ Ok (before s)) }
+    ensures err { IfErr result (Tells (look_of (view a.now) (view b.now) (view c.now) (view d.now))) }
+{
+    Ok(Statement::Look {
+        reg: byte_at(1, a)?,
+        table: byte_at(2, b)?,
+        id: expr_at(alloc, 3, c)?,
+        absent: short_at(4, d)?,
+    })
+}
+
+/// The Find that these items spell.
+fn find_of(
+    alloc: Global,
+    a: &Value,
+    b: &Value,
+    c: &Value,
+    d: &Value,
+) -> Result<Statement, ReadError>
+    ensures ok { IfOk result (λ s. find_of (view a.now) (view b.now) (view c.now) (view d.now) ≡ Ok (before s)) }
+    ensures err { IfErr result (Tells (find_of (view a.now) (view b.now) (view c.now) (view d.now))) }
+{
+    Ok(Statement::Find {
+        reg: byte_at(1, a)?,
+        table: byte_at(2, b)?,
+        id: expr_at(alloc, 3, c)?,
+        absent: expr_at(alloc, 4, d)?,
+    })
 }
 
 /// The statements that the item at this position of a list spells.

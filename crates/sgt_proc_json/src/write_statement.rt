@@ -2,14 +2,14 @@ ghost use Rattle.std.specs.Prelude.{[], ◌∷◌, codes, IfOk};
 ghost use Rattle.serde_json.specs.Data.{Items, item};
 ghost use Rattle.serde_json.specs.View.{view};
 ghost use Rattle.sgt_model.specs.Syntax.{Block};
-ghost use Rattle.sgt_model.specs.Programs.{term_of, before, block_of};
-ghost use Rattle.sgt_proc_json.specs.Spelling.{WordAnd, Byte, Short, SpellsTerm, Listed, SpellsBlock};
+ghost use Rattle.sgt_model.specs.Programs.{term_of, test_of, before, block_of};
+ghost use Rattle.sgt_proc_json.specs.Spelling.{WordAnd, Byte, Short, SpellsTerm, SpellsTest, Listed, SpellsBlock};
 
 use crate::write_cond::write_cond;
 use crate::write_expr::write_expr;
 use crate::write_number::{write_byte, write_short};
 use serde_json::Value;
-use sgt_model::{Expr, NoMemory, Statement};
+use sgt_model::{Cond, Expr, NoMemory, Statement};
 use std::alloc::Global;
 
 /// The tree of a statement.
@@ -31,31 +31,15 @@ fn write_statement(alloc: Global, statement: &Statement) -> Result<Value, NoMemo
             id,
             absent,
         } => write_find(alloc, *reg, *table, id, absent),
-        Statement::Put { table, id, value } => Ok(Value::Array(vec![in alloc;
-            Value::try_from_str(alloc, "put")?,
-            write_byte(*table),
-            write_expr(alloc, id)?,
-            write_expr(alloc, value)?,
-        ]?)),
-        Statement::Let { reg, value } => Ok(Value::Array(vec![in alloc;
-            Value::try_from_str(alloc, "let")?,
-            write_byte(*reg),
-            write_expr(alloc, value)?,
-        ]?)),
-        Statement::Ask { code } => Ok(Value::Array(vec![in alloc;
-            Value::try_from_str(alloc, "ask")?,
-            write_short(*code),
-        ]?)),
-        Statement::If { cond, yes, no } => Ok(Value::Array(vec![in alloc;
-            Value::try_from_str(alloc, "if")?,
-            write_cond(alloc, cond)?,
-            write_block(alloc, yes)?,
-            write_block(alloc, no)?,
-        ]?)),
-        Statement::Answer { value } => Ok(Value::Array(vec![in alloc;
-            Value::try_from_str(alloc, "answer")?,
-            write_expr(alloc, value)?,
-        ]?)),
+        Statement::Put { table, id, value } => write_put(alloc, *table, id, value),
+        Statement::Let { reg, value } => write_let(alloc, *reg, value),
+        Statement::Ask { code } => write_ask(alloc, *code),
+        Statement::If { cond, yes, no } => {
+            let yes = write_block(alloc, yes)?;
+            let no = write_block(alloc, no)?;
+            write_if(alloc, cond, yes, no)
+        }
+        Statement::Answer { value } => write_answer(alloc, value),
     }
 }
 
@@ -90,6 +74,58 @@ fn write_find(
         write_byte(table),
         write_expr(alloc, id)?,
         write_expr(alloc, absent)?,
+    ]?))
+}
+
+/// The tree of a put.
+fn write_put(alloc: Global, table: u8, id: &Expr, value: &Expr) -> Result<Value, NoMemory>
+    ensures { IfOk result (λ v. WordAnd (codes "put")
+        (Byte table ∷ SpellsTerm (term_of id.now) ∷ SpellsTerm (term_of value.now) ∷ []) (view v)) }
+{
+    Ok(Value::Array(vec![in alloc;
+        Value::try_from_str(alloc, "put")?,
+        write_byte(table),
+        write_expr(alloc, id)?,
+        write_expr(alloc, value)?,
+    ]?))
+}
+
+/// The tree of a Let.
+fn write_let(alloc: Global, reg: u8, value: &Expr) -> Result<Value, NoMemory>
+    ensures { IfOk result (λ v. WordAnd (codes "let")
+        (Byte reg ∷ SpellsTerm (term_of value.now) ∷ []) (view v)) }
+{
+    Ok(Value::Array(vec![in alloc;
+        Value::try_from_str(alloc, "let")?,
+        write_byte(reg),
+        write_expr(alloc, value)?,
+    ]?))
+}
+
+/// The tree of an Ask.
+fn write_ask(alloc: Global, code: u16) -> Result<Value, NoMemory>
+    ensures { IfOk result (λ v. WordAnd (codes "ask") (Short code ∷ []) (view v)) }
+{
+    Ok(Value::Array(vec![in alloc; Value::try_from_str(alloc, "ask")?, write_short(code)]?))
+}
+
+/// The tree of an If with these branches.
+fn write_if(alloc: Global, cond: &Cond, yes: Value, no: Value) -> Result<Value, NoMemory>
+    ensures { IfOk result (λ v. (ys ns : Block) →
+        Listed (SpellsBlock ys) (view yes) → Listed (SpellsBlock ns) (view no) →
+        WordAnd (codes "if") (SpellsTest (test_of cond.now) ∷ Listed (SpellsBlock ys) ∷ Listed (SpellsBlock ns) ∷ []) (view v)) }
+{
+    let cond = write_cond(alloc, cond)?;
+    Ok(Value::Array(vec![in alloc; Value::try_from_str(alloc, "if")?, cond, yes, no]?))
+}
+
+/// The tree of an answer.
+fn write_answer(alloc: Global, value: &Expr) -> Result<Value, NoMemory>
+    ensures { IfOk result (λ v. WordAnd (codes "answer") (SpellsTerm (term_of value.now) ∷ []) (view v)) }
+{
+    Ok(Value::Array(vec![in alloc;
+        Value::try_from_str(alloc, "answer")?,
+        write_expr(alloc, value)?,
     ]?))
 }
 

@@ -1,5 +1,5 @@
 use Rattle.std.proofs.Common.{rules}
-use Rattle.sgt_proc_json.proofs.Lengths.{told_here, no_condition}
+use Rattle.sgt_proc_json.proofs.Lengths.{told_here, no_condition, three_are}
 use Rattle.sgt_proc_json.proofs.read_cond.read_row.Goals as goal
 use Rattle.sgt_proc_json.proofs.read_cond.read_row.Goals.{in_default-via-then-items-lt3, in_default-via-else-items-lt3+else-items-lt4}
 
@@ -9,3 +9,11 @@ returns-in_default-clause-err c =
       | in_default-via-then-items-lt3 w ↦ told_here _ _ c.here.ensures (no_condition c.args.items.now (search rules))
       | in_default-via-else-items-lt3+else-items-lt4 w ↦ told_here _ _ c.here.ensures (no_condition c.args.items.now (search rules))
     ]
+
+pub returns-in-len3-clause-ok : goal.returns-in-len3-clause-ok
+returns-in-len3-clause-ok c =
+    rw (three_are c.args.items.now _ _ _ (search rules) (search rules) c.word-item.is c.a-item.is c.b-item.is) c.comparison.ensures.ok
+
+pub returns-in-len3-clause-err : goal.returns-in-len3-clause-err
+returns-in-len3-clause-err c =
+    rw (three_are c.args.items.now _ _ _ (search rules) (search rules) c.word-item.is c.a-item.is c.b-item.is) c.comparison.ensures.err

@@ -1,7 +1,7 @@
 use Rattle.std.proofs.Common.{rules}
 use Rattle.sgt_proc_json.proofs.read_expr.+expression.Goals as goal
 use Rattle.sgt_proc_json.proofs.read_expr.+expression.Goals.{read_row-in_default-via-then-items-lt2, read_row-in_default-via-else-items-lt2+else-items-lt3+else-items-lt4}
-use Rattle.sgt_proc_json.proofs.Lengths.{told_here, no_expression}
+use Rattle.sgt_proc_json.proofs.Lengths.{told_here, no_expression, two_are}
 
 pub read_row-returns-in_default-clause-err : goal.read_row-returns-in_default-clause-err
 read_row-returns-in_default-clause-err t c =
@@ -11,3 +11,11 @@ read_row-returns-in_default-clause-err t c =
       | read_row-in_default-via-else-items-lt2+else-items-lt3+else-items-lt4 w ↦
           told_here _ _ c.here-in_default.ensures (no_expression c.args.items.now (search rules) (search rules))
     ]
+
+pub read_row-returns-in-len2-clause-ok : goal.read_row-returns-in-len2-clause-ok
+read_row-returns-in-len2-clause-ok t c =
+    rw (two_are c.args.items.now _ _ (search rules) (search rules) c.word-item.is c.n-item.is) c.arg_or_reg.ensures.ok
+
+pub read_row-returns-in-len2-clause-err : goal.read_row-returns-in-len2-clause-err
+read_row-returns-in-len2-clause-err t c =
+    rw (two_are c.args.items.now _ _ (search rules) (search rules) c.word-item.is c.n-item.is) c.arg_or_reg.ensures.err

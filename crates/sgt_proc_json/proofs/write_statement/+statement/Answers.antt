@@ -1,13 +1,12 @@
 use Rattle.std.proofs.Common.{rules, subst}
 use Rattle.std.proofs.lemmas.List.{take_all}
-use Rattle.sgt_proc_json.proofs.Written.{Written, if_spelled, written_more, written_all}
+use Rattle.sgt_proc_json.proofs.Written.{Written, if_written, written_more, written_all}
 use Rattle.sgt_proc_json.proofs.write_statement.+statement.Goals as goal
 
-pub write_statement-returns-in_ok-vec-in-If : goal.write_statement-returns-in_ok-vec-in-If
-write_statement-returns-in_ok-vec-in-If t c =
-    if_spelled c.args.statement.now c.in-If.cond c.in-If.yes c.in-If.no c.in_ok-vec-in-If.field-0 c.in_ok-try_from_str-in-If.field-0
-    c.in_ok-write_cond-in-If.field-0 c.in_ok-write_block-in-If.field-0 c.in_ok-write_block-in-If-2.field-0
-    c.in-If.is (search rules) (search rules) c.in_ok-write_cond-in-If.ensures (search rules) (search rules)
+pub write_statement-returns-in_ok-no-in-If : goal.write_statement-returns-in_ok-no-in-If
+write_statement-returns-in_ok-no-in-If t c =
+    if_written c.write_if.result c.args.statement.now c.in-If.cond c.in-If.yes c.in-If.no c.in_ok-yes-in-If.yes c.in_ok-no-in-If.no
+    c.in-If.is (search rules) (search rules) c.write_if.ensures
 
 pub write_block-loop-statement-preserved : goal.write_block-loop-statement-preserved
 write_block-loop-statement-preserved t c =

@@ -1,6 +1,5 @@
 use Rattle.std.proofs.Common.{rules, refl}
-use Rattle.sgt_proc.proofs.Executed.{test_is}
-use Rattle.sgt_proc.proofs.Stepped.{if_step}
+use Rattle.sgt_proc.proofs.Stepped.{test_is, if_step}
 use Rattle.sgt_proc.proofs.place.Place.step.Goals as goal
 
 pub returns-in_ok-held-in-If-clause-steps : goal.returns-in_ok-held-in-If-clause-steps

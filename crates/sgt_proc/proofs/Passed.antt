@@ -1,0 +1,155 @@
+-- What comes next in a trace, behind the accesses that a cursor has passed.
+use Rattle.std.specs.Prelude.{◌≡◌, ℕ, zero, suc, ◌+◌, ◌<◌, ◌≤◌, ℤ, List, [], ◌∷◌, ◌++◌, length, take, drop, get_or, Option}
+use Rattle.std.proofs.Common.{refl, sym, ap, ◌∙◌, subst, arith}
+use Rattle.std.proofs.lemmas.List.{take-append-drop, take_more, drop_all}
+use Rattle.sgt_model.specs.Contents.{Key}
+use Rattle.sgt_model.specs.Syntax.{Program}
+use Rattle.sgt_model.specs.Runs.{Run, looks, puts, ends, asks}
+use Rattle.sgt_model.specs.Meaning.{run_with}
+use Rattle.sgt_model.specs.Traces.{Used, Next, Looks, Puts, Ends, Asks, trace, next_at}
+use Rattle.sgt_model.specs.Left.{Left, left, next_left, after_look, after_store}
+use Rattle.sgt_model.proofs.LeftRuns.{next_is_of_left, left_after_look, left_after_store}
+
+-- one more access
+
+used_look : (r : Run) (vs : List (Option ℤ)) (made : ℕ) (k : Key) (found : Option ℤ) → Used r vs made
+    → next_at (trace r vs) made ≡ Looks k → Used r (vs ++ found ∷ []) (suc made)
+used_look (looks k go) [] zero q found used next = tt
+used_look (looks k go) (v ∷ vs) zero q found used next = absurd used
+used_look (looks k go) [] (suc made) q found used next = absurd used
+used_look (looks k go) (v ∷ vs) (suc made) q found used next = used_look (go v) vs made q found used next
+used_look (puts k w rest) [] zero q found used next = cc
+used_look (puts k w rest) (v ∷ vs) zero q found used next = absurd used
+used_look (puts k w rest) vs (suc made) q found used next = used_look rest vs made q found used next
+used_look (ends answers) [] zero q found used next = cc
+used_look (ends answers) (v ∷ vs) zero q found used next = absurd used
+used_look (ends answers) vs (suc made) q found used next = absurd used
+used_look (asks code) [] zero q found used next = cc
+used_look (asks code) (v ∷ vs) zero q found used next = absurd used
+used_look (asks code) vs (suc made) q found used next = absurd used
+
+used_store : (r : Run) (vs : List (Option ℤ)) (made : ℕ) (k : Key) (x : ℤ) → Used r vs made
+    → next_at (trace r vs) made ≡ Puts k x → Used r vs (suc made)
+used_store (looks k go) [] zero q x used next = cc
+used_store (looks k go) (v ∷ vs) zero q x used next = absurd used
+used_store (looks k go) [] (suc made) q x used next = absurd used
+used_store (looks k go) (v ∷ vs) (suc made) q x used next = used_store (go v) vs made q x used next
+used_store (puts k w rest) [] zero q x used next = tt
+used_store (puts k w rest) (v ∷ vs) zero q x used next = absurd used
+used_store (puts k w rest) vs (suc made) q x used next = used_store rest vs made q x used next
+used_store (ends answers) [] zero q x used next = cc
+used_store (ends answers) (v ∷ vs) zero q x used next = absurd used
+used_store (ends answers) vs (suc made) q x used next = absurd used
+used_store (asks code) [] zero q x used next = cc
+used_store (asks code) (v ∷ vs) zero q x used next = absurd used
+used_store (asks code) vs (suc made) q x used next = absurd used
+
+-- where the values run on, what comes next is the same
+
+next_more : (r : Run) (vs more : List (Option ℤ)) (made : ℕ) → Used r vs made
+    → next_at (trace r (vs ++ more)) made ≡ next_at (trace r vs) made
+next_more (looks k go) [] [] zero used = refl
+next_more (looks k go) [] (m ∷ more) zero used = refl
+next_more (looks k go) (v ∷ vs) more zero used = absurd used
+next_more (looks k go) [] more (suc made) used = absurd used
+next_more (looks k go) (v ∷ vs) more (suc made) used = next_more (go v) vs more made used
+next_more (puts k w rest) vs more zero used = refl
+next_more (puts k w rest) vs more (suc made) used = next_more rest vs more made used
+next_more (ends answers) vs more zero used = refl
+next_more (ends answers) vs more (suc made) used = absurd used
+next_more (asks code) vs more zero used = refl
+next_more (asks code) vs more (suc made) used = absurd used
+
+-- and it stays so where no access can be made: at the end, at a code, and at a look for which no value is left
+
+abbrev pub Stays : List (Option ℤ) → Next → Type 0
+Stays more (Looks k) = more ≡ []
+Stays more (Puts k x) = ⊥
+Stays more (Ends answers) = Unit {0}
+Stays more (Asks code) = Unit {0}
+
+next_stays : (r : Run) (vs more : List (Option ℤ)) (made later : ℕ) → Used r vs made → Stays more (next_at (trace r vs) made) → made ≤ later
+    → next_at (trace r (vs ++ more)) later ≡ next_at (trace r vs) made
+next_stays (looks k go) [] [] zero zero used stays within = refl
+next_stays (looks k go) [] [] zero (suc later) used stays within = refl
+next_stays (looks k go) [] (m ∷ more) zero later used stays within = cc
+next_stays (looks k go) (v ∷ vs) more zero later used stays within = absurd used
+next_stays (looks k go) [] more (suc made) later used stays within = absurd used
+next_stays (looks k go) (v ∷ vs) more (suc made) zero used stays within = absurd (omega arith)
+next_stays (looks k go) (v ∷ vs) more (suc made) (suc later) used stays within =
+    next_stays (go v) vs more made later used stays (omega arith)
+next_stays (puts k w rest) [] more zero later used stays within = absurd stays
+next_stays (puts k w rest) (v ∷ vs) more zero later used stays within = absurd used
+next_stays (puts k w rest) vs more (suc made) zero used stays within = absurd (omega arith)
+next_stays (puts k w rest) vs more (suc made) (suc later) used stays within =
+    next_stays rest vs more made later used stays (omega arith)
+next_stays (ends answers) vs more zero zero used stays within = refl
+next_stays (ends answers) vs more zero (suc later) used stays within = refl
+next_stays (ends answers) vs more (suc made) later used stays within = absurd used
+next_stays (asks code) vs more zero zero used stays within = refl
+next_stays (asks code) vs more zero (suc later) used stays within = refl
+next_stays (asks code) vs more (suc made) later used stays within = absurd used
+
+-- a cursor has passed so many accesses, of which the looks found so many of the values
+pub record HasPassed (p : Program) (args : List ℤ) (read : List (Option ℤ)) (used made : ℕ) (w : Program × Left) : Type 0 where
+  pub few : used ≤ length read
+  pub done : Used (run_with p args) (take used read) made
+  pub same : w ≡ (p, left p args (take used read) made)
+
+module _ (p : Program) (args : List ℤ) (read : List (Option ℤ)) (used made : ℕ) (w : Program × Left)
+    (passed : HasPassed p args read used made w) where
+  left_next : (n : Next) → n ≡ next_left w.1 → next_left (left p args (take used read) made) ≡ n
+  left_next n told = ap (λ (v : Program × Left). next_left v.1) (sym passed.same) ∙ sym told
+
+  trace_next : (n : Next) → n ≡ next_left w.1 → next_at (trace (run_with p args) (take used read)) made ≡ n
+  trace_next n told = sym (next_is_of_left p args (take used read) made passed.done) ∙ left_next n told
+
+  one : suc made ≡ made + 1
+  one = omega arith
+
+  -- one more look
+  pub look_passed : (k : Key) (other : Option ℤ) → Looks k ≡ next_left w.1 → used < length read
+      → HasPassed p args read (used + 1) (made + 1) (w.0, after_look (get_or read used other) w.1)
+  look_passed k other told within = record {
+    few = omega (arith, within);
+    done = subst (λ vs. Used (run_with p args) vs (made + 1)) (sym more) (subst (Used (run_with p args) (take used read ++ found ∷ [])) one
+        (used_look (run_with p args) (take used read) made k found passed.done (trace_next (Looks k) told)));
+    same = ap (λ (v : Program × Left). (v.0, after_look found v.1)) passed.same
+        ∙ ap (λ l. (p, l)) (sym (left_after_look p args (take used read) made passed.done k found (left_next (Looks k) told))
+        ∙ ap (λ vs. left p args vs (made + 1)) (sym more));
+  } where
+    found : Option ℤ
+    found = get_or read used other
+
+    more : take (used + 1) read ≡ take used read ++ found ∷ []
+    more = take_more read used other within
+
+  -- one more store
+  pub store_passed : (k : Key) (x : ℤ) → Puts k x ≡ next_left w.1 → HasPassed p args read used (made + 1) (w.0, after_store w.1)
+  store_passed k x told = record {
+    few = passed.few;
+    done = subst (Used (run_with p args) (take used read)) one
+        (used_store (run_with p args) (take used read) made k x passed.done (trace_next (Puts k x) told));
+    same = ap (λ (v : Program × Left). (v.0, after_store v.1)) passed.same
+        ∙ ap (λ l. (p, l)) (sym (left_after_store p args (take used read) made passed.done k x (left_next (Puts k x) told)));
+  }
+
+  whole : take used read ++ drop used read ≡ read
+  whole = take-append-drop used read
+
+  -- all are passed
+  pub next_behind : (n : Next) → n ≡ next_left w.1 → n ≡ next_at (trace (run_with p args) read) made
+  next_behind n told = sym (ap (λ vs. next_at (trace (run_with p args) vs) made) (sym whole)
+      ∙ (next_more (run_with p args) (take used read) (drop used read) made passed.done ∙ trace_next n told))
+
+  -- no more can be passed
+  pub next_stays_on : (n : Next) (later : ℕ) → n ≡ next_left w.1 → Stays (drop used read) n → made ≤ later
+      → n ≡ next_at (trace (run_with p args) read) later
+  next_stays_on n later told stays within = sym (ap (λ vs. next_at (trace (run_with p args) vs) later) (sym whole)
+      ∙ (next_stays (run_with p args) (take used read) (drop used read) made later passed.done
+      (subst (Stays (drop used read)) (sym (trace_next n told)) stays) within ∙ trace_next n told))
+
+  -- the look for which no value is left
+  pub look_stays : (k : Key) (later : ℕ) → Looks k ≡ next_left w.1 → length read ≤ used → made ≤ later
+      → Looks k ≡ next_at (trace (run_with p args) read) later
+  look_stays k later told none within = next_stays_on (Looks k) later told (drop_all used read none) within

@@ -1,0 +1,30 @@
+-- What the items behind a statement's word spell.
+use Rattle.serde_json.specs.Data.{Data}
+use Rattle.sgt_model.specs.Syntax.{Block, look, find, put, save, ask, answer}
+use Rattle.sgt_proc_json.specs.Readings.{Reading, at, one, two, three, four, byte, short, expression}
+
+-- behind `ask`
+abbrev pub ask_of : Data → Reading (Block → Block)
+ask_of a = one (λ code rest. ask code rest) (at 1 (short a))
+
+-- behind `answer`
+abbrev pub answer_of : Data → Reading (Block → Block)
+answer_of a = one (λ value rest. answer value rest) (at 1 (expression a))
+
+-- behind `let`
+abbrev pub let_of : Data → Data → Reading (Block → Block)
+let_of a b = two (λ to value rest. save to value rest) (at 1 (byte a)) (at 2 (expression b))
+
+-- behind `put`
+abbrev pub put_of : Data → Data → Data → Reading (Block → Block)
+put_of a b c = three (λ table id value rest. put table id value rest) (at 1 (byte a)) (at 2 (expression b)) (at 3 (expression c))
+
+-- behind `look`
+abbrev pub look_of : Data → Data → Data → Data → Reading (Block → Block)
+look_of a b c d =
+    four (λ to table id absent rest. look to table id absent rest) (at 1 (byte a)) (at 2 (byte b)) (at 3 (expression c)) (at 4 (short d))
+
+-- behind `find`
+abbrev pub find_of : Data → Data → Data → Data → Reading (Block → Block)
+find_of a b c d =
+    four (λ to table id absent rest. find to table id absent rest) (at 1 (byte a)) (at 2 (byte b)) (at 3 (expression c)) (at 4 (expression d))
