@@ -14,7 +14,7 @@ use Rattle.sgt_model.specs.Traces.{Next}
 use Rattle.sgt_model.specs.Settings.{Rules}
 use Rattle.sgt_model.specs.Left.{next_left}
 use Rattle.sgt_model.specs.State.{State}
-use Rattle.sgt_model.specs.CallEffects.{IfOpen, StepOn, StepEffect, CallEffect}
+use Rattle.sgt_model.specs.CallEffects.{IfOpen, StepOn, StepEffect, CommitOn, CommitEffect, CallEffect}
 use Rattle.sgt_model.specs.declared.reply.Cause.{Cause}
 use Rattle.sgt_model.specs.declared.reply.Reply.TheVariants as reply
 use Rattle.sgt_sched.specs.declared.brief.Brief.{Brief}
@@ -35,6 +35,13 @@ pub steps_on : (asks : When) (t : ℕ) (before : State) (r : Reply) (after : Sta
     → n ≡ next_left (before.left t) → StepOn asks t n before r after → StepEffect asks t before r after
 steps_on asks t before r after n begun none next done = if_unended _ _ before r after _ begun none
     (subst (λ m. StepOn asks t m before r after) next done)
+
+-- a commit, by what comes next
+pub commits_on : (asks : When) (t : ℕ) (before : State) (r : Reply) (after : State) (n : Next) → nat_lt t before.starts ≡ true
+    → before.fates t ≡ None
+    → n ≡ next_left (before.left t) → CommitOn asks t n before r after → CommitEffect asks t before r after
+commits_on asks t before r after n begun none next done = if_unended _ _ before r after _ begun none
+    (subst (λ m. CommitOn asks t m before r after) next done)
 
 -- what is told in short, of a call that does more
 pub in_brief : {effect more : State → Reply → State → Type 0} {out : Reply} {before after : State} {b : Brief}
