@@ -85,6 +85,18 @@ pub rivals_seen : {R A G : Type 0} (list : A → List ListedAccess) (before now 
 rivals_seen list before now seen t k kind rivals exact = subst
     (λ p. (u : ℕ) → Member u rivals ↔ ((u ≢ t) × (lists_conflicting (list p.accesses) u k kind ≡ true))) seen exact
 
+-- where no other has a conflicting access, the rivals are none, and no walk leads to one
+pub no_rivals : (list : List ListedAccess) (t : ℕ) (k : Key) (kind : Kind) (rivals : List ℕ) → rivals ≡ []
+    → ((u : ℕ) × (u ≢ t) × (lists_conflicting list u k kind ≡ true) → ⊥) → (u : ℕ)
+    → Member u rivals ↔ ((u ≢ t) × (lists_conflicting list u k kind ≡ true))
+no_rivals list t k kind rivals none alone u = (
+  (λ m. absurd (subst (Member u) none m)),
+  (λ r. absurd (alone (u, r.0, r.1))),
+)
+
+pub no_walk : (test : ℕ → ℕ → Bool) (t : ℕ) (rivals : List ℕ) → rivals ≡ [] → NoWalk test t rivals
+no_walk test t rivals none rest w = absurd (subst (Member (last_of t rest)) none w.ends)
+
 module _ {R A G : Type 0} {chain : R → Key → List (ℕ × ℤ)} {settled : R → Key → Option ℤ} {list : A → List ListedAccess}
     {nodes : G → ℕ → Bool} {pairs : G → ℕ → ℕ → Bool} {before : SchedulerView R A G}
     (kept : IsKept chain settled list nodes pairs before) where

@@ -1,5 +1,8 @@
 -- Which replies end a live transaction, and how many are live afterwards.
 use Rattle.std.proofs.Common.{◌≡◌, ℕ, ◌+◌, ◌≤◌, arith, Bool, true, false, not, ◌||◌, cond, nat_eq, nat_lt, inl, inr, List, [], ◌∷◌, length, filter, Option, Some, None, refl, sym, ap, ◌∙◌, subst}
+use Rattle.std.specs.Prelude.{◌↔◌, IsTrue, IfSome, IsNone}
+use Rattle.std.specs.Option.{is_some}
+use Rattle.sgt_graph.specs.Graphs.{IsLeastPred}
 use Rattle.std.specs.List.{list_any}
 use Rattle.std.proofs.lemmas.Bool.{true≢false, eq-eqb}
 use Rattle.std.proofs.lemmas.List.{length-append}
@@ -97,6 +100,42 @@ replies_agree rules (Commit t) c r after x = open_agrees t c r after _ (CommitEn
 replies_agree rules (Quit t) c r after x =
     let a = open_agrees t c r after _ (Unit {0}) (λ y. loud r _ _ (y.reply) refl tt) (nat_lt t c.starts) (c.fates t) refl refl x in
     ((λ u. a.0 (u, tt)), (λ none. a.1 (λ u. none u.0)))
+
+-- a test of whether an event ends a live transaction, of an event that is this one: it tells the reply
+pub ends_by : (rules : Rules) (event is : Event) → event ≡ is → (c : State) (b : Bool) → IsTrue b ↔ EndsOne rules.limits.asks is c
+    → (IsTrue b ↔ EndsOne rules.limits.asks event c)
+    × ((r : Reply) (after : State) → CallEffect rules event c r after → is_ending r ≡ b)
+ends_by rules event is same c b exact = let here = subst (λ e. IsTrue b ↔ EndsOne rules.limits.asks e c) (sym same) exact in
+    (here, λ r after x. told r b here (replies_agree rules event c r after x)) where
+      told : {X : Type 0} (r : Reply) (d : Bool) → IsTrue d ↔ X → EndsWhere r X → is_ending r ≡ d
+      told r true tests agree = agree.0 (tests.0 refl)
+      told r false tests agree = agree.1 (λ x. true≢false (sym (tests.1 x)))
+
+-- a test that is false, where nothing ends one
+pub never : {X : Type 0} → (X → ⊥) → IsTrue false ↔ X
+never none = ((λ e. absurd (true≢false (sym e))), (λ x. absurd (none x)))
+
+-- a test of whether a step, or a commit, ends a live transaction, by what its procedure does next
+module _ (asks : When) (t : ℕ) (c : State) (n : Next) (next : n ≡ next_left (c.left t)) (live : IsUnended c t) (b : Bool) where
+  pub step_ends_by : IsTrue b ↔ StepEnds asks t n c → IsTrue b ↔ EndsOne asks (Step t) c
+  step_ends_by exact = (
+    (λ e. (live, subst (λ m. StepEnds asks t m c) next (exact.0 e))),
+    (λ x. exact.1 (subst (λ m. StepEnds asks t m c) (sym next) x.1)),
+  )
+
+  pub commit_ends_by : IsTrue b ↔ CommitEnds asks t n c → IsTrue b ↔ EndsOne asks (Commit t) c
+  commit_ends_by exact = (
+    (λ e. (live, subst (λ m. CommitEnds asks t m c) next (exact.0 e))),
+    (λ x. exact.1 (subst (λ m. CommitEnds asks t m c) (sym next) x.1)),
+  )
+
+-- t has no predecessor exactly where it has no least one
+pub first_by : (t : ℕ) (c : State) (o : Option ℕ) (none : Bool) → is_some o ≡ not none → IfSome o (λ u. IsLeastPred c.pairs t u)
+    → (IsNone o → (u : ℕ) → c.pairs u t ≡ false) → IsTrue none ↔ IsFirst t c
+first_by t c None true e waits free = ((λ h u p. true≢false (sym p ∙ free refl u)), (λ first. refl))
+first_by t c None false e waits free = absurd (true≢false (sym e))
+first_by t c (Some u) true e waits free = absurd (true≢false e)
+first_by t c (Some u) false e waits free = never (λ first. first u waits.pair)
 
 same_count : (r answer : Reply) (before after : State) → r ≡ answer → is_ending answer ≡ false → after.live ≡ before.live
     → Counts r before after

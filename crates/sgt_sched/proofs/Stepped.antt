@@ -1,5 +1,11 @@
 -- The effect of a call on a live transaction.
-use Rattle.std.proofs.Common.{◌≡◌, ℕ, Bool, true, nat_lt, Option, None, sym, subst}
+use Rattle.std.proofs.Common.{◌≡◌, ℕ, Bool, true, nat_lt, List, Option, None, Result, Ok, Err, sym, subst}
+use Rattle.std.specs.Prelude.{OnErr}
+use Rattle.std.proofs.lemmas.Result.{IfOk-weaker}
+use Rattle.sgt_records.specs.declared.records.Records.{Ghosts as RecordsGhosts}
+use Rattle.sgt_access.specs.declared.accesses.Accesses.{Ghosts as AccessesGhosts}
+use Rattle.sgt_graph.specs.declared.graph.Graph.{Ghosts as GraphGhosts}
+use Rattle.sgt_model.specs.declared.errors.NoMemory.{NoMemory}
 use Rattle.sgt_model.specs.declared.limits.Asks.{Asks as When}
 use Rattle.sgt_model.specs.declared.event.Event.{Event}
 use Rattle.sgt_model.specs.declared.reply.Fate.{Fate}
@@ -8,9 +14,14 @@ use Rattle.sgt_model.specs.Traces.{Next}
 use Rattle.sgt_model.specs.Settings.{Rules}
 use Rattle.sgt_model.specs.Left.{next_left}
 use Rattle.sgt_model.specs.State.{State}
-use Rattle.sgt_model.specs.CallEffects.{IfOpen, StepOn, StepEffect, CallEffect}
+use Rattle.sgt_model.specs.CallEffects.{IfOpen, StepOn, StepEffect, CommitOn, CommitEffect, CallEffect}
+use Rattle.sgt_model.specs.declared.reply.Cause.{Cause}
+use Rattle.sgt_model.specs.declared.reply.Reply.TheVariants as reply
 use Rattle.sgt_sched.specs.declared.brief.Brief.{Brief}
-use Rattle.sgt_sched.specs.Briefs.{in_full, InBrief}
+use Rattle.sgt_sched.specs.declared.brief.Brief.TheVariants as brief
+use Rattle.sgt_sched.specs.declared.sched.Sched.{Sched}
+use Rattle.sgt_sched.specs.Briefs.{in_full, InBrief, Unplaced}
+use Rattle.sgt_sched.specs.Scheduler.{Tries}
 
 -- what is done to one that was started and has not ended
 pub if_unended : (b : Bool) (ended : Option Fate) (before : State) (r : Reply) (after : State) (X : Type 0) → b ≡ true → ended ≡ None → X
@@ -25,11 +36,50 @@ pub steps_on : (asks : When) (t : ℕ) (before : State) (r : Reply) (after : Sta
 steps_on asks t before r after n begun none next done = if_unended _ _ before r after _ begun none
     (subst (λ m. StepOn asks t m before r after) next done)
 
+-- a commit, by what comes next
+pub commits_on : (asks : When) (t : ℕ) (before : State) (r : Reply) (after : State) (n : Next) → nat_lt t before.starts ≡ true
+    → before.fates t ≡ None
+    → n ≡ next_left (before.left t) → CommitOn asks t n before r after → CommitEffect asks t before r after
+commits_on asks t before r after n begun none next done = if_unended _ _ before r after _ begun none
+    (subst (λ m. CommitOn asks t m before r after) next done)
+
 -- what is told in short, of a call that does more
 pub in_brief : {effect more : State → Reply → State → Type 0} {out : Reply} {before after : State} {b : Brief}
     → (effect before (in_full b out) after → more before (in_full b out) after) → InBrief effect out before b after
     → InBrief more out before b after
 in_brief also done = record { does = also done.does; short = done.short }
+
+-- what an access does that is made from the same scheduler, as what a step does
+pub made : {R A G : Type 0} {r : RecordsGhosts R} {a : AccessesGhosts A} {g : GraphGhosts G} (effect more : State → Reply → State → Type 0)
+    (out : Reply) {old now new : Sched R A G r a g} (result : Result Brief NoMemory) → now ≡ old
+    → ((before : State) (told : Reply) (after : State) → effect before told after → more before told after)
+    → Tries (Unplaced effect) now result new → Tries (InBrief more out) old result new
+made effect more out {new = new} result same also tries = subst (λ s. Tries (InBrief more out) s result new) same (record {
+  done = IfOk-weaker result _ _ (λ b done. in_brief (also _ _ _) (done out)) tries.done;
+  refused = tries.refused;
+  kept = tries.kept;
+})
+
+-- an abort is told by what is placed
+pub placed_abort : (b : Brief) (out : Reply) (why : Cause) (fell : List ℕ) → in_full b out ≡ reply.Aborted why fell
+    → out ≡ reply.Aborted why fell
+placed_abort (brief.Started t) out why fell e = absurd (cc)
+placed_abort brief.NoProcedure out why fell e = absurd (cc)
+placed_abort brief.BadArgs out why fell e = absurd (cc)
+placed_abort brief.Spent out why fell e = absurd (cc)
+placed_abort brief.Full out why fell e = absurd (cc)
+placed_abort brief.Unknown out why fell e = absurd (cc)
+placed_abort (brief.Looked k v) out why fell e = absurd (cc)
+placed_abort (brief.Wrote k v) out why fell e = absurd (cc)
+placed_abort brief.Ended out why fell e = absurd (cc)
+placed_abort brief.NotEnded out why fell e = absurd (cc)
+placed_abort (brief.Waits t) out why fell e = absurd (cc)
+placed_abort brief.Placed out why fell e = e
+
+-- what holds holds where there is an error
+pub whatever : {X E P : Type 0} (result : Result X E) → P → OnErr result P
+whatever (Ok x) p = tt
+whatever (Err e) p = p
 
 -- a call on an event, which is this one
 pub called : (rules : Rules) (before : State) (r : Reply) (after : State) (event is : Event) → event ≡ is

@@ -1,6 +1,5 @@
 use Rattle.std.proofs.Common.{rules}
-use Rattle.std.specs.Cmp.Rules.{signed_items}
 use Rattle.sgt_entries.proofs.bare.BareReply.is_same.Goals as goal
 
 pub returns : goal.returns
-returns c = search (rules, signed_items)
+returns c = search rules

@@ -1,4 +1,4 @@
-use Rattle.std.proofs.Common.{rules, refl, ap, sym, ◌∙◌, w64, to_z, of_z, SFits}
+use Rattle.std.proofs.Common.{rules, refl, ap, sym, subst, ◌∙◌, w64, to_z, of_z, SFits}
 use Rattle.std.proofs.lemmas.Int.{to_z-of_z}
 use Rattle.std.proofs.lemmas.Result.{IfOk-weaker}
 use Rattle.sgt_model.specs.declared.reply.Reply.TheVariants as reply
@@ -6,6 +6,7 @@ use Rattle.sgt_model.specs.Traces.{Puts, Ends, Asks}
 use Rattle.sgt_sched.specs.Briefs.{in_full}
 use Rattle.sgt_proc.specs.Nexts.{seen}
 use Rattle.sgt_sched.proofs.Stepped.{steps_on, in_brief}
+use Rattle.sgt_sched.specs.Endings.{StepEnds}
 use Rattle.sgt_sched.specs.Scheduler.{state}
 use Rattle.sgt_sched.proofs.sched.Sched.answer_step.Goals as goal
 
@@ -55,3 +56,19 @@ returns-in-Asks-clause-done g c = record {
   refused = search rules;
   kept = search rules;
 }
+
+pub returns-in-Look-clause-out : goal.returns-in-Look-clause-out
+returns-in-Look-clause-out g c = c.look.ensures.out
+
+pub returns-in-Look-clause-no_memory : goal.returns-in-Look-clause-no_memory
+returns-in-Look-clause-no_memory g c e = c.look.ensures.no_memory
+    (subst (λ n. StepEnds c.args.self.now.limits.asks c.args.t n (state c.args.self.now))
+    (sym (ap seen (sym c.in-Look.is) ∙ c.next_at-next.ensures.next)) e.1)
+
+pub returns-in-Put-clause-out : goal.returns-in-Put-clause-out
+returns-in-Put-clause-out g c = c.store.ensures.out
+
+pub returns-in-Put-clause-no_memory : goal.returns-in-Put-clause-no_memory
+returns-in-Put-clause-no_memory g c e = c.store.ensures.no_memory
+    (subst (λ n. StepEnds c.args.self.now.limits.asks c.args.t n (state c.args.self.now))
+    (sym (ap seen (sym c.in-Put.is) ∙ c.next_at-next.ensures.next)) e.1)

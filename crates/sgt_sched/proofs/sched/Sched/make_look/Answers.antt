@@ -1,8 +1,10 @@
-use Rattle.std.proofs.Common.{rules, refl, ap, ◌∙◌, ◌++◌, ◌∷◌, []}
+use Rattle.std.proofs.Common.{rules, refl, sym, subst, ap, ◌∙◌, ◌++◌, ◌∷◌, []}
 use Rattle.sgt_model.specs.declared.kind.Kind.TheVariants.{Look}
 use Rattle.sgt_records.specs.Tops.{value_of_top}
 use Rattle.sgt_sched.specs.Steps.{with_source}
 use Rattle.sgt_sched.proofs.Accessed.{rivals_are_nodes}
+use Rattle.sgt_sched.specs.SchedulerView.{IsKept, view}
+use Rattle.sgt_sched.proofs.Reserved.{kept_reserved}
 use Rattle.sgt_sched.proofs.Looks.{kept_look, makes_look}
 use Rattle.sgt_sched.proofs.sched.Sched.make_look.Goals as goal
 
@@ -38,4 +40,17 @@ returns g c = record {
   };
   refused = search rules;
   kept = search rules;
+}
+
+pub invariant_of-self : goal.invariant_of-self
+invariant_of-self g c = record {
+  kept = kept_reserved c.args.self.now.kept c.args.self.now.records c.reserve.new.self (λ k. refl) c.reserve.ensures.same;
+}
+
+pub invariant_of-self-in-Break-branch-2 : goal.invariant_of-self-in-Break-branch-2
+invariant_of-self-in-Break-branch-2 g c = record {
+  kept = subst (λ reads. IsKept g.R.Records.chain g.R.Records.settled g.A.Accesses.list g.G.Graph.nodes g.G.Graph.pairs
+      (view c.args.self.now.procedures.items c.args.self.now.limits c.args.self.now.records c.reserve.new.self c.args.self.now.graph
+      c.args.self.now.live reads c.args.self.now.fates.fates)) (sym c.reserve-2.ensures.items)
+      (kept_reserved c.args.self.now.kept c.args.self.now.records c.reserve.new.self (λ k. refl) c.reserve.ensures.same);
 }
