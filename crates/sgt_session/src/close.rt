@@ -62,7 +62,7 @@ impl<N: Named, R: Records, A: Accesses, G: Graph> Shared<N, R, A, G> {
             sessions: count,
         } = self;
         let mut round = round.into_inner();
-        round.audit(sessions.as_mut_slice());
+        round.audit(&mut sessions);
         if !accounts(round.history(), sessions.as_slice()) {
             let shared = Shared {
                 round: Mutex::new(round),

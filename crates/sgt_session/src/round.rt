@@ -86,15 +86,15 @@ impl<N: Named, R: Records, A: Accesses, G: Graph> Round<N, R, A, G> {
     }
 
     /// Puts the shares of all sessions together for a moment: they have counted as many calls as there are entries.
-    pub fn audit(&mut self, sessions: &mut [Session<N>])
-        requires { (0 < length sessions.old) × (N.parts ≤ length sessions.old) }
+    pub fn audit(&mut self, sessions: &mut Vec<Session<N>>)
+        requires { (0 < vec_len sessions.old) × (N.parts ≤ vec_len sessions.old) }
         ensures same { self.new ≡ self.old }
-        ensures sessions { sessions.new ≡ sessions.old }
-        ensures counted { length self.old.past ≡ sum_by length sessions.old }
-        ensures all { length sessions.old ≡ N.parts }
+        ensures sessions { sessions.new.items ≡ sessions.old.items }
+        ensures counted { length self.old.past ≡ sum_by length sessions.old.items }
+        ensures all { length sessions.old.items ≡ N.parts }
     {
-        let first = &mut sessions[0];
-        let mut none = first.no_part();
+        let sessions = sessions.as_mut_slice();
+        let mut none = sessions[0].no_part();
         lend(sessions, &mut self.calls, &mut none);
     }
 
