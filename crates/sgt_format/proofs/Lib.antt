@@ -8,3 +8,4 @@ pub mod LineTokens
 pub mod PlainLines
 pub mod PlainCalls
 pub mod WrittenRecords
+pub mod ReadAccounts

@@ -1,5 +1,5 @@
 -- Few edges of a serialization graph.
-use Rattle.std.proofs.Common.{◌≡◌, ◌≢◌, ◌<◌, ◌+◌, ◌⊎◌, ℕ, zero, suc, List, [], ◌∷◌, ◌++◌, Option, Some, None, refl, sym, ap, subst, inl, inr, arith}
+use Rattle.std.proofs.Common.{◌≡◌, ◌≢◌, ◌<◌, ◌+◌, ◌⊎◌, ℕ, zero, suc, List, [], ◌∷◌, ◌++◌, Option, Some, None, refl, sym, ap, ◌∙◌, subst, inl, inr, arith}
 use Rattle.std.specs.Prelude.{length, slice_get}
 use Rattle.std.proofs.lemmas.Bool.{cases_eq, cases_lt}
 use Rattle.std.proofs.lemmas.Grind.{common_steps}
@@ -11,7 +11,7 @@ use Rattle.sgt_history.specs.declared.graph.Edge.{Edge}
 use Rattle.sgt_history.specs.Histories.{Does, Uses, item_of}
 use Rattle.sgt_history.specs.Serializability.{Conflict}
 use Rattle.sgt_history.specs.Seen.{IsLastWrite, AreLastWrites, IsLastRead, IsOverwritten, HasEdge, IsConflictBy, IsNextConflict, HasConflicts, HasReadConflicts, HasWriteConflicts, AreConnectedAbove, height}
-use Rattle.sgt_history.proofs.Places.{before_next, uses_item}
+use Rattle.sgt_history.proofs.Places.{before_next, does_same, uses_item, item_uses}
 use Rattle.sgt_history.proofs.Sources.{same_doer, same_action}
 
 -- what stands in a list with one more at the end
@@ -174,3 +174,58 @@ pub reads_begin : (q : List Operation) (es : List Edge) (p x w : ℕ) (o : Optio
 reads_begin q es p x w o own last u y does =
     let item : x ≡ y = grind (arith, common_steps, same_action q p w u _ _ own does) in
     subst (λ z. AreConnectedAbove q es p z u o) item (connected_above q es p x u o last)
+
+-- an operation on no item conflicts with none
+pub unused : (q : List Operation) (i t p u x : ℕ) (op : Operation) → slice_get q p ≡ Some op → item_of op.action ≡ None
+    → ¬ IsNextConflict q i t p u x
+unused q i t p u x op at none next =
+    let used = uses_item q p op u x at next.second in let both : None ≡ Some x = sym none ∙ used.1 in cc
+
+-- nor does one on an item that has not been written with a write
+pub unwritten : (q : List Operation) (i t p u x y : ℕ) (op : Operation) (writers : ℕ → Option ℕ) → slice_get q p ≡ Some op
+    → item_of op.action ≡ Some y → AreLastWrites q p writers → writers y ≡ None → IsNextConflict q i t p u x → ¬ Does q i t (Write x)
+unwritten q i t p u x y op writers at item last none next wrote =
+    let used = uses_item q p op u x at next.second in
+    let one : Some y ≡ Some x = sym item ∙ used.1 in
+    let same : y ≡ x = cc one in
+    let no_write = subst (λ o. IsLastWrite q p y o) none (last y) in
+    no_write i t next.order (subst (λ z. Does q i t (Write z)) (sym same) wrote)
+
+-- the last write of an item
+pub last_of : (q : List Operation) (p y m : ℕ) (writers : ℕ → Option ℕ) → AreLastWrites q p writers → writers y ≡ Some m
+    → IsLastWrite q p y (Some m)
+last_of q p y m writers last is = subst (λ o. IsLastWrite q p y o) is (last y)
+
+-- an operation on the item that is written conflicts with the write
+pub write_conflict : (q : List Operation) (p m y w : ℕ) (op : Operation) → slice_get q p ≡ Some op → item_of op.action ≡ Some y
+    → Does q m w (Write y) → (t u : ℕ) (a b : Action) → Does q m t a → Does q p u b → Conflict q m t p u
+write_conflict q p m y w op at item wrote t u a b first second =
+    let mine : Does q m t (Write y) = subst (λ v. Does q m v (Write y)) (same_doer q m w t _ _ wrote first) wrote in
+    let is : item_of b ≡ Some y = sym (ap (λ (o : Operation). item_of o.action) (does_same q p op u b at second)) ∙ item in
+    (y, inr mine, item_uses q p u y b is second, inl mine)
+
+-- what conflicts with a read writes the item
+pub writes_next : (q : List Operation) (i t p u x : ℕ) → IsNextConflict q i t p u x → Does q i t (Read x) → Does q p u (Write x)
+writes_next q i t p u x next read = elim next.writes [
+  | inl wrote ↦ let both : Read x ≡ Write x = same_action q i t t _ _ read wrote in cc
+  | inr wrote ↦ wrote
+]
+
+-- the operation of one that writes is a write
+pub written_by : (q : List Operation) (p u x : ℕ) (op : Operation) → slice_get q p ≡ Some op → Does q p u (Write x)
+    → op.action ≡ Write x
+written_by q p u x op at wrote = ap (λ (o : Operation). o.action) (does_same q p op u (Write x) at wrote)
+
+-- once all reads have their edges
+pub reads_connected : (q : List Operation) (es : List Edge) (p : ℕ) (o : Option ℕ) → o ≡ None
+    → ((u x : ℕ) → Does q p u (Write x) → AreConnectedAbove q es p x u o) → HasReadConflicts q es p
+reads_connected q es p o none above i t u x next read =
+    let all : AreConnectedAbove q es p x u None =
+    subst (λ s. AreConnectedAbove q es p x u s) none (above u x (writes_next q i t p u x next read)) in
+    elim (all i t next.order read) [
+      | inl over ↦ absurd (next.next over)
+      | inr rest ↦ elim rest [
+        | inl same ↦ absurd (next.differ same)
+        | inr edge ↦ edge
+      ]
+    ]

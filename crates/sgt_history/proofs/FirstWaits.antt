@@ -16,7 +16,7 @@ use Rattle.sgt_history.specs.declared.chains.End.TheVariants.{To}
 use Rattle.sgt_history.specs.Histories.{Does}
 use Rattle.sgt_history.specs.Serializability.{Commits, IsEdgeBy}
 use Rattle.sgt_history.specs.Seen.{IsFirstCommit, AreFirstCommits}
-use Rattle.sgt_history.specs.Sorting.{IsLastEdge, IsTopEdge, AreChains, AreWaits, KnowsWaits, KnowsWatched, AllWait, AllWatched, HasBefore, IsReady, IsWatched, WaitsForLeft}
+use Rattle.sgt_history.specs.Sorting.{IsLastEdge, IsTopEdge, AreChains, AreWaits, KnowsWaits, KnowsWatched, AllWait, AllReady, AllWatched, HasBefore, IsReady, IsWatched, WaitsForLeft}
 use Rattle.sgt_history.proofs.LatestUses.{first_of}
 use Rattle.sgt_history.proofs.Sources.{same_doer, same_action}
 use Rattle.sgt_history.proofs.Places.{before_next, does_at}
@@ -136,3 +136,11 @@ all_watched h edges commits j w are all looked u k e top at = go (entry_of commi
 pub first_wait : (h : List Operation) (commits : ℕ → Option ℕ) (e : Edge) → AreFirstCommits h (length h) commits → IsEdgeBy h e
     → IsSome (commits e.from)
 first_wait h commits e are edge = committed_left h e.from commits are edge.commits_first
+
+-- once all that commit are looked at, each that waits for none is ready
+pub all_ready : (h : List Operation) (edges : Vec Edge Global) (commits : Table) (j : ℕ) (w : Waits)
+    → AreFirstCommits h (length h) (entry_of commits) → length h ≤ j → AreLookedAt edges commits j w → AllReady w
+all_ready h edges commits j w are all looked u c is none =
+    let at : entry_of commits u ≡ Some c = subst (λ m. entry_of m u ≡ Some c) looked.left_are is in
+    let within = (commits_at h (length h) u c (entry_of commits) are at).0 in
+    looked.ready u c at (omega (arith, within, all)) c is none

@@ -1,6 +1,6 @@
 -- The uses by those that commit last, and the commit order, one operation further.
-use Rattle.std.proofs.Common.{◌≡◌, ◌≢◌, ◌<◌, ◌+◌, ◌≤◌, ◌⊎◌, ℕ, List, Option, Some, None, refl, sym, ◌∙◌, subst, inl, inr, arith}
-use Rattle.std.specs.Prelude.{length, IfSome, IsNone}
+use Rattle.std.proofs.Common.{◌≡◌, ◌≢◌, ◌<◌, ◌+◌, ◌≤◌, ◌⊎◌, ℕ, List, Option, Some, None, IsSome, refl, sym, ap, ◌∙◌, subst, inl, inr, arith}
+use Rattle.std.specs.Prelude.{length, slice_get, IfSome, IsNone}
 use Rattle.std.proofs.lemmas.Bool.{cases_eq, cases_lt, lt-ltb, le-ltb, true≢false}
 use Rattle.std.proofs.lemmas.Grind.{common_steps}
 use Rattle.std.proofs.lemmas.Option.{slice_get_within}
@@ -11,7 +11,7 @@ use Rattle.sgt_history.specs.declared.commit_order.LatestUse.{LatestUse}
 use Rattle.sgt_history.specs.Histories.{Does, Uses, CommittedBefore, item_of}
 use Rattle.sgt_history.specs.Serializability.{BreaksCommitOrder, IsCommitOrdered}
 use Rattle.sgt_history.specs.Seen.{IsFirstCommit, AreFirstCommits, IsLatestUse, AreLatestUses, later_use, use_after, IsCommitOrderedBefore}
-use Rattle.sgt_history.proofs.Places.{before_next, uses_within, one_ender}
+use Rattle.sgt_history.proofs.Places.{before_next, does_same, uses_item, uses_within, one_ender}
 use Rattle.sgt_history.proofs.Sources.{same_doer, same_action}
 
 -- the latest use stays where the operation is none by one that commits
@@ -269,3 +269,50 @@ ordered_here h commits p t x c r w o are first uses writes reads is none no_read
       | inl at ↦ (same_doer h p t u _ _ at does, grind (arith, common_steps, same_action h p t u _ _ at does))
       | inr at ↦ (same_doer h p t u _ _ at does, grind (arith, common_steps, same_action h p t u _ _ at does))
     ]
+
+-- an operation on no item conflicts with none
+pub ordered_unused : (h : List Operation) (i p : ℕ) (op : Operation) → slice_get h p ≡ Some op → item_of op.action ≡ None
+    → ¬ BreaksCommitOrder h i p
+ordered_unused h i p op at none broken =
+    let used = uses_item h p op broken.after broken.conflict.0 at broken.conflict.2 in
+    let both : None ≡ Some broken.conflict.0 = sym none ∙ used.1 in cc
+
+-- nor does one of a transaction that does not commit
+pub ordered_uncommitted : (h : List Operation) (commits : ℕ → Option ℕ) (i p : ℕ) (op : Operation) → slice_get h p ≡ Some op
+    → AreFirstCommits h (length h) commits → commits op.transaction ≡ None → ¬ BreaksCommitOrder h i p
+ordered_uncommitted h commits i p op at are none broken =
+    let used = uses_item h p op broken.after broken.conflict.0 at broken.conflict.2 in
+    let first = first_of h broken.after (commits broken.after) broken.commit (are broken.after) broken.commits_after in
+    let both : None ≡ Some first.0 = sym none ∙ ap commits used.0 ∙ first.1 in cc
+
+-- the first commit of one that does not commit here, or has committed
+no_first_commit : (h : List Operation) (p u : ℕ) (o : Option ℕ) → (Does h p u Commit → IsSome o) → IsFirstCommit h p u o
+    → IsFirstCommit h (p + 1) u o
+no_first_commit h p u None here none = λ done. elim (before_next done.0 p done.1) [
+  | inl before ↦ none (done.0, before, done.2)
+  | inr same ↦ true≢false (sym (here (subst (λ n. Does h n u Commit) same done.2)))
+]
+no_first_commit h p u (Some c) here first = (omega (arith, first.0), first.1, first.2)
+
+-- where each transaction has first committed, after a first commit
+pub first_commit : (h : List Operation) (p t : ℕ) (commits commits' : ℕ → Option ℕ) → Does h p t Commit → commits t ≡ None
+    → commits' t ≡ Some p → ((u : ℕ) → u ≢ t → commits' u ≡ commits u) → AreFirstCommits h p commits
+    → AreFirstCommits h (p + 1) commits'
+first_commit h p t commits commits' does none here others are u = elim (cases_eq u t) [
+  | inl same ↦ subst (λ v. IsFirstCommit h (p + 1) v (commits' v)) (sym same)
+      (subst (λ o. IsFirstCommit h (p + 1) t o) (sym here)
+      (omega arith, does, subst (λ o. IsFirstCommit h p t o) none (are t)))
+  | inr apart ↦ subst (λ o. IsFirstCommit h (p + 1) u o) (sym (others u apart))
+      (no_first_commit h p u (commits u) (λ at. absurd (apart (same_doer h p u t _ _ at does))) (are u))
+]
+
+-- where each transaction has first committed, after an operation that is no first commit
+pub later_commit : (h : List Operation) (p : ℕ) (op : Operation) (commits : ℕ → Option ℕ) → slice_get h p ≡ Some op
+    → (op.action ≡ Commit → IsSome (commits op.transaction)) → AreFirstCommits h p commits → AreFirstCommits h (p + 1) commits
+later_commit h p op commits at known are u = no_first_commit h p u (commits u) mine (are u)
+  where
+    mine : Does h p u Commit → IsSome (commits u)
+    mine does =
+        let same = does_same h p op u Commit at does in
+        subst (λ v. IsSome (commits v)) (ap (λ (o : Operation). o.transaction) same)
+        (known (ap (λ (o : Operation). o.action) same))

@@ -284,3 +284,18 @@ pub no_source : (h : List Operation) (p t x : ℕ) (o : Option ℕ) → Does h p
     → IsNone o → (i y w r : ℕ) → ¬ ReadsFrom h i p y w r
 no_source h p t x None does top none = reads_none h p t x does top
 no_source h p t x (Some i) does top none = absurd (cc)
+
+-- what is kept, after the top of an item is looked up and set
+pub sources_found : (h : List Operation) (p x : ℕ) (tops below commits aborts tops' : ℕ → Option ℕ) (o : Option ℕ)
+    → AreSources h p tops below commits aborts → IsTopWrite h p x o → tops' x ≡ o → ((y : ℕ) → y ≢ x → tops' y ≡ tops y)
+    → AreSources h p tops' below commits aborts
+sources_found h p x tops below commits aborts tops' o are top here others = record {
+  tops_are = λ y. elim (cases_eq y x) [
+    | inl same ↦ subst (λ z. IsTopWrite h p z (tops' z)) (sym same) (subst (λ v. IsTopWrite h p x v) (sym here) top)
+    | inr apart ↦ subst (λ v. IsTopWrite h p y v) (sym (others y apart)) (are.tops_are y)
+  ];
+  below_are = are.below_are;
+  fresh = are.fresh;
+  commits_are = are.commits_are;
+  aborts_are = are.aborts_are;
+}

@@ -1,5 +1,5 @@
 -- Who waits for whom, after one has been looked at again.
-use Rattle.std.proofs.Common.{◌≡◌, ◌≢◌, ◌≤◌, ◌+◌, ◌⊎◌, ℕ, List, Option, Some, None, IsSome, sym, ap, ◌∙◌, subst, inl, inr, arith}
+use Rattle.std.proofs.Common.{◌≡◌, ◌≢◌, ◌≤◌, ◌+◌, ◌⊎◌, ℕ, List, Option, Some, None, IsSome, refl, sym, ap, ◌∙◌, subst, inl, inr, arith}
 use Rattle.std.specs.Prelude.{slice_get}
 use Rattle.std.specs.BTreeMap.{get}
 use Rattle.sgt_history.specs.Tables.{entry_of}
@@ -9,8 +9,11 @@ use Rattle.std.proofs.lemmas.Option.{slice_get_within}
 use Rattle.sgt_history.specs.declared.graph.Edge.{Edge}
 use Rattle.sgt_history.specs.declared.chains.End.TheVariants.{From, To}
 use Rattle.sgt_history.specs.declared.serial.Waits.{Waits}
+use Rattle.sgt_history.specs.declared.links.Links.{Links}
+use Rattle.sgt_history.specs.declared.watched.Watched.{Watched}
+use Rattle.sgt_history.specs.Links.{link_of}
 use Rattle.sgt_history.specs.Seen.{height}
-use Rattle.sgt_history.specs.Sorting.{IsLastEdge, IsTopEdge, KnowsWaits, IsReady, IsWatched, HasBefore, AllWait, AllWaitBut, WaitsForLeft}
+use Rattle.sgt_history.specs.Sorting.{IsLastEdge, IsTopEdge, AreWaits, KnowsWatched, KnowsWaits, IsReady, IsWatched, HasBefore, AllWait, AllWaitBut, WaitsForLeft}
 use Rattle.sgt_history.proofs.EdgeChains.{same_at, not_after_last}
 
 -- one that waits for none stays ready, after another is looked at
@@ -113,3 +116,35 @@ below_passed es left u i e (Some j) at gone top last = (
     | inr most ↦ not_under es left u i k e f at gone top (omega (arith, most)) here to
   ],
 )
+
+-- what is kept, after it is found for what a transaction that is left waits
+pub waits_still : (es : List Edge) (left tops tops' : ℕ → Option ℕ) (below below' : Links) (ready ready' : ℕ → Option ℕ)
+    (watched watched' : Watched) (t c : ℕ) (top : Option ℕ) → AreWaits es left tops (link_of below) ready watched → left t ≡ Some c
+    → IsTopEdge es left t top → (tops t ≡ None → top ≡ None) → tops' t ≡ top → ((u : ℕ) → u ≢ t → tops' u ≡ tops u) → below' ≡ below
+    → ((d u : ℕ) → ready' d ≡ Some u → (ready d ≡ Some u) ⊎ ((d ≡ c) × (u ≡ t) × (top ≡ None))) → KnowsWatched watched'
+    → AreWaits es left tops' (link_of below') ready' watched'
+waits_still es left tops tops' below below' ready ready' watched watched' t c top waits is found stays here others same told knows =
+    record {
+      apart = waits.apart;
+      tops_are = λ u. elim (cases_eq u t) [
+        | inl mine ↦ subst (λ v. IsTopEdge es left v (tops' v)) (sym mine) (subst (λ o. IsTopEdge es left t o) (sym here) found)
+        | inr apart ↦ subst (λ o. IsTopEdge es left u o) (sym (others u apart)) (waits.tops_are u)
+      ];
+      tops_left = λ u some. elim (cases_eq u t) [
+        | inl mine ↦ subst (λ o. IsSome o) (sym (ap left mine ∙ is)) refl
+        | inr apart ↦ waits.tops_left u (subst (λ o. IsSome o) (others u apart) some)
+      ];
+      below_are = subst (λ b. (k : ℕ) (e : Edge) → slice_get es k ≡ Some e → IsLastEdge To es k e.to (link_of b k)) (sym same)
+          waits.below_are;
+      ready_are = λ d u at. elim (told d u at) [
+        | inl old ↦ let before = waits.ready_are d u old in (
+          before.0,
+          elim (cases_eq u t) [
+            | inl mine ↦ ap tops' mine ∙ here ∙ stays (ap tops (sym mine) ∙ before.1)
+            | inr apart ↦ others u apart ∙ before.1
+          ],
+        )
+        | inr new ↦ (ap left new.1 ∙ is ∙ ap (λ n. Some n) (sym new.0), ap tops' new.1 ∙ here ∙ new.2)
+      ];
+      watched_are = knows;
+    }

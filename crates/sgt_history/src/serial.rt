@@ -5,7 +5,7 @@ ghost use Rattle.std.specs.Ordering.{nat_cmp};
 ghost use Rattle.sgt_history.specs.declared.graph.Edge.{Edge};
 ghost use Rattle.sgt_history.specs.declared.operation.Action.TheVariants.{Commit};
 ghost use Rattle.sgt_history.specs.Histories.{Does};
-ghost use Rattle.sgt_history.specs.Serializability.{IsEdgeBy, IsSerializable};
+ghost use Rattle.sgt_history.specs.Serializability.{IsEdgeBy, IsSerializable, ReachAll};
 ghost use Rattle.sgt_history.specs.Seen.{AreFirstCommits};
 ghost use Rattle.sgt_history.specs.SerialOrders.{IsShown, IsSerial};
 ghost use Rattle.sgt_history.specs.Tables.{entry_of, table_len};
@@ -46,17 +46,8 @@ pub fn serial_order_or_cycle(
     ensures shown { IfOk result (IsShown history.now) }
     ensures exact { IfOk result (λ shown. IsSerial shown ↔ IsSerializable history.now) }
 {
-    let commits = first_commits(alloc, history)?;
-    let edges = edges_of_committed(alloc, history, &commits)?;
-    let mut waits = Waits::new(alloc, history, edges, commits)?;
-    let mut order = Vec::new(alloc);
-    while let Some(transaction) = waits.take_first()? {
-        order.push(transaction)?;
-    }
-    match waits.first_left(history) {
-        Some(transaction) => Ok(Serializability::Cycle(waits.cycle(alloc, transaction)?)),
-        None => Ok(Serializability::Serial(order)),
-    }
+    let mut waits = Waits::of_history(alloc, history)?;
+    waits.sort(alloc, history)
 }
 
 /// The committed transactions that have no place in the order yet, and what they wait for.
@@ -76,6 +67,20 @@ pub struct Waits {
 }
 
 impl Waits {
+    /// What the committed transactions of the history wait for before any has a place.
+    fn of_history(alloc: Global, history: &[Operation]) -> Result<Self, NoMemory>
+        ensures waits { IfOk result KnowsWaits }
+        ensures ready { IfOk result AllReady }
+        ensures watched { IfOk result AllWatched }
+        ensures wait { IfOk result AllWait }
+        ensures edges { IfOk result (λ w. ReachAll history.now w.edges.items) }
+        ensures left { IfOk result (λ w. AreFirstCommits history.now (length history.now) (entry_of w.left)) }
+    {
+        let commits = first_commits(alloc, history)?;
+        let edges = edges_of_committed(alloc, history, &commits)?;
+        Waits::new(alloc, history, edges, commits)
+    }
+
     /// What they wait for before any has a place.
     fn new(
         alloc: Global,
@@ -107,6 +112,27 @@ impl Waits {
             }
         }
         Ok(waits)
+    }
+
+    /// A serial order of those of the history, or a cycle where some of them wait for ever.
+    fn sort(&mut self, alloc: Global, history: &[Operation]) -> Result<Serializability, NoMemory>
+        requires waits { KnowsWaits self.old }
+        requires ready { AllReady self.old }
+        requires watched { AllWatched self.old }
+        requires wait { AllWait self.old }
+        requires edges { ReachAll history.now self.old.edges.items }
+        requires left { AreFirstCommits history.now (length history.now) (entry_of self.old.left) }
+        ensures shown { IfOk result (IsShown history.now) }
+        ensures exact { IfOk result (λ shown. IsSerial shown ↔ IsSerializable history.now) }
+    {
+        let mut order = Vec::new(alloc);
+        while let Some(transaction) = self.take_first()? {
+            order.push(transaction)?;
+        }
+        match self.first_left(history) {
+            Some(transaction) => Ok(Serializability::Cycle(self.cycle(alloc, transaction)?)),
+            None => Ok(Serializability::Serial(order)),
+        }
     }
 
     /// Takes out the one that committed first of those that wait for none.

@@ -1,5 +1,7 @@
-use Rattle.std.proofs.Common.{rules, refl}
-use Rattle.sgt_format.specs.DatabaseText.{row_text}
+use Rattle.std.proofs.Common.{rules, refl, ap, sym, ◌∙◌, ◌++◌}
+use Rattle.std.proofs.lemmas.List.{append-nil, take_all}
+use Rattle.sgt_format.specs.DatabaseText.{database_text, row_text}
+use Rattle.sgt_format.proofs.Begins.{begins_grown}
 use Rattle.sgt_format.proofs.Pieces.{one_more}
 use Rattle.sgt_format.proofs.database_text.append_rows.Goals as goal
 
@@ -8,3 +10,14 @@ loop-key-preserved c =
     one_more row_text c.args.text.now.items c.loop-key.text.items c.append_row.new.text.items _ c.args.rows.now c.args.rows.now
     c.loop-key.key-index c.loop-key-item.result
     refl c.loop-key-test.true c.loop-key.invariant c.in_ok-append_row.ensures.ok (search rules)
+
+pub loop-key-init : goal.loop-key-init
+loop-key-init c = sym (append-nil c.args.text.now.items)
+
+pub returns-in_err-append_row-clause-err : goal.returns-in_err-append_row-clause-err
+returns-in_err-append_row-clause-err c = begins_grown c.from_residual.result _ c.args.text.now.items _ c.loop-key.text.items _
+    (search rules) c.loop-key.invariant c.in_err-append_row.ensures.err
+
+pub returns-clause-ok : goal.returns-clause-ok
+returns-clause-ok c = c.loop-key.invariant ∙ ap (λ l. c.args.text.now.items ++ database_text l)
+    (take_all c.loop-key.key-index c.args.rows.now c.loop-key-test.false)

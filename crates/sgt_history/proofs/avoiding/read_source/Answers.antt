@@ -1,5 +1,6 @@
-use Rattle.std.proofs.Common.{refl}
+use Rattle.std.proofs.Common.{refl, subst, arith}
 use Rattle.sgt_history.specs.declared.operation.Action.TheVariants.{Read}
+use Rattle.sgt_history.specs.Seen.{KnowsSources}
 use Rattle.sgt_history.proofs.Places.{there, does_at}
 use Rattle.sgt_history.proofs.Sources.{no_read_reads, some_source, no_source}
 use Rattle.sgt_history.proofs.avoiding.read_source.Goals as goal
@@ -28,3 +29,13 @@ returns-clause-none c =
     let p = c.args.place in
     no_source h p _ c.in-Read.item c.standing.result (does_at h p _ (Read c.in-Read.item) (there h p c.requires) c.in-Read.is)
     c.standing.ensures.top
+
+pub loop-earlier-preserved : goal.loop-earlier-preserved
+loop-earlier-preserved c = c.in_ok-note.ensures
+
+pub standing-requires : goal.standing-requires
+standing-requires c = record {
+  within = c.requires;
+  sources = subst (λ n. KnowsSources c.args.history.now n c.loop-earlier.seen)
+      (omega (arith, c.loop-earlier-test.false, c.loop-earlier.auto.earlier-end)) c.loop-earlier.invariant;
+}

@@ -2,7 +2,7 @@ use Rattle.std.proofs.Common.{rules, ℕ, Some, refl, subst, inl, inr, arith}
 use Rattle.sgt_history.specs.declared.operation.Action.TheVariants.{Read}
 use Rattle.sgt_history.specs.Seen.{IsTopWrite}
 use Rattle.sgt_history.proofs.Places.{there, does_at}
-use Rattle.sgt_history.proofs.Sources.{avoids_no_read, avoids_no_write, avoids_committed, avoidance_broken, top_write}
+use Rattle.sgt_history.proofs.Sources.{avoids_no_read, avoids_no_write, avoids_committed, avoidance_broken, top_write, sources_found}
 use Rattle.sgt_history.proofs.avoiding.Sources.uncommitted.Goals as goal
 use Rattle.sgt_history.proofs.avoiding.Sources.uncommitted.Goals.{then-writer-operation-via-then-writer-operation, then-writer-operation-via-else-writer-operation+then-has_committed}
 
@@ -50,3 +50,15 @@ returns-clause-some c =
     c.in-Some.ensures.standing
     (search rules)
     (λ committed. let key = (c.requires.sources.commits_are _).1 committed in search rules)
+
+pub returns-in_default-source-clause-sources : goal.returns-in_default-source-clause-sources
+returns-in_default-source-clause-sources c = sources_found _ _ c.in-Read.item _ _ _ _ _ c.standing-source.result c.requires.sources
+    c.standing-source.ensures.top c.in_ok-set_top.ensures.at c.in_ok-set_top.ensures.others
+
+pub returns-then-writer-operation-clause-sources : goal.returns-then-writer-operation-clause-sources
+returns-then-writer-operation-clause-sources c = sources_found _ _ c.in-Read.item _ _ _ _ _ c.standing-source.result c.requires.sources
+    c.standing-source.ensures.top c.in_ok-set_top.ensures.at c.in_ok-set_top.ensures.others
+
+pub returns-clause-sources : goal.returns-clause-sources
+returns-clause-sources c = sources_found _ _ c.in-Read.item _ _ _ _ _ c.standing-source.result c.requires.sources
+    c.standing-source.ensures.top c.in_ok-set_top.ensures.at c.in_ok-set_top.ensures.others

@@ -1,6 +1,6 @@
 use Rattle.std.proofs.Common.{rules, ℕ, sym, refl, ◌∙◌}
 use Rattle.sgt_history.proofs.Places.{there, does_at, item_uses}
-use Rattle.sgt_history.proofs.LatestUses.{after_write, after_read, ordered_here, none_of}
+use Rattle.sgt_history.proofs.LatestUses.{after_write, after_read, ordered_here, ordered_unused, ordered_uncommitted, none_of}
 use Rattle.sgt_history.specs.declared.operation.Action.TheVariants.{Write}
 use Rattle.sgt_history.proofs.Sources.{same_action}
 use Rattle.sgt_history.proofs.commit_order.LatestUses.inverted.Goals as goal
@@ -46,3 +46,11 @@ returns-clause-none c =
     (item_uses h p _ x _ (sym c.in_ok-item.ensures) does) (c.requires.uses.uses_are.writes_are x)
     (c.requires.uses.uses_are.reads_are x) c.committing_after-write.ensures (search rules)
     (λ writes. sym c.committing_after.ensures ∙ none_of _ none)
+
+pub returns-in_err-item-clause-none : goal.returns-in_err-item-clause-none
+returns-in_err-item-clause-none c = λ _ i broken. ordered_unused c.args.history.now i c.args.place _
+    (there c.args.history.now c.args.place c.requires.within) (sym c.in_err-item.ensures) broken
+
+pub returns-in_err-commit-clause-none : goal.returns-in_err-commit-clause-none
+returns-in_err-commit-clause-none c = λ _ i broken. ordered_uncommitted c.args.history.now _ i c.args.place _
+    (there c.args.history.now c.args.place c.requires.within) c.requires.uses.commits_are (sym c.in_err-commit.ensures) broken

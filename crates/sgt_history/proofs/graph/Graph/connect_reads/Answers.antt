@@ -4,7 +4,7 @@ use Rattle.sgt_history.specs.declared.operation.Action.TheVariants.{Read, Write}
 use Rattle.sgt_history.specs.Histories.{Does}
 use Rattle.sgt_history.specs.Seen.{IsLastRead, AreConnectedAbove}
 use Rattle.sgt_history.proofs.Places.{there, does_at}
-use Rattle.sgt_history.proofs.Edges.{read_conflict, read_lower, reads_begin, reads_go_on}
+use Rattle.sgt_history.proofs.Edges.{read_conflict, read_lower, reads_begin, reads_go_on, reads_connected, writes_next, written_by}
 use Rattle.sgt_history.proofs.graph.Graph.connect_reads.Goals as goal
 
 pub loop-read-init : goal.loop-read-init
@@ -70,3 +70,15 @@ loop-read-preserved c =
       reads = reads_go_on q _ _ p x c.in-Some.earlier above.1.0 _ c.read_before-read.result own above c.in_ok-connect.ensures.kept
           c.in_ok-connect.ensures.connected above.1.1 lower;
     }
+
+pub returns-in_default-clause-conflicts : goal.returns-in_default-clause-conflicts
+returns-in_default-clause-conflicts c = λ i t u x next read. absurd (c.in_default.not-Write x
+    (written_by c.args.operations.now c.args.place u x _ (there c.args.operations.now c.args.place c.requires.within)
+    (writes_next c.args.operations.now i t c.args.place u x next read)))
+
+pub returns-clause-conflicts : goal.returns-clause-conflicts
+returns-clause-conflicts c =
+    reads_connected c.args.operations.now _ c.args.place c.loop-read.read c.in_default-read.is c.loop-read.invariant.reads
+
+pub connect-requires-clause-graph : goal.connect-requires-clause-graph
+connect-requires-clause-graph c = c.loop-read.invariant.graph

@@ -1,12 +1,13 @@
-use Rattle.std.proofs.Common.{rules, ◌<◌, ℕ, Some, sym, subst}
+use Rattle.std.proofs.Common.{rules, ◌<◌, ℕ, Some, sym, ap, subst}
 use Rattle.std.specs.Prelude.{slice_index_or}
 use Rattle.std.specs.BTreeMap.{get}
 use Rattle.sgt_history.specs.Tables.{entry_of}
 use Rattle.std.specs.Ordering.{nat_cmp}
+use Rattle.sgt_history.specs.declared.operation.Operation.{Operation}
 use Rattle.sgt_history.specs.declared.operation.Action.TheVariants.{Read, Commit}
 use Rattle.sgt_history.specs.Histories.{Does}
 use Rattle.sgt_history.specs.Seen.{IsLastDirtyRead, AreCleanAbove, height}
-use Rattle.sgt_history.proofs.Places.{there, does_at}
+use Rattle.sgt_history.proofs.Places.{there, does_at, does_same}
 use Rattle.sgt_history.proofs.Sources.{same_doer}
 use Rattle.sgt_history.proofs.DirtyReads.{clean_above, clean_below, clean_by, height_earlier, recoverable_clean, recoverable_broken}
 use Rattle.sgt_history.proofs.recoverable.DirtyReads.unrecoverable.Goals as goal
@@ -76,3 +77,8 @@ returns-clause-none c =
     let t : ℕ = (slice_index_or h p (record { transaction = 0; action = Read 0 })).transaction in
     let own : Does h p t Commit = does_at h p _ Commit (there h p c.requires.within) c.in-Commit.is in
     λ _. recoverable_clean h p t own (subst (λ o. AreCleanAbove h p t o) c.in_default-read.is (c.loop-read.invariant t own))
+
+pub returns-in_default-clause-none : goal.returns-in_default-clause-none
+returns-in_default-clause-none c = λ _ k broken. c.in_default.not-Commit (ap (λ (o : Operation). o.action)
+    (does_same c.args.history.now c.args.place _ broken.reader Commit (there c.args.history.now c.args.place c.requires.within)
+    broken.commits))

@@ -117,3 +117,8 @@ returns-clause-none c =
     let own : Does h p t (Write x) = does_at h p _ (Write x) (there h p c.requires.within) c.in-Write.is in
     λ _. fine_overwrite h p t x own (subst (λ o. AreFineAbove h p x t o) c.in_default-read.is (c.loop-read.invariant t x own))
     c.requires.rigorous c.requires.strict
+
+pub returns-in_default-clause-none : goal.returns-in_default-clause-none
+returns-in_default-clause-none c = λ _ i broken. c.in_default.not-Write broken.item (ap (λ (o : Operation). o.action)
+    (does_same c.args.history.now c.args.place _ broken.writer (Write broken.item)
+    (there c.args.history.now c.args.place c.requires.within) broken.written))

@@ -8,7 +8,7 @@ use Rattle.sgt_history.specs.Links.{link_of}
 use Rattle.sgt_history.specs.Sorting.{AreChains}
 use Rattle.sgt_history.specs.declared.chains.End.TheVariants.{To}
 use Rattle.sgt_history.proofs.Places.{there, does_at}
-use Rattle.sgt_history.proofs.FirstWaits.{AreLookedAt, first_waits, first_wait, looked_at, passed_over, all_watched}
+use Rattle.sgt_history.proofs.FirstWaits.{AreLookedAt, first_waits, first_wait, looked_at, passed_over, all_ready, all_watched}
 use Rattle.sgt_history.proofs.serial.Waits.new.Goals.{then-eq+in_ok-update, else-eq}
 use Rattle.sgt_history.proofs.serial.Waits.new.Goals as goal
 
@@ -45,3 +45,13 @@ loop-place-preserved c = elim c.if-eq.branch [
 pub returns-clause-watched : goal.returns-clause-watched
 returns-clause-watched c = all_watched c.args.history.now c.args.edges c.args.commits c.loop-place.place c.loop-place.waits
     c.requires.commits (omega (arith, c.loop-place-test.false)) c.loop-place.invariant
+
+pub returns-clause-waits : goal.returns-clause-waits
+returns-clause-waits c = c.loop-place.invariant.waits
+
+pub returns-clause-ready : goal.returns-clause-ready
+returns-clause-ready c = all_ready c.args.history.now c.args.edges c.args.commits c.loop-place.place c.loop-place.waits
+    c.requires.commits (omega (arith, c.loop-place-test.false)) c.loop-place.invariant
+
+pub returns-clause-wait : goal.returns-clause-wait
+returns-clause-wait c = c.loop-place.invariant.wait
