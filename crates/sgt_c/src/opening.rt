@@ -31,25 +31,22 @@ pub extern "C" fn sgt_open(
         return status::OPEN;
     }
     match make(alloc, opening) {
-        Ok(held) => match Box::new(alloc, held) {
-            Ok(held) => {
-                engine.put(held);
-                status::OK
-            }
-            Err(_) => status::NO_MEMORY,
-        },
+        Ok(held) => {
+            engine.put(held);
+            status::OK
+        }
         Err(error) => tell_fault(fault, &error),
     }
 }
 
 /// The engine of the opening that these bytes spell.
-fn make(alloc: Global, opening: &[u8]) -> Result<Held, OpeningError>
-    ensures opened { IfOk result (λ h. OpenedAs opening.now h.engine) }
+fn make(alloc: Global, opening: &[u8]) -> Result<Box<Held>, OpeningError>
+    ensures opened { IfOk result (λ h. OpenedAs opening.now h.value.engine) }
     ensures refused { IfErr result (Refuses 1 opening.now) }
 {
     let opening = read_opening(alloc, 1, opening)?;
     let engine = open_engine(alloc, opening)?;
-    Ok(Held { engine })
+    Ok(Held::boxed(alloc, engine)?)
 }
 
 /// Closes the handle, and frees all that the engine held. A closed one stays closed.

@@ -42,25 +42,22 @@ pub extern "C" fn sgt_open_with(
         return status::BAD_CALL;
     }
     match make(alloc, opening, rows) {
-        Ok(held) => match Box::new(alloc, held) {
-            Ok(held) => {
-                engine.put(held);
-                status::OK
-            }
-            Err(_) => status::NO_MEMORY,
-        },
+        Ok(held) => {
+            engine.put(held);
+            status::OK
+        }
         Err(error) => tell_fault(fault, &error),
     }
 }
 
 /// The engine of the opening that these bytes spell, with these rows put into its database.
-fn make(alloc: Global, opening: &[u8], rows: &[Row]) -> Result<Held, OpeningError>
+fn make(alloc: Global, opening: &[u8], rows: &[Row]) -> Result<Box<Held>, OpeningError>
     requires { All IsRow rows.now }
-    ensures opened { IfOk result (λ h. OpenedWith opening.now rows.now h.engine) }
+    ensures opened { IfOk result (λ h. OpenedWith opening.now rows.now h.value.engine) }
     ensures refused { IfErr result (Refuses 1 opening.now) }
 {
     let mut opening = read_opening(alloc, 1, opening)?;
     put_rows(&mut opening.database, rows)?;
     let engine = open_engine(alloc, opening)?;
-    Ok(Held { engine })
+    Ok(Held::boxed(alloc, engine)?)
 }

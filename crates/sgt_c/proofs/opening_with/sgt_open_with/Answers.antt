@@ -3,9 +3,6 @@ use Rattle.std.specs.List.{All}
 use Rattle.sgt_c.specs.Rows.{IsRow}
 use Rattle.sgt_c.proofs.opening_with.sgt_open_with.Goals as goal
 
-pub returns-in-Ok-new-clause-opened : goal.returns-in-Ok-new-clause-opened
-returns-in-Ok-new-clause-opened c = λ _. rw c.put.ensures (rw c.in-Ok-new.ensures.ok c.in-Ok.ensures.opened)
-
 pub returns-in-Ok-clause-bad_call : goal.returns-in-Ok-clause-bad_call
 returns-in-Ok-clause-bad_call c =
     let rows : All IsRow c.args.rows.now = search rules in

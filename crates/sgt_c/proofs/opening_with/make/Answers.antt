@@ -1,0 +1,13 @@
+use Rattle.std.proofs.Common.{◌≡◌, refl}
+use Rattle.sgt_c.proofs.opening_with.make.Goals as goal
+
+pub returns-clause-opened : goal.returns-clause-opened
+returns-clause-opened c =
+    rw c.in_ok-boxed.ensures (
+      c.in_ok-opening.opening,
+      _,
+      c.in_ok-opening.ensures.opening,
+      (refl, refl, c.in_ok-put_rows.ensures),
+      c.in_ok-engine.ensures.setting,
+      c.in_ok-engine.ensures.fresh,
+    )
