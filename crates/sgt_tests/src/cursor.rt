@@ -1,4 +1,4 @@
-//! A cursor does access by access what its procedure does when it is run again from its start each time.
+//! How many accesses procedures make, whose looks find this or that, and that what comes next is told there as from the start.
 
 use serde_json::Value;
 use sgt_model::{Args, MOST};
@@ -141,57 +141,4 @@ fn the_longest_procedure_makes_64_accesses(rt: HostRuntime) -> Result<(), Fail> 
         Some(64)
     );
     Ok(())
-}
-
-/// Pairs whose product and quotient are numbers, and pairs of which one is none.
-const PAIRS: [[i64; 2]; 34] = [
-    [7, 6],
-    [-7, 6],
-    [7, -6],
-    [-7, -6],
-    [0, -MOST],
-    [MOST, 1],
-    [MOST, -1],
-    [333_333_333_333_333, 3],
-    [-3, 333_333_333_333_333],
-    [31_622_776, 31_622_776],
-    [500_000_000_000_000, 2],
-    [-500_000_000_000_000, 2],
-    [2, -500_000_000_000_000],
-    [31_622_777, 31_622_777],
-    [MOST, MOST],
-    [MOST, -MOST],
-    [-MOST, -MOST],
-    [4_294_967_296, 4_294_967_296],
-    [274_177, 67_280_421_310_721],
-    [274_177, 201_841_263_932_163],
-    [7, 2],
-    [-7, 2],
-    [7, -2],
-    [-7, -2],
-    [6, 3],
-    [-6, 3],
-    [1, 2],
-    [-1, 2],
-    [0, -5],
-    [-MOST, -1],
-    [0, 0],
-    [1, 0],
-    [-1, 0],
-    [MOST, 0],
-];
-
-/// It answers the product of its two arguments.
-const PRODUCT: &str = "[2,[[\"answer\",[\"product\",[\"arg\",0],[\"arg\",1]]]]]";
-
-/// It answers the first argument divided by the second.
-const QUOTIENT: &str = "[2,[[\"answer\",[\"quotient\",[\"arg\",0],[\"arg\",1]]]]]";
-
-#[test]
-fn a_cursor_reckons_as_a_run_from_the_start_does(rt: HostRuntime) {
-    for pair in &PAIRS {
-        for text in [PRODUCT, QUOTIENT] {
-            assert_eq!(rt; made(rt.alloc(), text, pair, &[]), Some(0), "{text}");
-        }
-    }
 }
