@@ -21,9 +21,9 @@ pub struct Remembering<S: Source> {
 impl<S: Source> Remembering<S> {
     /// Gives what this source gives from now on. This takes no memory.
     pub fn new(alloc: Global, source: S) -> Self
-        ensures rest { S.rest result.source ≡ S.rest source }
-        ensures given { S.given result.source ≡ S.given source }
-        ensures failures { S.failures result.source ≡ S.failures source }
+        ensures rest { ⟦<Self as Source>⟧.rest result ≡ S.rest source }
+        ensures given { ⟦<Self as Source>⟧.given result ≡ S.given source }
+        ensures failures { ⟦<Self as Source>⟧.failures result ≡ S.failures source }
     {
         Remembering {
             source,
