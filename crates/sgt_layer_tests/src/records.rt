@@ -9,13 +9,26 @@ use std::process::Abort;
 use std::test::Fail;
 
 #[test]
-fn writes_are_undone_or_settled(rt: HostRuntime) -> Result<(), Fail> {
+fn writes_over_nothing_are_undone(rt: HostRuntime) -> Result<(), Fail> {
     let (a, key) = (rt.alloc(), Key::new(3, 7).unwrap());
     let empty = Database::empty(a);
     written_twice(&rt, ListRecords::build(a, &empty)?, key)?;
     written_twice(&rt, SlabRecords::build(a, &empty)?, key)?;
+    Ok(())
+}
+
+#[test]
+fn room_alone_is_no_record(rt: HostRuntime) -> Result<(), Fail> {
+    let (a, key) = (rt.alloc(), Key::new(3, 7).unwrap());
+    let empty = Database::empty(a);
     reserved_alone(&rt, a, ListRecords::build(a, &empty)?, key)?;
     reserved_alone(&rt, a, SlabRecords::build(a, &empty)?, key)?;
+    Ok(())
+}
+
+#[test]
+fn writes_are_undone_or_settled(rt: HostRuntime) -> Result<(), Fail> {
+    let (a, key) = (rt.alloc(), Key::new(3, 7).unwrap());
     let mut opening = Database::empty(a);
     opening.put(key, 1)?;
     undone_beneath(&rt, a, ListRecords::build(a, &opening)?, key)?;

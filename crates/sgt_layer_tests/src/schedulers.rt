@@ -266,16 +266,33 @@ fn said<R: Records, A: Accesses, G: Graph>(
     }
 }
 
-/// The first line of a table that is wrong, with what came, or nothing: a line has what is wanted, and behind an arrow what is said to
-/// a scheduler of so many.
+/// A row with what came to it, where that is not what is wanted; None where it is.
+fn wrong(alloc: Global, row: &str, want: &str, came: &str) -> Result<Option<String>, Fail> {
+    if came == want {
+        return Ok(None);
+    }
+    Ok(Some(format!(in alloc; "{row}: {came}")?))
+}
+
+/// What is wrong with a row: it has what is wanted, and behind an arrow what is said to the scheduler.
+fn wrong_row<R: Records, A: Accesses, G: Graph>(
+    alloc: Global,
+    sched: &mut Sched<R, A, G>,
+    place: &mut Reply,
+    row: &str,
+) -> Result<Option<String>, Fail> {
+    let (want, line) = row.split_once(" <- ").unwrap_or((row, ""));
+    let came = said(alloc, sched, place, line)?;
+    wrong(alloc, row, want, came.as_str())
+}
+
+/// The first line of a table that is wrong, with what came, or nothing: the lines are said to a scheduler of so many.
 fn first_wrong(alloc: Global, most: u32, table: &str) -> Result<String, Fail> {
     let mut sched = made(alloc, most)?;
     let mut place = Reply::Full;
     for row in table.lines() {
-        let (want, line) = row.split_once(" <- ").unwrap_or((row, ""));
-        let came = said(alloc, &mut sched, &mut place, line)?;
-        if came.as_str() != want {
-            return Ok(format!(in alloc; "{row}: {came}")?);
+        if let Some(wrong) = wrong_row(alloc, &mut sched, &mut place, row)? {
+            return Ok(wrong);
         }
     }
     Ok(String::new(alloc))

@@ -11,473 +11,250 @@ use std::alloc::Global;
 /// A procedure with its arguments.
 type Call = (u16, &'static [i64]);
 
-/// What is done at an engine. Of these a try is the longest: a procedure is started, which gives a transaction of this number if
-/// it is not refused, and makes so many steps.
-enum Deed {
-    Try(Call, u32, u32),
-    Step(u32),
-    Commit(u32),
-    Quit(u32),
-}
-
-fn add_try(events: &mut Vec<Event>, call: Call, t: u32, steps: u32) -> Result<(), NoMemory> {
-    events.push(start(call.0, call.1))?;
-    for _ in 0..steps {
-        events.push(Event::Step(Tid(t)))?;
-    }
-    Ok(())
-}
-
-fn add(events: &mut Vec<Event>, deed: &Deed) -> Result<(), NoMemory> {
-    match deed {
-        Deed::Try(call, t, steps) => add_try(events, *call, *t, *steps)?,
-        Deed::Step(t) => events.push(Event::Step(Tid(*t)))?,
-        Deed::Commit(t) => events.push(Event::Commit(Tid(*t)))?,
-        Deed::Quit(t) => events.push(Event::Quit(Tid(*t)))?,
-    }
-    Ok(())
-}
-
-fn events_of(alloc: Global, deeds: &[Deed]) -> Result<Vec<Event>, NoMemory> {
-    let mut events = Vec::new(alloc);
-    for deed in deeds {
-        add(&mut events, deed)?;
-    }
-    Ok(events)
-}
-
-/// What is told of a job.
-enum Told {
-    Done(u64),
-    Asked(u64),
-    Gave(&'static [u32]),
-    Refused(u64),
-    Left,
-    Untaken,
-    NoMemory,
-}
-
-fn tids_of(alloc: Global, numbers: &[u32]) -> Result<Vec<Tid>, NoMemory> {
-    let mut tids = Vec::new(alloc);
-    for number in numbers {
-        tids.push(Tid(*number))?;
-    }
-    Ok(tids)
-}
-
-fn outcome_of(alloc: Global, told: &Told) -> Result<Outcome<u8>, NoMemory> {
-    Ok(match told {
-        Told::Done(n) => Outcome::Done(*n),
-        Told::Asked(n) => Outcome::Asked(*n),
-        Told::Gave(numbers) => Outcome::Gave(tids_of(alloc, numbers)?),
-        Told::Refused(n) => Outcome::Refused(*n),
-        Told::Left => Outcome::Left(7),
-        Told::Untaken => Outcome::Untaken,
-        Told::NoMemory => Outcome::NoMemory,
-    })
-}
-
-fn outcomes_of(alloc: Global, told: &[Told]) -> Result<Vec<Outcome<u8>>, NoMemory> {
-    let mut outcomes = Vec::new(alloc);
-    for one in told {
-        outcomes.push(outcome_of(alloc, one)?)?;
-    }
-    Ok(outcomes)
-}
-
-fn jobs_of(alloc: Global, calls: &[Call]) -> Result<Vec<Job>, NoMemory> {
-    let mut jobs = Vec::new(alloc);
-    let mut number = 0u32;
-    for call in calls {
-        jobs.push(Job {
-            number,
-            procedure: call.0,
-            args: Args::from_slice(call.1).unwrap_or(Args::new()),
-        })?;
-        number = number.wrapping_add(1);
-    }
-    Ok(jobs)
-}
-
-/// What is told of calls, by so many workers, with so many tries.
-type Case = (&'static [Call], &'static [Told], u32, u32);
-
-/// Whether what is told stands.
-fn stands(alloc: Global, engine: &ListEngine, case: Case) -> Result<bool, NoMemory> {
-    let (calls, told, workers, tries) = case;
-    let jobs = jobs_of(alloc, calls)?;
-    let outcomes = outcomes_of(alloc, told)?;
-    audit(alloc, engine.history(), &jobs, &outcomes, workers, tries)
-}
-
-/// Whether each case stands, where it is right, and none does otherwise.
-fn all_stand(alloc: Global, engine: &ListEngine, cases: &[Case], right: bool) -> bool {
-    for case in cases {
-        if stands(alloc, engine, *case) != Ok(right) {
-            return false;
-        }
-    }
-    true
-}
-
-/// What is shown; what is done at an engine; cases that stand then; and cases that don't.
-type Row = (
-    &'static str,
-    &'static [Deed],
-    &'static [Case],
-    &'static [Case],
-);
-
-/// Whether after these deeds the first cases stand, and the others don't.
-fn agree(alloc: Global, deeds: &[Deed], right: &[Case], wrong: &[Case]) -> Option<bool> {
-    let events = events_of(alloc, deeds).ok()?;
-    let engine = engine_after(alloc, events.as_slice()).ok()?;
-    Some(all_stand(alloc, &engine, right, true) && all_stand(alloc, &engine, wrong, false))
-}
-
 const DEPOSIT: Call = (DEPOSIT_CHECKING, &[1, 100]);
+
+const LARGER_DEPOSIT: Call = (DEPOSIT_CHECKING, &[1, 101]);
+
+const OVERDRAWN: Call = (TRANSACT_SAVING, &[2, -501]);
 
 const NO_PROCEDURE: Call = (99, &[]);
 
 /// Its arguments are too few.
 const BAD_BALANCE: Call = (BALANCE, &[]);
 
-const OVERDRAWN: Call = (TRANSACT_SAVING, &[2, -501]);
-
 const GOOD_BALANCE: Call = (BALANCE, &[1]);
 
 const CHECK: Call = (WRITE_CHECK, &[1, 100]);
 
-/// Entry 4 commits the deposit, entry 8 asks 3, and the entries 9 and 10 refuse.
-const KINDS_DONE: [Deed; 5] = [
-    Deed::Try(DEPOSIT, 0, 3),
-    Deed::Commit(0),
-    Deed::Try(OVERDRAWN, 1, 3),
-    Deed::Try(NO_PROCEDURE, 2, 0),
-    Deed::Try(BAD_BALANCE, 2, 0),
-];
+/// The call of this name; None where it names none.
+fn call(name: &str) -> Option<Call> {
+    match name {
+        "deposit" => Some(DEPOSIT),
+        "larger" => Some(LARGER_DEPOSIT),
+        "overdrawn" => Some(OVERDRAWN),
+        "unknown" => Some(NO_PROCEDURE),
+        "bad" => Some(BAD_BALANCE),
+        "balance" => Some(GOOD_BALANCE),
+        "check" => Some(CHECK),
+        _ => None,
+    }
+}
 
-const KINDS: [Call; 4] = [DEPOSIT, OVERDRAWN, NO_PROCEDURE, BAD_BALANCE];
+/// A name, and what stands behind its colon.
+fn parts(word: &str) -> (&str, &str) {
+    word.split_once(':').unwrap_or((word, ""))
+}
 
-const KINDS_TOLD: [Told; 4] = [
-    Told::Done(4),
-    Told::Asked(8),
-    Told::Refused(9),
-    Told::Refused(10),
-];
+/// The transaction of the number that a digit stands for.
+fn tid(digit: u8) -> Tid {
+    Tid(u32::from(digit.saturating_sub(b'0')))
+}
 
-const KINDS_RIGHT: [Case; 1] = [(&KINDS, &KINDS_TOLD, 1, 100)];
+/// A transaction's event of this name: it is a step where the name is that of a call.
+fn event(name: &str, t: Tid) -> Event {
+    match name {
+        "commit" => Event::Commit(t),
+        "quit" => Event::Quit(t),
+        _ => Event::Step(t),
+    }
+}
 
-const KINDS_WRONG: [Case; 11] = [
-    (
-        &KINDS,
-        &[Told::Done(4), Told::Asked(8), Told::Refused(9)],
-        1,
-        100,
-    ),
-    (&[DEPOSIT, OVERDRAWN, NO_PROCEDURE], &KINDS_TOLD, 1, 100),
-    (
-        &KINDS,
-        &[
-            Told::Done(3),
-            Told::Asked(8),
-            Told::Refused(9),
-            Told::Refused(10),
-        ],
-        1,
-        100,
-    ),
-    (
-        &KINDS,
-        &[
-            Told::Done(11),
-            Told::Asked(8),
-            Told::Refused(9),
-            Told::Refused(10),
-        ],
-        1,
-        100,
-    ),
-    (
-        &KINDS,
-        &[
-            Told::Asked(4),
-            Told::Asked(8),
-            Told::Refused(9),
-            Told::Refused(10),
-        ],
-        1,
-        100,
-    ),
-    (
-        &KINDS,
-        &[
-            Told::NoMemory,
-            Told::Asked(8),
-            Told::Refused(9),
-            Told::Refused(10),
-        ],
-        1,
-        100,
-    ),
-    (
-        &KINDS,
-        &[
-            Told::Left,
-            Told::Asked(8),
-            Told::Refused(9),
-            Told::Refused(10),
-        ],
-        1,
-        100,
-    ),
-    (
-        &KINDS,
-        &[
-            Told::Done(4),
-            Told::Done(8),
-            Told::Refused(9),
-            Told::Refused(10),
-        ],
-        1,
-        100,
-    ),
-    (
-        &KINDS,
-        &[
-            Told::Done(4),
-            Told::Asked(4),
-            Told::Refused(9),
-            Told::Refused(10),
-        ],
-        1,
-        100,
-    ),
-    (
-        &KINDS,
-        &[
-            Told::Done(4),
-            Told::Asked(8),
-            Told::Refused(10),
-            Told::Refused(10),
-        ],
-        1,
-        100,
-    ),
-    (
-        &KINDS,
-        &[
-            Told::Done(4),
-            Told::Asked(8),
-            Told::Refused(5),
-            Told::Refused(10),
-        ],
-        1,
-        100,
-    ),
-];
+/// Adds what a word says is done: the start of a call, where it names one, and an event for each digit, of that transaction.
+fn add_events(events: &mut Vec<Event>, word: &str) -> Result<(), NoMemory> {
+    let (name, digits) = parts(word);
+    if let Some((procedure, args)) = call(name) {
+        events.push(start(procedure, args))?;
+    }
+    for digit in digits.as_bytes() {
+        events.push(event(name, tid(*digit)))?;
+    }
+    Ok(())
+}
 
-/// Entry 4 commits the deposit, and the entries 5 and 6 refuse.
-const TWICE_DONE: [Deed; 4] = [
-    Deed::Try(DEPOSIT, 0, 3),
-    Deed::Commit(0),
-    Deed::Try(BAD_BALANCE, 1, 0),
-    Deed::Try(BAD_BALANCE, 1, 0),
-];
+fn events_of(alloc: Global, deeds: &str) -> Result<Vec<Event>, NoMemory> {
+    let mut events = Vec::new(alloc);
+    for word in deeds.split_ascii_whitespace() {
+        add_events(&mut events, word)?;
+    }
+    Ok(events)
+}
 
-const TWICE: [Call; 3] = [BAD_BALANCE, BAD_BALANCE, DEPOSIT];
+/// An engine where these deeds were done.
+fn engine_of(alloc: Global, deeds: &str) -> Option<ListEngine> {
+    let events = events_of(alloc, deeds).ok()?;
+    engine_after(alloc, events.as_slice()).ok()
+}
 
-const TWICE_RIGHT: [Case; 2] = [
-    (&[DEPOSIT], &[Told::Done(4)], 1, 1),
-    (
-        &TWICE,
-        &[Told::Refused(5), Told::Refused(6), Told::Done(4)],
-        1,
-        1,
-    ),
-];
+fn tids_of(alloc: Global, digits: &str) -> Result<Vec<Tid>, NoMemory> {
+    let mut tids = Vec::new(alloc);
+    for digit in digits.as_bytes() {
+        tids.push(tid(*digit))?;
+    }
+    Ok(tids)
+}
 
-const TWICE_WRONG: [Case; 3] = [
-    (&[(DEPOSIT_CHECKING, &[1, 101])], &[Told::Done(4)], 1, 1),
-    (&[DEPOSIT, DEPOSIT], &[Told::Done(4), Told::Done(4)], 1, 1),
-    (
-        &TWICE,
-        &[Told::Refused(5), Told::Refused(5), Told::Done(4)],
-        1,
-        1,
-    ),
-];
+/// What is told of a job by a name, with an entry's number or digits of transactions; None where it is no name of that.
+fn told(alloc: Global, name: &str, digits: &str) -> Result<Option<Outcome<u8>>, NoMemory> {
+    let entry = digits.parse::<u64>().unwrap_or(0);
+    Ok(match name {
+        "done" => Some(Outcome::Done(entry)),
+        "asked" => Some(Outcome::Asked(entry)),
+        "gave" => Some(Outcome::Gave(tids_of(alloc, digits)?)),
+        "refused" => Some(Outcome::Refused(entry)),
+        "left" => Some(Outcome::Left(7)),
+        "untaken" => Some(Outcome::Untaken),
+        "no_memory" => Some(Outcome::NoMemory),
+        _ => None,
+    })
+}
 
-/// Two write the same check: both look, and the second to store closes a cycle. Entry 10 commits the first.
-const CYCLE_DONE: [Deed; 5] = [
-    Deed::Try(CHECK, 0, 3),
-    Deed::Try(CHECK, 1, 3),
-    Deed::Step(0),
-    Deed::Step(1),
-    Deed::Commit(0),
-];
+/// The job of this call that comes behind so many.
+fn job(before: usize, call: Call) -> Job {
+    Job {
+        number: u32::try_from(before).unwrap_or(0),
+        procedure: call.0,
+        args: Args::from_slice(call.1).unwrap_or(Args::new()),
+    }
+}
 
-const CHECKS: [Call; 2] = [CHECK, CHECK];
+/// Adds a job, where a word names its call, or what the word tells of one.
+fn add_told(
+    alloc: Global,
+    jobs: &mut Vec<Job>,
+    outcomes: &mut Vec<Outcome<u8>>,
+    word: &str,
+) -> Option<()> {
+    let (name, digits) = parts(word);
+    match told(alloc, name, digits).ok()? {
+        Some(outcome) => outcomes.push(outcome).ok(),
+        None => jobs.push(job(jobs.len(), call(name)?)).ok(),
+    }
+}
 
-const CYCLE_TOLD: [Told; 2] = [Told::Done(10), Told::Gave(&[1])];
+/// Whether what is told of jobs stands, of so many workers with so many tries.
+fn stands(
+    alloc: Global,
+    engine: &ListEngine,
+    workers: u32,
+    tries: u32,
+    words: &str,
+) -> Option<bool> {
+    let mut jobs = Vec::new(alloc);
+    let mut outcomes = Vec::new(alloc);
+    for word in words.split_ascii_whitespace() {
+        add_told(alloc, &mut jobs, &mut outcomes, word)?;
+    }
+    audit(alloc, engine.history(), &jobs, &outcomes, workers, tries).ok()
+}
 
-const CYCLE_RIGHT: [Case; 1] = [(&CHECKS, &CYCLE_TOLD, 2, 1)];
+/// Whether what a line tells stands where the line is `right`, and does not where it is `wrong`.
+fn is_as_wanted(alloc: Global, engine: &ListEngine, line: &str) -> Option<bool> {
+    let (want, line) = line.split_once(' ')?;
+    let (workers, line) = line.split_once(' ')?;
+    let (tries, words) = line.split_once(" <- ")?;
+    let workers = workers.parse::<u32>().ok()?;
+    let tries = tries.parse::<u32>().ok()?;
+    let want = match want {
+        "right" => true,
+        "wrong" => false,
+        _ => return None,
+    };
+    Some(stands(alloc, engine, workers, tries, words)? == want)
+}
 
-const CYCLE_WRONG: [Case; 4] = [
-    (&CHECKS, &CYCLE_TOLD, 2, 2),
-    (&CHECKS, &CYCLE_TOLD, 1, 1),
-    (&CHECKS, &[Told::Done(10), Told::Gave(&[0])], 2, 1),
-    (&CHECKS, &[Told::Done(10), Told::Gave(&[2])], 2, 1),
-];
+/// The first line of a table that is not as wanted; none is empty.
+fn first_wrong<'a>(alloc: Global, engine: &ListEngine, table: &'a str) -> &'a str {
+    for line in table.lines() {
+        if is_as_wanted(alloc, engine, line) != Some(true) {
+            return line;
+        }
+    }
+    ""
+}
 
-/// A deposit is quit twice. With the first, two balances fall that were live at once, with the second a later one.
-const TRIES_DONE: [Deed; 7] = [
-    Deed::Try(DEPOSIT, 0, 3),
-    Deed::Try(GOOD_BALANCE, 1, 3),
-    Deed::Try(GOOD_BALANCE, 2, 3),
-    Deed::Quit(0),
-    Deed::Try(DEPOSIT, 3, 3),
-    Deed::Try(GOOD_BALANCE, 4, 3),
-    Deed::Quit(3),
-];
+/// The first line that is not as wanted after these deeds.
+fn first_wrong_after<'a>(alloc: Global, deeds: &str, table: &'a str) -> &'a str {
+    match engine_of(alloc, deeds) {
+        Some(engine) => first_wrong(alloc, &engine, table),
+        None => "no engine",
+    }
+}
 
-const TRIES: [Call; 3] = [DEPOSIT, GOOD_BALANCE, DEPOSIT];
-
-const TRIES_TOLD: [Told; 3] = [Told::Left, Told::Gave(&[1, 4]), Told::NoMemory];
-
-const TRIES_RIGHT: [Case; 2] = [
-    (&TRIES, &TRIES_TOLD, 3, 2),
-    (
-        &TRIES,
-        &[Told::Left, Told::Gave(&[2, 4]), Told::NoMemory],
-        3,
-        2,
-    ),
-];
-
-const TRIES_WRONG: [Case; 10] = [
-    (
-        &TRIES,
-        &[Told::Left, Told::Gave(&[1, 2]), Told::NoMemory],
-        3,
-        2,
-    ),
-    (
-        &TRIES,
-        &[Told::Left, Told::Gave(&[4, 1]), Told::NoMemory],
-        3,
-        2,
-    ),
-    (
-        &TRIES,
-        &[Told::Left, Told::Gave(&[1, 1]), Told::NoMemory],
-        3,
-        2,
-    ),
-    (
-        &TRIES,
-        &[Told::Left, Told::Gave(&[0, 3]), Told::NoMemory],
-        3,
-        2,
-    ),
-    (
-        &TRIES,
-        &[Told::Left, Told::Gave(&[0, 4]), Told::NoMemory],
-        3,
-        2,
-    ),
-    (
-        &TRIES,
-        &[Told::Left, Told::Gave(&[1, 9]), Told::NoMemory],
-        3,
-        2,
-    ),
-    (&TRIES, &TRIES_TOLD, 3, 3),
-    (&TRIES, &TRIES_TOLD, 2, 2),
-    (
-        &TRIES,
-        &[Told::Left, Told::Gave(&[1, 4]), Told::Untaken],
-        3,
-        2,
-    ),
-    (
-        &TRIES,
-        &[Told::Gave(&[0, 3]), Told::NoMemory, Told::NoMemory],
-        3,
-        2,
-    ),
-];
-
-const BALANCES: [Call; 3] = [GOOD_BALANCE, GOOD_BALANCE, GOOD_BALANCE];
-
-const TWO_LEFT: [Told; 3] = [Told::Left, Told::Left, Told::Untaken];
-
-const ALL_LEFT: [Told; 3] = [Told::Left, Told::Left, Told::Left];
-
-const LEFT_RIGHT: [Case; 4] = [
-    (&BALANCES, &TWO_LEFT, 2, 1),
-    (&BALANCES, &ALL_LEFT, 3, 1),
-    (&BALANCES, &ALL_LEFT, 4, 1),
-    (
-        &BALANCES,
-        &[Told::NoMemory, Told::NoMemory, Told::NoMemory],
-        2,
-        1,
-    ),
-];
-
-const LEFT_WRONG: [Case; 5] = [
-    (&BALANCES, &TWO_LEFT, 1, 1),
-    (&BALANCES, &TWO_LEFT, 3, 1),
-    (&BALANCES, &ALL_LEFT, 1, 1),
-    (&BALANCES, &ALL_LEFT, 2, 1),
-    (
-        &BALANCES,
-        &[Told::Untaken, Told::Untaken, Told::Untaken],
-        2,
-        1,
-    ),
-];
+/// What is shown; what is done at an engine; and a table of what is told then: whether that is right, how many workers there are
+/// and how many tries, and behind an arrow the call of each job and what is told of it.
+///
+/// A deed is the start of a call with steps of these transactions, or their steps, commits or quits alone.
+type Row = (&'static str, &'static str, &'static str);
 
 const ROWS: [Row; 5] = [
     (
-        "an entry of each kind",
-        &KINDS_DONE,
-        &KINDS_RIGHT,
-        &KINDS_WRONG,
+        "an entry of each kind: entry 4 commits the deposit, entry 8 asks 3, and the entries 9 and 10 refuse",
+        "deposit:000 commit:0 overdrawn:111 unknown bad",
+        "right 1 100 <- deposit done:4 overdrawn asked:8 unknown refused:9 bad refused:10
+wrong 1 100 <- deposit done:4 overdrawn asked:8 unknown refused:9 bad
+wrong 1 100 <- deposit done:4 overdrawn asked:8 unknown refused:9 refused:10
+wrong 1 100 <- deposit done:3 overdrawn asked:8 unknown refused:9 bad refused:10
+wrong 1 100 <- deposit done:11 overdrawn asked:8 unknown refused:9 bad refused:10
+wrong 1 100 <- deposit asked:4 overdrawn asked:8 unknown refused:9 bad refused:10
+wrong 1 100 <- deposit no_memory overdrawn asked:8 unknown refused:9 bad refused:10
+wrong 1 100 <- deposit left overdrawn asked:8 unknown refused:9 bad refused:10
+wrong 1 100 <- deposit done:4 overdrawn done:8 unknown refused:9 bad refused:10
+wrong 1 100 <- deposit done:4 overdrawn asked:4 unknown refused:9 bad refused:10
+wrong 1 100 <- deposit done:4 overdrawn asked:8 unknown refused:10 bad refused:10
+wrong 1 100 <- deposit done:4 overdrawn asked:8 unknown refused:5 bad refused:10",
     ),
     (
-        "nothing is named twice",
-        &TWICE_DONE,
-        &TWICE_RIGHT,
-        &TWICE_WRONG,
+        "nothing is named twice: entry 4 commits the deposit, and the entries 5 and 6 refuse",
+        "deposit:000 commit:0 bad bad",
+        "right 1 1 <- deposit done:4
+right 1 1 <- bad refused:5 bad refused:6 deposit done:4
+wrong 1 1 <- larger done:4
+wrong 1 1 <- deposit done:4 deposit done:4
+wrong 1 1 <- bad refused:5 bad refused:5 deposit done:4",
     ),
     (
-        "a cycle is a failed try",
-        &CYCLE_DONE,
-        &CYCLE_RIGHT,
-        &CYCLE_WRONG,
+        "a cycle is a failed try: two look, and the second to store closes it; entry 10 commits the first",
+        "check:000 check:111 step:01 commit:0",
+        "right 2 1 <- check done:10 check gave:1
+wrong 2 2 <- check done:10 check gave:1
+wrong 1 1 <- check done:10 check gave:1
+wrong 2 1 <- check done:10 check gave:0
+wrong 2 1 <- check done:10 check gave:2",
     ),
     (
-        "tries come one after another",
-        &TRIES_DONE,
-        &TRIES_RIGHT,
-        &TRIES_WRONG,
+        "tries come one after another: the first deposit takes along two balances, live at once, and the second a later one",
+        "deposit:000 balance:111 balance:222 quit:0 deposit:333 balance:444 quit:3",
+        "right 3 2 <- deposit left balance gave:14 deposit no_memory
+right 3 2 <- deposit left balance gave:24 deposit no_memory
+wrong 3 2 <- deposit left balance gave:12 deposit no_memory
+wrong 3 2 <- deposit left balance gave:41 deposit no_memory
+wrong 3 2 <- deposit left balance gave:11 deposit no_memory
+wrong 3 2 <- deposit left balance gave:03 deposit no_memory
+wrong 3 2 <- deposit left balance gave:04 deposit no_memory
+wrong 3 2 <- deposit left balance gave:19 deposit no_memory
+wrong 3 3 <- deposit left balance gave:14 deposit no_memory
+wrong 2 2 <- deposit left balance gave:14 deposit no_memory
+wrong 3 2 <- deposit left balance gave:14 deposit untaken
+wrong 3 2 <- deposit gave:03 balance no_memory deposit no_memory",
     ),
     (
         "jobs are untaken where all left",
-        &[],
-        &LEFT_RIGHT,
-        &LEFT_WRONG,
+        "",
+        "right 2 1 <- balance left balance left balance untaken
+right 3 1 <- balance left balance left balance left
+right 4 1 <- balance left balance left balance left
+right 2 1 <- balance no_memory balance no_memory balance no_memory
+wrong 1 1 <- balance left balance left balance untaken
+wrong 3 1 <- balance left balance left balance untaken
+wrong 1 1 <- balance left balance left balance left
+wrong 2 1 <- balance left balance left balance left
+wrong 2 1 <- balance untaken balance untaken balance untaken",
     ),
 ];
 
 #[test]
 fn outcomes_agree_with_the_history(rt: HostRuntime) {
-    for (what, deeds, right, wrong) in &ROWS {
-        assert!(rt;
-            agree(rt.alloc(), deeds, right, wrong) == Some(true),
-            "{what}"
-        );
+    for (what, deeds, table) in &ROWS {
+        assert_eq!(rt; first_wrong_after(rt.alloc(), deeds, table), "", "{what}");
     }
 }

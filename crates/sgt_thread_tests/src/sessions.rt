@@ -122,16 +122,38 @@ enum Told {
     Committed(Option<i64>),
 }
 
+/// What is compared of the reply to a step.
+fn stepped(reply: &Reply) -> Option<Told> {
+    match reply {
+        Reply::Looked { value, .. } => Some(Told::Looked(*value)),
+        Reply::Wrote { value, .. } => Some(Told::Wrote(*value)),
+        _ => None,
+    }
+}
+
+/// What is compared of the reply to a commit.
+fn ended(reply: &Reply) -> Option<Told> {
+    match reply {
+        Reply::Waits(first) => Some(Told::Waits(first.0)),
+        Reply::Committed(answers) => Some(Told::Committed(answers.as_slice().first().copied())),
+        _ => None,
+    }
+}
+
+/// Whether a reply tells that this transaction was started.
+fn is_started(reply: &Reply, t: Tid) -> bool {
+    match reply {
+        Reply::Started(started) => *started == t,
+        _ => false,
+    }
+}
+
 /// What is compared of an entry of a transaction: its start, its accesses, and its commits.
 fn compared(entry: &Entry, t: Tid) -> Option<Told> {
-    match (&entry.event, &entry.reply) {
-        (Event::Start { .. }, Reply::Started(s)) if *s == t => Some(Told::Started),
-        (Event::Step(s), Reply::Looked { value, .. }) if *s == t => Some(Told::Looked(*value)),
-        (Event::Step(s), Reply::Wrote { value, .. }) if *s == t => Some(Told::Wrote(*value)),
-        (Event::Commit(s), Reply::Waits(first)) if *s == t => Some(Told::Waits(first.0)),
-        (Event::Commit(s), Reply::Committed(answers)) if *s == t => {
-            Some(Told::Committed(answers.as_slice().first().copied()))
-        }
+    match &entry.event {
+        Event::Start { .. } if is_started(&entry.reply, t) => Some(Told::Started),
+        Event::Step(s) if *s == t => stepped(&entry.reply),
+        Event::Commit(s) if *s == t => ended(&entry.reply),
         _ => None,
     }
 }
@@ -167,13 +189,20 @@ fn is_told(history: &History, t: Tid, all: &[Told]) -> bool {
     count == all.len()
 }
 
-/// Whether two transactions were told just this.
-fn are_told(engine: Option<ListEngine>, all: &[(u32, &[Told]); 2]) -> bool {
-    match engine {
-        Some(engine) => {
-            let history = engine.history();
-            is_told(history, Tid(all[0].0), all[0].1) && is_told(history, Tid(all[1].0), all[1].1)
+/// Whether each of these transactions was told just this.
+fn all_told(history: &History, all: &[(u32, &[Told])]) -> bool {
+    for (t, told) in all {
+        if !is_told(history, Tid(*t), told) {
+            return false;
         }
+    }
+    true
+}
+
+/// Whether each of these transactions of an engine was told just this.
+fn are_told(engine: Option<ListEngine>, all: &[(u32, &[Told])]) -> bool {
+    match engine {
+        Some(engine) => all_told(engine.history(), all),
         None => false,
     }
 }
