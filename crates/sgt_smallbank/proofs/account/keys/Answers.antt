@@ -26,7 +26,8 @@ returns-then-is_value-2-clause-in_range c = (
 
 pub returns-in_err-name-clause-in_range : goal.returns-in_err-name-clause-in_range
 returns-in_err-name-clause-in_range c = no_keys c.args.account.now c.from_residual.result c.from_residual.ensures
-    (λ range. c.in_err-name.ensures.some.1 (omega arith, subst IsValue (sym (to_z-of_z w64 c.args.account.now.name (search rules))) range.name))
+    (λ range. c.in_err-name.ensures.some.1
+    (omega arith, subst IsValue (sym (to_z-of_z w64 c.args.account.now.name (search rules))) range.name))
 
 pub returns-in_err-saving-clause-in_range : goal.returns-in_err-saving-clause-in_range
 returns-in_err-saving-clause-in_range c =
