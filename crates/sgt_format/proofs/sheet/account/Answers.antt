@@ -62,6 +62,7 @@ returns-in_ok-as_i64-in-len4-4 c =
       to_z-of_z w64 c.in_ok-as_i64-in-len4-4.field-0 (search rules),
     )
     (account_at (view c.args.tree.now) c.in_ok-items.field-0.now _ _ _ _
-    (Some c.in_ok-as_i64-in-len4.field-0) (Some c.in_ok-as_i64-in-len4-2.field-0) (Some c.in_ok-as_i64-in-len4-3.field-0) (Some c.in_ok-as_i64-in-len4-4.field-0)
+    (Some c.in_ok-as_i64-in-len4.field-0) (Some c.in_ok-as_i64-in-len4-2.field-0)
+    (Some c.in_ok-as_i64-in-len4-3.field-0) (Some c.in_ok-as_i64-in-len4-4.field-0)
     c.in_ok-items.ensures values c.in_ok-as_i64-in-len4.ensures c.in_ok-as_i64-in-len4-2.ensures
     c.in_ok-as_i64-in-len4-3.ensures c.in_ok-as_i64-in-len4-4.ensures)
