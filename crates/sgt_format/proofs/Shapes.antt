@@ -1,7 +1,7 @@
 -- Lists and objects of another size than an opening's.
-use Rattle.std.proofs.Common.{◌≡◌, ◌≢◌, ℕ, suc, ℤ, List, [], ◌∷◌, Some, None, Option, refl, ap, sym, ◌∙◌, length, map, arith}
+use Rattle.std.proofs.Common.{◌≡◌, ◌≢◌, ℕ, suc, ℤ, List, [], ◌∷◌, Some, None, Option, refl, ap, sym, ◌∙◌, length, get_or, map, arith}
 use Rattle.std.proofs.lemmas.List.{length-map}
-use Rattle.std.specs.Prelude.{Result, Ok, Err, IfErr, cond, nat_eq, codes, option_map, option_and_then, String}
+use Rattle.std.specs.Prelude.{Result, Ok, Err, IfErr, cond, nat_eq, codes, option_map, option_and_then, String, ◌<◌, ◌≤◌}
 use Rattle.std.specs.declared.alloc.Global.{Global}
 use Rattle.serde_json.specs.Data.{Data, Members}
 use Rattle.serde_json.specs.Find.{get, as_object}
@@ -27,6 +27,33 @@ pub length-each : {A : Type 0} (meaning : Data → Option A) (trees : List Data)
     → length found ≡ length trees
 length-each meaning [] found e = grind arith
 length-each meaning (tree ∷ trees) found e = longer (meaning tree) (each meaning trees) found (length trees) (length-each meaning trees) e
+
+-- four values are those that are looked up
+pub four_values : (values : List Value) (a b c d : Value) → 4 ≤ length values → length values < 5 → a ≡ get_or values 0 a
+    → b ≡ get_or values 1 b → c ≡ get_or values 2 c → d ≡ get_or values 3 d → values ≡ a ∷ b ∷ c ∷ d ∷ []
+four_values [] a b c d least most at_a at_b at_c at_d = absurd (omega arith)
+four_values (x ∷ []) a b c d least most at_a at_b at_c at_d = absurd (omega arith)
+four_values (x ∷ y ∷ []) a b c d least most at_a at_b at_c at_d = absurd (omega arith)
+four_values (x ∷ y ∷ z ∷ []) a b c d least most at_a at_b at_c at_d = absurd (omega arith)
+four_values (x ∷ y ∷ z ∷ u ∷ []) a b c d least most at_a at_b at_c at_d = rw (at_a, at_b, at_c, at_d) refl
+four_values (x ∷ y ∷ z ∷ u ∷ v ∷ rest) a b c d least most at_a at_b at_c at_d = absurd (omega arith)
+
+-- and so with three
+pub three_values : (values : List Value) (a b c : Value) → 3 ≤ length values → length values < 4 → a ≡ get_or values 0 a
+    → b ≡ get_or values 1 b → c ≡ get_or values 2 c → values ≡ a ∷ b ∷ c ∷ []
+three_values [] a b c least most at_a at_b at_c = absurd (omega arith)
+three_values (x ∷ []) a b c least most at_a at_b at_c = absurd (omega arith)
+three_values (x ∷ y ∷ []) a b c least most at_a at_b at_c = absurd (omega arith)
+three_values (x ∷ y ∷ z ∷ []) a b c least most at_a at_b at_c = rw (at_a, at_b, at_c) refl
+three_values (x ∷ y ∷ z ∷ u ∷ rest) a b c least most at_a at_b at_c = absurd (omega arith)
+
+-- and with two
+pub two_values : (values : List Value) (a b : Value) → 2 ≤ length values → length values < 3 → a ≡ get_or values 0 a
+    → b ≡ get_or values 1 b → values ≡ a ∷ b ∷ []
+two_values [] a b least most at_a at_b = absurd (omega arith)
+two_values (x ∷ []) a b least most at_a at_b = absurd (omega arith)
+two_values (x ∷ y ∷ []) a b least most at_a at_b = rw (at_a, at_b) refl
+two_values (x ∷ y ∷ z ∷ rest) a b least most at_a at_b = absurd (omega arith)
 
 -- a list of more than three or fewer than two is no limits
 pub limits_from-length : (numbers : List ℤ) → length numbers ≢ 2 → length numbers ≢ 3 → limits_from numbers ≡ None
@@ -68,6 +95,60 @@ not_four trees other = by_numbers (each whole trees) refl
 pub no_account : (tree : Data) (values : List Value) → Some (map view values) ≡ list tree → length values ≢ 4 → None ≡ account_in tree
 no_account tree values is other = sym (ap (λ o. option_and_then account_from (option_and_then (each whole) o)) (sym is)
     ∙ not_four (map view values) (λ four. other (sym (length-map values view) ∙ four)))
+
+-- the account of four numbers, where all four are there
+abbrev account_of : Option ℤ → Option ℤ → Option ℤ → Option ℤ → Option Account
+account_of name customer saving checking = option_and_then account_from
+    (option_and_then (λ n. option_map (λ others. n ∷ others)
+    (option_and_then (λ c. option_map (λ others. c ∷ others)
+    (option_and_then (λ s. option_map (λ others. s ∷ others) (option_and_then (λ k. Some (k ∷ [])) checking)) saving)) customer)) name)
+
+account_of_four : (values : List Value) (n c s k : Value) (name customer saving checking : Option ℤ) → values ≡ n ∷ c ∷ s ∷ k ∷ []
+    → name ≡ whole (view n) → customer ≡ whole (view c) → saving ≡ whole (view s) → checking ≡ whole (view k)
+    → account_of name customer saving checking ≡ option_and_then account_from (each whole (map view values))
+account_of_four values n c s k name customer saving checking are is_n is_c is_s is_k = rw (are, is_n, is_c, is_s, is_k) refl
+
+-- the account of a list of four
+pub account_at : (tree : Data) (values : List Value) (n c s k : Value) (name customer saving checking : Option ℤ)
+    → Some (map view values) ≡ list tree → values ≡ n ∷ c ∷ s ∷ k ∷ [] → name ≡ whole (view n) → customer ≡ whole (view c)
+    → saving ≡ whole (view s) → checking ≡ whole (view k) → account_of name customer saving checking ≡ account_in tree
+account_at tree values n c s k name customer saving checking is are is_n is_c is_s is_k =
+    account_of_four values n c s k name customer saving checking are is_n is_c is_s is_k
+    ∙ ap (λ o. option_and_then account_from (option_and_then (each whole) o)) is
+
+-- the limits of two numbers, where both are there
+abbrev limits_of_two : Option ℤ → Option ℤ → Option LimitNumbers
+limits_of_two live begins = option_and_then limits_from
+    (option_and_then (λ l. option_map (λ others. l ∷ others) (option_and_then (λ b. Some (b ∷ [])) begins)) live)
+
+two_limits : (values : List Value) (l b : Value) (live begins : Option ℤ) → values ≡ l ∷ b ∷ [] → live ≡ whole (view l)
+    → begins ≡ whole (view b) → limits_of_two live begins ≡ option_and_then limits_from (each whole (map view values))
+two_limits values l b live begins are is_l is_b = rw (are, is_l, is_b) refl
+
+-- the limits of a list of two
+pub two_limits_at : (tree : Data) (values : List Value) (l b : Value) (live begins : Option ℤ) → Some (map view values) ≡ list tree
+    → values ≡ l ∷ b ∷ [] → live ≡ whole (view l) → begins ≡ whole (view b) → limits_of_two live begins ≡ limit_numbers tree
+two_limits_at tree values l b live begins is are is_l is_b =
+    two_limits values l b live begins are is_l is_b ∙ ap (λ o. option_and_then limits_from (option_and_then (each whole) o)) is
+
+-- the limits of three numbers, where all three are there
+abbrev limits_of_three : Option ℤ → Option ℤ → Option ℤ → Option LimitNumbers
+limits_of_three live begins asks = option_and_then limits_from
+    (option_and_then (λ l. option_map (λ others. l ∷ others)
+    (option_and_then (λ b. option_map (λ others. b ∷ others) (option_and_then (λ a. Some (a ∷ [])) asks)) begins)) live)
+
+three_limits : (values : List Value) (l b a : Value) (live begins asks : Option ℤ) → values ≡ l ∷ b ∷ a ∷ [] → live ≡ whole (view l)
+    → begins ≡ whole (view b) → asks ≡ whole (view a)
+    → limits_of_three live begins asks ≡ option_and_then limits_from (each whole (map view values))
+three_limits values l b a live begins asks are is_l is_b is_a = rw (are, is_l, is_b, is_a) refl
+
+-- the limits of a list of three
+pub three_limits_at : (tree : Data) (values : List Value) (l b a : Value) (live begins asks : Option ℤ)
+    → Some (map view values) ≡ list tree → values ≡ l ∷ b ∷ a ∷ [] → live ≡ whole (view l) → begins ≡ whole (view b)
+    → asks ≡ whole (view a) → limits_of_three live begins asks ≡ limit_numbers tree
+three_limits_at tree values l b a live begins asks is are is_l is_b is_a =
+    three_limits values l b a live begins asks are is_l is_b is_a
+    ∙ ap (λ o. option_and_then limits_from (option_and_then (each whole) o)) is
 
 -- an object has as many members as its map has entries
 pub count_members : (members : List (String Global × Value)) → count (members_view members) ≡ length members
