@@ -146,8 +146,8 @@ fn append_was_not_cut(telling: Telling, text: &mut Vec<u8>) -> Result<(), NoMemo
 }
 
 /// What is written behind the answers of a run that ends well.
-fn last_text(alloc: Global, engine: SgtEngine, telling: Telling) -> Result<Vec<u8>, NoMemory>
-    ensures { IfOk result (λ text. Last telling (left_by (part_at engine)) text.items) }
+fn last_text(alloc: Global, engine: &SgtEngine, telling: Telling) -> Result<Vec<u8>, NoMemory>
+    ensures { IfOk result (λ text. Last telling (left_by (part_at engine.now)) text.items) }
 {
     let mut text = Vec::new(alloc);
     match telling {
@@ -211,6 +211,30 @@ fn stop<T: Sink>(sink: &mut T, gathered: &mut Vec<u8>, fault: Fault) -> Fault
     }
 }
 
+/// Answers the line of a number: the text of that is added.
+fn answer_line<X: Explains>(
+    alloc: Global,
+    engine: &mut SgtEngine,
+    line: ScriptLine,
+    number: u64,
+    telling: Telling,
+    text: &mut Vec<u8>,
+    explains: &mut X,
+) -> Result<(), NoMemory>
+    ensures answered { OnOk result (AnswersLine telling line
+        (part_at engine.old) (part_at engine.new) text.old.items text.new.items) }
+    ensures kept { OnErr result (text.new.items ≡ text.old.items) }
+{
+    match line {
+        ScriptLine::Event(event) => {
+            answer_event(engine, event, telling, text)?;
+            explains.answered(engine, number);
+            Ok(())
+        }
+        ScriptLine::Cut => answer_cut(alloc, engine, telling, text),
+    }
+}
+
 /// Answers the lines that are left. The answers are gathered, and written out before each read and at the end.
 fn answer_lines<S: Source, T: Sink, X: Explains>(
     alloc: Global,
@@ -255,16 +279,15 @@ fn answer_lines<S: Source, T: Sink, X: Explains>(
         flush_before_read(lines, sink, &mut gathered)?;
         explains.written(lines);
         match next_script_line(alloc, &mut scratch, lines, source) {
-            Ok(Some(ScriptLine::Event(event))) => match answer_event(
+            Ok(Some(line)) => match answer_line(
+                alloc,
                 engine,
-                event,
+                line,
+                lines.number(),
                 telling,
                 &mut gathered,
+                explains,
             ) {
-                Ok(()) => explains.answered(engine, lines.number()),
-                Err(_) => return Err(stop(sink, &mut gathered, Fault::NoMemory)),
-            },
-            Ok(Some(ScriptLine::Cut)) => match answer_cut(alloc, engine, telling, &mut gathered) {
                 Ok(()) => (),
                 Err(_) => return Err(stop(sink, &mut gathered, Fault::NoMemory)),
             },
@@ -291,28 +314,28 @@ pub(crate) fn run_opened<S: Source, T: Sink, X: Explains>(
     lines: &mut Lines,
     source: &mut S,
     sink: &mut T,
-    engine: SgtEngine,
+    engine: &mut SgtEngine,
     telling: Telling,
     explains: &mut X,
 ) -> Result<(), Fault>
     requires reading { S.failures source.old + 1 < 2 ^ 64 }
     requires writing { T.failures sink.old + 1 < 2 ^ 64 }
-    requires fresh { engine.past ≡ [] }
+    requires fresh { engine.old.past ≡ [] }
     requires few { come lines.old ≤ 16777217 }
     ensures output { IsExact result → IfSome (cut_left lines.old (S.rest source.old)) (λ c.
-        (run : Execution) × (run.setting ≡ setting_of engine)
+        (run : Execution) × (run.setting ≡ setting_of engine.old)
         × (out : List ℕ) × Appends (T.held sink.old) (T.held sink.new) out
         × RunOutput telling run (lines.old.number + 1) c.given c.ending out result) }
     ensures stops { IsStop result → IfSome (cut_left lines.old (S.rest source.old)) (λ c.
         (answered : List Answer) × Appends (T.held sink.old) (T.held sink.new) (answers_text telling answered)
-        × Begins (LineRuns telling (setting_of engine) (lines.old.number + 1) c) answered (answers_text telling answered)
+        × Begins (LineRuns telling (setting_of engine.old) (lines.old.number + 1) c) answered (answers_text telling answered)
         × (result ≡ Err Fault.Reading → AnswersRead (lines.old.number + 1)
         (bytes_left lines.old (S.rest source.old)) (S.rest source.new) answered)) }
     ensures going { result ≡ Err Fault.Reading → lines.old.ended ≡ false }
     ensures part { result ≡ Err Fault.Writing →
         IfSome (cut_left lines.old (S.rest source.old)) (λ c.
         (answered : List Answer) × (out : List ℕ) × Appends (T.held sink.old) (T.held sink.new) out
-        × Begins (LineRuns telling (setting_of engine) (lines.old.number + 1) c) answered out) }
+        × Begins (LineRuns telling (setting_of engine.old) (lines.old.number + 1) c) answered out) }
     ensures bounded { S.given source.new + come lines.old ≤ S.given source.old + 16777217 }
     ensures read_well { IsExact result → S.failures source.new ≡ S.failures source.old }
     ensures read_failed { result ≡ Err Fault.Reading →
@@ -325,8 +348,7 @@ pub(crate) fn run_opened<S: Source, T: Sink, X: Explains>(
     // Whatever was answered by then, some whole run goes on from there.
     some_reply_is_legal();
     histories_go_on();
-    let mut engine = engine;
-    answer_lines(alloc, lines, source, sink, &mut engine, telling, explains)?;
+    answer_lines(alloc, lines, source, sink, engine, telling, explains)?;
     let mut text = last_text(alloc, engine, telling)?;
     flush(sink, &mut text)
 }
@@ -375,6 +397,14 @@ pub(crate) fn run_with<S: Source, T: Sink, X: Explains>(
     let opening = opening_of(alloc, 1, &lines)?;
     explains.opened(&lines);
     let opening = read_records(alloc, &mut lines, source, opening)?;
-    let engine = open_engine(alloc, opening)?;
-    run_opened(alloc, &mut lines, source, sink, engine, telling, explains)
+    let mut engine = open_engine(alloc, opening)?;
+    run_opened(
+        alloc,
+        &mut lines,
+        source,
+        sink,
+        &mut engine,
+        telling,
+        explains,
+    )
 }

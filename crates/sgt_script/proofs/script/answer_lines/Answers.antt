@@ -1,9 +1,7 @@
 use Rattle.std.proofs.Common.{rules, ◌+◌, refl}
-use Rattle.sgt_format.specs.declared.script_line.ScriptLine.TheVariants as script_line
 use Rattle.sgt_stream.specs.Intake.{bytes_left, cut_left}
 use Rattle.sgt_engine.specs.EngineView.{setting_of}
 use Rattle.sgt_script.specs.Parts.{part_at}
-use Rattle.sgt_script.proofs.Parts.{replied}
 use Rattle.sgt_script.proofs.Beginnings.{all-so, answered-flushed, answered-next, answered-none, fault-stop, some-failed, some-refused, some-stop, some-written}
 use Rattle.sgt_script.proofs.WholeLines.{read-failed}
 use Rattle.sgt_script.proofs.script.answer_lines.Goals as goal
@@ -20,37 +18,6 @@ loop-gathered-init g c = record {
   writing = search rules;
 }
 
-pub loop-gathered-preserved-in-Ok : goal.loop-gathered-preserved-in-Ok
-loop-gathered-preserved-in-Ok g c =
-    let one = c.in-Ok.ensures.answered in
-    record {
-      so = answered-next c.args.telling (setting_of c.args.engine.now) (c.args.lines.now.number + 1)
-          (cut_left c.args.lines.now (g.S.Source.rest c.args.source.now))
-          (bytes_left c.args.lines.now (g.S.Source.rest c.args.source.now)) (g.T.Sink.held c.args.sink.now)
-          c.loop-gathered.lines c.next_script_line.new.lines (g.S.Source.rest c.loop-gathered.source)
-          (g.S.Source.rest c.next_script_line.new.source) (g.T.Sink.held c.flush_before_read.new.sink)
-          c.flush_before_read.new.gathered.items
-          c.answer_event.new.text.items (part_at c.loop-gathered.engine) (part_at c.answer_event.new.engine)
-          (script_line.Event c.in-Ok-Some-Event.event)
-          (answered-flushed c.args.telling (setting_of c.args.engine.now) (c.args.lines.now.number + 1)
-          (cut_left c.args.lines.now (g.S.Source.rest c.args.source.now))
-          (bytes_left c.args.lines.now (g.S.Source.rest c.args.source.now)) (g.T.Sink.held c.args.sink.now)
-          c.loop-gathered.lines (g.S.Source.rest c.loop-gathered.source) (g.T.Sink.held c.loop-gathered.sink)
-          (g.T.Sink.held c.flush_before_read.new.sink) c.loop-gathered.gathered.items c.flush_before_read.new.gathered.items
-          (part_at c.loop-gathered.engine)
-          c.loop-gathered.invariant.so c.in_ok-flush_before_read.ensures.bytes)
-          (search rules) (search rules) (search rules) (search rules)
-          (search rules) c.next_script_line.ensures.ended
-          (replied c.args.telling one.0 c.in-Ok-Some-Event.event c.loop-gathered.engine c.answer_event.new.engine _ _
-          c.answer_event.ensures.setting one.1 one.2 one.3
-          c.answer_event.ensures.legal);
-      ended = λ going. c.loop-gathered.invariant.ended (c.next_script_line.ensures.ended going);
-      counted = search rules;
-      few = search rules;
-      reading = search rules;
-      writing = search rules;
-    }
-
 pub loop-gathered-preserved : goal.loop-gathered-preserved
 loop-gathered-preserved g c =
     record {
@@ -60,7 +27,7 @@ loop-gathered-preserved g c =
           c.loop-gathered.lines c.next_script_line.new.lines (g.S.Source.rest c.loop-gathered.source)
           (g.S.Source.rest c.next_script_line.new.source) (g.T.Sink.held c.flush_before_read.new.sink)
           c.flush_before_read.new.gathered.items
-          c.answer_cut.new.text.items (part_at c.loop-gathered.engine) (part_at c.answer_cut.new.engine) script_line.Cut
+          c.answer_line.new.text.items (part_at c.loop-gathered.engine) (part_at c.answer_line.new.engine) c.in-Ok-Some.line
           (answered-flushed c.args.telling (setting_of c.args.engine.now) (c.args.lines.now.number + 1)
           (cut_left c.args.lines.now (g.S.Source.rest c.args.source.now))
           (bytes_left c.args.lines.now (g.S.Source.rest c.args.source.now)) (g.T.Sink.held c.args.sink.now)
@@ -70,7 +37,7 @@ loop-gathered-preserved g c =
           c.loop-gathered.invariant.so c.in_ok-flush_before_read.ensures.bytes)
           (search rules) (search rules) (search rules) (search rules)
           (search rules) c.next_script_line.ensures.ended
-          c.in-Ok-answer_cut.ensures.answered;
+          c.in-Ok.ensures.answered;
       ended = λ going. c.loop-gathered.invariant.ended (c.next_script_line.ensures.ended going);
       counted = search rules;
       few = search rules;
@@ -88,8 +55,8 @@ returns-in_err-flush_before_read-clause-some g c =
     (part_at c.loop-gathered.engine) c.from_residual.result
     c.loop-gathered.invariant.so c.in_err-flush_before_read.ensures.part (search rules)
 
-pub returns-in-Err-answer_event-clause-some : goal.returns-in-Err-answer_event-clause-some
-returns-in-Err-answer_event-clause-some g c =
+pub returns-in-Err-answer_line-clause-some : goal.returns-in-Err-answer_line-clause-some
+returns-in-Err-answer_line-clause-some g c =
     let so = answered-flushed c.args.telling (setting_of c.args.engine.now) (c.args.lines.now.number + 1)
     (cut_left c.args.lines.now (g.S.Source.rest c.args.source.now))
     (bytes_left c.args.lines.now (g.S.Source.rest c.args.source.now)) (g.T.Sink.held c.args.sink.now) c.loop-gathered.lines
@@ -100,25 +67,9 @@ returns-in-Err-answer_event-clause-some g c =
     (cut_left c.args.lines.now (g.S.Source.rest c.args.source.now))
     (bytes_left c.args.lines.now (g.S.Source.rest c.args.source.now)) (g.T.Sink.held c.args.sink.now)
     c.loop-gathered.lines (g.S.Source.rest c.loop-gathered.source) (g.S.Source.rest c.next_script_line.new.source)
-    (g.T.Sink.held c.flush_before_read.new.sink) _ c.flush_before_read.new.gathered.items c.answer_event.new.text.items
+    (g.T.Sink.held c.flush_before_read.new.sink) _ c.flush_before_read.new.gathered.items c.answer_line.new.text.items
     (part_at c.loop-gathered.engine) _ _ so
-    c.in-Err-answer_event.ensures.kept c.stop.ensures.written refl
-
-pub returns-in-Err-answer_cut-clause-some : goal.returns-in-Err-answer_cut-clause-some
-returns-in-Err-answer_cut-clause-some g c =
-    let so = answered-flushed c.args.telling (setting_of c.args.engine.now) (c.args.lines.now.number + 1)
-    (cut_left c.args.lines.now (g.S.Source.rest c.args.source.now))
-    (bytes_left c.args.lines.now (g.S.Source.rest c.args.source.now)) (g.T.Sink.held c.args.sink.now) c.loop-gathered.lines
-    (g.S.Source.rest c.loop-gathered.source) (g.T.Sink.held c.loop-gathered.sink) (g.T.Sink.held c.flush_before_read.new.sink)
-    c.loop-gathered.gathered.items c.flush_before_read.new.gathered.items (part_at c.loop-gathered.engine) c.loop-gathered.invariant.so
-    c.in_ok-flush_before_read.ensures.bytes in
-    some-refused c.args.telling (setting_of c.args.engine.now) (c.args.lines.now.number + 1)
-    (cut_left c.args.lines.now (g.S.Source.rest c.args.source.now))
-    (bytes_left c.args.lines.now (g.S.Source.rest c.args.source.now)) (g.T.Sink.held c.args.sink.now)
-    c.loop-gathered.lines (g.S.Source.rest c.loop-gathered.source) (g.S.Source.rest c.next_script_line.new.source)
-    (g.T.Sink.held c.flush_before_read.new.sink) _ c.flush_before_read.new.gathered.items c.answer_cut.new.text.items
-    (part_at c.loop-gathered.engine) _ _ so
-    c.in-Err-answer_cut.ensures.kept c.stop-in-Err-answer_cut.ensures.written refl
+    c.in-Err-answer_line.ensures.kept c.stop.ensures.written refl
 
 pub returns-in_err-flush-in-Ok-None-clause-some : goal.returns-in_err-flush-in-Ok-None-clause-some
 returns-in_err-flush-in-Ok-None-clause-some g c =
