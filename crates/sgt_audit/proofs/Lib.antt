@@ -6,3 +6,4 @@ pub mod Named
 pub mod Told
 pub mod Crossing
 pub mod Nexts
+pub mod Zips
