@@ -5,3 +5,5 @@ pub mod Rows
 pub mod Named
 pub mod Told
 pub mod Crossing
+pub mod Nexts
+pub mod Zips

@@ -1,5 +1,5 @@
 //! What outcomes are counted for.
-ghost use Rattle.std.specs.Prelude.{◌≡◌, ◌↔◌, IsTrue};
+ghost use Rattle.std.specs.Prelude.{◌≡◌, ◌↔◌, IsTrue, [], ◌∷◌};
 ghost use Rattle.std.specs.List.{count_by};
 ghost use Rattle.sgt_model.specs.declared.entry.Entry.{Entry as E};
 ghost use Rattle.sgt_model.specs.Questions.{is_commit, is_quit};
@@ -69,13 +69,34 @@ fn kinds_of<N>(outcomes: &[Outcome<N>]) -> Kinds
         no_memory: 0,
     };
     for outcome in outcomes {
-        match outcome {
-            Outcome::Done(_) => kinds.done += 1,
-            Outcome::Left(_) => kinds.left += 1,
-            Outcome::Untaken => kinds.untaken += 1,
-            Outcome::NoMemory => kinds.no_memory += 1,
-            Outcome::Asked(_) | Outcome::Gave(_) | Outcome::Refused(_) => (),
-        }
+        let one = kind_of(outcome);
+        kinds.done += one.done;
+        kinds.left += one.left;
+        kinds.untaken += one.untaken;
+        kinds.no_memory += one.no_memory;
+    }
+    kinds
+}
+
+/// One of the outcome's own kind, if it is counted.
+fn kind_of<N>(outcome: &Outcome<N>) -> Kinds
+    ensures done { result.done ≡ count_by is_done (outcome.now ∷ []) }
+    ensures left { result.left ≡ count_by is_left (outcome.now ∷ []) }
+    ensures untaken { result.untaken ≡ count_by is_untaken (outcome.now ∷ []) }
+    ensures no_memory { result.no_memory ≡ count_by is_no_memory (outcome.now ∷ []) }
+{
+    let mut kinds = Kinds {
+        done: 0,
+        left: 0,
+        untaken: 0,
+        no_memory: 0,
+    };
+    match outcome {
+        Outcome::Done(_) => kinds.done = 1,
+        Outcome::Left(_) => kinds.left = 1,
+        Outcome::Untaken => kinds.untaken = 1,
+        Outcome::NoMemory => kinds.no_memory = 1,
+        Outcome::Asked(_) | Outcome::Gave(_) | Outcome::Refused(_) => (),
     }
     kinds
 }

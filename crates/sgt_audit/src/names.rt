@@ -1,6 +1,7 @@
 //! What outcomes name, and that nothing is named twice.
 ghost use Rattle.std.specs.Prelude.{◌≡◌, ◌↔◌, ◌++◌, ℕ, ◌<◌, IsTrue, IfOk, OnOk, List};
 ghost use Rattle.std.specs.List.{All, flat_map};
+ghost use Rattle.std.specs.Option.{option_to_list};
 ghost use Rattle.sgt_model.specs.Walks.{Distinct};
 ghost use Rattle.sgt_audit.specs.AllOutcomes.{entries_of, transaction_at, transactions_of};
 
@@ -17,12 +18,21 @@ pub fn entries_named<N>(alloc: Global, outcomes: &[Outcome<N>]) -> Result<Vec<u6
 {
     let mut named = Vec::new(alloc);
     for outcome in outcomes {
-        match outcome {
-            Outcome::Done(n) | Outcome::Asked(n) | Outcome::Refused(n) => named.push(*n)?,
-            Outcome::Gave(_) | Outcome::Left(_) | Outcome::Untaken | Outcome::NoMemory => (),
+        if let Some(n) = entry_of(outcome) {
+            named.push(n)?;
         }
     }
     Ok(named)
+}
+
+/// The entry that an outcome names, if it does.
+fn entry_of<N>(outcome: &Outcome<N>) -> Option<u64>
+    ensures { option_to_list result ≡ entries_of outcome.now }
+{
+    match outcome {
+        Outcome::Done(n) | Outcome::Asked(n) | Outcome::Refused(n) => Some(*n),
+        Outcome::Gave(_) | Outcome::Left(_) | Outcome::Untaken | Outcome::NoMemory => None,
+    }
 }
 
 /// The transactions that the outcomes name, in their order.
@@ -37,13 +47,24 @@ pub fn transactions_named<N>(
 {
     let mut named = Vec::new(alloc);
     for outcome in outcomes {
-        match outcome {
-            Outcome::Done(n) | Outcome::Asked(n) => add_named_at(&mut named, history, *n)?,
-            Outcome::Gave(attempts) => add_all(&mut named, attempts.as_slice())?,
-            Outcome::Refused(_) | Outcome::Left(_) | Outcome::Untaken | Outcome::NoMemory => (),
-        }
+        add_named_by(&mut named, history, outcome)?;
     }
     Ok(named)
+}
+
+/// Adds the transactions that an outcome names.
+fn add_named_by<N>(
+    named: &mut Vec<u64>,
+    history: &History,
+    outcome: &Outcome<N>,
+) -> Result<(), NoMemory>
+    ensures { OnOk result (named.new.items ≡ named.old.items ++ transactions_of history.now.entries outcome.now) }
+{
+    match outcome {
+        Outcome::Done(n) | Outcome::Asked(n) => add_named_at(named, history, *n),
+        Outcome::Gave(attempts) => add_all(named, attempts.as_slice()),
+        Outcome::Refused(_) | Outcome::Left(_) | Outcome::Untaken | Outcome::NoMemory => Ok(()),
+    }
 }
 
 /// Adds the transaction that entry n names, if it names one.

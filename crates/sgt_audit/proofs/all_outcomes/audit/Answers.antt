@@ -1,5 +1,6 @@
 use Rattle.std.proofs.Common.{◌≡◌, ◌↔◌, ℕ, ◌<◌, IsTrue, sym, subst, ◌∙◌, reverse, length, arith}
 use Rattle.std.specs.List.{All, AllZip, flat_map}
+use Rattle.std.proofs.lemmas.Bool.{false≢true}
 use Rattle.sgt_model.specs.Fates.{starts}
 use Rattle.sgt_model.specs.Walks.{Distinct}
 use Rattle.sgt_audit.specs.Lives.{AreLives}
@@ -53,3 +54,31 @@ returns g c =
       }),
       λ o. lives.1 (o.few_live, o.all_ended),
     )
+
+pub returns-then-not-all_stand : goal.returns-then-not-all_stand
+returns-then-not-all_stand g c =
+    ((λ t. absurd (false≢true t)), λ o. absurd (false≢true (sym c.if-not-all_stand.true ∙ c.all_stand.ensures.1 o.each)))
+
+pub returns-then-not-branch : goal.returns-then-not-branch
+returns-then-not-branch g c =
+    let h = c.args.history.now.entries in
+    let once : IsTrue c.in_ok-none_twice.field-0 ↔ Distinct c.deref-2.result.now = c.in_ok-none_twice.ensures in
+    let named : c.deref-2.result.now ≡ flat_map (transactions_of h) c.args.outcomes.now = c.deref-2.ensures.value
+    ∙ c.in_ok-transactions.ensures in (
+      (λ t. absurd (false≢true t)),
+      λ o. absurd (false≢true (sym c.if-not-branch.true ∙ once.1 (subst Distinct (sym named) o.transactions_once))),
+    )
+
+pub returns-then-not-branch-2 : goal.returns-then-not-branch-2
+returns-then-not-branch-2 g c =
+    let once : IsTrue c.in_ok-none_twice-2.field-0 ↔ Distinct c.deref-3.result.now = c.in_ok-none_twice-2.ensures in
+    let named : c.deref-3.result.now ≡ flat_map entries_of c.args.outcomes.now = c.deref-3.ensures.value ∙ c.in_ok-entries.ensures in (
+      (λ t. absurd (false≢true t)),
+      λ o. absurd (false≢true (sym c.if-not-branch-2.true ∙ once.1 (subst Distinct (sym named) o.entries_once))),
+    )
+
+pub returns-then-not-counts_agree : goal.returns-then-not-counts_agree
+returns-then-not-counts_agree g c = (
+  (λ t. absurd (false≢true t)),
+  λ o. absurd (false≢true (sym c.if-not-counts_agree.true ∙ c.counts_agree.ensures.1 o.counts)),
+)

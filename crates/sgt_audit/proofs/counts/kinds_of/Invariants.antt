@@ -1,4 +1,4 @@
-use Rattle.std.proofs.Common.{◌≡◌, ◌≤◌, take}
+use Rattle.std.proofs.Common.{◌≡◌, take}
 use Rattle.std.specs.List.{count_by}
 use Rattle.sgt_audit.specs.AllOutcomes.{is_done, is_left, is_untaken, is_no_memory}
 use Rattle.sgt_audit.proofs.counts.kinds_of.Given as goal
@@ -9,8 +9,4 @@ invariant-loop-outcome g l = record {
   left : l.kinds.left ≡ count_by is_left (take l.outcome-index l.outcomes);
   untaken : l.kinds.untaken ≡ count_by is_untaken (take l.outcome-index l.outcomes);
   no_memory : l.kinds.no_memory ≡ count_by is_no_memory (take l.outcome-index l.outcomes);
-  few_done : l.kinds.done ≤ l.outcome-index;
-  few_left : l.kinds.left ≤ l.outcome-index;
-  few_untaken : l.kinds.untaken ≤ l.outcome-index;
-  few_no_memory : l.kinds.no_memory ≤ l.outcome-index;
 }

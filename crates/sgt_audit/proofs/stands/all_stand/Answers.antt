@@ -1,16 +1,36 @@
-use Rattle.std.proofs.Common.{◌≡◌, List, [], ◌∷◌, length, refl, arith}
-use Rattle.std.specs.List.{AllZip}
+use Rattle.std.proofs.Common.{◌<◌, length, sym, subst, ◌∙◌}
 use Rattle.std.proofs.lemmas.Bool.{false≢true}
+use Rattle.sgt_audit.specs.Outcomes.{OutcomeStands}
+use Rattle.sgt_audit.proofs.Zips.{same_length, zip_put, zip_cut}
 use Rattle.sgt_audit.proofs.stands.all_stand.Goals as goal
-
-same_length : {A B : Type 0} (R : A → B → Type 0) (xs : List A) (ys : List B) → AllZip R xs ys → length xs ≡ length ys
-same_length R [] [] all = refl
-same_length R [] (y ∷ ys) all = absurd all
-same_length R (x ∷ xs) [] all = absurd all
-same_length R (x ∷ xs) (y ∷ ys) all = let rest = same_length R xs ys all.1 in omega arith
 
 pub returns-then-jobs-outcomes : goal.returns-then-jobs-outcomes
 returns-then-jobs-outcomes g c = (
   (λ t. absurd (false≢true t)),
   λ all. absurd (c.if-jobs-outcomes.true (same_length _ _ _ all)),
 )
+
+pub returns-then-not-stands : goal.returns-then-not-stands
+returns-then-not-stands g c =
+    let in_jobs : c.loop-i.i < length c.args.jobs.now = c.loop-i-test.true in
+    let in_outcomes : c.loop-i.i < length c.args.outcomes.now =
+    subst (λ n. c.loop-i.i < n) c.if-jobs-outcomes.false in_jobs in (
+      (λ t. absurd (false≢true t)),
+      λ all. absurd (false≢true (sym c.if-not-stands.true ∙ c.stands.ensures.1 (zip_cut
+          (OutcomeStands c.args.history.now.entries c.args.tries) c.args.jobs.now c.args.outcomes.now c.loop-i.i c.index-jobs-i.result
+          c.index-outcomes-i.result in_jobs in_outcomes c.index-jobs-i.is c.index-outcomes-i.is (c.loop-i.invariant.1 all)).0)),
+    )
+
+pub loop-i-preserved : goal.loop-i-preserved
+loop-i-preserved g c =
+    let stand = OutcomeStands c.args.history.now.entries c.args.tries in
+    let job = c.index-jobs-i.result in
+    let outcome = c.index-outcomes-i.result in
+    let in_jobs : c.loop-i.i < length c.args.jobs.now = c.loop-i-test.true in
+    let in_outcomes : c.loop-i.i < length c.args.outcomes.now =
+    subst (λ n. c.loop-i.i < n) c.if-jobs-outcomes.false in_jobs in (
+      (λ rest. c.loop-i.invariant.0 (zip_put stand c.args.jobs.now c.args.outcomes.now c.loop-i.i job outcome in_jobs in_outcomes
+          c.index-jobs-i.is c.index-outcomes-i.is (c.stands.ensures.0 c.if-not-stands.false) rest)),
+      λ all. (zip_cut stand c.args.jobs.now c.args.outcomes.now c.loop-i.i job outcome in_jobs in_outcomes
+          c.index-jobs-i.is c.index-outcomes-i.is (c.loop-i.invariant.1 all)).1,
+    )

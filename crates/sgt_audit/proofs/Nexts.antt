@@ -1,0 +1,30 @@
+-- What goes on item by item: how it is with one item more.
+use Rattle.std.proofs.Common.{◌≡◌, ℕ, ◌+◌, ◌<◌, ◌≤◌, Bool, true, false, List, [], ◌∷◌, ◌++◌, length, get_or, take, refl, sym, ap, ◌∙◌, arith}
+use Rattle.std.specs.List.{count_by, flat_map}
+use Rattle.std.proofs.lemmas.Grind.{flat_map-append}
+use Rattle.std.proofs.lemmas.List.{take_more, append-nil, length-take}
+use Rattle.std.proofs.lemmas.List.Sums.{count_by_more_no, count_by_more_yes, count_by-le-length}
+
+pub flat_map_next : {X A : Type 0} (f : X → List A) (xs : List X) (i : ℕ) (x : X) → i < length xs → x ≡ get_or xs i x
+    → flat_map f (take (i + 1) xs) ≡ flat_map f (take i xs) ++ f x
+flat_map_next f xs i x within is = ap (flat_map f) (take_more xs i x within)
+    ∙ (flat_map-append f (take i xs) (get_or xs i x ∷ []) ∙ (ap (λ l. flat_map f (take i xs) ++ l) (append-nil (f (get_or xs i x)))
+    ∙ ap (λ y. flat_map f (take i xs) ++ f y) (sym is)))
+
+counted : {X : Type 0} (p : X → Bool) (xs : List X) (i : ℕ) (x : X) (b : Bool) → i < length xs → x ≡ get_or xs i x → p x ≡ b
+    → count_by p (take (i + 1) xs) ≡ count_by p (take i xs) + count_by p (x ∷ [])
+counted p xs i x true within is it =
+    let more = count_by_more_yes p xs i x within (ap p (sym is) ∙ it) in
+    rw it more
+counted p xs i x false within is it =
+    let more = count_by_more_no p xs i x within (ap p (sym is) ∙ it) in
+    rw it (omega arith)
+
+-- so many counted before x, and whether x is counted: so many with it
+pub added : {X : Type 0} (p : X → Bool) (xs : List X) (i : ℕ) (x : X) {n one : ℕ} → i < length xs → x ≡ get_or xs i x
+    → n ≡ count_by p (take i xs) → one ≡ count_by p (x ∷ []) → n + one ≡ count_by p (take (i + 1) xs)
+added p xs i x within is so it = let next = counted p xs i x (p x) within is refl in omega arith
+
+-- never more than there are items
+pub few : {X : Type 0} (p : X → Bool) (xs : List X) (i : ℕ) {n : ℕ} → n ≡ count_by p (take i xs) → n ≤ i
+few p xs i so = omega (arith, count_by-le-length p (take i xs), length-take i xs)
