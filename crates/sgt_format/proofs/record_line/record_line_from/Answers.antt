@@ -43,30 +43,30 @@ returns-in_default-2 c = more c.args.trees.now (omega arith)
 
 pub returns-in_err-as_str-in-len4 : goal.returns-in_err-as_str-in-len4
 returns-in_err-as_str-in-len4 c =
-    let are = four_values c.args.trees.now _ _ _ _ c.in-len4.len_at_least c.in-len4.len_below c.word-item.is c.table-item.is c.number-item.is
-    c.value-item.is in
+    let are = four_values c.args.trees.now _ _ _ _ c.in-len4.len_at_least c.in-len4.len_below c.word-item.is c.table-item.is
+    c.number-item.is c.value-item.is in
     c.from_residual.ensures ∙ line_at c.args.trees.now _ _ _ _ None _ _ _ are c.in_err-as_str-in-len4.ensures refl refl refl
 
 pub returns-in_err-as_i64-in-len4 : goal.returns-in_err-as_i64-in-len4
 returns-in_err-as_i64-in-len4 c =
-    let are = four_values c.args.trees.now _ _ _ _ c.in-len4.len_at_least c.in-len4.len_below c.word-item.is c.table-item.is c.number-item.is
-    c.value-item.is in
+    let are = four_values c.args.trees.now _ _ _ _ c.in-len4.len_at_least c.in-len4.len_below c.word-item.is c.table-item.is
+    c.number-item.is c.value-item.is in
     c.from_residual-in_err-as_i64-in-len4.ensures
     ∙ line_at c.args.trees.now _ _ _ _ (Some c.in_ok-as_str-in-len4.field-0.now) None _ _ are c.in_ok-as_str-in-len4.ensures
     c.in_err-as_i64-in-len4.ensures refl refl
 
 pub returns-in_err-as_i64-in-len4-2 : goal.returns-in_err-as_i64-in-len4-2
 returns-in_err-as_i64-in-len4-2 c =
-    let are = four_values c.args.trees.now _ _ _ _ c.in-len4.len_at_least c.in-len4.len_below c.word-item.is c.table-item.is c.number-item.is
-    c.value-item.is in
+    let are = four_values c.args.trees.now _ _ _ _ c.in-len4.len_at_least c.in-len4.len_below c.word-item.is c.table-item.is
+    c.number-item.is c.value-item.is in
     c.from_residual-in_err-as_i64-in-len4-2.ensures
     ∙ line_at c.args.trees.now _ _ _ _ (Some c.in_ok-as_str-in-len4.field-0.now) (Some c.in_ok-as_i64-in-len4.field-0) None _ are
     c.in_ok-as_str-in-len4.ensures c.in_ok-as_i64-in-len4.ensures c.in_err-as_i64-in-len4-2.ensures refl
 
 pub returns-in_err-as_i64-in-len4-3 : goal.returns-in_err-as_i64-in-len4-3
 returns-in_err-as_i64-in-len4-3 c =
-    let are = four_values c.args.trees.now _ _ _ _ c.in-len4.len_at_least c.in-len4.len_below c.word-item.is c.table-item.is c.number-item.is
-    c.value-item.is in
+    let are = four_values c.args.trees.now _ _ _ _ c.in-len4.len_at_least c.in-len4.len_below c.word-item.is c.table-item.is
+    c.number-item.is c.value-item.is in
     c.from_residual-in_err-as_i64-in-len4-3.ensures
     ∙ line_at c.args.trees.now _ _ _ _ (Some c.in_ok-as_str-in-len4.field-0.now) (Some c.in_ok-as_i64-in-len4.field-0)
     (Some c.in_ok-as_i64-in-len4-2.field-0) None are c.in_ok-as_str-in-len4.ensures c.in_ok-as_i64-in-len4.ensures
@@ -74,8 +74,8 @@ returns-in_err-as_i64-in-len4-3 c =
 
 pub returns-in_ok-as_i64-in-len4-3 : goal.returns-in_ok-as_i64-in-len4-3
 returns-in_ok-as_i64-in-len4-3 c =
-    let are = four_values c.args.trees.now _ _ _ _ c.in-len4.len_at_least c.in-len4.len_below c.word-item.is c.table-item.is c.number-item.is
-    c.value-item.is in
+    let are = four_values c.args.trees.now _ _ _ _ c.in-len4.len_at_least c.in-len4.len_below c.word-item.is c.table-item.is
+    c.number-item.is c.value-item.is in
     let made : c.of_numbers.result ≡ of_numbers c.in_ok-as_str-in-len4.field-0.now c.in_ok-as_i64-in-len4.field-0
     c.in_ok-as_i64-in-len4-2.field-0 c.in_ok-as_i64-in-len4-3.field-0 = search rules in
     made
