@@ -1,4 +1,2 @@
-pub mod Takings
-pub mod Beginnings
 pub mod Reported
 pub mod SerialTexts

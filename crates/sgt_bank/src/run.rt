@@ -3,14 +3,14 @@ ghost use Rattle.std.specs.Io.KnownBytes.{Appends};
 ghost use Rattle.sgt_program.specs.Openings.{opened_setting};
 ghost use Rattle.sgt_stream.specs.Ends.{IsOfInput};
 ghost use Rattle.sgt_workers.specs.Banks.{engine_setting, AreWorkers, AreTries, AreLimitsFor, AreJobs};
-ghost use Rattle.sgt_bank.specs.Inputs.{InputFails, IsOfText};
+ghost use Rattle.sgt_jobs.specs.Inputs.{InputFails, IsOfText};
 ghost use Rattle.sgt_bank.specs.Banks.{AreRun, IsHistory, IsReport, IsRun};
 
 use crate::gate::OpenGate;
-use crate::input::read_input;
 use crate::report::report_text;
 use sgt_dispatch::Job;
 use sgt_format::Opening;
+use sgt_jobs::read_input;
 use sgt_model::NoMemory;
 use sgt_program::{SgtAccesses, SgtGraph, SgtRecords, all_procedures, opened_is_bank};
 use sgt_stream::{Fault, Sink, Source, write_all};

@@ -11,7 +11,7 @@ use Rattle.sgt_stream.specs.declared.fault.Fault.TheVariants as fault
 use Rattle.sgt_stream.specs.Lines.{Ending, cut}
 use Rattle.sgt_stream.specs.Ends.{IsOfInput, fault_of_opening, no_opening}
 use Rattle.sgt_stream.specs.Spelled.{spelled, end_of}
-use Rattle.sgt_bank.specs.Jobs.{job_at, numbered}
+use Rattle.sgt_jobs.specs.Jobs.{job_at, numbered}
 
 -- line 1 and the record lines behind it open, with room for each worker, and each line behind those asks for a job
 pub record IsInput (workers : ℕ) (line : List ℕ) (later : List (List ℕ)) (ending : Ending) (opening : Opening) (jobs : List Job) : Type 0 where

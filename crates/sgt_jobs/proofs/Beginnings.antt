@@ -13,9 +13,9 @@ use Rattle.sgt_stream.specs.Intake.{Intake, before_input, cut_left, Gives, EndsA
 use Rattle.sgt_stream.specs.Ends.{IsOfInput, no_opening, fault_of_opening}
 use Rattle.sgt_stream.specs.Spelled.{spelled, end_of}
 use Rattle.sgt_stream.proofs.Begun.{Begun, HasBadRecord}
-use Rattle.sgt_bank.specs.Jobs.{job_at, numbered}
-use Rattle.sgt_bank.specs.Taking.{EndsWith}
-use Rattle.sgt_bank.specs.Inputs.{InputAsks, InputFails, LinesAsk, LinesFail}
+use Rattle.sgt_jobs.specs.Jobs.{job_at, numbered}
+use Rattle.sgt_jobs.specs.Taking.{EndsWith}
+use Rattle.sgt_jobs.specs.Inputs.{InputAsks, InputFails, LinesAsk, LinesFail}
 
 -- the same lines from the same number on
 same-calls : (m n : ℕ) (ls ls' : List (List ℕ)) → m ≡ n → ls ≡ ls' → spelled (job_at m) m ls ≡ spelled (job_at n) n ls'

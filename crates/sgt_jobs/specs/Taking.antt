@@ -5,7 +5,7 @@ use Rattle.sgt_format.specs.declared.call.JobCall.{JobCall}
 use Rattle.sgt_stream.specs.Lines.{Cut}
 use Rattle.sgt_stream.specs.Ends.{End}
 use Rattle.sgt_stream.specs.Spelled.{spelled, end_of}
-use Rattle.sgt_bank.specs.Jobs.{job_at}
+use Rattle.sgt_jobs.specs.Jobs.{job_at}
 
 -- known lines begin with one that asks for this call, and then come these
 abbrev pub Asks : Option Cut → JobCall → Option Cut → Type 0

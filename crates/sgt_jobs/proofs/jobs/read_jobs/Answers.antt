@@ -2,9 +2,9 @@ use Rattle.std.proofs.Common.{rules, ◌≡◌, ◌≤◌, ◌<◌, ◌+◌, ◌
 use Rattle.std.specs.Prelude.{IfErr, vec_len}
 use Rattle.sgt_stream.specs.Intake.{cut_left}
 use Rattle.sgt_stream.specs.Ends.{IsOfInput}
-use Rattle.sgt_bank.specs.Taking.{Asks, EndsWith}
-use Rattle.sgt_bank.proofs.Takings.{asked-none, asked-next, asked-many, asked-fault, numbered-snoc, length-snoc, length-numbered, numbered-at}
-use Rattle.sgt_bank.proofs.jobs.read_jobs.Goals as goal
+use Rattle.sgt_jobs.specs.Taking.{Asks, EndsWith}
+use Rattle.sgt_jobs.proofs.Takings.{asked-none, asked-next, asked-many, asked-fault, numbered-snoc, length-snoc, length-numbered, numbered-at}
+use Rattle.sgt_jobs.proofs.jobs.read_jobs.Goals as goal
 
 pub loop-jobs-init : goal.loop-jobs-init
 loop-jobs-init g c = record {

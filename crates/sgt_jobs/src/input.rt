@@ -1,6 +1,6 @@
 ghost use Rattle.std.specs.Prelude.{◌≡◌, ◌≢◌, IfOk, IfErr, IfSome, Err, ◌+◌, ◌^◌, ◌<◌, ◌≤◌};
 ghost use Rattle.sgt_workers.specs.Banks.{AreLimitsFor, AreJobs};
-ghost use Rattle.sgt_bank.specs.Inputs.{InputAsks, InputFails};
+ghost use Rattle.sgt_jobs.specs.Inputs.{InputAsks, InputFails};
 ghost use Rattle.sgt_stream.specs.Ends.{IsOfInput};
 
 use crate::jobs::read_jobs;

@@ -4,8 +4,8 @@ ghost use Rattle.sgt_stream.specs.Intake.{EndsAs, come, cut_left};
 ghost use Rattle.sgt_stream.specs.Ends.{IsOfInput};
 ghost use Rattle.sgt_workers.specs.Banks.{AreJobs};
 ghost use Rattle.sgt_stream.specs.Spelled.{spelled, end_of};
-ghost use Rattle.sgt_bank.specs.Jobs.{job_at, numbered};
-ghost use Rattle.sgt_bank.specs.Taking.{Asks, EndsWith};
+ghost use Rattle.sgt_jobs.specs.Jobs.{job_at, numbered};
+ghost use Rattle.sgt_jobs.specs.Taking.{Asks, EndsWith};
 
 use json::Scratch;
 use sgt_dispatch::Job;

@@ -1,9 +1,9 @@
 use Rattle.std.proofs.Common.{◌≡◌, List, ◌+◌, ◌≤◌, length}
 use Rattle.sgt_format.specs.declared.call.JobCall.{JobCall}
 use Rattle.sgt_stream.specs.Intake.{come, cut_left}
-use Rattle.sgt_bank.specs.Jobs.{numbered}
-use Rattle.sgt_bank.specs.Taking.{Asked}
-use Rattle.sgt_bank.proofs.jobs.read_jobs.Given as goal
+use Rattle.sgt_jobs.specs.Jobs.{numbered}
+use Rattle.sgt_jobs.specs.Taking.{Asked}
+use Rattle.sgt_jobs.proofs.jobs.read_jobs.Given as goal
 
 abbrev pub invariant-loop-jobs : goal.invariant-loop-jobs
 invariant-loop-jobs g l = record {

@@ -9,8 +9,8 @@ use Rattle.sgt_stream.specs.declared.fault.Fault.TheVariants as fault
 use Rattle.sgt_stream.specs.Lines.{Cut}
 use Rattle.sgt_stream.specs.Ends.{End}
 use Rattle.sgt_stream.specs.Spelled.{at_line, and_later, spelled, or_later, end_of}
-use Rattle.sgt_bank.specs.Jobs.{unless_too_many, job_at, numbered}
-use Rattle.sgt_bank.specs.Taking.{Asks, Asked, EndsWith}
+use Rattle.sgt_jobs.specs.Jobs.{unless_too_many, job_at, numbered}
+use Rattle.sgt_jobs.specs.Taking.{Asks, Asked, EndsWith}
 
 -- one call more
 pub length-snoc : (cs : List JobCall) (c : JobCall) → length (cs ++ c ∷ []) ≡ length cs + 1
