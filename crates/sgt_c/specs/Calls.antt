@@ -12,9 +12,9 @@ use Rattle.sgt_model.specs.Questions.{is_ending}
 use Rattle.sgt_model.specs.Replay.{IsSerializable}
 use Rattle.sgt_model.specs.Walks.{Acyclic}
 use Rattle.sgt_engine.specs.EngineView.{EngineView, setting_of, with_entry}
-use Rattle.sgt_c.specs.declared.held.Held.{Held}
-use Rattle.sgt_c.specs.declared.told.Told.{Told}
-use Rattle.sgt_c.specs.Told.{IsTold}
+use Rattle.sgt_handle.specs.declared.held.Held.{Held}
+use Rattle.sgt_told.specs.declared.told.Told.{Told}
+use Rattle.sgt_told.specs.Told.{IsTold}
 
 -- the history is legal, and each part of the headline holds of it
 abbrev pub Headline : EngineView → Type 0

@@ -1,9 +1,4 @@
-pub mod Owned
-pub mod Told
-pub mod ToldReplies
-pub mod Asked
-pub mod Faults
-pub mod Texts
+pub mod Entries
 pub mod Calls
 pub mod Rows
 pub mod Runs

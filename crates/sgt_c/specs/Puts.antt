@@ -7,12 +7,12 @@ use Rattle.sgt_engine.specs.EngineView.{EngineView}
 use Rattle.sgt_engine.specs.Puts.{PutsRows, IsTaken, with_procedure}
 use Rattle.sgt_format.specs.ProcedureLines.{SpellsProcedure, RefusesProcedure}
 use Rattle.sgt_format.specs.declared.errors.OpeningError.{OpeningError}
-use Rattle.sgt_c.specs.declared.fault.Fault.{Fault}
-use Rattle.sgt_c.specs.declared.held.Held.{Held}
+use Rattle.sgt_told.specs.declared.fault.Fault.{Fault}
+use Rattle.sgt_handle.specs.declared.held.Held.{Held}
 use Rattle.sgt_c.specs.declared.procedures.Unadded.{Unadded}
 use Rattle.sgt_c.specs.declared.procedures.Unadded.TheVariants.{Begun, TooMany, Refused}
 use Rattle.sgt_c.specs.declared.rows.Row.{Row as CRow}
-use Rattle.sgt_c.specs.Faults.{IsFaultTold}
+use Rattle.sgt_told.specs.Faults.{IsFaultTold}
 use Rattle.sgt_c.specs.Rows.{IsRow, row_of}
 
 -- the rows before this one are in their ranges, and this one is not

@@ -8,10 +8,10 @@ use Rattle.sgt_model.specs.declared.reply.Reply.{Reply}
 use Rattle.sgt_model.specs.declared.reply.Reply.TheVariants as reply
 use Rattle.sgt_model.specs.Fates.{is_start, live}
 use Rattle.sgt_engine.specs.EngineView.{EngineView, with_entry}
-use Rattle.sgt_c.specs.declared.held.Held.{Held}
-use Rattle.sgt_c.specs.declared.told.Told.{Told}
+use Rattle.sgt_handle.specs.declared.held.Held.{Held}
+use Rattle.sgt_told.specs.declared.told.Told.{Told}
 use Rattle.sgt_c.specs.Calls.{Headline}
-use Rattle.sgt_c.specs.Told.{IsTold}
+use Rattle.sgt_told.specs.Told.{IsTold}
 
 -- the engine with so many entries more, newest first
 abbrev pub with_entries : List Entry → EngineView → EngineView

@@ -9,11 +9,9 @@ ghost use Rattle.sgt_engine.specs.EngineView.{setting_of};
 ghost use Rattle.sgt_model.specs.declared.event.Event.TheVariants.{Start, Step, Commit, Quit};
 ghost use Rattle.sgt_c.specs.Calls.{Answered, EndsSucceed, QuitsSucceed};
 
-use crate::handle::Handle;
-use crate::held::Held;
-use crate::status;
-use crate::told::{Told, tell};
+use sgt_handle::{Handle, Held};
 use sgt_model::{Args, Event, NoMemory, Tid};
+use sgt_told::{Told, status, tell};
 use std::alloc::Global;
 
 /// Starts a transaction that runs the procedure of this number with these arguments.

@@ -1,12 +1,10 @@
 //! The history: how many entries it has, what they say, and the room for more.
 ghost use Rattle.std.specs.Prelude.{◌≡◌, ◌≢◌, ◌≤◌, ◌↔◌, None, IfSome, length};
-ghost use Rattle.sgt_c.specs.Asked.{TellsEntry, HasNoEntry};
+ghost use Rattle.sgt_c.specs.Entries.{TellsEntry, HasNoEntry};
 
-use crate::asked::{Asked, tell_event};
-use crate::handle::Handle;
-use crate::status;
-use crate::told::{Told, tell};
+use sgt_handle::Handle;
 use sgt_model::NoMemory;
+use sgt_told::{Asked, Told, status, tell, tell_event};
 use std::alloc::Global;
 
 /// How many events were answered since the opening.

@@ -1,7 +1,7 @@
 //! The engine of the program, to be called from C and from languages that call C: a static library.
 //!
-//! C keeps an engine in a handle, [`Handle`], which is all zero bytes before `sgt_open` and behind `sgt_close`. Each call answers a
-//! status, and what an event was answered is written into a [`Told`]. A refusal such as `full` or `waits` is a reply, and no
+//! C keeps an engine in a handle, `Handle` of `sgt_handle`, which is all zero bytes before `sgt_open` and behind `sgt_close`. Each call answers a
+//! status, and what an event was answered is written into a `Told` of `sgt_told`. A refusal such as `full` or `waits` is a reply, and no
 //! status. The contracts say of the engine in the handle what `Engine` says of itself. There is no lock and no thread: a caller
 //! with threads puts one lock around each call.
 //!
@@ -16,12 +16,8 @@
 //! ```
 #![tactic(auto)]
 
-mod asked;
 mod cutting;
 mod events;
-mod fault;
-mod handle;
-mod held;
 mod history;
 mod opening;
 mod opening_with;
@@ -30,8 +26,4 @@ mod putting;
 mod reading;
 mod rows;
 mod run;
-mod slot;
-mod status;
 mod texts;
-mod told;
-mod told_reply;

@@ -3,12 +3,10 @@ ghost use Rattle.std.specs.Prelude.{◌≡◌, ◌≢◌, ◌≤◌, ◌↔◌, 
 ghost use Rattle.sgt_format.specs.Openings.{Refuses};
 ghost use Rattle.sgt_c.specs.Openings.{OpenedAs, RefusedAs};
 
-use crate::fault::{Fault, tell_fault};
-use crate::handle::Handle;
-use crate::held::Held;
-use crate::status;
 use sgt_format::{OpeningError, read_opening};
+use sgt_handle::{Handle, Held};
 use sgt_program::open_engine;
+use sgt_told::{Fault, status, tell_fault};
 use std::alloc::Global;
 
 /// Opens an engine in a closed handle, of an opening's bytes as the first line of a script has them, without its end.

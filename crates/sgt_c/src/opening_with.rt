@@ -5,13 +5,11 @@ ghost use Rattle.sgt_format.specs.Openings.{Refuses};
 ghost use Rattle.sgt_c.specs.Openings.{OpenedWith, RefusedAs};
 ghost use Rattle.sgt_c.specs.Rows.{IsRow};
 
-use crate::fault::{Fault, tell_fault};
-use crate::handle::Handle;
-use crate::held::Held;
 use crate::rows::{Row, are_rows, put_rows};
-use crate::status;
 use sgt_format::{OpeningError, read_opening};
+use sgt_handle::{Handle, Held};
 use sgt_program::open_engine;
+use sgt_told::{Fault, status, tell_fault};
 use std::alloc::Global;
 
 /// Opens an engine as `sgt_open` does, where these rows are put into the database that the opening's accounts make, one after

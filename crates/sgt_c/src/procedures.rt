@@ -2,12 +2,10 @@
 ghost use Rattle.std.specs.Prelude.{◌≡◌, ◌≢◌, ◌<◌, ◌≤◌, ◌↔◌, None, IfErr, IfOk, OnErr};
 ghost use Rattle.sgt_c.specs.Puts.{Added, HasBegun, HasNoNumber, IsAdded, IsRefusal, IsTextRefused};
 
-use crate::fault::{Fault, tell_fault};
-use crate::handle::Handle;
-use crate::held::Held;
-use crate::status;
 use sgt_engine::AddError;
 use sgt_format::{OpeningError, read_procedure_line};
+use sgt_handle::{Handle, Held};
+use sgt_told::{Fault, status, tell_fault};
 use std::alloc::Global;
 
 /// Adds the procedure that a text spells, as one of an opening's list, behind the others, where the history is empty. Its number is

@@ -6,12 +6,11 @@ ghost use Rattle.sgt_engine.specs.Puts.{AreRefused, PutsRows};
 ghost use Rattle.sgt_c.specs.Puts.{HasBegun, IsFirstBad, IsTakenIn, Put};
 ghost use Rattle.sgt_c.specs.Rows.{IsRow, row_of};
 
-use crate::handle::Handle;
-use crate::held::Held;
 use crate::rows::Row;
-use crate::status;
 use sgt_engine::PutError;
+use sgt_handle::{Handle, Held};
 use sgt_model::{Key, NoMemory, is_value};
+use sgt_told::status;
 use std::alloc::Global;
 
 /// Puts rows into the opening database, where the history is empty: values at keys that have none. So an engine is opened on the

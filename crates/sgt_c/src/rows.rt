@@ -6,9 +6,9 @@ ghost use Rattle.sgt_model.specs.Databases.{contents_of};
 ghost use Rattle.sgt_model.specs.Numbers.{IsValue};
 ghost use Rattle.sgt_c.specs.Rows.{AreRowsTold, IsRow, TellsRows, row_of, rows_from, with_rows};
 
-use crate::handle::Handle;
-use crate::status;
+use sgt_handle::Handle;
 use sgt_model::{Database, Key, NoMemory, is_value};
+use sgt_told::status;
 use std::alloc::Global;
 
 /// A record and its value, for C.

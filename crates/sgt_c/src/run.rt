@@ -6,11 +6,10 @@ ghost use Rattle.sgt_model.specs.Fates.{live};
 ghost use Rattle.sgt_engine.specs.EngineView.{with_entry};
 ghost use Rattle.sgt_c.specs.Runs.{Ran, GaveUp, Runs, GivesUp, RunsOn, StepsOn, StopsLive, is_access, is_end};
 
-use crate::handle::Handle;
-use crate::status;
-use crate::told::{Told, tell};
+use sgt_handle::Handle;
 use sgt_model::{Args, Event, NoMemory, Reply, Tid};
 use sgt_program::SgtEngine;
+use sgt_told::{Told, status, tell};
 use std::alloc::Global;
 
 /// Runs a procedure from its start to its commit, for a caller whose transactions need not run side by side. The last reply is
