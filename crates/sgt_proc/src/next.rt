@@ -1,7 +1,7 @@
 use sgt_model::{Answers, Key};
 
 /// What a procedure does next.
-#[derive(Drop)]
+#[derive(Drop, PartialEq, Eq)]
 pub enum Next {
     /// It looks at the record.
     Look(Key),
