@@ -1,5 +1,5 @@
 ghost use Rattle.std.specs.Prelude.{◌≡◌, ℕ, ℤ, true, List, ◌+◌, ◌≤◌, ◌<◌, ◌↔◌, [], ◌∷◌, ◌++◌, length, take, min, reverse, slice_get};
-ghost use Rattle.std.specs.Prelude.{IsTrue, Some, OnOk, OnErr};
+ghost use Rattle.std.specs.Prelude.{IsTrue, Some, OnOk, OnErr, ◌*◌, ◌^◌, vec_len, vec_capacity};
 ghost use Rattle.std.specs.Result.{IsOk};
 ghost use Rattle.std.specs.Option.{option_map};
 ghost use Rattle.sgt_model.specs.declared.entry.Entry.{Entry as E};
@@ -26,6 +26,9 @@ const MOST_VALUES: usize = 12;
 
 /// For how many entries a growth makes room beyond those that were asked for, so that growths are rare.
 const AHEAD: usize = 64;
+
+/// For how many more entries room can be counted, in the list that takes the most for each.
+const MOST_ROOM: usize = usize::MAX / MOST_TIDS - AHEAD;
 
 /// The entries of a history, oldest first. An entry takes 72 bytes, and what its lists hold: 4 for each transaction, 8 for each
 /// value.
@@ -124,12 +127,11 @@ impl History {
         ensures no_less { self.old.room ≤ self.new.room }
         ensures refused { OnErr result (self.new.room ≡ self.old.room) }
     {
-        let room = count.checked_add(AHEAD).ok_or(NoMemory)?;
-        let tids = room.checked_mul(MOST_TIDS).ok_or(NoMemory)?;
-        let values = room.checked_mul(MOST_VALUES).ok_or(NoMemory)?;
-        self.entries.reserve(room)?;
-        self.tids.reserve(tids)?;
-        self.values.reserve(values)?;
+        if count > MOST_ROOM {
+            return Err(NoMemory);
+        }
+        let room = count + AHEAD;
+        reserve_lists(&mut self.entries, &mut self.tids, &mut self.values, room)?;
         self.room = room;
         Ok(())
     }
@@ -393,4 +395,28 @@ impl History {
             None => None,
         }
     }
+}
+
+// Makes room in the three lists for so many more entries. What they hold stays, and no list has less room afterwards.
+fn reserve_lists(
+    entries: &mut Vec<ShortEntry>,
+    tids: &mut Vec<Tid>,
+    values: &mut Vec<i64>,
+    room: usize,
+) -> Result<(), NoMemory>
+    requires { room * 64 < 2 ^ 64 }
+    ensures entries { (entries.new.items ≡ entries.old.items) × (vec_len entries.new ≡ vec_len entries.old) }
+    ensures tids { (tids.new.items ≡ tids.old.items) × (vec_len tids.new ≡ vec_len tids.old) }
+    ensures values { (values.new.items ≡ values.old.items) × (vec_len values.new ≡ vec_len values.old) }
+    ensures entries_room { vec_capacity entries.old ≤ vec_capacity entries.new }
+    ensures tids_room { vec_capacity tids.old ≤ vec_capacity tids.new }
+    ensures values_room { vec_capacity values.old ≤ vec_capacity values.new }
+    ensures enough { OnOk result ((vec_len entries.new + room ≤ vec_capacity entries.new)
+        × (vec_len tids.new + room * 64 ≤ vec_capacity tids.new)
+        × (vec_len values.new + room * 12 ≤ vec_capacity values.new)) }
+{
+    entries.reserve(room)?;
+    tids.reserve(room * MOST_TIDS)?;
+    values.reserve(room * MOST_VALUES)?;
+    Ok(())
 }

@@ -1,5 +1,6 @@
 -- Stored statements and the text that they are.
-use Rattle.std.proofs.Common.{◌≡◌, refl, sym, ◌∙◌, ap, ℕ, suc, ◌+◌, ◌<◌, length, get_or, drop, add-one, drop-cons, List, [], ◌∷◌, ◌++◌}
+use Rattle.std.proofs.Common.{◌≡◌, refl, sym, ◌∙◌, ap, ℕ, zero, suc, ◌+◌, ◌<◌, ◌≤◌, length, get_or, take, drop, add-one, drop-cons, List, [], ◌∷◌, ◌++◌, arith}
+use Rattle.std.proofs.Math.Seq.{take-suc}
 use Rattle.std.specs.declared.vec.Vec.{Vec}
 use Rattle.std.specs.declared.alloc.Global.{Global}
 use Rattle.sgt_model.specs.declared.procedure.Statement.{Statement}
@@ -32,6 +33,20 @@ pub onto_last : (list : List Statement) (s : Statement) (rest : Way)
 onto_last [] s rest = refl
 onto_last (x ∷ xs) s rest = onto_before x (block_of (xs ++ s ∷ [])) rest
     ∙ (ap (onto (before x empty)) (onto_last xs s rest) ∙ sym (onto_before x (block_of xs) (onto (before s empty) rest)))
+
+-- the ways through a list up to place a go at last through the statement before it
+pub onto_ahead : (list : List Statement) (a i : ℕ) (s : Statement) (rest : Way) → a ≡ i + 1 → i < length list → s ≡ get_or list i s
+    → onto (block_of (take a list)) rest ≡ onto (block_of (take i list)) (onto (before s empty) rest)
+onto_ahead list a i s rest next h e =
+    let d : take a list ≡ take i list ++ s ∷ [] =
+    rw (next, add-one) (take-suc list i s h ∙ ap (λ x. take i list ++ x ∷ []) (sym e)) in
+    ap (λ l. onto (block_of l) rest) d ∙ onto_last (take i list) s rest
+
+-- where nothing is left ahead, the ways are those behind
+pub onto_none : (list : List Statement) (a : ℕ) (rest behind : Way) → a ≤ 0
+    → onto (block_of list) rest ≡ onto (block_of (take a list)) behind → onto (block_of list) rest ≡ behind
+onto_none list zero rest behind h e = e
+onto_none list (suc a) rest behind h e = absurd (omega arith)
 
 -- an If is a fork, whose branches go on behind it
 pub onto_if : (c : Cond) (ys ns : Vec Statement Global) (rest : Way)

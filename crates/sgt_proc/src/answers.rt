@@ -13,8 +13,10 @@ pub fn most_answers(statements: &[Statement], behind: u8) -> u8
     ensures { AnswersFrom (block_of statements.now) behind result }
 {
     let mut most = behind;
-    for statement in statements.iter().rev() {
-        most = most_answers_from(statement, most);
+    let mut ahead = statements.len();
+    while ahead > 0 {
+        ahead -= 1;
+        most = most_answers_from(&statements[ahead], most);
     }
     most
 }

@@ -26,8 +26,10 @@ fn is_live(statements: &[Statement], register: u8, behind: bool) -> bool
     ensures { LiveBefore register (block_of statements.now) behind result }
 {
     let mut live = behind;
-    for statement in statements.iter().rev() {
-        live = is_live_before(statement, register, live);
+    let mut ahead = statements.len();
+    while ahead > 0 {
+        ahead -= 1;
+        live = is_live_before(&statements[ahead], register, live);
     }
     live
 }

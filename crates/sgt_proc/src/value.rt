@@ -1,7 +1,7 @@
-ghost use Rattle.std.specs.Prelude.{◌≡◌, ◌+ℤ◌, ◌-ℤ◌, ◌*ℤ◌, None, slice_get, slice_index_or};
+ghost use Rattle.std.specs.Prelude.{◌≡◌, ◌+ℤ◌, ◌-ℤ◌, ◌*ℤ◌, None, Ok, slice_get, slice_index_or};
 ghost use Rattle.sgt_model.specs.Programs.{term_of, test_of};
 ghost use Rattle.sgt_model.specs.Meaning.{got, bounded, divided, found_or, value_of, truth_of};
-ghost use Rattle.sgt_model.specs.Executions.{key_of};
+ghost use Rattle.sgt_model.specs.Executions.{in_turn, key_of};
 ghost use Rattle.sgt_model.specs.Left.{number_or_code, choice_or_code};
 
 use sgt_model::{Cond, Expr, Key, is_value};
@@ -37,25 +37,40 @@ fn value_by_parts(expr: &Expr, args: &[i64], registers: &[Option<i64>; 16]) -> R
         Expr::Num(number) => Ok(*number),
         Expr::Arg(n) => argument(args, *n),
         Expr::Reg(n) => register(registers, *n),
-        Expr::Sum(left, right) => sum(
-            value(left, args, registers)?,
-            value(right, args, registers)?,
-        ),
-        Expr::Diff(left, right) => {
-            difference(
-                value(left, args, registers)?,
-                value(right, args, registers)?,
-            )
+        Expr::Sum(left, right) => {
+            let (left, right) = numbers(left, right, args, registers)?;
+            sum(left, right)
         }
-        Expr::Product(left, right) => product(
-            value(left, args, registers)?,
-            value(right, args, registers)?,
-        ),
-        Expr::Quotient(left, right) => quotient(
-            value(left, args, registers)?,
-            value(right, args, registers)?,
-        ),
+        Expr::Diff(left, right) => {
+            let (left, right) = numbers(left, right, args, registers)?;
+            difference(left, right)
+        }
+        Expr::Product(left, right) => {
+            let (left, right) = numbers(left, right, args, registers)?;
+            product(left, right)
+        }
+        Expr::Quotient(left, right) => {
+            let (left, right) = numbers(left, right, args, registers)?;
+            quotient(left, right)
+        }
     }
+}
+
+/// What two expressions give, one after the other, or the code that is asked in place of the first that gives none.
+#[cycle(value)]
+#[inline(always)]
+pub fn numbers(
+    first: &Expr,
+    second: &Expr,
+    args: &[i64],
+    registers: &[Option<i64>; 16],
+) -> Result<(i64, i64), u16>
+    ensures { result ≡ in_turn (number_or_code (value_of (term_of first.now) args.now registers.now))
+        (number_or_code (value_of (term_of second.now) args.now registers.now)) (λ x y. Ok (x, y)) }
+{
+    let first = value(first, args, registers)?;
+    let second = value(second, args, registers)?;
+    Ok((first, second))
 }
 
 fn argument(args: &[i64], n: u8) -> Result<i64, u16>
@@ -80,14 +95,8 @@ fn register(registers: &[Option<i64>; 16], n: u8) -> Result<i64, u16>
 pub fn test(cond: &Cond, args: &[i64], registers: &[Option<i64>; 16]) -> Result<bool, u16>
     ensures { result ≡ choice_or_code (truth_of (test_of cond.now) args.now registers.now) }
 {
-    let (left, right) = match cond {
-        Cond::Less(left, right) | Cond::AtMost(left, right) | Cond::Equal(left, right) => {
-            (
-                value(left, args, registers)?,
-                value(right, args, registers)?,
-            )
-        }
-    };
+    let (Cond::Less(left, right) | Cond::AtMost(left, right) | Cond::Equal(left, right)) = cond;
+    let (left, right) = numbers(left, right, args, registers)?;
     Ok(match cond {
         Cond::Less(..) => left < right,
         Cond::AtMost(..) => left <= right,

@@ -1,5 +1,4 @@
 pub mod Texts
-pub mod Forks
 pub mod Tables
 pub mod Arithmetic
 pub mod Accounts

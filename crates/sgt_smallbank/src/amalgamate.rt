@@ -3,7 +3,8 @@ ghost use Rattle.sgt_model.specs.Programs.{program_of};
 ghost use Rattle.sgt_smallbank.specs.Texts.{amalgamate};
 
 use crate::statements::{
-    answer, ask_where, look_up_balance, look_up_customer, set_register, store_balance, sum_of,
+    alone, answer, ask, look_up_balance, look_up_customer, only_where, set_register, store_balance,
+    sum_of,
 };
 use crate::tables::{CHECKING, SAME_NAME, SAVING};
 use sgt_model::{Cond, Expr, NoMemory, Procedure};
@@ -14,22 +15,22 @@ use std::alloc::Global;
 pub(crate) fn amalgamate(alloc: Global) -> Result<Procedure, NoMemory>
     ensures { IfOk result (λ p. program_of p ≡ amalgamate) }
 {
-    let moved = sum_of(alloc, Expr::Reg(2), Expr::Reg(3))?;
-    let sum = sum_of(alloc, Expr::Reg(5), Expr::Reg(4))?;
+    let mut body = Vec::with_capacity(alloc, 12)?;
+    let refusal = alone(alloc, ask(SAME_NAME))?;
     let is_same = Cond::Equal(Expr::Arg(0), Expr::Arg(1));
-    let body = vec![in alloc;
-        ask_where(alloc, is_same, SAME_NAME)?,
-        look_up_customer(0, 0),
-        look_up_customer(1, 1),
-        look_up_balance(2, SAVING, 0),
-        look_up_balance(3, CHECKING, 0),
-        set_register(4, moved),
-        store_balance(SAVING, 0, Expr::Num(0)),
-        store_balance(CHECKING, 0, Expr::Num(0)),
-        look_up_balance(5, CHECKING, 1),
-        set_register(6, sum),
-        store_balance(CHECKING, 1, Expr::Reg(6)),
-        answer(Expr::Reg(4)),
-    ]?;
+    body.push_reserved(only_where(alloc, is_same, refusal));
+    body.push_reserved(look_up_customer(0, 0));
+    body.push_reserved(look_up_customer(1, 1));
+    body.push_reserved(look_up_balance(2, SAVING, 0));
+    body.push_reserved(look_up_balance(3, CHECKING, 0));
+    let moved = sum_of(alloc, Expr::Reg(2), Expr::Reg(3))?;
+    body.push_reserved(set_register(4, moved));
+    body.push_reserved(store_balance(SAVING, 0, Expr::Num(0)));
+    body.push_reserved(store_balance(CHECKING, 0, Expr::Num(0)));
+    body.push_reserved(look_up_balance(5, CHECKING, 1));
+    let sum = sum_of(alloc, Expr::Reg(5), Expr::Reg(4))?;
+    body.push_reserved(set_register(6, sum));
+    body.push_reserved(store_balance(CHECKING, 1, Expr::Reg(6)));
+    body.push_reserved(answer(Expr::Reg(4)));
     Ok(Procedure { args: 2, body })
 }

@@ -3,7 +3,8 @@ ghost use Rattle.sgt_model.specs.Programs.{program_of};
 ghost use Rattle.sgt_smallbank.specs.Texts.{deposit_checking};
 
 use crate::statements::{
-    answer, ask_where, look_up_balance, look_up_customer, set_register, store_balance, sum_of,
+    alone, answer, ask, look_up_balance, look_up_customer, only_where, set_register, store_balance,
+    sum_of,
 };
 use crate::tables::{CHECKING, NEGATIVE_AMOUNT};
 use sgt_model::{Cond, Expr, NoMemory, Procedure};
@@ -14,15 +15,15 @@ use std::alloc::Global;
 pub(crate) fn deposit_checking(alloc: Global) -> Result<Procedure, NoMemory>
     ensures { IfOk result (λ p. program_of p ≡ deposit_checking) }
 {
-    let sum = sum_of(alloc, Expr::Reg(1), Expr::Arg(1))?;
+    let mut body = Vec::with_capacity(alloc, 6)?;
+    let refusal = alone(alloc, ask(NEGATIVE_AMOUNT))?;
     let is_negative = Cond::Less(Expr::Arg(1), Expr::Num(0));
-    let body = vec![in alloc;
-        ask_where(alloc, is_negative, NEGATIVE_AMOUNT)?,
-        look_up_customer(0, 0),
-        look_up_balance(1, CHECKING, 0),
-        set_register(2, sum),
-        store_balance(CHECKING, 0, Expr::Reg(2)),
-        answer(Expr::Reg(2)),
-    ]?;
+    body.push_reserved(only_where(alloc, is_negative, refusal));
+    body.push_reserved(look_up_customer(0, 0));
+    body.push_reserved(look_up_balance(1, CHECKING, 0));
+    let sum = sum_of(alloc, Expr::Reg(1), Expr::Arg(1))?;
+    body.push_reserved(set_register(2, sum));
+    body.push_reserved(store_balance(CHECKING, 0, Expr::Reg(2)));
+    body.push_reserved(answer(Expr::Reg(2)));
     Ok(Procedure { args: 2, body })
 }

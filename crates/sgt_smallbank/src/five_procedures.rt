@@ -21,13 +21,12 @@ pub fn procedures(alloc: Global) -> Result<Vec<Checked>, NoMemory>
     ensures texts { IfOk result (λ list. list.items ≡ procedures) }
     ensures count { IfOk result (λ list. vec_len list ≡ PROCEDURES) }
 {
-    let list = vec![in alloc;
-        checked(balance(alloc)?),
-        checked(deposit_checking(alloc)?),
-        checked(transact_saving(alloc)?),
-        checked(amalgamate(alloc)?),
-        checked(write_check(alloc)?),
-    ]?;
+    let mut list = Vec::with_capacity(alloc, usize::from(PROCEDURES))?;
+    list.push_reserved(checked(balance(alloc)?));
+    list.push_reserved(checked(deposit_checking(alloc)?));
+    list.push_reserved(checked(transact_saving(alloc)?));
+    list.push_reserved(checked(amalgamate(alloc)?));
+    list.push_reserved(checked(write_check(alloc)?));
     Ok(list)
 }
 

@@ -1,8 +1,7 @@
 //! The statements and expressions that the five procedures are made of.
 ghost use Rattle.std.specs.Prelude.{◌≡◌, [], ◌∷◌, IfOk};
-ghost use Rattle.sgt_model.specs.Programs.{term_of};
-ghost use Rattle.sgt_model.specs.Syntax.{sum, diff};
-ghost use Rattle.sgt_smallbank.specs.Forks.{AsksWhere};
+ghost use Rattle.sgt_model.specs.Programs.{term_of, test_of, before, block_of};
+ghost use Rattle.sgt_model.specs.Syntax.{Block, empty, choose, sum, diff};
 
 use crate::tables::{ACCOUNT, NO_BALANCE, UNKNOWN_NAME};
 use sgt_model::{Cond, Expr, NoMemory, Statement};
@@ -64,16 +63,22 @@ pub(crate) fn alone(alloc: Global, statement: Statement) -> Result<Vec<Statement
     Ok(vec![in alloc; statement]?)
 }
 
-/// Asks the code where the condition holds.
-pub(crate) fn ask_where(alloc: Global, cond: Cond, code: u16) -> Result<Statement, NoMemory>
-    ensures { IfOk result (AsksWhere cond code) }
+/// Asks the code.
+pub(crate) fn ask(code: u16) -> Statement
+    ensures { result ≡ Statement.Ask code }
 {
-    let yes = alone(alloc, Statement::Ask { code })?;
-    Ok(Statement::If {
+    Statement::Ask { code }
+}
+
+/// Goes through the branch where the condition holds, and else does nothing.
+pub(crate) fn only_where(alloc: Global, cond: Cond, yes: Vec<Statement>) -> Statement
+    ensures { (rest : Block) → before result rest ≡ choose (test_of cond) (block_of yes.items) empty rest }
+{
+    Statement::If {
         cond,
         yes,
         no: Vec::new(alloc),
-    })
+    }
 }
 
 /// The sum of the two.

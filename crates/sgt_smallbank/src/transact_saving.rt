@@ -3,7 +3,8 @@ ghost use Rattle.sgt_model.specs.Programs.{program_of};
 ghost use Rattle.sgt_smallbank.specs.Texts.{transact_saving};
 
 use crate::statements::{
-    answer, ask_where, look_up_balance, look_up_customer, set_register, store_balance, sum_of,
+    alone, answer, ask, look_up_balance, look_up_customer, only_where, set_register, store_balance,
+    sum_of,
 };
 use crate::tables::{NEGATIVE_SAVING, SAVING};
 use sgt_model::{Cond, Expr, NoMemory, Procedure};
@@ -14,16 +15,15 @@ use std::alloc::Global;
 pub(crate) fn transact_saving(alloc: Global) -> Result<Procedure, NoMemory>
     ensures { IfOk result (λ p. program_of p ≡ transact_saving) }
 {
+    let mut body = Vec::with_capacity(alloc, 6)?;
+    body.push_reserved(look_up_customer(0, 0));
+    body.push_reserved(look_up_balance(1, SAVING, 0));
     let sum = sum_of(alloc, Expr::Reg(1), Expr::Arg(1))?;
+    body.push_reserved(set_register(2, sum));
+    let refusal = alone(alloc, ask(NEGATIVE_SAVING))?;
     let is_negative = Cond::Less(Expr::Reg(2), Expr::Num(0));
-    let refuse_negative = ask_where(alloc, is_negative, NEGATIVE_SAVING)?;
-    let body = vec![in alloc;
-        look_up_customer(0, 0),
-        look_up_balance(1, SAVING, 0),
-        set_register(2, sum),
-        refuse_negative,
-        store_balance(SAVING, 0, Expr::Reg(2)),
-        answer(Expr::Reg(2)),
-    ]?;
+    body.push_reserved(only_where(alloc, is_negative, refusal));
+    body.push_reserved(store_balance(SAVING, 0, Expr::Reg(2)));
+    body.push_reserved(answer(Expr::Reg(2)));
     Ok(Procedure { args: 2, body })
 }

@@ -4,7 +4,7 @@ ghost use Rattle.sgt_smallbank.specs.Texts.{charge, write_check};
 ghost use Rattle.sgt_model.specs.Syntax.{Block, num, arg, reg, diff};
 
 use crate::statements::{
-    alone, answer, ask_where, difference_of, look_up_balance, look_up_customer, set_register,
+    alone, answer, ask, difference_of, look_up_balance, look_up_customer, only_where, set_register,
     store_balance, sum_of,
 };
 use crate::tables::{CHECKING, NEGATIVE_AMOUNT, PENALTY, SAVING};
@@ -16,16 +16,16 @@ use std::alloc::Global;
 pub(crate) fn write_check(alloc: Global) -> Result<Procedure, NoMemory>
     ensures { IfOk result (λ p. program_of p ≡ write_check) }
 {
+    let mut body = Vec::with_capacity(alloc, 7)?;
+    let refusal = alone(alloc, ask(NEGATIVE_AMOUNT))?;
     let is_negative = Cond::Less(Expr::Arg(1), Expr::Num(0));
-    let mut body = vec![in alloc;
-        ask_where(alloc, is_negative, NEGATIVE_AMOUNT)?,
-        look_up_customer(0, 0),
-        look_up_balance(1, SAVING, 0),
-        look_up_balance(2, CHECKING, 0),
-    ]?;
-    body.push(charge(alloc)?)?;
-    body.push(store_balance(CHECKING, 0, Expr::Reg(3)))?;
-    body.push(answer(Expr::Reg(3)))?;
+    body.push_reserved(only_where(alloc, is_negative, refusal));
+    body.push_reserved(look_up_customer(0, 0));
+    body.push_reserved(look_up_balance(1, SAVING, 0));
+    body.push_reserved(look_up_balance(2, CHECKING, 0));
+    body.push_reserved(charge(alloc)?);
+    body.push_reserved(store_balance(CHECKING, 0, Expr::Reg(3)));
+    body.push_reserved(answer(Expr::Reg(3)));
     Ok(Procedure { args: 2, body })
 }
 

@@ -1,13 +1,16 @@
-use Rattle.std.proofs.Common.{◌≡◌, min}
+use Rattle.std.proofs.Common.{◌≡◌, ◌≤◌, length, min, take}
 use Rattle.sgt_model.specs.Programs.{block_of}
 use Rattle.sgt_model.specs.Ways.{Way, onto}
 use Rattle.sgt_proc.specs.Flaws.{most_answers}
 use Rattle.sgt_proc.proofs.answers.+answers.Given as goal
 
-abbrev pub invariant-most_answers-loop-statement : goal.invariant-most_answers-loop-statement
-invariant-most_answers-loop-statement l =
-    (goal.iterator-most_answers-loop-statement).can_next l.statement-iterator ×
-    (goal.iterator-most_answers-loop-statement).is_finite l.statement-iterator ×
-    ((rest : Way) → l.behind ≡ min 9 (most_answers rest)
-    → (after : Way) × ((onto (block_of l.statements) rest ≡ onto (block_of l.statement-iterator.iter.rest.now) after)
-    × (l.most ≡ min 9 (most_answers after))))
+abbrev pub invariant-most_answers-loop-ahead : goal.invariant-most_answers-loop-ahead
+invariant-most_answers-loop-ahead l = record {
+  within : l.ahead ≤ length l.statements;
+  so_far : (rest : Way) → l.behind ≡ min 9 (most_answers rest)
+      → (after : Way) × ((onto (block_of l.statements) rest ≡ onto (block_of (take l.ahead l.statements)) after)
+      × (l.most ≡ min 9 (most_answers after)));
+}
+
+abbrev pub decreases-most_answers-loop-ahead : goal.decreases-most_answers-loop-ahead
+decreases-most_answers-loop-ahead l = l.ahead

@@ -1,0 +1,35 @@
+use Rattle.std.proofs.Common.{refl}
+use Rattle.sgt_smallbank.proofs.amalgamate.amalgamate.Goals as goal
+
+pub returns : goal.returns
+returns c = rw (
+  c.push_reserved-12.ensures.items,
+  c.push_reserved-11.ensures.items,
+  c.push_reserved-10.ensures.items,
+  c.push_reserved-9.ensures.items,
+  c.push_reserved-8.ensures.items,
+  c.push_reserved-7.ensures.items,
+  c.push_reserved-6.ensures.items,
+  c.push_reserved-5.ensures.items,
+  c.push_reserved-4.ensures.items,
+  c.push_reserved-3.ensures.items,
+  c.push_reserved-2.ensures.items,
+  c.push_reserved.ensures.items,
+  c.in_ok-body.ensures.items,
+  c.answer.ensures,
+  c.store_balance.ensures,
+  c.store_balance-2.ensures,
+  c.store_balance-3.ensures,
+  c.set_register.ensures,
+  c.set_register-2.ensures,
+  c.look_up_balance.ensures,
+  c.look_up_balance-2.ensures,
+  c.look_up_balance-3.ensures,
+  c.look_up_customer.ensures,
+  c.look_up_customer-2.ensures,
+  c.only_where.ensures,
+  c.in_ok-refusal.ensures,
+  c.ask.ensures,
+  c.in_ok-moved.ensures,
+  c.in_ok-sum.ensures,
+) refl

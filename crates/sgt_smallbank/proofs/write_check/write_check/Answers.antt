@@ -1,0 +1,23 @@
+use Rattle.std.proofs.Common.{refl}
+use Rattle.sgt_smallbank.proofs.write_check.write_check.Goals as goal
+
+pub returns : goal.returns
+returns c = rw (
+  c.push_reserved-7.ensures.items,
+  c.push_reserved-6.ensures.items,
+  c.push_reserved-5.ensures.items,
+  c.push_reserved-4.ensures.items,
+  c.push_reserved-3.ensures.items,
+  c.push_reserved-2.ensures.items,
+  c.push_reserved.ensures.items,
+  c.in_ok-body.ensures.items,
+  c.answer.ensures,
+  c.store_balance.ensures,
+  c.look_up_balance.ensures,
+  c.look_up_balance-2.ensures,
+  c.look_up_customer.ensures,
+  c.only_where.ensures,
+  c.in_ok-refusal.ensures,
+  c.ask.ensures,
+  c.in_ok-charge.ensures,
+) refl
