@@ -1,6 +1,7 @@
 -- Whether a transaction is live, by the list of the live ones.
 use Rattle.std.proofs.Common.{◌≡◌, ℕ, ℤ, Bool, true, List, length, Option, Some, None, refl, sym, ap, subst₂, position}
-use Rattle.std.specs.Prelude.{◌↔◌, IsSome}
+use Rattle.std.specs.Prelude.{◌↔◌, IsSome, slice_get}
+use Rattle.std.proofs.lemmas.Option.{slice_get_read}
 use Rattle.std.proofs.lemmas.Bool.{lt-ltb, ltb-true}
 use Rattle.sgt_model.specs.Contents.{Key}
 use Rattle.sgt_model.specs.AccessList.{ListedAccess}
@@ -25,6 +26,10 @@ module _ {R A G : Type 0} {chain : R → Key → List (ℕ × ℤ)} {settled : R
   -- a node was started, and has not ended
   pub unended : nodes p.graph t ≡ true → IsUnended (state_of chain settled list nodes pairs p) t
   unended node = let u = (kept.unended t).0 node in record { begun = lt-ltb t (length p.fates) u.0; unended = u.1 }
+
+  -- so it has no fate
+  pub no_fate : nodes p.graph t ≡ true → slice_get p.fates t ≡ Some None
+  no_fate node = let u = (kept.unended t).0 node in slice_get_read p.fates _ t None refl u.0 (sym u.1)
 
   -- and goes along its procedure
   pub goes_along : (programs : List Program) (r : ℕ × Progress) → nodes p.graph t ≡ true → programs ≡ p.procedures

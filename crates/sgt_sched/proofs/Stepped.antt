@@ -1,5 +1,5 @@
 -- The effect of a call on a live transaction.
-use Rattle.std.proofs.Common.{◌≡◌, ℕ, Bool, true, nat_lt, List, Option, None, Result, Ok, Err, sym, subst}
+use Rattle.std.proofs.Common.{◌≡◌, ℕ, Bool, true, false, nat_lt, List, Option, Some, None, Result, Ok, Err, refl, sym, subst}
 use Rattle.std.specs.Prelude.{OnErr}
 use Rattle.std.proofs.lemmas.Result.{IfOk-weaker}
 use Rattle.sgt_records.specs.declared.records.Records.{Ghosts as RecordsGhosts}
@@ -22,12 +22,20 @@ use Rattle.sgt_sched.specs.declared.brief.Brief.TheVariants as brief
 use Rattle.sgt_sched.specs.declared.sched.Sched.{Sched}
 use Rattle.sgt_sched.specs.Briefs.{in_full, InBrief, Unplaced}
 use Rattle.sgt_sched.specs.Scheduler.{Tries}
+use Rattle.sgt_sched.specs.Steps.{IsNotLiveBy}
 
 -- what is done to one that was started and has not ended
 pub if_unended : (b : Bool) (ended : Option Fate) (before : State) (r : Reply) (after : State) (X : Type 0) → b ≡ true → ended ≡ None → X
     → IfOpen b ended before r after X
 if_unended b ended before r after X begun none x =
     subst (λ c. IfOpen c ended before r after X) (sym begun) (subst (λ o. IfOpen true o before r after X) (sym none) x)
+
+-- what an event of one that is not live does, whatever it would do to a live one
+pub not_live : (b : Bool) (ended : Option Fate) (before : State) (r : Reply) (X : Type 0) → IsNotLiveBy b ended r
+    → IfOpen b ended before r before X
+not_live false ended before r X told = record { reply = told; same = refl }
+not_live true (Some f) before r X told = record { reply = told; same = refl }
+not_live true None before r X told = absurd told
 
 -- a step, by what comes next
 pub steps_on : (asks : When) (t : ℕ) (before : State) (r : Reply) (after : State) (n : Next) → nat_lt t before.starts ≡ true

@@ -4,10 +4,11 @@ ghost use Rattle.sgt_sched.specs.declared.brief.Brief.TheVariants.{Placed};
 ghost use Rattle.sgt_sched.specs.Briefs.{in_full, IsShort};
 
 use sgt_model::{Key, Reply, Tid};
+use std::fmt;
 
 /// A reply in short. A reply that holds lists is large: it is written once, where the caller says, and only said to
 /// stand there.
-#[derive(Debug, Drop, PartialEq, Eq)]
+#[derive(Drop)]
 pub enum Brief {
     Started(Tid),
     NoProcedure,
@@ -89,6 +90,16 @@ impl Brief {
             Brief::NotEnded => Reply::NotEnded,
             Brief::Waits(first) => Reply::Waits(*first),
             Brief::Placed => unreachable!(),
+        }
+    }
+}
+
+/// As the reply in full, but for what is placed.
+impl fmt::Debug for Brief {
+    fn fmt<W: fmt::Write>(&self, f: &mut fmt::Formatter<W>) -> fmt::Result {
+        match self {
+            Brief::Placed => f.write_str("Placed"),
+            _ => self.short().fmt(f),
         }
     }
 }

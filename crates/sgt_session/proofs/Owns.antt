@@ -5,7 +5,7 @@ use Rattle.sgt_model.specs.declared.event.Event.{Event}
 use Rattle.sgt_model.specs.declared.event.Event.TheVariants.{Start, Step, Commit, Quit}
 use Rattle.sgt_model.specs.declared.reply.Reply.{Reply}
 use Rattle.sgt_session.specs.declared.receipt.Receipt.{Receipt}
-use Rattle.sgt_model.specs.Questions.{started_number, started_in, tells_end}
+use Rattle.sgt_model.specs.Questions.{started_number, tells_end}
 use Rattle.sgt_session.specs.Own.{with_one, open_without, is_open, open_by, open_from, open_of, room_needed}
 
 -- one is taken out

@@ -198,12 +198,7 @@ impl<N: Named> Session<N> {
         let (turn, mut round) = shared.lock_policy.lock(rt, &shared.round, &event);
         round.apply(event, &mut self.share, &mut self.receipts)?;
         let entry = self.receipts.last_entry();
-        if may_wait && entry.is_wait() {
-            drop(shared.waiters.wait(rt, round));
-        } else {
-            drop(round);
-        }
-        drop(turn);
+        shared.waiters.end_hold(rt, turn, round, &entry, may_wait);
         note(&mut self.own, &entry);
         shared.waiters.wake_after(&entry);
         Ok(())

@@ -1,6 +1,7 @@
 ghost use Rattle.std.specs.Prelude.{◌≡◌};
 ghost use Rattle.sgt_model.specs.Questions.{is_ending};
 
+use crate::lock_policy::Turn;
 use sgt_entries::EntryRef;
 use std::sync::{Condvar, MutexGuard, Wait};
 
@@ -18,9 +19,22 @@ impl Waiters {
         }
     }
 
-    /// Begins to wait in the hold of the lock that it is given, and takes the lock again after a wake.
-    pub fn wait<'b, W: Wait, T>(&self, rt: &W, guard: MutexGuard<'b, T>) -> MutexGuard<'b, T> {
-        self.ended.wait(rt, guard)
+    /// Ends the hold of the lock of a call that was answered with this entry, and then its turn. Where the reply tells to wait, and it
+    /// `may_wait`, it begins to do so in that hold, and returns after a wake.
+    pub fn end_hold<'l, W: Wait, T>(
+        &self,
+        rt: &W,
+        turn: Turn<'l>,
+        guard: MutexGuard<'l, T>,
+        entry: &EntryRef<'_>,
+        may_wait: bool,
+    ) {
+        if may_wait && entry.is_wait() {
+            drop(self.ended.wait(rt, guard));
+        } else {
+            drop(guard);
+        }
+        drop(turn);
     }
 
     /// Wakes all who wait where the entry ends a live transaction, and tells whether it did. No other entry lets a commit go

@@ -47,6 +47,18 @@ impl<R: Records, A: Accesses, G: Graph> Engine<R, A, G> {
             ↔ ((self.old.past ≡ []) × (2 ^ 16 ≤ length self.old.procedures)) }
         ensures unchanged { OnErr result (self.new ≡ self.old) }
     {
+        let number = self.next_number()?;
+        self.sched.add_procedure(procedure)?;
+        Ok(number)
+    }
+
+    // The number of one that may be added behind the others.
+    fn next_number(&self) -> Result<u16, AddError>
+        ensures number { IfOk result (λ n. (self.now.past ≡ []) × (n ≡ length self.now.procedures)) }
+        ensures begun { result ≡ Err AddError.Begun → self.now.past ≢ [] }
+        ensures too_many { result ≡ Err AddError.TooMany → (self.now.past ≡ []) × (2 ^ 16 ≤ length self.now.procedures) }
+        ensures no_growth { result ≢ Err AddError.NoMemory }
+    {
         if !self.is_new() {
             return Err(AddError::Begun);
         }
@@ -54,7 +66,6 @@ impl<R: Records, A: Accesses, G: Graph> Engine<R, A, G> {
         if number > u16::MAX as usize {
             return Err(AddError::TooMany);
         }
-        self.sched.add_procedure(procedure)?;
         Ok(number as u16)
     }
 }

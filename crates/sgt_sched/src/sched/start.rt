@@ -23,7 +23,7 @@ impl<R: Records, A: Accesses, G: Graph> Sched<R, A, G> {
         ensures { Tries (StartEffect (rules_of self.old) procedure args.now) self.old result self.new }
     {
         let brief = self.answer_start(procedure, args)?;
-        Ok(brief.reply(&Reply::Ended))
+        Ok(brief.short())
     }
 
     // The same, in short. No reply to a start is placed.

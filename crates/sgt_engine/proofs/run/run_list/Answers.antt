@@ -1,9 +1,10 @@
-use Rattle.std.proofs.Common.{rules, arith, Some, refl, sym, ap, ◌∙◌, ◌+◌}
+use Rattle.std.proofs.Common.{rules, arith, Some, refl, sym, ap, subst, ◌∙◌, ◌+◌}
 use Rattle.std.proofs.lemmas.Option.{slice_get_read}
 use Rattle.std.specs.Prelude.{slice_get}
 use Rattle.std.specs.Result.{is_ok}
 use Rattle.sgt_engine.specs.EngineView.{EngineView, setting_of}
 use Rattle.sgt_model.specs.Histories.{events_of}
+use Rattle.sgt_model.specs.Legality.{Legal}
 use Rattle.sgt_engine.proofs.Entries.{legal_new, events_taken}
 use Rattle.sgt_engine.proofs.Stops.{stops_at_end, stops_refused}
 use Rattle.sgt_engine.proofs.run.run_list.Goals.{else-loop-event-test, then-loop-event-test+in-Err}
@@ -40,3 +41,18 @@ returns-clause-stops g c =
           (ap (λ n. slice_get c.args.events.now n) c.loop-event.invariant.done ∙ here ∙ ap Some (sym w.copied.ensures))
           (ap is_ok w.in-Err.is) w.apply.ensures.no_memory)
     ]
+
+pub returns-clause-legal : goal.returns-clause-legal
+returns-clause-legal g c =
+    let legal_at : EngineView → Type 0 = λ e. Legal (setting_of e) e.past in
+    elim c.loop-event-test.branch [
+      | else-loop-event-test w ↦ subst legal_at (sym w.engine-is) c.loop-event.invariant.legal
+      | then-loop-event-test+in-Err w
+          ↦ subst legal_at (sym (w.engine-is ∙ w.in-Err.ensures.unchanged)) c.loop-event.invariant.legal
+    ]
+
+pub returns-clause-replay : goal.returns-clause-replay
+returns-clause-replay g c = (c.headline_holds.ensures _ _ (returns-clause-legal g c)).replay
+
+pub returns-clause-causes : goal.returns-clause-causes
+returns-clause-causes g c = (c.headline_holds.ensures _ _ (returns-clause-legal g c)).causes

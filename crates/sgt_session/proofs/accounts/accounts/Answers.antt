@@ -1,4 +1,4 @@
-use Rattle.std.proofs.Common.{◌≡◌, ◌<◌, length, Some, refl, sym, ap, ◌∙◌, subst, rules, arith}
+use Rattle.std.proofs.Common.{◌≡◌, length, refl, subst, rules, arith}
 use Rattle.sgt_session.proofs.Merging.{Checked, checks_first, checks_next, checks_last}
 use Rattle.sgt_session.proofs.accounts.accounts.Goals as goal
 

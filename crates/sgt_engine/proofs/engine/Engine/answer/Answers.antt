@@ -92,3 +92,9 @@ file-requires g c =
     c.in_ok-brief.ensures.done.done.does c.make_room.ensures.ends
     c.in_ok-make_room.ensures.room in
     omega (arith, left)
+
+pub returns-clause-replay : goal.returns-clause-replay
+returns-clause-replay g c = (c.headline_holds.ensures _ _ (invariant_of-self-2 g c).0).replay
+
+pub returns-clause-causes : goal.returns-clause-causes
+returns-clause-causes g c = (c.headline_holds.ensures _ _ (invariant_of-self-2 g c).0).causes

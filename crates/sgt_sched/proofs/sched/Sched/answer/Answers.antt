@@ -1,4 +1,3 @@
-use Rattle.std.proofs.Common.{rules}
 use Rattle.std.proofs.lemmas.Result.{IfOk-weaker}
 use Rattle.sgt_sched.specs.Briefs.{in_full}
 use Rattle.sgt_sched.proofs.Stepped.{called, in_brief}
@@ -10,8 +9,8 @@ returns-in-Start-clause-done g c = record {
   done = IfOk-weaker c.answer_start.result _ _
       (λ b done. in_brief (called (rules_of c.args.self.now) (state c.args.self.now) _
       (state c.answer_start.new.self) c.args.event.now _ c.in-Start.is) (done _)) c.answer_start.ensures.done;
-  refused = search rules;
-  kept = search rules;
+  refused = c.answer_start.ensures.refused;
+  kept = c.answer_start.ensures.kept;
 }
 
 pub returns-in-Step-clause-done : goal.returns-in-Step-clause-done
@@ -19,8 +18,8 @@ returns-in-Step-clause-done g c = record {
   done = IfOk-weaker c.answer_step.result _ _
       (λ b done. in_brief (called (rules_of c.args.self.now) (state c.args.self.now) (in_full b c.answer_step.new.out)
       (state c.answer_step.new.self) c.args.event.now _ c.in-Step.is) done) c.answer_step.ensures.done.done;
-  refused = search rules;
-  kept = search rules;
+  refused = c.answer_step.ensures.done.refused;
+  kept = c.answer_step.ensures.done.kept;
 }
 
 pub returns-in-Commit-clause-done : goal.returns-in-Commit-clause-done
@@ -28,6 +27,15 @@ returns-in-Commit-clause-done g c = record {
   done = in_brief
       (called (rules_of c.args.self.now) (state c.args.self.now) (in_full c.answer_commit.result c.answer_commit.new.out)
       (state c.answer_commit.new.self) c.args.event.now _ c.in-Commit.is) c.answer_commit.ensures.turn;
-  refused = search rules;
-  kept = search rules;
+  refused = tt;
+  kept = c.answer_commit.ensures.kept;
+}
+
+pub returns-in-Quit-clause-done : goal.returns-in-Quit-clause-done
+returns-in-Quit-clause-done g c = record {
+  done = in_brief
+      (called (rules_of c.args.self.now) (state c.args.self.now) (in_full c.answer_quit.result c.answer_quit.new.out)
+      (state c.answer_quit.new.self) c.args.event.now _ c.in-Quit.is) c.answer_quit.ensures.turn;
+  refused = tt;
+  kept = c.answer_quit.ensures.kept;
 }

@@ -3,7 +3,7 @@ use Rattle.sgt_model.specs.Traces.{Asks, Ends}
 use Rattle.sgt_proc.specs.Nexts.{seen}
 use Rattle.sgt_sched.specs.Briefs.{in_full}
 use Rattle.sgt_sched.specs.Scheduler.{state}
-use Rattle.sgt_sched.proofs.Stepped.{commits_on, in_brief}
+use Rattle.sgt_sched.proofs.Stepped.{commits_on, in_brief, not_live}
 use Rattle.sgt_sched.proofs.sched.Sched.answer_commit.Goals as goal
 
 pub returns-in-Some-Asks : goal.returns-in-Some-Asks
@@ -23,4 +23,13 @@ returns-in-None-decide g c = record {
       (Ends c.in-Some-Ends.answers) (c.in-Some-Ends.ensures.unended.0 refl).begun (c.in-Some-Ends.ensures.unended.0 refl).unended
       (ap seen (sym c.in-Some-Ends.field-0-is) ∙ c.in-Some-Ends.ensures.next) (inr done)) c.finish_commit.ensures.turn;
   kept = c.finish_commit.ensures.kept;
+}
+
+pub returns-in-None : goal.returns-in-None
+returns-in-None g c = record {
+  turn = record {
+    does = not_live _ _ _ _ _ c.answer_not_live.ensures.not_live;
+    short = c.answer_not_live.ensures.short;
+  };
+  kept = (refl, refl);
 }

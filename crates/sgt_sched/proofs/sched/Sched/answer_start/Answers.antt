@@ -5,7 +5,7 @@ use Rattle.sgt_sched.specs.Scheduler.{parts, state}
 use Rattle.sgt_sched.proofs.sched.Sched.answer_start.Goals as goal
 
 pub returns-in-Err : goal.returns-in-Err
-returns-in-Err g c = record { done = c.in-Err.ensures; refused = search rules; kept = search rules }
+returns-in-Err g c = record { done = c.in-Err.ensures; refused = tt; kept = (refl, refl) }
 
 pub index-requires : goal.index-requires
 index-requires g c =
@@ -52,6 +52,6 @@ returns g c =
     admitted.begins in
     record {
       done = λ _. record { does = record { reply = c.in-Ok.ensures.0; does = done.1 }; short = tt };
-      refused = search rules;
-      kept = search rules;
+      refused = tt;
+      kept = (refl, refl);
     }

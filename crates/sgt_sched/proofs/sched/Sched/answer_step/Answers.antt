@@ -5,7 +5,7 @@ use Rattle.sgt_model.specs.declared.reply.Reply.TheVariants as reply
 use Rattle.sgt_model.specs.Traces.{Puts, Ends, Asks}
 use Rattle.sgt_sched.specs.Briefs.{in_full}
 use Rattle.sgt_proc.specs.Nexts.{seen}
-use Rattle.sgt_sched.proofs.Stepped.{steps_on, in_brief}
+use Rattle.sgt_sched.proofs.Stepped.{steps_on, in_brief, not_live}
 use Rattle.sgt_sched.specs.Endings.{StepEnds}
 use Rattle.sgt_sched.specs.Scheduler.{state}
 use Rattle.sgt_sched.proofs.sched.Sched.answer_step.Goals as goal
@@ -16,8 +16,8 @@ returns-in-Look-clause-done g c = record {
       (λ b done. in_brief (steps_on c.args.self.now.limits.asks c.args.t _ (in_full b c.look.new.out) _ _
       (c.in-Some.ensures.unended.0 refl).begun
       (c.in-Some.ensures.unended.0 refl).unended (ap seen (sym c.in-Look.is) ∙ c.next_at-next.ensures.next)) done) c.look.ensures.done.done;
-  refused = search rules;
-  kept = search rules;
+  refused = c.look.ensures.done.refused;
+  kept = c.look.ensures.done.kept;
 }
 
 pub returns-in-Put-clause-done : goal.returns-in-Put-clause-done
@@ -29,8 +29,8 @@ returns-in-Put-clause-done g c =
           (steps_on c.args.self.now.limits.asks c.args.t (state c.args.self.now) (in_full b c.store.new.out) _
           (Puts c.in-Put.key (to_z w64 (of_z w64 c.in-Put.value)))
           (c.in-Some.ensures.unended.0 refl).begun (c.in-Some.ensures.unended.0 refl).unended next) done) c.store.ensures.done.done;
-      refused = search rules;
-      kept = search rules;
+      refused = c.store.ensures.done.refused;
+      kept = c.store.ensures.done.kept;
     }
 
 pub returns-in-Ends-clause-done : goal.returns-in-Ends-clause-done
@@ -42,8 +42,8 @@ returns-in-Ends-clause-done g c = record {
         (ap seen (sym c.in-Ends.is) ∙ c.next_at-next.ensures.next) (record { reply = refl; same = refl });
     short = tt;
   };
-  refused = search rules;
-  kept = search rules;
+  refused = tt;
+  kept = (refl, refl);
 }
 
 pub returns-in-Asks-clause-done : goal.returns-in-Asks-clause-done
@@ -53,8 +53,8 @@ returns-in-Asks-clause-done g c = record {
       (Asks c.in-Asks.code)
       (c.in-Some.ensures.unended.0 refl).begun (c.in-Some.ensures.unended.0 refl).unended
       (ap seen (sym c.in-Asks.is) ∙ c.next_at-next.ensures.next)) c.step_asked.ensures.turn;
-  refused = search rules;
-  kept = search rules;
+  refused = tt;
+  kept = c.step_asked.ensures.kept;
 }
 
 pub returns-in-Look-clause-out : goal.returns-in-Look-clause-out
@@ -72,3 +72,13 @@ pub returns-in-Put-clause-no_memory : goal.returns-in-Put-clause-no_memory
 returns-in-Put-clause-no_memory g c e = c.store.ensures.no_memory
     (subst (λ n. StepEnds c.args.self.now.limits.asks c.args.t n (state c.args.self.now))
     (sym (ap seen (sym c.in-Put.is) ∙ c.next_at-next.ensures.next)) e.1)
+
+pub returns-in_default-clause-done : goal.returns-in_default-clause-done
+returns-in_default-clause-done g c = record {
+  done = record {
+    does = not_live _ _ _ _ _ c.answer_not_live.ensures.not_live;
+    short = c.answer_not_live.ensures.short;
+  };
+  refused = tt;
+  kept = (refl, refl);
+}

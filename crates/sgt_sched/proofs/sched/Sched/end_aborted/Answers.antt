@@ -1,8 +1,12 @@
+use Rattle.sgt_sched.proofs.Found.{no_fate}
 use Rattle.sgt_sched.proofs.Ended.{kept_after, removes_after, fates_after}
 use Rattle.sgt_sched.proofs.sched.Sched.end_aborted.Goals as goal
 
 pub leave-requires : goal.leave-requires
 leave-requires g c = record { rising = c.args.self.now.kept.rising }
+
+pub end-requires : goal.end-requires
+end-requires g c = record { live = no_fate c.args.self.now.kept c.args.t c.requires.live }
 
 pub invariant_of-self : goal.invariant_of-self
 invariant_of-self g c =

@@ -1,7 +1,8 @@
-use Rattle.std.proofs.Common.{rules, refl, ◌∙◌, sym}
+use Rattle.std.proofs.Common.{refl, ◌∙◌, sym}
 use Rattle.std.proofs.lemmas.Bool.{true≢false}
 use Rattle.sgt_model.specs.declared.reply.Fate.TheVariants as fate
 use Rattle.sgt_model.proofs.Conditions.{may_settle}
+use Rattle.sgt_sched.proofs.Found.{no_fate}
 use Rattle.sgt_sched.proofs.Ended.{kept_after, removes_after, fates_after}
 use Rattle.sgt_sched.proofs.sched.Sched.finish_commit.Goals as goal
 
@@ -20,6 +21,9 @@ finish-requires g c = (
 
 pub leave-requires : goal.leave-requires
 leave-requires g c = record { rising = c.args.self.now.kept.rising }
+
+pub end-requires : goal.end-requires
+end-requires g c = record { live = no_fate c.args.self.now.kept c.args.t c.requires.live }
 
 pub invariant_of-self : goal.invariant_of-self
 invariant_of-self g c =
@@ -50,5 +54,5 @@ returns g c =
         };
         short = tt;
       };
-      kept = search rules;
+      kept = (refl, refl);
     }

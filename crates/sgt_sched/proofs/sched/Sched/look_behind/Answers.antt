@@ -1,4 +1,4 @@
-use Rattle.std.proofs.Common.{◌≡◌, ◌≢◌, true, [], position, Some, rules, refl, inl, inr, ap, sym, subst}
+use Rattle.std.proofs.Common.{◌≡◌, ◌≢◌, true, [], position, Some, refl, inl, inr, ap, sym, subst}
 use Rattle.sgt_model.specs.declared.kind.Kind.TheVariants.{Look}
 use Rattle.sgt_model.specs.CallEffects.{StepOn, MakesLook}
 use Rattle.sgt_model.specs.Traces.{Looks}
@@ -28,8 +28,8 @@ returns-in_default-clause-done g c =
             c.rivals-writers.ensures.exact closes.1.0 closes.1.2) closes.2);
         short = subst HoldsLists (sym closes.2.reply) tt;
       };
-      refused = search rules;
-      kept = search rules;
+      refused = tt;
+      kept = c.in_default.ensures.kept;
     }
 
 pub make_look-requires-clause-writers : goal.make_look-requires-clause-writers

@@ -1,4 +1,4 @@
-use Rattle.std.proofs.Common.{rules, refl, sym, subst, ap, ◌∙◌, ◌++◌, ◌∷◌, []}
+use Rattle.std.proofs.Common.{refl, sym, subst, ap, ◌∙◌, ◌++◌, ◌∷◌, []}
 use Rattle.sgt_model.specs.declared.kind.Kind.TheVariants.{Look}
 use Rattle.sgt_records.specs.Tops.{value_of_top}
 use Rattle.sgt_sched.specs.Steps.{with_source}
@@ -38,8 +38,8 @@ returns g c = record {
         ∙ ap (λ top. with_source top c.args.t c.args.self.now.read_from.items) c.top-top.ensures.top);
     short = tt;
   };
-  refused = search rules;
-  kept = search rules;
+  refused = tt;
+  kept = (refl, refl);
 }
 
 pub invariant_of-self : goal.invariant_of-self

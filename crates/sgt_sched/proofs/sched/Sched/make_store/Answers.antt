@@ -1,4 +1,4 @@
-use Rattle.std.proofs.Common.{rules, refl, ◌≡◌, false, cond, ap, ◌∙◌, sym, subst, ◌<◌, ◌++◌, ◌∷◌, [], length, w64}
+use Rattle.std.proofs.Common.{refl, ◌≡◌, false, cond, ap, ◌∙◌, sym, subst, ◌<◌, ◌++◌, ◌∷◌, [], length, w64}
 use Rattle.std.proofs.lemmas.Int.{to_z-of_z}
 use Rattle.sgt_model.specs.declared.kind.Kind.TheVariants.{Store}
 use Rattle.sgt_model.specs.Contents.{key_eq}
@@ -54,8 +54,8 @@ returns g c = record {
         c.store.ensures _ (to_z-of_z w64 c.args.value c.ranges.value);
     short = tt;
   };
-  refused = search rules;
-  kept = search rules;
+  refused = tt;
+  kept = (refl, refl);
 }
 
 pub invariant_of-self : goal.invariant_of-self

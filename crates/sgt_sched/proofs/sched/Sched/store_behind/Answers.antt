@@ -1,4 +1,4 @@
-use Rattle.std.proofs.Common.{◌≡◌, ◌≢◌, true, [], position, Some, rules, refl, inl, inr, ap, sym, subst, w64}
+use Rattle.std.proofs.Common.{◌≡◌, ◌≢◌, true, [], position, Some, refl, inl, inr, ap, sym, subst, w64}
 use Rattle.std.proofs.lemmas.Int.{to_z-of_z}
 use Rattle.sgt_model.specs.declared.kind.Kind.TheVariants.{Store}
 use Rattle.sgt_model.specs.CallEffects.{StepOn, MakesStore}
@@ -30,8 +30,8 @@ returns-in_default-clause-done g c =
             c.rivals-rivals.ensures.exact closes.1.0 closes.1.2) closes.2);
         short = subst HoldsLists (sym closes.2.reply) tt;
       };
-      refused = search rules;
-      kept = search rules;
+      refused = tt;
+      kept = c.in_default.ensures.kept;
     }
 
 pub make_store-requires-clause-rivals : goal.make_store-requires-clause-rivals

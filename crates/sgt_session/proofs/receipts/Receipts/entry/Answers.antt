@@ -1,4 +1,4 @@
-use Rattle.std.proofs.Common.{◌≡◌, length, sym, ap, ◌∙◌, arith, slice_get}
+use Rattle.std.proofs.Common.{length, sym, ap, ◌∙◌, arith, slice_get}
 use Rattle.std.specs.Option.{option_map}
 use Rattle.sgt_session.specs.Receipts.{entry_of}
 use Rattle.sgt_session.proofs.Filed.{receipts-length, receipts-entry}

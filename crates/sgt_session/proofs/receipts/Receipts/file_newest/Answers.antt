@@ -1,5 +1,4 @@
 use Rattle.std.proofs.Common.{◌≡◌, ◌-◌, [], ◌∷◌, ◌++◌, length, slice_get, Some, sym, ap, ap₂, ◌∙◌, arith}
-use Rattle.sgt_model.specs.declared.entry.Entry.{Entry}
 use Rattle.std.proofs.lemmas.Option.{same_Some}
 use Rattle.sgt_session.specs.Receipts.{receipt_of, receipts_of}
 use Rattle.sgt_session.proofs.Filed.{receipts-more, newest}

@@ -12,3 +12,6 @@ returns-clause-filed g c =
       search (rules, added.2),
       c.file_newest.ensures.filed _ _ (search (rules, added.1)),
     )
+
+pub returns-clause-counted : goal.returns-clause-counted
+returns-clause-counted g c = c.add.ensures.amount

@@ -1,4 +1,4 @@
-use Rattle.std.proofs.Common.{rules, ◌≡◌, ◌∙◌, [], ◌∷◌, length, ap, arith}
+use Rattle.std.proofs.Common.{rules, ◌≡◌, ◌∙◌, [], ◌∷◌, ◌++◌, length, ap, arith}
 use Rattle.std.proofs.lemmas.List.{length-append}
 use Rattle.sgt_session.specs.Receipts.{entry_of}
 use Rattle.sgt_session.proofs.Owns.{noted, fits}
@@ -23,4 +23,12 @@ invariant_of-self-2 g c =
           c.in_ok-make_receipt_room.ensures.room
           (rw same at c.note.ensures.count)
           c.in_ok-apply.ensures.room,
+    )
+
+pub returns : goal.returns
+returns g c =
+    let filed = c.in_ok-apply.ensures.filed in (
+      filed.0,
+      filed.1,
+      filed.5 ∙ ap (λ l. l ++ filed.0 ∷ []) (c.in_ok-make_receipt_room.ensures.receipts ∙ c.self.view_is),
     )
