@@ -1,24 +1,13 @@
--- The ends of edges, and what the check of known bytes draws.
-use Rattle.std.proofs.Common.{◌≡◌, ◌≢◌, inl, inr, cond, Ordering, Less, Equal, Greater, ◌==◌, ◌&&◌, ◌||◌, ◌<◌, ◌↔◌, length, take, get_or, ℕ, Bool, true, false, List, [], ◌∷◌, ◌++◌, ◌+◌, refl, sym, ap, ◌∙◌, subst}
-use Rattle.std.specs.Prelude.{Option, Some, None, IfSome}
-use Rattle.std.specs.Io.KnownBytes.{Appends}
+-- The ends of edges.
+use Rattle.std.proofs.Common.{◌≡◌, ◌≢◌, inl, inr, cond, Ordering, Less, Equal, Greater, ◌==◌, ◌&&◌, ◌||◌, ◌<◌, length, take, get_or, ℕ, Bool, true, false, List, [], ◌∷◌, ◌++◌, ◌+◌, refl, sym, ap, ◌∙◌, subst}
 use Rattle.std.specs.Ordering.{nat_cmp, ordering_reverse, is_eq}
 use Rattle.std.proofs.lemmas.Cmp.{nat_cmp_total}
 use Rattle.std.proofs.lemmas.Bool.{cases_eq, eqb-true, eqb-false}
 use Rattle.std.proofs.lemmas.List.{take_more}
 use Rattle.sgt_history.specs.declared.graph.Edge.{Edge}
-use Rattle.sgt_history.specs.Classes.{IsRecoverable}
-use Rattle.sgt_history.specs.Serializability.{IsSerializable}
-use Rattle.sgt_history.specs.FirstConflicts.{AreFirstConflicts}
 use Rattle.sgt_history.specs.FirstAccesses.{pair_cmp}
 use Rattle.sgt_history.proofs.FirstAccesses.{pairs_apart}
-use Rattle.sgt_notation.specs.declared.history.History.{History}
-use Rattle.sgt_notation.specs.Words.{words_of}
-use Rattle.sgt_notation.specs.Readings.{AreRead, texts}
-use Rattle.sgt_check.specs.declared.report.Report.{Report}
-use Rattle.sgt_check.specs.Reports.{IsReport}
-use Rattle.sgt_check.specs.GraphText.{leads, graph_text}
-use Rattle.sgt_check.specs.Graphs.{IsDrawn}
+use Rattle.sgt_check.specs.GraphText.{leads}
 
 nat_cmp-same : (a : ℕ) → nat_cmp a a ≡ Equal
 nat_cmp-same a = by (nat_cmp a a) (nat_cmp_total.antisymm a a)
@@ -86,42 +75,3 @@ ends_same a b t u s = elim (cases_eq a t) [
     none true d = refl
     none false true = refl
     none false false = refl
-
--- the text of the graph of what was read is a graph of the input
-pub drawn_of : (bytes text lines : List ℕ) (h : History) (r : Report) (conflicts : List Edge) (sound : Bool) → bytes ≡ text
-    → AreRead (words_of text) (texts h) h.operations.items → IsReport h.operations.items r
-    → AreFirstConflicts h.operations.items conflicts → lines ≡ graph_text h conflicts r.serializability
-    → ((sound ≡ true) ↔ (IsSerializable h.operations.items × IsRecoverable h.operations.items)) → IsDrawn bytes lines sound
-drawn_of bytes text lines h r conflicts sound same read found first written verdict = record {
-  history = h;
-  report = r;
-  conflicts = conflicts;
-  read = subst (λ t. AreRead (words_of t) (texts h) h.operations.items) (sym same) read;
-  found = found;
-  first = first;
-  written = written;
-  verdict = verdict;
-}
-
--- the lines of the graph of what was read are written
-pub is_drawn : (rest held held' : Option (List ℕ)) (text lines : List ℕ) (h : History) (r : Report) (conflicts : List Edge) (sound : Bool)
-    → IfSome rest (λ bytes. bytes ≡ text) → AreRead (words_of text) (texts h) h.operations.items → IsReport h.operations.items r
-    → AreFirstConflicts h.operations.items conflicts → lines ≡ graph_text h conflicts r.serializability → Appends held held' lines
-    → ((sound ≡ true) ↔ (IsSerializable h.operations.items × IsRecoverable h.operations.items))
-    → IfSome rest (λ input. (output : List ℕ) × Appends held held' output × IsDrawn input output sound)
-is_drawn None held held' text lines h r conflicts sound same read found first written appended verdict = tt
-is_drawn (Some bytes) held held' text lines h r conflicts sound same read found first written appended verdict =
-    (lines, appended, drawn_of bytes text lines h r conflicts sound same read found first written verdict)
-
--- the first bytes of those lines are written
-pub is_drawn_in_part : (rest held held' : Option (List ℕ)) (text lines : List ℕ) (h : History) (r : Report) (conflicts : List Edge)
-    (sound : Bool)
-    → IfSome rest (λ bytes. bytes ≡ text) → AreRead (words_of text) (texts h) h.operations.items → IsReport h.operations.items r
-    → AreFirstConflicts h.operations.items conflicts → lines ≡ graph_text h conflicts r.serializability
-    → ((k : ℕ) × Appends held held' (take k lines))
-    → ((sound ≡ true) ↔ (IsSerializable h.operations.items × IsRecoverable h.operations.items))
-    → IfSome rest (λ input. (output : List ℕ) × (sound : Bool) × (k : ℕ) × IsDrawn input output sound
-    × Appends held held' (take k output))
-is_drawn_in_part None held held' text lines h r conflicts sound same read found first written part verdict = tt
-is_drawn_in_part (Some bytes) held held' text lines h r conflicts sound same read found first written part verdict =
-    (lines, sound, part.0, drawn_of bytes text lines h r conflicts sound same read found first written verdict, part.1)

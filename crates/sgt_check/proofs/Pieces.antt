@@ -1,5 +1,5 @@
 -- Texts that grow piece by piece.
-use Rattle.std.proofs.Common.{◌≡◌, ℕ, ◌+◌, List, [], ◌++◌, map, refl, ap, sym, ◌∙◌, append_assoc}
+use Rattle.std.proofs.Common.{◌≡◌, ℕ, ◌+◌, List, ◌++◌, map, refl, ap, sym, ◌∙◌, append_assoc, append-nil, ◌∷◌, []}
 use Rattle.std.specs.Prelude.{Option, Some, None, Result, Ok, Err, OnOk, slice_get, codes}
 use Rattle.std.specs.Option.{option_map_or, option_map}
 use Rattle.std.specs.Fmt.{decimal}
@@ -9,6 +9,9 @@ use Rattle.sgt_history.specs.declared.operation.Violation.{Violation}
 use Rattle.sgt_notation.specs.declared.history.History.{History}
 use Rattle.sgt_notation.specs.Spellings.{spelling, text_at}
 use Rattle.sgt_notation.specs.Readings.{texts}
+use Rattle.std.specs.List.{flat_map}
+use Rattle.sgt_check.specs.declared.piece.Piece.{Piece}
+use Rattle.sgt_check.specs.Pieces.{piece_text, with_pieces, pieces_text}
 use Rattle.sgt_check.specs.ReportText.{placed, class_text}
 
 -- a piece behind what came
@@ -49,3 +52,14 @@ name_text h i = sym (text_of_item _ h.items.items i)
 pub placed_there : (h : History) (i : ℕ) (op : Operation) → slice_get h.operations.items i ≡ Some op
     → placed h i ≡ spelling (texts h) op ++ codes " (" ++ decimal (i + 1) ++ codes ")"
 placed_there h i op is = ap (λ o. option_map_or (λ op. spelling (texts h) op ++ codes " (" ++ decimal (i + 1) ++ codes ")") o []) is
+
+-- pieces behind what came
+with_pieces_all : (h : History) (came : List ℕ) (pieces : List Piece) → with_pieces h came pieces ≡ came ++ flat_map (piece_text h) pieces
+with_pieces_all h came [] = sym (append-nil came)
+with_pieces_all h came (p ∷ ps) =
+    with_pieces_all h (came ++ piece_text h p) ps ∙ append_assoc came (piece_text h p) (flat_map (piece_text h) ps)
+
+-- pieces one behind another
+pub pieces_all : (h : History) (pieces : List Piece) → flat_map (piece_text h) pieces ≡ pieces_text h pieces
+pieces_all h [] = refl
+pieces_all h (p ∷ ps) = sym (with_pieces_all h (piece_text h p) ps)

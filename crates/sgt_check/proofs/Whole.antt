@@ -1,53 +1,34 @@
 -- What a check of known bytes comes to.
-use Rattle.std.proofs.Common.{◌≡◌, ◌≢◌, ◌<◌, ◌↔◌, length, take, ℕ, Bool, true, List, refl, sym, subst}
+use Rattle.std.proofs.Common.{◌≡◌, ◌≢◌, ◌<◌, length, take, ℕ, Bool, List, refl, sym, subst}
 use Rattle.std.specs.Prelude.{Option, Some, None, IfSome}
 use Rattle.std.specs.Io.KnownBytes.{Appends}
-use Rattle.sgt_history.specs.Classes.{IsRecoverable}
-use Rattle.sgt_history.specs.Serializability.{IsSerializable}
 use Rattle.sgt_notation.specs.declared.fault.NotationFault.{NotationFault}
-use Rattle.sgt_notation.specs.declared.history.History.{History}
-use Rattle.sgt_notation.specs.Words.{words_of}
-use Rattle.sgt_notation.specs.Readings.{AreRead, texts}
-use Rattle.sgt_check.specs.declared.report.Report.{Report}
-use Rattle.sgt_check.specs.Reports.{IsReport}
-use Rattle.sgt_check.specs.ReportText.{report_text}
-use Rattle.sgt_check.specs.Checks.{IsChecked, IsFaultOf}
+use Rattle.sgt_check.specs.Checks.{IsFaultOf}
 use Rattle.sgt_check.specs.declared.fault.CheckFault.{CheckFault}
 use Rattle.sgt_check.specs.declared.fault.CheckFault.TheVariants.{Notation, TooLong, Reading, Writing, NoMemory}
 
--- the text of the report on what was read is a report on the input
-pub checked_of : (bytes text lines : List ℕ) (h : History) (r : Report) (sound : Bool) → bytes ≡ text
-    → AreRead (words_of text) (texts h) h.operations.items → IsReport h.operations.items r → lines ≡ report_text h r
-    → ((sound ≡ true) ↔ (IsSerializable h.operations.items × IsRecoverable h.operations.items)) → IsChecked bytes lines sound
-checked_of bytes text lines h r sound same read found written verdict = record {
-  history = h;
-  report = r;
-  read = subst (λ t. AreRead (words_of t) (texts h) h.operations.items) (sym same) read;
-  found = found;
-  written = written;
-  verdict = verdict;
-}
-
--- the lines of the report on what was read are written
-pub is_checked : (rest held held' : Option (List ℕ)) (text lines : List ℕ) (h : History) (r : Report) (sound : Bool)
-    → IfSome rest (λ bytes. bytes ≡ text) → AreRead (words_of text) (texts h) h.operations.items → IsReport h.operations.items r
-    → lines ≡ report_text h r → Appends held held' lines
-    → ((sound ≡ true) ↔ (IsSerializable h.operations.items × IsRecoverable h.operations.items))
-    → IfSome rest (λ input. (output : List ℕ) × Appends held held' output × IsChecked input output sound)
-is_checked None held held' text lines h r sound same read found written appended verdict = tt
-is_checked (Some bytes) held held' text lines h r sound same read found written appended verdict =
-    (lines, appended, checked_of bytes text lines h r sound same read found written verdict)
+-- the lines that tell of what was read are written
+pub is_told : (Tells : List ℕ → List ℕ → Bool → Type 0) (rest held held' : Option (List ℕ)) (text lines : List ℕ) (sound : Bool)
+    → IfSome rest (λ bytes. bytes ≡ text) → Tells text lines sound → Appends held held' lines
+    → IfSome rest (λ input. (output : List ℕ) × Appends held held' output × Tells input output sound)
+is_told Tells None held held' text lines sound same told appended = tt
+is_told Tells (Some bytes) held held' text lines sound same told appended =
+    (lines, appended, subst (λ t. Tells t lines sound) (sym same) told)
 
 -- the first bytes of those lines are written
-pub is_begun : (rest held held' : Option (List ℕ)) (text lines : List ℕ) (h : History) (r : Report) (sound : Bool)
-    → IfSome rest (λ bytes. bytes ≡ text) → AreRead (words_of text) (texts h) h.operations.items → IsReport h.operations.items r
-    → lines ≡ report_text h r → ((k : ℕ) × Appends held held' (take k lines))
-    → ((sound ≡ true) ↔ (IsSerializable h.operations.items × IsRecoverable h.operations.items))
-    → IfSome rest (λ input. (output : List ℕ) × (sound : Bool) × (k : ℕ) × IsChecked input output sound
+pub is_begun : (Tells : List ℕ → List ℕ → Bool → Type 0) (rest held held' : Option (List ℕ)) (text lines : List ℕ) (sound : Bool)
+    → IfSome rest (λ bytes. bytes ≡ text) → Tells text lines sound → ((k : ℕ) × Appends held held' (take k lines))
+    → IfSome rest (λ input. (output : List ℕ) × (sound : Bool) × (k : ℕ) × Tells input output sound
     × Appends held held' (take k output))
-is_begun None held held' text lines h r sound same read found written part verdict = tt
-is_begun (Some bytes) held held' text lines h r sound same read found written part verdict =
-    (lines, sound, part.0, checked_of bytes text lines h r sound same read found written verdict, part.1)
+is_begun Tells None held held' text lines sound same told part = tt
+is_begun Tells (Some bytes) held held' text lines sound same told part =
+    (lines, sound, part.0, subst (λ t. Tells t lines sound) (sym same) told, part.1)
+
+-- what keeps the text from being told of is told of the input
+pub text_fault : (rest : Option (List ℕ)) (text : List ℕ) (f : CheckFault) → IfSome rest (λ bytes. bytes ≡ text) → IsFaultOf text f
+    → IfSome rest (λ input. IsFaultOf input f)
+text_fault None text f same is = tt
+text_fault (Some bytes) text f same is = subst (λ t. IsFaultOf t f) (sym same) is
 
 -- what kept the input from being read is told of it
 pub input_fault : (rest : Option (List ℕ)) (f : CheckFault) → (f ≡ TooLong → IfSome rest (λ bytes. 268435456 < length bytes))

@@ -3,3 +3,4 @@ pub mod ReportText
 pub mod Checks
 pub mod GraphText
 pub mod Graphs
+pub mod Pieces

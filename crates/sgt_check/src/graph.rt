@@ -1,5 +1,5 @@
 //! The serialization graph of what a reader gives.
-ghost use Rattle.std.specs.Prelude.{◌≡◌, ◌≢◌, ◌^◌, ◌+◌, ◌<◌, ◌≤◌, ℕ, Bool, List, IfOk, IfErr, IfSome, Err, take};
+ghost use Rattle.std.specs.Prelude.{◌≡◌, ◌≢◌, ◌^◌, ◌+◌, ◌<◌, ◌≤◌, ℕ, Bool, List, length, IfOk, IfErr, IfSome, Err, take};
 ghost use Rattle.std.specs.Io.KnownBytes.{Appends};
 ghost use Rattle.sgt_check.specs.Checks.{IsFaultOf};
 ghost use Rattle.sgt_check.specs.Graphs.{IsDrawn};
@@ -8,7 +8,7 @@ use crate::fault::CheckFault;
 use crate::graph_text::append_graph;
 use crate::input::read_input;
 use crate::report::check_history;
-use crate::run::is_sound;
+use crate::run::{Told, is_sound};
 use sgt_history::first_conflicts;
 use sgt_notation::read_history;
 use sgt_stream::{Sink, Source, write_all};
@@ -44,7 +44,22 @@ pub fn run_graph<S: Source, T: Sink>(
     ensures write_failed { result ≡ Err CheckFault.Writing → T.failures sink.new ≡ T.failures sink.old + 1 }
 {
     let text = read_input(alloc, source)?;
-    let history = read_history(alloc, text.as_slice())?;
+    let told = tell_graph(alloc, text.as_slice())?;
+    let Ok(()) = write_all(sink, told.lines.as_slice()) else {
+        return Err(CheckFault::Writing);
+    };
+    Ok(told.sound)
+}
+
+/// The serialization graph of the history that the text spells.
+fn tell_graph(alloc: Global, text: &[u8]) -> Result<Told, CheckFault>
+    requires { length text.now < 2 ^ 32 }
+    ensures drawn { IfOk result (λ told. IsDrawn text.now told.lines.items told.sound) }
+    ensures fault { IfErr result (IsFaultOf text.now) }
+    ensures no_reading { result ≢ Err CheckFault.Reading }
+    ensures no_writing { result ≢ Err CheckFault.Writing }
+{
+    let history = read_history(alloc, text)?;
     let report = check_history(alloc, history.operations.as_slice())?;
     let conflicts = first_conflicts(alloc, history.operations.as_slice())?;
     let mut lines = Vec::new(alloc);
@@ -55,9 +70,8 @@ pub fn run_graph<S: Source, T: Sink>(
         conflicts.as_slice(),
         &report.serializability,
     )?;
-    let sound = is_sound(&report);
-    let Ok(()) = write_all(sink, lines.as_slice()) else {
-        return Err(CheckFault::Writing);
-    };
-    Ok(sound)
+    Ok(Told {
+        lines,
+        sound: is_sound(&report),
+    })
 }

@@ -6,7 +6,7 @@ ghost use Rattle.sgt_history.specs.declared.graph.Edge.{Edge};
 ghost use Rattle.sgt_history.specs.FirstAccesses.{pair_cmp};
 ghost use Rattle.sgt_check.specs.GraphText.{node_text, leads, cycle_of, colour_text, arrow_text, graph_text};
 
-use crate::placed_text::append_placed;
+use crate::piece::{Piece, append_pieces};
 use sgt_format::append_numbered;
 use sgt_history::{Action, Edge, Operation, Serializability};
 use sgt_model::NoMemory;
@@ -119,23 +119,30 @@ fn append_arrow(
     ensures { OnOk result ((cycle : List Edge) → is_red ≡ leads cycle edge.now.from edge.now.to →
         text.new.items ≡ text.old.items ++ arrow_text history.now cycle edge.now) }
 {
-    append_numbered(text, b"  ", edge.from)?;
-    append_numbered(text, b" -> ", edge.to)?;
-    text.extend_from_slice(b" [label=\"")?;
-    append_placed(text, history, edge.earlier)?;
-    text.extend_from_slice(b" ")?;
-    append_placed(text, history, edge.later)?;
-    append_colour(text, is_red)
+    append_pieces(
+        text,
+        history,
+        &[
+            Piece::Words(b"  "),
+            Piece::Number(edge.from as usize),
+            Piece::Words(b" -> "),
+            Piece::Number(edge.to as usize),
+            Piece::Words(b" [label=\""),
+            Piece::Placed(edge.earlier),
+            Piece::Words(b" "),
+            Piece::Placed(edge.later),
+            Piece::Words(colour(is_red)),
+        ],
+    )
 }
 
-/// Adds the end of an edge's line.
-fn append_colour(text: &mut Vec<u8>, is_red: bool) -> Result<(), NoMemory>
-    ensures { OnOk result (text.new.items ≡ text.old.items ++ colour_text is_red) }
+/// The end of an edge's line.
+fn colour(is_red: bool) -> &'static [u8]
+    ensures { result.now ≡ colour_text is_red }
 {
     if is_red {
-        text.extend_from_slice(b"\", color=red];\n")?;
+        b"\", color=red];\n"
     } else {
-        text.extend_from_slice(b"\"];\n")?;
+        b"\"];\n"
     }
-    Ok(())
 }

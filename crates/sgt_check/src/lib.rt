@@ -16,6 +16,7 @@ mod fault;
 mod graph;
 mod graph_text;
 mod input;
+mod piece;
 mod placed_text;
 mod report;
 mod report_text;

@@ -16,7 +16,7 @@ use sgt_model::NoMemory;
 use std::alloc::Global;
 
 /// How many transactions a history has, and how many of them have ended.
-#[derive(Clone, Copy, Debug, Default, PartialEq, Eq)]
+#[derive(Clone, Copy, Default)]
 pub struct Counts {
     /// The transactions: the operations that are the first of theirs.
     pub transactions: usize,
@@ -38,7 +38,7 @@ impl Counts {
 }
 
 /// What a check finds of a history. Of each class the first operation that breaks it stands here, with one that it breaks it by.
-#[derive(Debug, Drop, PartialEq, Eq)]
+#[derive(Drop)]
 pub struct Report {
     pub counts: Counts,
     /// A serial order or a cycle.
@@ -67,12 +67,12 @@ pub fn check_history(alloc: Global, history: &[Operation]) -> Result<Report, NoM
 {
     let counts = count(alloc, history)?;
     let commit_ordered = commit_order_violation(alloc, history)?;
-    let serializability = serial_unless_commit_ordered(alloc, history, &commit_ordered)?;
     let rigorous = rigorous_violation(alloc, history)?;
     let strict = strict_unless_rigorous(alloc, history, &rigorous)?;
     let avoiding = avoiding_unless_strict(alloc, history, &strict)?;
     let recoverable = recoverable_unless_avoiding(alloc, history, &avoiding)?;
     let dirty_write = dirty_write(alloc, history, &recoverable)?;
+    let serializability = serial_unless_commit_ordered(alloc, history, &commit_ordered)?;
     Ok(Report {
         counts,
         serializability,

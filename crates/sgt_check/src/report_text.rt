@@ -1,8 +1,9 @@
 //! The lines of a report.
 ghost use Rattle.std.specs.Prelude.{◌≡◌, ◌++◌, OnOk, codes, flat_map};
 ghost use Rattle.sgt_check.specs.ReportText.{counts_text, order_text, next_text, edge_text, later_edge_text, cycle_text, shown_text, serial_text, class_text, recoverable_why, avoiding_why, follows_why, order_why, report_text};
+ghost use Rattle.sgt_check.specs.Pieces.{pieces_text};
 
-use crate::placed_text::{append_placed, append_transaction_at, append_transaction_of};
+use crate::piece::{Piece, append_pieces};
 use crate::report::{Counts, Report};
 use sgt_format::append_numbered;
 use sgt_history::{Edge, Serializability, Violation};
@@ -126,12 +127,20 @@ fn append_later_edge(text: &mut Vec<u8>, history: &History, edge: &Edge) -> Resu
 fn append_edge(text: &mut Vec<u8>, history: &History, edge: &Edge) -> Result<(), NoMemory>
     ensures { OnOk result (text.new.items ≡ text.old.items ++ edge_text history.now edge.now) }
 {
-    append_numbered(text, b" ", edge.from)?;
-    append_numbered(text, b" ", edge.to)?;
-    text.extend_from_slice(b" by ")?;
-    append_placed(text, history, edge.earlier)?;
-    text.extend_from_slice(b" ")?;
-    append_placed(text, history, edge.later)
+    append_pieces(
+        text,
+        history,
+        &[
+            Piece::Words(b" "),
+            Piece::Number(edge.from as usize),
+            Piece::Words(b" "),
+            Piece::Number(edge.to as usize),
+            Piece::Words(b" by "),
+            Piece::Placed(edge.earlier),
+            Piece::Words(b" "),
+            Piece::Placed(edge.later),
+        ],
+    )
 }
 
 /// Adds the line of recoverability.
@@ -143,19 +152,23 @@ fn append_recoverable(
     ensures { OnOk result (text.new.items ≡ text.old.items ++ class_text (codes "recoverable") (recoverable_why history.now report.now.dirty_write) report.now.recoverable) }
 {
     let Some(violation) = &report.recoverable else {
-        text.extend_from_slice(b"recoverable yes\n")?;
-        return Ok(());
+        return append_kept(text, b"recoverable");
     };
-    text.extend_from_slice(b"recoverable no: ")?;
-    append_placed(text, history, violation.later)?;
-    text.extend_from_slice(b", which reads from ")?;
-    append_transaction_of(text, history, report.dirty_write)?;
-    text.extend_from_slice(b" by ")?;
-    append_placed(text, history, violation.earlier)?;
-    text.extend_from_slice(b", and ")?;
-    append_transaction_of(text, history, report.dirty_write)?;
-    text.extend_from_slice(b" has not committed\n")?;
-    Ok(())
+    append_broken(
+        text,
+        history,
+        b"recoverable",
+        &[
+            Piece::Placed(violation.later),
+            Piece::Words(b", which reads from "),
+            Piece::TransactionOf(report.dirty_write),
+            Piece::Words(b" by "),
+            Piece::Placed(violation.earlier),
+            Piece::Words(b", and "),
+            Piece::TransactionOf(report.dirty_write),
+            Piece::Words(b" has not committed\n"),
+        ],
+    )
 }
 
 /// Adds the line of the avoidance of cascading aborts.
@@ -167,15 +180,19 @@ fn append_avoiding(
     ensures { OnOk result (text.new.items ≡ text.old.items ++ class_text (codes "avoids cascading aborts") (avoiding_why history.now) violation.now) }
 {
     let Some(violation) = violation else {
-        text.extend_from_slice(b"avoids cascading aborts yes\n")?;
-        return Ok(());
+        return append_kept(text, b"avoids cascading aborts");
     };
-    text.extend_from_slice(b"avoids cascading aborts no: ")?;
-    append_placed(text, history, violation.later)?;
-    text.extend_from_slice(b" reads from ")?;
-    append_transaction_at(text, history, violation.earlier)?;
-    text.extend_from_slice(b", which has not committed\n")?;
-    Ok(())
+    append_broken(
+        text,
+        history,
+        b"avoids cascading aborts",
+        &[
+            Piece::Placed(violation.later),
+            Piece::Words(b" reads from "),
+            Piece::TransactionOf(Some(violation.earlier)),
+            Piece::Words(b", which has not committed\n"),
+        ],
+    )
 }
 
 /// Adds the line of a class that an operation breaks which comes before the end of an earlier one's transaction.
@@ -187,19 +204,22 @@ fn append_follows(
 ) -> Result<(), NoMemory>
     ensures { OnOk result (text.new.items ≡ text.old.items ++ class_text name.now (follows_why history.now) violation.now) }
 {
-    text.extend_from_slice(name)?;
     let Some(violation) = violation else {
-        text.extend_from_slice(b" yes\n")?;
-        return Ok(());
+        return append_kept(text, name);
     };
-    text.extend_from_slice(b" no: ")?;
-    append_placed(text, history, violation.later)?;
-    text.extend_from_slice(b" follows ")?;
-    append_placed(text, history, violation.earlier)?;
-    text.extend_from_slice(b", and ")?;
-    append_transaction_at(text, history, violation.earlier)?;
-    text.extend_from_slice(b" has not ended\n")?;
-    Ok(())
+    append_broken(
+        text,
+        history,
+        name,
+        &[
+            Piece::Placed(violation.later),
+            Piece::Words(b" follows "),
+            Piece::Placed(violation.earlier),
+            Piece::Words(b", and "),
+            Piece::TransactionOf(Some(violation.earlier)),
+            Piece::Words(b" has not ended\n"),
+        ],
+    )
 }
 
 /// Adds the line of the commit order.
@@ -211,19 +231,46 @@ fn append_order_kept(
     ensures { OnOk result (text.new.items ≡ text.old.items ++ class_text (codes "commit ordered") (order_why history.now) violation.now) }
 {
     let Some(violation) = violation else {
-        text.extend_from_slice(b"commit ordered yes\n")?;
-        return Ok(());
+        return append_kept(text, b"commit ordered");
     };
-    text.extend_from_slice(b"commit ordered no: ")?;
-    append_transaction_at(text, history, violation.earlier)?;
-    text.extend_from_slice(b" before ")?;
-    append_transaction_at(text, history, violation.later)?;
-    text.extend_from_slice(b" by ")?;
-    append_placed(text, history, violation.earlier)?;
-    text.extend_from_slice(b" ")?;
-    append_placed(text, history, violation.later)?;
-    text.extend_from_slice(b", and ")?;
-    append_transaction_at(text, history, violation.later)?;
-    text.extend_from_slice(b" committed first\n")?;
+    append_broken(
+        text,
+        history,
+        b"commit ordered",
+        &[
+            Piece::TransactionOf(Some(violation.earlier)),
+            Piece::Words(b" before "),
+            Piece::TransactionOf(Some(violation.later)),
+            Piece::Words(b" by "),
+            Piece::Placed(violation.earlier),
+            Piece::Words(b" "),
+            Piece::Placed(violation.later),
+            Piece::Words(b", and "),
+            Piece::TransactionOf(Some(violation.later)),
+            Piece::Words(b" committed first\n"),
+        ],
+    )
+}
+
+/// Adds the line of a class that the history is of.
+fn append_kept(text: &mut Vec<u8>, name: &[u8]) -> Result<(), NoMemory>
+    ensures { OnOk result (text.new.items ≡ text.old.items ++ (name.now ++ codes " yes\n")) }
+{
+    text.extend_from_slice(name)?;
+    text.extend_from_slice(b" yes\n")?;
     Ok(())
+}
+
+/// Adds the line of a class that the history is not of, and why it is not.
+fn append_broken(
+    text: &mut Vec<u8>,
+    history: &History,
+    name: &[u8],
+    why: &[Piece<'_>],
+) -> Result<(), NoMemory>
+    ensures { OnOk result (text.new.items ≡ text.old.items ++ (name.now ++ codes " no: " ++ pieces_text history.now why.now)) }
+{
+    text.extend_from_slice(name)?;
+    text.extend_from_slice(b" no: ")?;
+    append_pieces(text, history, why)
 }

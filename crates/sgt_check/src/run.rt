@@ -1,5 +1,5 @@
 //! The check of what a reader gives.
-ghost use Rattle.std.specs.Prelude.{◌≡◌, ◌≢◌, ◌↔◌, ◌^◌, ◌+◌, ◌<◌, ◌≤◌, ℕ, Bool, List, IfOk, IfErr, IfSome, Err, true, take};
+ghost use Rattle.std.specs.Prelude.{◌≡◌, ◌≢◌, ◌↔◌, ◌^◌, ◌+◌, ◌<◌, ◌≤◌, ℕ, Bool, List, length, IfOk, IfErr, IfSome, Err, true, take};
 ghost use Rattle.std.specs.Io.KnownBytes.{Appends, Keeps};
 ghost use Rattle.sgt_history.specs.declared.operation.Operation.{Operation};
 ghost use Rattle.sgt_history.specs.Classes.{IsRecoverable};
@@ -47,15 +47,38 @@ pub fn run_check<S: Source, T: Sink>(
     ensures write_failed { result ≡ Err CheckFault.Writing → T.failures sink.new ≡ T.failures sink.old + 1 }
 {
     let text = read_input(alloc, source)?;
-    let history = read_history(alloc, text.as_slice())?;
+    let told = tell_report(alloc, text.as_slice())?;
+    let Ok(()) = write_all(sink, told.lines.as_slice()) else {
+        return Err(CheckFault::Writing);
+    };
+    Ok(told.sound)
+}
+
+/// What is told of a history.
+#[derive(Drop)]
+pub(crate) struct Told {
+    /// The lines.
+    pub lines: Vec<u8>,
+    /// Whether the history is serializable and recoverable.
+    pub sound: bool,
+}
+
+/// The report on the history that the text spells.
+fn tell_report(alloc: Global, text: &[u8]) -> Result<Told, CheckFault>
+    requires { length text.now < 2 ^ 32 }
+    ensures checked { IfOk result (λ told. IsChecked text.now told.lines.items told.sound) }
+    ensures fault { IfErr result (IsFaultOf text.now) }
+    ensures no_reading { result ≢ Err CheckFault.Reading }
+    ensures no_writing { result ≢ Err CheckFault.Writing }
+{
+    let history = read_history(alloc, text)?;
     let report = check_history(alloc, history.operations.as_slice())?;
     let mut lines = Vec::new(alloc);
     append_report(&mut lines, &history, &report)?;
-    let sound = is_sound(&report);
-    let Ok(()) = write_all(sink, lines.as_slice()) else {
-        return Err(CheckFault::Writing);
-    };
-    Ok(sound)
+    Ok(Told {
+        lines,
+        sound: is_sound(&report),
+    })
 }
 
 /// Whether the history is serializable and recoverable.

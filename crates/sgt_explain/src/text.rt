@@ -55,7 +55,7 @@ pub fn append_edge_line(
     place: usize,
     lines: &[u64],
 ) -> Result<(), AllocError> {
-    append_place(text, place, lines)?;
+    append_place(text, b"", place, lines)?;
     append_number(text, b": ", edge.to.0)?;
     append_later(text, edge, lines)?;
     append_number(text, b", which ", edge.from.0)?;
@@ -70,12 +70,11 @@ pub fn append_source_line(
     place: usize,
     lines: &[u64],
 ) -> Result<(), AllocError> {
-    append_place(text, place, lines)?;
+    append_place(text, b"", place, lines)?;
     append_number(text, b": ", source.reader.0)?;
     append_key(text, b" read ", source.key)?;
     append_number(text, b" of ", source.source.0)?;
-    text.extend_from_slice(b" at ")?;
-    append_place(text, source.place, lines)?;
+    append_place(text, b" at ", source.place, lines)?;
     text.extend_from_slice(b"\n")
 }
 
@@ -84,8 +83,7 @@ fn append_later(text: &mut Vec<u8>, edge: &Edge, lines: &[u64]) -> Result<(), Al
     match edge.place {
         Some(place) => {
             append_key(text, done_by(edge.kind), edge.key)?;
-            text.extend_from_slice(b" at ")?;
-            append_place(text, place, lines)
+            append_place(text, b" at ", place, lines)
         }
         None => append_key(text, wanted_by(edge.kind), edge.key),
     }
@@ -109,22 +107,25 @@ fn wanted_by(kind: Kind) -> &'static [u8] {
 
 // Adds the earlier accesses of an edge.
 fn append_earlier(text: &mut Vec<u8>, earlier: &Earlier, lines: &[u64]) -> Result<(), AllocError> {
-    if let Some(place) = earlier.looked {
-        text.extend_from_slice(b" read at ")?;
-        append_place(text, place, lines)?;
-        if earlier.stored.is_some() {
-            text.extend_from_slice(b" and")?;
+    match (earlier.looked, earlier.stored) {
+        (Some(looked), Some(stored)) => {
+            append_place(text, b" read at ", looked, lines)?;
+            append_place(text, b" and wrote at ", stored, lines)
         }
+        (Some(looked), None) => append_place(text, b" read at ", looked, lines),
+        (None, Some(stored)) => append_place(text, b" wrote at ", stored, lines),
+        (None, None) => Ok(()),
     }
-    if let Some(place) = earlier.stored {
-        text.extend_from_slice(b" wrote at ")?;
-        append_place(text, place, lines)?;
-    }
-    Ok(())
 }
 
-// Adds the line of the entry at a place.
-fn append_place(text: &mut Vec<u8>, place: usize, lines: &[u64]) -> Result<(), AllocError> {
+// Adds words and the line of the entry at a place.
+fn append_place(
+    text: &mut Vec<u8>,
+    words: &[u8],
+    place: usize,
+    lines: &[u64],
+) -> Result<(), AllocError> {
+    text.extend_from_slice(words)?;
     if place < lines.len() {
         append_number(text, b"line ", lines[place])
     } else {

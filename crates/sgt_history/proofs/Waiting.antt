@@ -1,11 +1,12 @@
 -- Who waits for whom, after one has been looked at again.
-use Rattle.std.proofs.Common.{◌≡◌, ◌≢◌, ◌≤◌, ◌+◌, ◌⊎◌, ℕ, List, Option, Some, None, IsSome, refl, sym, ap, ◌∙◌, subst, inl, inr, arith}
+use Rattle.std.proofs.Common.{◌≡◌, ◌≢◌, ◌≤◌, ◌+◌, ◌++◌, ◌∷◌, [], ◌⊎◌, ℕ, List, Option, Some, None, IsSome, refl, sym, ap, ◌∙◌, subst, inl, inr, arith, length-append}
 use Rattle.std.specs.Prelude.{slice_get}
 use Rattle.std.specs.BTreeMap.{get}
 use Rattle.sgt_history.specs.Tables.{entry_of}
 use Rattle.std.specs.Ordering.{nat_cmp}
-use Rattle.std.proofs.lemmas.Bool.{cases_eq, cases_lt}
-use Rattle.std.proofs.lemmas.Option.{slice_get_within}
+use Rattle.std.proofs.lemmas.Bool.{cases_eq, cases_lt, true≢false}
+use Rattle.std.proofs.lemmas.Option.{slice_get_within, slice_get-get_or, get_or_from_slice_get}
+use Rattle.std.proofs.Math.ListN.{get_or-append}
 use Rattle.sgt_history.specs.declared.graph.Edge.{Edge}
 use Rattle.sgt_history.specs.declared.chains.End.TheVariants.{From, To}
 use Rattle.sgt_history.specs.declared.serial.Waits.{Waits}
@@ -148,3 +149,14 @@ waits_still es left tops tops' below below' ready ready' watched watched' t c to
       ];
       watched_are = knows;
     }
+
+-- who is not left waits for none
+pub none_awaited : (w : Waits) (t k : ℕ) → KnowsWaits w → entry_of w.left t ≡ None → entry_of w.incoming.tops t ≢ Some k
+none_awaited w t k waits gone top = true≢false (sym (subst (λ o. IsSome o) gone (waits.tops_left t (subst (λ o. IsSome o) (sym top) refl))))
+
+-- an edge stays where it is when one is added
+pub kept_more : (es : List Edge) (e f : Edge) (k : ℕ) → slice_get es k ≡ Some e → slice_get (es ++ f ∷ []) k ≡ Some e
+kept_more es e f k at =
+    let within = slice_get_within es k e at in
+    slice_get-get_or (es ++ f ∷ []) k e (omega (arith, within, length-append es (f ∷ [])))
+    ∙ ap (λ (g : Edge). Some g) (get_or-append es (f ∷ []) e k within ∙ get_or_from_slice_get es k e e at)

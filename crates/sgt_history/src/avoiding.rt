@@ -29,16 +29,7 @@ pub fn avoidance_violation(
     ensures { IfOk result (IsFirstViolation (BreaksAvoidance history.now)) }
 {
     let mut seen = Sources::new(alloc, history.len());
-    for place in 0..history.len() {
-        if let Some(earlier) = seen.uncommitted(history, place)? {
-            return Ok(Some(Violation {
-                earlier,
-                later: place,
-            }));
-        }
-        seen.note(history, place)?;
-    }
-    Ok(None)
+    seen.violation(history)
 }
 
 /// The write that the read at the place reads from: the last one of its item before it whose transaction has not aborted by
@@ -54,13 +45,11 @@ pub fn read_source(
     ensures some { IfOk result (λ source. IfSome source (λ i. (x : ℕ) × (w : ℕ) × (r : ℕ) × ReadsFrom history.now i place x w r)) }
     ensures none { IfOk result (λ source. IsNone source → (i x w r : ℕ) → ¬ ReadsFrom history.now i place x w r) }
 {
-    let mut seen = Sources::new(alloc, history.len());
-    for earlier in 0..place {
-        seen.note(history, earlier)?;
-    }
     let Action::Read(item) = history[place].action else {
         return Ok(None);
     };
+    let mut seen = Sources::new(alloc, history.len());
+    seen.note_until(history, place)?;
     Ok(seen.standing(history, place, item))
 }
 
@@ -88,6 +77,35 @@ impl Sources {
             commits: Table::new(alloc, bound),
             aborts: Table::new(alloc, bound),
         }
+    }
+
+    /// The first operation of the history that breaks the avoidance of cascading aborts, where none is noted yet.
+    fn violation(&mut self, history: &[Operation]) -> Result<Option<Violation>, NoMemory>
+        requires { KnowsSources history.now 0 self.old }
+        ensures { IfOk result (IsFirstViolation (BreaksAvoidance history.now)) }
+    {
+        for place in 0..history.len() {
+            if let Some(earlier) = self.uncommitted(history, place)? {
+                return Ok(Some(Violation {
+                    earlier,
+                    later: place,
+                }));
+            }
+            self.note(history, place)?;
+        }
+        Ok(None)
+    }
+
+    /// Notes the operations before the place, where none is noted yet.
+    fn note_until(&mut self, history: &[Operation], place: usize) -> Result<(), NoMemory>
+        requires within { place < length history.now }
+        requires sources { KnowsSources history.now 0 self.old }
+        ensures { OnOk result (KnowsSources history.now place self.new) }
+    {
+        for earlier in 0..place {
+            self.note(history, earlier)?;
+        }
+        Ok(())
     }
 
     /// Whether the transaction has committed.

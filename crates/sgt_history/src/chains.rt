@@ -13,7 +13,7 @@ use sgt_model::NoMemory;
 use std::alloc::Global;
 
 /// An end of an edge.
-#[derive(Clone, Copy, Debug, PartialEq, Eq)]
+#[derive(Clone, Copy)]
 pub enum End {
     /// The transaction that it leads from.
     From,

@@ -28,16 +28,7 @@ pub fn commit_order_violation(
         reads: ItemUses::new(alloc, history.len()),
         writes: ItemUses::new(alloc, history.len()),
     };
-    for place in 0..history.len() {
-        if let Some(earlier) = seen.inverted(history, place) {
-            return Ok(Some(Violation {
-                earlier,
-                later: place,
-            }));
-        }
-        seen.note(history, place)?;
-    }
-    Ok(None)
+    seen.violation(history)
 }
 
 /// The committed transactions in the order of their first commits. Where the history is commit ordered this is a serial order, of
@@ -78,7 +69,7 @@ pub fn first_commits(alloc: Global, history: &[Operation]) -> Result<Table, NoMe
 }
 
 /// A read or a write of an item by a committed transaction.
-#[derive(Clone, Copy, Debug, PartialEq, Eq)]
+#[derive(Clone, Copy)]
 pub struct LatestUse {
     /// Where its transaction commits.
     pub commit: usize,
@@ -138,6 +129,23 @@ struct LatestUses {
 }
 
 impl LatestUses {
+    /// The first operation of the history that breaks the commit order, where none is noted yet.
+    fn violation(&mut self, history: &[Operation]) -> Result<Option<Violation>, NoMemory>
+        requires { KnowsLatestUses history.now 0 self.old }
+        ensures { IfOk result (IsFirstViolation (BreaksCommitOrder history.now)) }
+    {
+        for place in 0..history.len() {
+            if let Some(earlier) = self.inverted(history, place) {
+                return Ok(Some(Violation {
+                    earlier,
+                    later: place,
+                }));
+            }
+            self.note(history, place)?;
+        }
+        Ok(None)
+    }
+
     /// The use by one that commits later that the operation conflicts with.
     fn inverted(&self, history: &[Operation], place: usize) -> Option<usize>
         requires within { place < length history.now }

@@ -57,12 +57,30 @@ impl Conflicts {
         };
         let mut accesses = FirstAccesses::new(alloc, Kind::Any, operations.len());
         let mut writes = FirstAccesses::new(alloc, Kind::Writes, operations.len());
+        conflicts.tell_all(operations, &mut accesses, &mut writes)?;
+        Ok(conflicts)
+    }
+
+    /// Tells the first conflicts of the committed projection, where none is told and no operation is noted yet.
+    fn tell_all(
+        &mut self,
+        operations: &[Operation],
+        accesses: &mut FirstAccesses,
+        writes: &mut FirstAccesses,
+    ) -> Result<(), NoMemory>
+        requires any { accesses.old.kind ≡ kind.Any }
+        requires accesses { KnowsFirsts operations.now 0 accesses.old }
+        requires writing { writes.old.kind ≡ kind.Writes }
+        requires writes { KnowsFirsts operations.now 0 writes.old }
+        requires conflicts { KnowsConflicts operations.now 0 0 self.old }
+        ensures { OnOk result (KnowsConflicts operations.now (length operations.now) (length operations.now) self.new) }
+    {
         for place in 0..operations.len() {
-            conflicts.tell_at(operations, place, &accesses, &writes)?;
+            self.tell_at(operations, place, accesses, writes)?;
             accesses.note(operations, place)?;
             writes.note(operations, place)?;
         }
-        Ok(conflicts)
+        Ok(())
     }
 
     /// Tells the first conflicts of which the operation at the place is the later one.

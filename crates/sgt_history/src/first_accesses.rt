@@ -15,7 +15,7 @@ use std::alloc::Global;
 use std::collections::BTreeMap;
 
 /// Which accesses to an item count.
-#[derive(Clone, Copy, Debug, PartialEq, Eq)]
+#[derive(Clone, Copy)]
 pub enum Kind {
     /// Reads and writes.
     Any,

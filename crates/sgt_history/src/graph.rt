@@ -1,5 +1,5 @@
 //! The serialization graph, by few of its edges.
-ghost use Rattle.std.specs.Prelude.{◌≡◌, ◌≢◌, ◌<◌, ◌+◌, ℕ, List, length, IfOk, OnOk};
+ghost use Rattle.std.specs.Prelude.{◌≡◌, ◌≢◌, ◌<◌, ◌+◌, ℕ, List, [], length, IfOk, OnOk};
 ghost use Rattle.sgt_history.specs.declared.operation.Operation.{Operation};
 ghost use Rattle.sgt_history.specs.declared.operation.Action.{Action};
 ghost use Rattle.sgt_history.specs.declared.operation.Action.TheVariants.{Write};
@@ -18,7 +18,7 @@ use std::alloc::Global;
 /// An edge of the serialization graph, by two operations that conflict.
 ///
 /// Bernstein, Hadzilacos and Goodman (1987), chapter 2: serialization graph.
-#[derive(Clone, Copy, Debug, PartialEq, Eq)]
+#[derive(Clone, Copy)]
 pub struct Edge {
     /// The transaction of the operation that came first.
     pub from: u32,
@@ -74,12 +74,23 @@ impl Graph {
             edges: Vec::new(alloc),
         };
         let mut seen = Accesses::new(alloc, operations.len());
+        graph.connect_all(operations, &mut seen)?;
+        Ok(graph)
+    }
+
+    /// Adds the edges of the committed projection, where there is none and no operation is noted yet.
+    fn connect_all(&mut self, operations: &[Operation], seen: &mut Accesses) -> Result<(), NoMemory>
+        requires none { self.old.edges.items ≡ [] }
+        requires uses { KnowsAccesses operations.now 0 seen.old }
+        ensures graph { OnOk result (IsGraph operations.now self.new) }
+        ensures conflicts { OnOk result (HasConflicts operations.now self.new.edges.items (length operations.now)) }
+    {
         for place in 0..operations.len() {
-            graph.connect_write(operations, place, &seen)?;
-            graph.connect_reads(operations, place, &seen)?;
+            self.connect_write(operations, place, seen)?;
+            self.connect_reads(operations, place, seen)?;
             seen.note(operations, place)?;
         }
-        Ok(graph)
+        Ok(())
     }
 
     /// Adds the edge from the last writer of the item that the operation at the place reads or writes.

@@ -30,16 +30,7 @@ pub fn recoverable_violation(
         earlier: Links::new(alloc),
         writers: BTreeMap::new(alloc),
     };
-    for place in 0..history.len() {
-        if let Some(earlier) = seen.unrecoverable(history, place) {
-            return Ok(Some(Violation {
-                earlier,
-                later: place,
-            }));
-        }
-        seen.note(history, place)?;
-    }
-    Ok(None)
+    seen.violation(history)
 }
 
 /// The dirty reads before a place: of what another transaction has written that had not committed.
@@ -56,6 +47,23 @@ struct DirtyReads {
 }
 
 impl DirtyReads {
+    /// The first operation of the history that breaks recoverability, where none is noted yet.
+    fn violation(&mut self, history: &[Operation]) -> Result<Option<Violation>, NoMemory>
+        requires { KnowsDirtyReads history.now 0 self.old }
+        ensures { IfOk result (IsFirstViolation (BreaksRecoverability history.now)) }
+    {
+        for place in 0..history.len() {
+            if let Some(earlier) = self.unrecoverable(history, place) {
+                return Ok(Some(Violation {
+                    earlier,
+                    later: place,
+                }));
+            }
+            self.note(history, place)?;
+        }
+        Ok(None)
+    }
+
     /// The read by which the operation breaks recoverability.
     fn unrecoverable(&self, history: &[Operation], place: usize) -> Option<usize>
         requires within { place < length history.now }

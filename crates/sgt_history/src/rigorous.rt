@@ -28,16 +28,7 @@ pub fn rigorous_violation(
     ensures { IfOk result (IsFirstViolation (BreaksRigorousness history.now)) }
 {
     let mut seen = Accesses::new(alloc, history.len());
-    for place in 0..history.len() {
-        if let Some(earlier) = seen.unended(history, place) {
-            return Ok(Some(Violation {
-                earlier,
-                later: place,
-            }));
-        }
-        seen.note(history, place)?;
-    }
-    Ok(None)
+    seen.violation(history)
 }
 
 /// Who has used each item and who has ended, before a place.
@@ -61,6 +52,23 @@ impl Accesses {
             lasts: Table::new(alloc, bound),
             earlier: Links::new(alloc),
         }
+    }
+
+    /// The first operation of the history that breaks rigorousness, where none is noted yet.
+    fn violation(&mut self, history: &[Operation]) -> Result<Option<Violation>, NoMemory>
+        requires { KnowsAccesses history.now 0 self.old }
+        ensures { IfOk result (IsFirstViolation (BreaksRigorousness history.now)) }
+    {
+        for place in 0..history.len() {
+            if let Some(earlier) = self.unended(history, place) {
+                return Ok(Some(Violation {
+                    earlier,
+                    later: place,
+                }));
+            }
+            self.note(history, place)?;
+        }
+        Ok(None)
     }
 
     /// The last write of the item.

@@ -1,33 +1,13 @@
 use Rattle.std.proofs.Common.{◌++◌, ◌∙◌, ap}
 use Rattle.std.specs.Prelude.{codes}
-use Rattle.sgt_check.specs.ReportText.{placed, transaction_of, recoverable_why}
-use Rattle.sgt_check.proofs.Pieces.{grow, told_no}
+use Rattle.sgt_check.specs.ReportText.{recoverable_why}
+use Rattle.sgt_check.proofs.Pieces.{on_ok, told_no}
 use Rattle.sgt_check.proofs.report_text.append_recoverable.Goals as goal
 
 pub returns : goal.returns
 returns c =
-    grow c.args.text.now.items c.extend_from_slice-2.new.self.items c.extend_from_slice-6.new.self.items
-    (codes "recoverable" ++ codes " no: ") (recoverable_why c.args.history.now c.args.report.now.dirty_write c.in-Some.violation)
-    c.in_ok-extend_from_slice-2.ensures.items
-    (grow c.extend_from_slice-2.new.self.items c.append_transaction_of-2.new.text.items c.extend_from_slice-6.new.self.items _
-    (codes " has not committed\n")
-    (grow c.extend_from_slice-2.new.self.items c.extend_from_slice-5.new.self.items c.append_transaction_of-2.new.text.items _
-    (transaction_of c.args.history.now c.args.report.now.dirty_write)
-    (grow c.extend_from_slice-2.new.self.items c.append_placed-2.new.text.items c.extend_from_slice-5.new.self.items _ (codes ", and ")
-    (grow c.extend_from_slice-2.new.self.items c.extend_from_slice-4.new.self.items c.append_placed-2.new.text.items _
-    (placed c.args.history.now c.in-Some.violation.earlier)
-    (grow c.extend_from_slice-2.new.self.items c.append_transaction_of.new.text.items c.extend_from_slice-4.new.self.items _ (codes " by ")
-    (grow c.extend_from_slice-2.new.self.items c.extend_from_slice-3.new.self.items c.append_transaction_of.new.text.items _
-    (transaction_of c.args.history.now c.args.report.now.dirty_write)
-    (grow c.extend_from_slice-2.new.self.items c.append_placed.new.text.items c.extend_from_slice-3.new.self.items _
-    (codes ", which reads from ")
-    c.in_ok-append_placed.ensures
-    c.in_ok-extend_from_slice-3.ensures.items)
-    c.in_ok-append_transaction_of.ensures)
-    c.in_ok-extend_from_slice-4.ensures.items)
-    c.in_ok-append_placed-2.ensures)
-    c.in_ok-extend_from_slice-5.ensures.items)
-    c.in_ok-append_transaction_of-2.ensures)
-    c.in_ok-extend_from_slice-6.ensures.items)
-    ∙ ap (λ l. c.args.text.now.items ++ l) (told_no (codes "recoverable") (recoverable_why c.args.history.now c.args.report.now.dirty_write)
-    c.args.report.now.recoverable c.in-Some.violation c.in-Some.is)
+    on_ok c.append_broken.result _ _
+    (λ more. more ∙ ap (λ l. c.args.text.now.items ++ l)
+    (told_no (codes "recoverable") (recoverable_why c.args.history.now c.args.report.now.dirty_write)
+    c.args.report.now.recoverable c.in-Some.violation c.in-Some.is))
+    c.append_broken.ensures

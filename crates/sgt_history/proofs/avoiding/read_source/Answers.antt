@@ -1,12 +1,8 @@
-use Rattle.std.proofs.Common.{refl, subst, arith}
+use Rattle.std.proofs.Common.{refl}
 use Rattle.sgt_history.specs.declared.operation.Action.TheVariants.{Read}
-use Rattle.sgt_history.specs.Seen.{KnowsSources}
 use Rattle.sgt_history.proofs.Places.{there, does_at}
 use Rattle.sgt_history.proofs.Sources.{no_read_reads, some_source, no_source}
 use Rattle.sgt_history.proofs.avoiding.read_source.Goals as goal
-
-pub loop-earlier-init : goal.loop-earlier-init
-loop-earlier-init c = c.new-seen.ensures _
 
 pub returns-in_default : goal.returns-in_default
 returns-in_default c =
@@ -30,12 +26,11 @@ returns-clause-none c =
     no_source h p _ c.in-Read.item c.standing.result (does_at h p _ (Read c.in-Read.item) (there h p c.requires) c.in-Read.is)
     c.standing.ensures.top
 
-pub loop-earlier-preserved : goal.loop-earlier-preserved
-loop-earlier-preserved c = c.in_ok-note.ensures
-
 pub standing-requires : goal.standing-requires
 standing-requires c = record {
   within = c.requires;
-  sources = subst (λ n. KnowsSources c.args.history.now n c.loop-earlier.seen)
-      (omega (arith, c.loop-earlier-test.false, c.loop-earlier.auto.earlier-end)) c.loop-earlier.invariant;
+  sources = c.in_ok-note_until.ensures;
 }
+
+pub note_until-requires-clause-sources : goal.note_until-requires-clause-sources
+note_until-requires-clause-sources c = c.new-seen.ensures _

@@ -1,6 +1,6 @@
 use Rattle.std.proofs.Common.{rules, arith}
 use Rattle.sgt_history.proofs.LatestUses.{ordered_next, ordered_whole}
-use Rattle.sgt_history.proofs.commit_order.commit_order_violation.Goals as goal
+use Rattle.sgt_history.proofs.commit_order.LatestUses.violation.Goals as goal
 
 pub loop-place-preserved : goal.loop-place-preserved
 loop-place-preserved c = record {
