@@ -28,7 +28,7 @@ impl From<NoMemory> for LineError {
 }
 
 /// Why a line gives no opening.
-#[derive(Debug, Drop, PartialEq, Eq)]
+#[derive(Debug, Drop)]
 pub enum OpeningError {
     /// The line is no JSON.
     NotJson,

@@ -1,5 +1,5 @@
 -- The row of an If, and what its misfits tell.
-use Rattle.std.proofs.Common.{◌≡◌, refl, ap, sym, ◌∙◌, ◌≤◌, ◌<◌, true, false, List, [], ◌∷◌, length, get_or, Ok, Err, Result, arith}
+use Rattle.std.proofs.Common.{◌≡◌, refl, ap, sym, ◌∙◌, ◌≤◌, ◌<◌, ◌⊎◌, true, false, List, [], ◌∷◌, length, get_or, Ok, Err, Result, arith}
 use Rattle.std.proofs.Math.Path.{fun_ext}
 use Rattle.std.specs.Prelude.{cond, codes, IfErr}
 use Rattle.serde_json.specs.Data.{array}
@@ -16,6 +16,7 @@ use Rattle.sgt_model.specs.Programs.{test_of, before, block_of}
 use Rattle.sgt_model.proofs.Texts.{before_if}
 use Rattle.sgt_proc_json.specs.Readings.{Reading, at, three, is_word, condition, block, statement, three_items}
 use Rattle.sgt_proc_json.specs.Refusals.{Tells}
+use Rattle.sgt_proc_json.specs.Rows.{other_row}
 use Rattle.sgt_proc_json.specs.declared.errors.ReadError.{ReadError}
 
 -- an If of three parts
@@ -47,12 +48,29 @@ if_row reading w a b c row word =
     row ∙ ap (λ t. cond t (if_of (at 1 (condition (view a))) (at 2 (block (view b))) (at 3 (block (view c))))
     (three_items (as_str (view w)) (view a) (view b) (view c))) word
 
--- another row
-pub other_row : (reading : Reading (Block → Block)) (w a b c : Value) → reading ≡ row_of w a b c
-    → is_word (as_str (view w)) (codes "if") ≡ false → reading ≡ three_items (as_str (view w)) (view a) (view b) (view c)
-other_row reading w a b c row word =
-    row ∙ ap (λ t. cond t (if_of (at 1 (condition (view a))) (at 2 (block (view b))) (at 3 (block (view c))))
-    (three_items (as_str (view w)) (view a) (view b) (view c))) word
+-- another row of four
+pub no_if_row : (items : List Value) (w : Value) → 4 ≤ length items → length items < 5 → w ≡ get_or items 0 w
+    → is_word (as_str (view w)) (codes "if") ≡ false → statement (array (items_view items)) ≡ other_row (items_view items)
+no_if_row [] w most least is-w word = absurd (omega arith)
+no_if_row (x ∷ []) w most least is-w word = absurd (omega arith)
+no_if_row (x ∷ y ∷ []) w most least is-w word = absurd (omega arith)
+no_if_row (x ∷ y ∷ z ∷ []) w most least is-w word = absurd (omega arith)
+no_if_row (x ∷ a ∷ b ∷ c ∷ []) w most least is-w word =
+    ap (λ t. cond t (if_of (at 1 (condition (view a))) (at 2 (block (view b))) (at 3 (block (view c))))
+    (three_items (as_str (view x)) (view a) (view b) (view c)))
+    (ap (λ v. is_word (as_str (view v)) (codes "if")) (sym is-w) ∙ word)
+no_if_row (x ∷ y ∷ z ∷ v ∷ u ∷ items) w most least is-w word = absurd (omega arith)
+
+-- a row of fewer or more
+pub not_four : (items : List Value) → length items < 4 ⊎ 5 ≤ length items
+    → statement (array (items_view items)) ≡ other_row (items_view items)
+not_four [] other = refl
+not_four (a ∷ []) other = refl
+not_four (a ∷ b ∷ []) other = refl
+not_four (a ∷ b ∷ c ∷ []) other = refl
+not_four (a ∷ b ∷ c ∷ d ∷ []) other = absurd (omega arith)
+not_four (a ∷ b ∷ c ∷ d ∷ e ∷ []) other = refl
+not_four (a ∷ b ∷ c ∷ d ∷ e ∷ f ∷ rest) other = refl
 
 -- the statement of an If's row
 pub if_made : (reading : Reading (Block → Block)) (a : Reading Test) (b c : Reading Block) (test : Cond) (ys ns : Vec Statement Global)

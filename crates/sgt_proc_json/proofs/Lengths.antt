@@ -4,8 +4,9 @@ use Rattle.serde_json.specs.Data.{array}
 use Rattle.serde_json.specs.Find.{as_str}
 use Rattle.serde_json.specs.View.{view, items_view}
 use Rattle.serde_json.specs.declared.value.Value.{Value}
-use Rattle.sgt_proc_json.specs.Readings.{Reading, here, at, byte, arg_or_reg, expression, comparison, condition, statement, reading}
+use Rattle.sgt_proc_json.specs.Readings.{Reading, here, at, byte, arg_or_reg, expression, comparison, condition, one_item, two_items, three_items, reading}
 use Rattle.sgt_proc_json.specs.Refusals.{Tells}
+use Rattle.sgt_proc_json.specs.Rows.{other_row}
 use Rattle.sgt_proc_json.specs.declared.errors.ReadError.{ReadError}
 use Rattle.sgt_proc_json.specs.declared.errors.ReadError.TheVariants.{Shape}
 
@@ -29,15 +30,15 @@ no_condition (a ∷ b ∷ []) not3 = refl
 no_condition (a ∷ b ∷ c ∷ []) not3 = absurd (not3 refl)
 no_condition (a ∷ b ∷ c ∷ d ∷ rest) not3 = refl
 
--- nor a statement
-pub no_statement : (items : List Value) → length items < 2 ⊎ 6 ≤ length items → statement (array (items_view items)) ≡ here
-no_statement [] other = refl
-no_statement (a ∷ []) other = refl
-no_statement (a ∷ b ∷ []) other = absurd (omega arith)
-no_statement (a ∷ b ∷ c ∷ []) other = absurd (omega arith)
-no_statement (a ∷ b ∷ c ∷ d ∷ []) other = absurd (omega arith)
-no_statement (a ∷ b ∷ c ∷ d ∷ e ∷ []) other = absurd (omega arith)
-no_statement (a ∷ b ∷ c ∷ d ∷ e ∷ f ∷ rest) other = refl
+-- nor a statement without blocks
+pub no_other_row : (items : List Value) → length items < 2 ⊎ 6 ≤ length items → other_row (items_view items) ≡ here
+no_other_row [] other = refl
+no_other_row (a ∷ []) other = refl
+no_other_row (a ∷ b ∷ []) other = absurd (omega arith)
+no_other_row (a ∷ b ∷ c ∷ []) other = absurd (omega arith)
+no_other_row (a ∷ b ∷ c ∷ d ∷ []) other = absurd (omega arith)
+no_other_row (a ∷ b ∷ c ∷ d ∷ e ∷ []) other = absurd (omega arith)
+no_other_row (a ∷ b ∷ c ∷ d ∷ e ∷ f ∷ rest) other = refl
 
 -- nor a procedure
 pub no_procedure : (items : List Value) → length items ≢ 2 → reading (array (items_view items)) ≡ here
@@ -65,3 +66,31 @@ three_are (x ∷ []) w a b most least is-w is-a is-b = absurd (omega arith)
 three_are (x ∷ y ∷ []) w a b most least is-w is-a is-b = absurd (omega arith)
 three_are (x ∷ y ∷ z ∷ []) w a b most least is-w is-a is-b = rw (is-w, is-a, is-b) refl
 three_are (x ∷ y ∷ z ∷ v ∷ items) w a b most least is-w is-a is-b = absurd (omega arith)
+
+-- a statement of a word and one item
+pub one_behind : (items : List Value) (w a : Value) → 2 ≤ length items → length items < 3 → w ≡ get_or items 0 w → a ≡ get_or items 1 a
+    → other_row (items_view items) ≡ one_item (as_str (view w)) (view a)
+one_behind [] w a most least is-w is-a = absurd (omega arith)
+one_behind (x ∷ []) w a most least is-w is-a = absurd (omega arith)
+one_behind (x ∷ y ∷ []) w a most least is-w is-a = rw (is-w, is-a) refl
+one_behind (x ∷ y ∷ z ∷ items) w a most least is-w is-a = absurd (omega arith)
+
+-- of two
+pub two_behind : (items : List Value) (w a b : Value) → 3 ≤ length items → length items < 4 → w ≡ get_or items 0 w → a ≡ get_or items 1 a
+    → b ≡ get_or items 2 b → other_row (items_view items) ≡ two_items (as_str (view w)) (view a) (view b)
+two_behind [] w a b most least is-w is-a is-b = absurd (omega arith)
+two_behind (x ∷ []) w a b most least is-w is-a is-b = absurd (omega arith)
+two_behind (x ∷ y ∷ []) w a b most least is-w is-a is-b = absurd (omega arith)
+two_behind (x ∷ y ∷ z ∷ []) w a b most least is-w is-a is-b = rw (is-w, is-a, is-b) refl
+two_behind (x ∷ y ∷ z ∷ v ∷ items) w a b most least is-w is-a is-b = absurd (omega arith)
+
+-- of three
+pub three_behind : (items : List Value) (w a b c : Value) → 4 ≤ length items → length items < 5 → w ≡ get_or items 0 w
+    → a ≡ get_or items 1 a → b ≡ get_or items 2 b → c ≡ get_or items 3 c
+    → other_row (items_view items) ≡ three_items (as_str (view w)) (view a) (view b) (view c)
+three_behind [] w a b c most least is-w is-a is-b is-c = absurd (omega arith)
+three_behind (x ∷ []) w a b c most least is-w is-a is-b is-c = absurd (omega arith)
+three_behind (x ∷ y ∷ []) w a b c most least is-w is-a is-b is-c = absurd (omega arith)
+three_behind (x ∷ y ∷ z ∷ []) w a b c most least is-w is-a is-b is-c = absurd (omega arith)
+three_behind (x ∷ y ∷ z ∷ v ∷ []) w a b c most least is-w is-a is-b is-c = rw (is-w, is-a, is-b, is-c) refl
+three_behind (x ∷ y ∷ z ∷ v ∷ u ∷ items) w a b c most least is-w is-a is-b is-c = absurd (omega arith)

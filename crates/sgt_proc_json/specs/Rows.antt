@@ -1,7 +1,8 @@
 -- What the items behind a statement's word spell.
-use Rattle.serde_json.specs.Data.{Data}
+use Rattle.serde_json.specs.Data.{Data, Items, no_items, item}
+use Rattle.serde_json.specs.Find.{as_str}
 use Rattle.sgt_model.specs.Syntax.{Block, look, find, put, save, ask, answer}
-use Rattle.sgt_proc_json.specs.Readings.{Reading, at, one, two, three, four, byte, short, expression}
+use Rattle.sgt_proc_json.specs.Readings.{Reading, here, at, one, two, three, four, byte, short, expression, one_item, two_items, three_items, four_items}
 
 -- behind `ask`
 abbrev pub ask_of : Data → Reading (Block → Block)
@@ -28,3 +29,11 @@ look_of a b c d =
 abbrev pub find_of : Data → Data → Data → Data → Reading (Block → Block)
 find_of a b c d =
     four (λ to table id absent rest. find to table id absent rest) (at 1 (byte a)) (at 2 (byte b)) (at 3 (expression c)) (at 4 (expression d))
+
+-- a word and the items behind it, where they spell no If
+abbrev pub other_row : Items → Reading (Block → Block)
+other_row (item w (item a no_items)) = one_item (as_str w) a
+other_row (item w (item a (item b no_items))) = two_items (as_str w) a b
+other_row (item w (item a (item b (item c no_items)))) = three_items (as_str w) a b c
+other_row (item w (item a (item b (item c (item d no_items))))) = four_items (as_str w) a b c d
+other_row items = here

@@ -6,7 +6,7 @@ use std::alloc::{AllocError, AllocFailed};
 use thiserror::Error;
 
 /// Why a tree gives no procedure.
-#[derive(Debug, Drop, PartialEq, Eq, Error)]
+#[derive(Debug, Drop, Error)]
 pub enum ReadError {
     /// The tree spells no procedure, and its first misfit is at this place.
     #[error("shape at {0}")]

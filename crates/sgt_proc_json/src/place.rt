@@ -54,15 +54,14 @@ impl Place {
 
 impl fmt::Display for Place {
     fn fmt<W: fmt::Write>(&self, f: &mut fmt::Formatter<W>) -> fmt::Result {
-        match self.as_slice() {
-            [] => f.write_str("top"),
-            [first, others @ ..] => {
-                write!(f, "{first}")?;
-                for position in others {
-                    write!(f, " {position}")?;
-                }
-                Ok(())
-            }
+        if self.as_slice().is_empty() {
+            return f.write_str("top");
         }
+        let mut blank = "";
+        for position in self.as_slice() {
+            write!(f, "{blank}{position}")?;
+            blank = " ";
+        }
+        Ok(())
     }
 }

@@ -5,7 +5,7 @@ ghost use Rattle.serde_json.specs.View.{view, items_view};
 ghost use Rattle.sgt_model.specs.Programs.{before, block_of};
 ghost use Rattle.sgt_proc_json.specs.Readings.{at, statement, block, one_item, two_items, three_items, four_items};
 ghost use Rattle.sgt_proc_json.specs.Refusals.{Tells};
-ghost use Rattle.sgt_proc_json.specs.Rows.{ask_of, answer_of, let_of, put_of, look_of, find_of};
+ghost use Rattle.sgt_proc_json.specs.Rows.{other_row, ask_of, answer_of, let_of, put_of, look_of, find_of};
 
 use crate::errors::ReadError;
 use crate::read_cond::cond_at;
@@ -38,8 +38,6 @@ fn read_row(alloc: Global, items: &[Value]) -> Result<Statement, ReadError>
     ensures err { IfErr result (Tells (statement (array (items_view items.now)))) }
 {
     match items {
-        [word, a] => one_item(alloc, word, a),
-        [word, a, b] => two_items(alloc, word, a, b),
         [word, a, b, c] => match word.as_str() {
             Some("if") => {
                 let cond = cond_at(alloc, 1, a)?;
@@ -47,8 +45,21 @@ fn read_row(alloc: Global, items: &[Value]) -> Result<Statement, ReadError>
                 let no = block_at(alloc, 3, c)?;
                 Ok(Statement::If { cond, yes, no })
             }
-            _ => three_items(alloc, word, a, b, c),
+            _ => other_row(alloc, items),
         },
+        _ => other_row(alloc, items),
+    }
+}
+
+/// The statement that a list of these items spells, where it has no blocks.
+fn other_row(alloc: Global, items: &[Value]) -> Result<Statement, ReadError>
+    ensures ok { IfOk result (λ s. other_row (items_view items.now) ≡ Ok (before s)) }
+    ensures err { IfErr result (Tells (other_row (items_view items.now))) }
+{
+    match items {
+        [word, a] => one_item(alloc, word, a),
+        [word, a, b] => two_items(alloc, word, a, b),
+        [word, a, b, c] => three_items(alloc, word, a, b, c),
         [word, a, b, c, d] => four_items(alloc, word, a, b, c, d),
         _ => Err(ReadError::here()),
     }
