@@ -1,5 +1,5 @@
 -- Who has read from whom, in the test of those that fall.
-use Rattle.std.specs.Prelude.{◌≡◌, ℕ, List, [], ◌∷◌}
+use Rattle.std.specs.Prelude.{ℕ, [], ◌∷◌}
 use Rattle.std.proofs.Common.{inl, inr, sym}
 use Rattle.sgt_model.specs.State.{Has}
 use Rattle.sgt_model.specs.Walks.{Member}

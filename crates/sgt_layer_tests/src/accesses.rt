@@ -3,53 +3,51 @@ ghost use Rattle.std.specs.Prelude.{◌≡◌, ◌≤◌, ◌+◌, [], length};
 
 use sgt_access::{Accesses, OneList, PerKey};
 use sgt_model::{Key, Kind, NoMemory, Tid};
-use std::process::Abort;
+use std::alloc::Global;
 use std::test::Fail;
 
 #[test]
 fn accesses_rival(rt: HostRuntime) -> Result<(), Fail> {
     let (saving, checking) = (Key::new(1, 101).unwrap(), Key::new(2, 101).unwrap());
-    two_readers(&rt, OneList::empty(rt.alloc()), checking)?;
-    two_readers(&rt, PerKey::empty(rt.alloc()), checking)?;
-    one_of_three(&rt, OneList::empty(rt.alloc()), saving, checking)?;
-    one_of_three(&rt, PerKey::empty(rt.alloc()), saving, checking)?;
+    assert!(rt; answers::<OneList>(rt.alloc(), saving, checking)?);
+    assert!(rt; answers::<PerKey>(rt.alloc(), saving, checking)?);
     Ok(())
+}
+
+/// Whether a body of the trait answers as it should.
+fn answers<A: Accesses>(alloc: Global, saving: Key, checking: Key) -> Result<bool, NoMemory> {
+    let two = two_readers(&mut A::empty(alloc), checking)?;
+    let three = one_of_three(&mut A::empty(alloc), saving, checking)?;
+    Ok(two && three)
 }
 
 /// Two have looked at a key, and the first is forgotten.
-fn two_readers<A: Accesses>(rt: &impl Abort, mut accesses: A, key: Key) -> Result<(), NoMemory>
-    requires { A.list accesses ≡ [] }
+fn two_readers<A: Accesses>(accesses: &mut A, key: Key) -> Result<bool, NoMemory>
+    requires { A.list accesses.old ≡ [] }
 {
-    note(&mut accesses, 0, key, Kind::Look)?;
-    note(&mut accesses, 1, key, Kind::Look)?;
-    expect(rt, &accesses, 1, key, Kind::Store, &[Tid(0)]);
-    expect(rt, &accesses, 1, key, Kind::Look, &[]);
-    expect(rt, &accesses, 2, key, Kind::Store, &[Tid(0), Tid(1)]);
-    forget(&mut accesses, 0);
-    expect(rt, &accesses, 2, key, Kind::Store, &[Tid(1)]);
-    Ok(())
+    note(accesses, 0, key, Kind::Look)?;
+    note(accesses, 1, key, Kind::Look)?;
+    let store = are_rivals(accesses, 1, key, Kind::Store, &[Tid(0)]);
+    let look = are_rivals(accesses, 1, key, Kind::Look, &[]);
+    let other = are_rivals(accesses, 2, key, Kind::Store, &[Tid(0), Tid(1)]);
+    forget(accesses, 0);
+    Ok(store & look & other & are_rivals(accesses, 2, key, Kind::Store, &[Tid(1)]))
 }
 
 /// Three have looked at one key and stored in another, and the second of them is forgotten, and comes again.
-fn one_of_three<A: Accesses>(
-    rt: &impl Abort,
-    mut accesses: A,
-    looked: Key,
-    stored: Key,
-) -> Result<(), NoMemory>
-    requires { A.list accesses ≡ [] }
+fn one_of_three<A: Accesses>(accesses: &mut A, looked: Key, stored: Key) -> Result<bool, NoMemory>
+    requires { A.list accesses.old ≡ [] }
 {
     for t in 0..3 {
-        note(&mut accesses, t, looked, Kind::Look)?;
-        note(&mut accesses, t, stored, Kind::Store)?;
+        note(accesses, t, looked, Kind::Look)?;
+        note(accesses, t, stored, Kind::Store)?;
     }
-    forget(&mut accesses, 1);
-    expect(rt, &accesses, 0, looked, Kind::Store, &[Tid(2)]);
-    expect(rt, &accesses, 1, stored, Kind::Look, &[Tid(0), Tid(2)]);
-    note(&mut accesses, 1, looked, Kind::Store)?;
-    expect(rt, &accesses, 2, looked, Kind::Look, &[Tid(1)]);
-    expect(rt, &accesses, 2, stored, Kind::Look, &[Tid(0)]);
-    Ok(())
+    forget(accesses, 1);
+    let first = are_rivals(accesses, 0, looked, Kind::Store, &[Tid(2)]);
+    let second = are_rivals(accesses, 1, stored, Kind::Look, &[Tid(0), Tid(2)]);
+    note(accesses, 1, looked, Kind::Store)?;
+    let again = are_rivals(accesses, 2, looked, Kind::Look, &[Tid(1)]);
+    Ok(first & second & again & are_rivals(accesses, 2, stored, Kind::Look, &[Tid(0)]))
 }
 
 /// Notes an access, with its room taken before.
@@ -67,9 +65,9 @@ fn forget<A: Accesses>(accesses: &mut A, t: u32)
     accesses.forget(Tid(t));
 }
 
-/// Compares the rivals of an access with those that are wanted.
-fn expect<A: Accesses>(rt: &impl Abort, accesses: &A, t: u32, key: Key, kind: Kind, wanted: &[Tid])
+/// Whether these are the rivals of an access.
+fn are_rivals<A: Accesses>(accesses: &A, t: u32, key: Key, kind: Kind, wanted: &[Tid]) -> bool
     requires { length (A.list accesses.now) ≤ 32 }
 {
-    assert_eq!(rt; accesses.rivals(Tid(t), key, kind).as_slice(), wanted);
+    accesses.rivals(Tid(t), key, kind).as_slice() == wanted
 }

@@ -13,8 +13,6 @@ fn who_falls_rises_in_whatever_order_they_live(rt: HostRuntime) {
         (Tid(2), Tid(5)),
     ];
     let live = Tids::from_slice(&[Tid(5), Tid(2), Tid(4), Tid(3), Tid(1)]).unwrap();
-    assert_eq!(rt;
-        fallers(&read_from, &live, Tid(1)).as_slice(),
-        [Tid(3), Tid(4), Tid(5)].as_slice()
-    );
+    let fell = fallers(&read_from, &live, Tid(1));
+    assert!(rt; fell.as_slice() == [Tid(3), Tid(4), Tid(5)].as_slice());
 }

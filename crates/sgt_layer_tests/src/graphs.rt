@@ -3,70 +3,70 @@ ghost use Rattle.std.specs.Prelude.{◌≡◌, ◌≢◌, ◌+◌, ◌<◌, ◌�
 
 use sgt_graph::{BitGraph, Graph, PairGraph, Verdict};
 use sgt_model::{Tid, Tids};
-use std::process::Abort;
 
 #[test]
 fn graphs_answer(rt: HostRuntime) {
-    answers::<PairGraph>(&rt);
-    answers::<BitGraph>(&rt);
+    assert!(rt; answers::<PairGraph>());
+    assert!(rt; answers::<BitGraph>());
 }
 
-/// What each body of the trait answers.
-fn answers<G: Graph>(rt: &impl Abort) {
-    three_nodes::<G>(rt);
-    way_through_removed::<G>(rt);
-    ring_of_all::<G>(rt);
-    place_used_anew::<G>(rt);
+/// Whether a body of the trait answers as it should.
+fn answers<G: Graph>() -> bool {
+    let (three, removed) = (three_nodes::<G>(), way_through_removed::<G>());
+    let (ring, anew) = (ring_of_all::<G>(), place_used_anew::<G>());
+    three && removed && ring && anew
 }
 
 /// A ring is refused, and a shorter way is not. Then the first is removed.
-fn three_nodes<G: Graph>(rt: &impl Abort) {
+fn three_nodes<G: Graph>() -> bool {
     let mut graph = nodes_below::<G>(3);
-    accept(rt, &mut graph, 3, 0, 1);
-    assert!(rt; graph.test(Tid(2), &only(1)) == Verdict::Accepted);
-    accept(rt, &mut graph, 3, 1, 2);
-    refuse_ring(rt, &mut graph, 3);
-    accept(rt, &mut graph, 3, 0, 2);
-    expect_least(rt, &graph, 2, Some(Tid(0)));
+    let first = accepts(&mut graph, 3, 0, 1);
+    let tested = graph.test(Tid(2), &only(1)) == Verdict::Accepted;
+    let second = accepts(&mut graph, 3, 1, 2);
+    let ring = refuses_ring(&mut graph, 3);
+    let shorter = accepts(&mut graph, 3, 0, 2);
+    let least = graph.least_pred(Tid(2)) == Some(Tid(0));
     graph.remove(Tid(0));
     graph.has_no_cycle();
-    expect_least(rt, &graph, 2, Some(Tid(1)));
-    expect_least(rt, &graph, 1, None);
+    let removed = are_least(&graph, [None, Some(Tid(1))]);
+    are_all(&[first, tested, second, ring, shorter, least, removed])
 }
 
 /// The one in the middle of a way is removed, and a pair leads back from its end.
-fn way_through_removed<G: Graph>(rt: &impl Abort) {
-    let mut graph = chain::<G>(rt, 3);
+fn way_through_removed<G: Graph>() -> bool {
+    let (mut graph, made) = chain::<G>(3);
     graph.remove(Tid(1));
-    assert!(rt; graph.insert(Tid(0), &only(2)) == Verdict::Accepted);
+    made & (graph.insert(Tid(0), &only(2)) == Verdict::Accepted)
 }
 
 /// As many as there can be, one after another, and a pair from the last to the first.
-fn ring_of_all<G: Graph>(rt: &impl Abort) {
-    let mut graph = chain::<G>(rt, 32);
-    refuse_ring(rt, &mut graph, 32);
+fn ring_of_all<G: Graph>() -> bool {
+    let (mut graph, made) = chain::<G>(32);
+    made & refuses_ring(&mut graph, 32)
 }
 
 /// The last of as many as there can be is removed and added again. It comes first then, and not last.
-fn place_used_anew<G: Graph>(rt: &impl Abort) {
-    let mut graph = chain::<G>(rt, 32);
+fn place_used_anew<G: Graph>() -> bool {
+    let (mut graph, made) = chain::<G>(32);
     remove_last(&mut graph, 31);
     add_next(&mut graph, 31);
-    expect_least(rt, &graph, 31, None);
-    accept(rt, &mut graph, 32, 31, 0);
-    assert!(rt; refused(&mut graph, 32, 30, 31).is_some());
+    let alone = graph.least_pred(Tid(31)) == None;
+    let first = accepts(&mut graph, 32, 31, 0);
+    let last = refused(&mut graph, 32, 30, 31).is_some();
+    are_all(&[made, alone, first, last])
 }
 
-/// A graph of the numbers below n, with a pair from each to the next.
-fn chain<G: Graph>(rt: &impl Abort, n: u32) -> G
+/// A graph of the numbers below n, with a pair from each to the next, and whether they were all added.
+fn chain<G: Graph>(n: u32) -> (G, bool)
     requires few { n ≤ 32 }
-    ensures nodes { (u : ℕ) → G.nodes result u ≡ nat_lt u n }
+    ensures nodes { (u : ℕ) → G.nodes result.0 u ≡ nat_lt u n }
 {
     let mut graph = nodes_below::<G>(n);
+    let mut made = true;
     for t in 1..n {
-        accept(rt, &mut graph, n, t - 1, t);
+        made = made & accepts(&mut graph, n, t - 1, t);
     }
-    graph
+    (graph, made)
 }
 
 /// A graph of the numbers below n, with no pairs.
@@ -98,25 +98,25 @@ fn remove_last<G: Graph>(graph: &mut G, n: u32)
     graph.remove(Tid(n));
 }
 
-/// Adds a pair between two numbers below n, which closes no cycle.
-fn accept<G: Graph>(rt: &impl Abort, graph: &mut G, n: u32, from: u32, to: u32)
+/// Whether a pair between two numbers below n is added, and closes no cycle.
+fn accepts<G: Graph>(graph: &mut G, n: u32, from: u32, to: u32) -> bool
     requires nodes { (u : ℕ) → G.nodes graph.old u ≡ nat_lt u n }
     requires from { from < n }
     requires to { to < n }
     requires apart { from ≢ to }
     ensures nodes { (u : ℕ) → G.nodes graph.new u ≡ nat_lt u n }
 {
-    assert!(rt; refused(graph, n, from, to).is_none());
+    refused(graph, n, from, to).is_none()
 }
 
-/// Asks for a pair from the last of the numbers below n to the first. It closes a ring of them all.
-fn refuse_ring<G: Graph>(rt: &impl Abort, graph: &mut G, n: u32)
+/// Whether a pair from the last of the numbers below n to the first closes a ring of them all.
+fn refuses_ring<G: Graph>(graph: &mut G, n: u32) -> bool
     requires nodes { (u : ℕ) → G.nodes graph.old u ≡ nat_lt u n }
     requires some { 1 < n }
     requires few { n ≤ 32 }
     ensures nodes { (u : ℕ) → G.nodes graph.new u ≡ nat_lt u n }
 {
-    assert_eq!(rt; refused(graph, n, n - 1, 0), Some(below(n)));
+    refused(graph, n, n - 1, 0) == Some(below(n))
 }
 
 /// The walk along which a pair between two numbers below n would close a cycle; None where it is added.
@@ -133,9 +133,14 @@ fn refused<G: Graph>(graph: &mut G, n: u32, from: u32, to: u32) -> Option<Tids>
     }
 }
 
-/// Compares the least predecessor with the one that is wanted.
-fn expect_least<G: Graph>(rt: &impl Abort, graph: &G, t: u32, wanted: Option<Tid>) {
-    assert_eq!(rt; graph.least_pred(Tid(t)), wanted);
+/// Whether these are the least predecessors of 1 and of 2.
+fn are_least<G: Graph>(graph: &G, wanted: [Option<Tid>; 2]) -> bool {
+    [graph.least_pred(Tid(1)), graph.least_pred(Tid(2))] == wanted
+}
+
+/// Whether all of these are so.
+fn are_all(facts: &[bool]) -> bool {
+    !facts.contains(&false)
 }
 
 /// The numbers below n, rising.

@@ -13,8 +13,6 @@ mod graphs;
 #[cfg(test)]
 mod records;
 #[cfg(test)]
-mod schedulers;
-#[cfg(test)]
 mod values;
 #[cfg(test)]
 mod walks;

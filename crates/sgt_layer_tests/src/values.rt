@@ -1,16 +1,31 @@
-use sgt_model::{Args, Database, Key, Tid, Tids};
+use sgt_model::{Args, Database, Key, NoMemory, Tid, Tids, is_value};
+use std::alloc::Global;
 use std::test::Fail;
+
+/// Whether arguments of these values are full; None where they are too many.
+fn are_full(values: &[i64]) -> Option<bool> {
+    Some(Args::from_slice(values)?.is_full())
+}
 
 #[test]
 fn lists_are_bounded(rt: HostRuntime) {
-    let args = Args::from_slice([1, 2, 3, 4].as_slice()).unwrap();
-    assert!(rt; args.is_full());
-    assert!(rt; Args::from_slice([1, 2, 3, 4, 5].as_slice()).is_none());
+    assert!(rt; are_full(&[1, 2, 3, 4]) == Some(true) && are_full(&[1, 2, 3, 4, 5]) == None);
     let mut tids = Tids::new();
-    assert!(rt; tids.is_empty());
+    let empty = tids.is_empty();
     tids.push(Tid(7));
     tids.push(Tid(3));
-    assert_eq!(rt; tids.copied().as_slice(), [Tid(7), Tid(3)].as_slice());
+    assert!(rt; empty && tids.copied().as_slice() == [Tid(7), Tid(3)].as_slice());
+}
+
+/// A database that those of these rows were put into whose values are in range.
+pub fn filled(alloc: Global, rows: &[(Key, i64)]) -> Result<Database, NoMemory> {
+    let mut database = Database::empty(alloc);
+    for (key, value) in rows {
+        if is_value(*value) {
+            database.put(*key, *value)?;
+        }
+    }
+    Ok(database)
 }
 
 #[test]
@@ -18,16 +33,11 @@ fn rows_stand_by_key(rt: HostRuntime) -> Result<(), Fail> {
     let zero = Key::new(3, 0).unwrap();
     let minus_one = Key::new(3, -1).unwrap();
     let checking = Key::new(2, 101).unwrap();
-    let mut database = Database::empty(rt.alloc());
-    database.put(zero, 30)?;
-    database.put(minus_one, 31)?;
-    database.put(checking, 1_000)?;
-    database.put(zero, 32)?;
-    assert_eq!(rt;
-        database.rows(),
-        [(checking, 1_000), (minus_one, 31), (zero, 32)].as_slice()
-    );
-    assert_eq!(rt; database.get(zero), Some(32));
-    assert_eq!(rt; database.get(Key::new(3, 1).unwrap()), None);
+    let rows = [(zero, 30), (minus_one, 31), (checking, 1_000), (zero, 32)];
+    let database = filled(rt.alloc(), &rows)?;
+    let sorted = [(checking, 1_000), (minus_one, 31), (zero, 32)];
+    let none = database.get(Key::new(3, 1).unwrap());
+    assert!(rt; database.rows() == sorted.as_slice());
+    assert!(rt; database.get(zero) == Some(32) && none == None);
     Ok(())
 }

@@ -2,47 +2,41 @@
 //! are refused.
 
 use json::Scratch;
-use serde_json::Value;
 use sgt_access::OneList;
 use sgt_engine::{Engine, Ran, run_list};
 use sgt_entries::History;
-use sgt_format::{append_database, append_reply, read_event, reply_line};
+use sgt_format::{Opening, append_database, append_reply, read_event, read_opening, reply_line};
 use sgt_graph::PairGraph;
 use sgt_model::{Args, Asks, Database, Event, Key, Limits, MakeError, NoMemory, Reply, Tid};
-use sgt_proc::{Checked, check};
 use sgt_records::ListRecords;
 use std::alloc::Global;
 use std::test::Fail;
 
+type SimpleEngine = Engine<ListRecords, OneList, PairGraph>;
+
 type SimpleRan = Ran<ListRecords, OneList, PairGraph>;
 
-/// A list of one procedure, which stores 4 in record 7 of table 3, looks at it again, and answers what it finds.
-fn procedures(a: Global) -> Result<Vec<Checked>, Fail> {
-    let tree = Value::from_str(
-        a,
-        r#"[0,[["put",3,7,4],["look",0,3,7,6],["answer",["reg",0]]]]"#,
-    )?;
-    let mut procedures = Vec::new(a);
-    if let Ok(checked) = check(sgt_proc_json::read(a, &tree)?) {
-        procedures.push(checked)?;
-    }
-    Ok(procedures)
+/// One procedure, which stores 4 in record 7 of table 3, looks at it again, and answers what it finds.
+const OPENING: &str =
+    r#"{"limits":[1,1000],"accounts":[],"procedures":[[0,[["put",3,7,4],["look",0,3,7,6],["answer",["reg",0]]]]]}"#;
+
+/// An engine behind these events.
+fn ran(a: Global, events: &[Event]) -> Result<SimpleRan, Fail> {
+    let Opening {
+        limits,
+        database,
+        procedures,
+    } = read_opening(a, 1, OPENING.as_bytes())?;
+    Ok(run_list(a, database, procedures, limits, events)?)
 }
 
-/// An engine of one live transaction, behind the events of these lines.
-fn ran(a: Global, lines: &str) -> Result<SimpleRan, Fail> {
+/// The events of these lines.
+fn events_of(a: Global, lines: &str) -> Result<Vec<Event>, Fail> {
     let mut events = Vec::new(a);
-    let mut scratch = Scratch::new(a);
     for line in lines.lines() {
-        events.push(read_event(a, &mut scratch, line.as_bytes())?)?;
+        events.push(read_event(a, &mut Scratch::new(a), line.as_bytes())?)?;
     }
-    let limits = Limits {
-        live: 1,
-        begins: 10,
-        asks: Asks::AtStep,
-    };
-    let database = Database::empty(a);
-    Ok(run_list(a, database, procedures(a)?, limits, events.as_slice())?)
+    Ok(events)
 }
 
 /// The lines of the replies.
@@ -55,20 +49,22 @@ fn replies(a: Global, history: &History) -> Result<Vec<u8>, NoMemory> {
 }
 
 /// The lines of the replies, and those of the database behind them.
-fn told(a: Global, ran: &SimpleRan) -> Result<Vec<u8>, NoMemory> {
-    let database = ran.engine.database(a)?;
-    let mut text = replies(a, ran.engine.history())?;
-    append_database(&mut text, &database)?;
+fn told(a: Global, engine: &SimpleEngine) -> Result<Vec<u8>, Fail> {
+    let mut text = replies(a, engine.history())?;
+    append_database(&mut text, &engine.database(a)?)?;
     Ok(text)
 }
 
-/// What is told behind these events, if all of them were applied.
-fn answered(a: Global, lines: &str) -> Result<Option<Vec<u8>>, Fail> {
-    let ran = ran(a, lines)?;
-    if ran.done != lines.lines().count() {
-        return Ok(None);
-    }
-    Ok(Some(told(a, &ran)?))
+/// An engine behind the events of these lines.
+fn behind(a: Global, lines: &str) -> Result<SimpleRan, Fail> {
+    let events = events_of(a, lines)?;
+    ran(a, events.as_slice())
+}
+
+/// What is told behind these events, all of which are applied.
+fn answered(a: Global, lines: &str) -> Result<Vec<u8>, Fail> {
+    let ran = behind(a, lines)?;
+    told(a, &ran.engine)
 }
 
 /// A store, a look at it, and a commit.
@@ -78,9 +74,12 @@ const STORE: &str = r#"["start",0,[]]
 ["step",0]
 ["commit",0]"#;
 
+/// What is shown, events, and what is told behind them.
+type Row = (&'static str, &'static str, &'static str);
+
 /// A value that is stored and not committed is not in the database. Where a quit after a store has refusals round it, and then comes a
 /// transaction that goes the whole way, each event has its entry.
-const ROWS: [(&str, &str, &str); 3] = [
+const ROWS: [Row; 3] = [
     (
         "an own write is read back",
         STORE,
@@ -127,7 +126,7 @@ over committed
 #[test]
 fn events_are_answered(rt: HostRuntime) -> Result<(), Fail> {
     for (what, lines, want) in &ROWS {
-        let told = answered(rt.alloc(), lines)?.expect(&rt, "all are applied");
+        let told = answered(rt.alloc(), lines)?;
         assert!(rt; told.as_slice() == want.as_bytes(), "{what}");
     }
     Ok(())
@@ -135,11 +134,8 @@ fn events_are_answered(rt: HostRuntime) -> Result<(), Fail> {
 
 /// What is committed in record 7 of table 3 behind these events.
 fn committed(a: Global, lines: &str) -> Result<Option<i64>, Fail> {
-    let ran = ran(a, lines)?;
-    match Key::new(3, 7) {
-        Some(key) => Ok(ran.engine.committed(key)),
-        None => Ok(None),
-    }
+    let ran = behind(a, lines)?;
+    Ok(ran.engine.committed(Key::new(3, 7).unwrap()))
 }
 
 #[test]
@@ -148,84 +144,59 @@ fn a_committed_value_is_told(rt: HostRuntime) -> Result<(), Fail> {
     Ok(())
 }
 
-/// The line of a start.
-fn started(a: Global, number: u32) -> Result<Vec<u8>, NoMemory> {
-    reply_line(a, &Reply::Started(Tid(number)))
-}
-
 /// More transactions than one script can start.
 #[test]
 fn a_reply_has_its_line(rt: HostRuntime) -> Result<(), Fail> {
-    assert!(rt; started(rt.alloc(), 4_000_000)?.as_slice() == b"started 4000000\n".as_slice());
+    let line = reply_line(rt.alloc(), &Reply::Started(Tid(4_000_000)))?;
+    assert!(rt; line.as_slice() == b"started 4000000\n".as_slice());
     Ok(())
 }
 
 /// Whether an engine of these limits is refused for them.
-fn has_bad_limits(a: Global, live: u32, begins: u32) -> bool {
+fn is_refused(a: Global, live: u32, begins: u32) -> bool {
     let limits = Limits {
         live,
         begins,
         asks: Asks::AtStep,
     };
-    let made = Engine::<ListRecords, OneList, PairGraph>::new(
-        a,
-        Database::empty(a),
-        Vec::new(a),
-        limits,
-    );
+    let made = SimpleEngine::new(a, Database::empty(a), Vec::new(a), limits);
     matches!(made, Err(MakeError::BadLimits))
 }
 
 #[test]
 fn limits_are_refused(rt: HostRuntime) {
-    for (live, begins) in [(33, 10), (0, 10), (1, 0), (1, 4_000_000_001)] {
-        assert!(rt;
-            has_bad_limits(rt.alloc(), live, begins),
-            "{live} live, {begins} begins"
-        );
+    let a = rt.alloc();
+    assert!(rt; is_refused(a, 33, 10) && is_refused(a, 0, 10));
+    assert!(rt; is_refused(a, 1, 0) && is_refused(a, 1, 4_000_000_001));
+}
+
+/// The event of this number, of starts with the steps and the commit behind each.
+fn event(number: u32) -> Event {
+    let t = Tid(number / 5);
+    match number % 5 {
+        0 => Event::Start {
+            procedure: 0,
+            args: Args::new(),
+        },
+        4 => Event::Commit(t),
+        _ => Event::Step(t),
     }
 }
 
-/// So many events: starts, each with the steps and the commit behind it.
-fn whole_runs(a: Global, count: u32) -> Result<Vec<Event>, Fail> {
+/// Whether all of so many events are applied.
+fn are_applied(a: Global, count: u32) -> Result<bool, Fail> {
     let mut events = Vec::new(a);
     for number in 0..count {
-        let t = Tid(number / 5);
-        events.push(match number % 5 {
-            0 => Event::Start {
-                procedure: 0,
-                args: Args::new(),
-            },
-            4 => Event::Commit(t),
-            _ => Event::Step(t),
-        })?;
+        events.push(event(number))?;
     }
-    Ok(events)
-}
-
-/// How many of so many events are applied.
-fn applied(a: Global, count: u32) -> Result<usize, Fail> {
-    let limits = Limits {
-        live: 8,
-        begins: 1_000,
-        asks: Asks::AtStep,
-    };
-    let events = whole_runs(a, count)?;
-    let ran: SimpleRan = run_list(
-        a,
-        Database::empty(a),
-        procedures(a)?,
-        limits,
-        events.as_slice(),
-    )?;
-    Ok(ran.done)
+    Ok(ran(a, events.as_slice())?.done == count as usize)
 }
 
 #[test]
 fn lists_of_any_length_are_run_to_their_end(rt: HostRuntime) -> Result<(), Fail> {
     for count in 0..130 {
-        assert_eq!(rt; applied(rt.alloc(), count)?, count as usize);
+        assert!(rt; are_applied(rt.alloc(), count)?);
     }
-    assert_eq!(rt; applied(rt.alloc(), 1_000)?, 1_000);
+    assert!(rt; are_applied(rt.alloc(), 1_000)?);
     Ok(())
 }

@@ -53,11 +53,16 @@ fn writes(call: Call, bytes: &[u8]) -> (bool, u64) {
 
 #[test]
 fn only_calls_that_fail_are_counted(rt: HostRuntime) {
-    assert!(rt; reads(Call::TakesAll) == (false, 0));
-    assert!(rt; reads(Call::TakesNothing) == (false, 0));
-    assert!(rt; reads(Call::Fails) == (true, 1));
-    assert!(rt; writes(Call::TakesAll, b"some") == (false, 0));
-    assert!(rt; writes(Call::TakesNothing, b"") == (false, 0));
-    assert!(rt; writes(Call::TakesNothing, b"some") == (true, 1));
-    assert!(rt; writes(Call::Fails, b"some") == (true, 1));
+    let (all, nothing) = (reads(Call::TakesAll), reads(Call::TakesNothing));
+    assert!(rt; all == (false, 0) && nothing == (false, 0) && reads(Call::Fails) == (true, 1));
+    let (all, empty) = (
+        writes(Call::TakesAll, b"some"),
+        writes(Call::TakesNothing, b""),
+    );
+    assert!(rt; all == (false, 0) && empty == (false, 0));
+    let (nothing, failure) = (
+        writes(Call::TakesNothing, b"some"),
+        writes(Call::Fails, b"some"),
+    );
+    assert!(rt; nothing == (true, 1) && failure == (true, 1));
 }

@@ -5,16 +5,14 @@
 #![tactic(auto)]
 
 #[cfg(test)]
-mod cursor;
-#[cfg(test)]
 mod engine;
-#[cfg(test)]
-mod explain;
 #[cfg(test)]
 mod failures;
 #[cfg(test)]
 mod first_use;
 #[cfg(test)]
 mod record_lines;
+#[cfg(test)]
+mod schedulers;
 #[cfg(test)]
 mod trees;

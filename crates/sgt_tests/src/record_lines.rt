@@ -1,98 +1,104 @@
 //! Record lines, read and written.
 
-use sgt_format::{Record, RecordLine, append_records, read_record_line};
-use sgt_model::{Database, Key, LEAST, MOST, NoMemory};
-use std::alloc::{AllocGlobal, Global};
-use std::process::Abort;
+use sgt_format::{RecordLine, append_records, read_record_line};
+use sgt_model::{Database, LEAST, MOST, NoMemory};
+use std::alloc::Global;
 use std::test::Fail;
 
-/// The record that a line puts, where it is a record line.
-fn put_by(alloc: Global, line: &[u8]) -> Result<Option<Option<Record>>, NoMemory> {
-    Ok(match read_record_line(alloc, line)? {
-        Some(said) => Some(said.record()),
-        None => None,
-    })
+/// What a line says, where it is a record line, and the record that it puts, where all is in range.
+fn read(alloc: Global, line: &[u8]) -> Result<String, Fail> {
+    match read_record_line(alloc, line)? {
+        Some(said) => Ok(format!(in alloc; "{said:?} puts {:?}", said.record())?),
+        None => Ok(String::from_str(alloc, "none")?),
+    }
 }
 
-#[test]
-fn record_lines_are_read(rt: HostRuntime) {
-    let said = read_record_line(rt.alloc(), b"[\"record\",8,-1,9223372036854775807]");
-    assert!(rt;
-        said == Ok(Some(RecordLine {
-            table: 8,
-            number: -1,
-            value: i64::MAX
-        }))
-    );
-    let key = Key::new(2, 101).expect(&rt, "a key");
-    let put = put_by(rt.alloc(), b"[\"record\",2,101,-30]");
-    assert!(rt; put == Ok(Some(Some(Record { key, value: -30 }))));
-    let key = Key::new(7, LEAST).expect(&rt, "a key");
-    let line = b" [ \"rec\\u006frd\", 7, -999999999999999, 999999999999999 ]\r";
-    let put = put_by(rt.alloc(), line);
-    assert!(rt; put == Ok(Some(Some(Record { key, value: MOST }))));
-}
+/// Lines of records, of records out of range, and lines that are no record lines. Behind each stands what is read.
+const LINES: &str =
+    r#"["record",8,-1,9223372036854775807]: RecordLine { table: 8, number: -1, value: 9223372036854775807 } puts None
+["record",2,101,-30]: RecordLine { table: 2, number: 101, value: -30 } puts Some(Record { key: Key { table: 2, id: 101 }, value: -30 })
+["record",8,0,0]: RecordLine { table: 8, number: 0, value: 0 } puts None
+["record",256,0,0]: RecordLine { table: 256, number: 0, value: 0 } puts None
+["record",-1,0,0]: RecordLine { table: -1, number: 0, value: 0 } puts None
+["record",0,1000000000000000,0]: RecordLine { table: 0, number: 1000000000000000, value: 0 } puts None
+["record",0,-1000000000000000,0]: RecordLine { table: 0, number: -1000000000000000, value: 0 } puts None
+["record",0,0,1000000000000000]: RecordLine { table: 0, number: 0, value: 1000000000000000 } puts None
+["record",0,0,-1000000000000000]: RecordLine { table: 0, number: 0, value: -1000000000000000 } puts None
+["record",0,0]: none
+["record",0,0,0,0]: none
+["record",0,0,[0]]: none
+["record",0,"0",0]: none
+["record",0,0,1.0]: none
+["record",0,0,1e0]: none
+["record",0,0,-0]: none
+["record",0,0,9223372036854775808]: none
+["Record",0,0,0]: none
+["records",0,0,0]: none
+[["record",0,0,0]]: none
+["record"]: none
+["start",0,[1]]: none
+["step",0]: none
+["cut"]: none
+["job",0,[1]]: none
+{"record":[0,0,0]}: none
+["record",0,0,0: none
+["record",0,0,0]]: none
+: none"#;
 
 #[test]
-fn records_out_of_range_are_told(rt: HostRuntime) {
-    let table = r#"["record",8,0,0]
-["record",256,0,0]
-["record",-1,0,0]
-["record",0,1000000000000000,0]
-["record",0,-1000000000000000,0]
-["record",0,0,1000000000000000]
-["record",0,0,-1000000000000000]"#;
-    for line in table.lines() {
+fn lines_are_read(rt: HostRuntime) -> Result<(), Fail> {
+    for row in LINES.lines() {
+        let (line, want) = row.split_once(": ").unwrap_or((row, ""));
         assert!(rt;
-            put_by(rt.alloc(), line.as_bytes()) == Ok(Some(None)),
-            "{line}"
+            read(rt.alloc(), line.as_bytes())?.as_str() == want,
+            "{row}"
         );
     }
+    Ok(())
 }
 
 #[test]
-fn other_lines_are_no_record_lines(rt: HostRuntime) {
-    let table = r#"["record",0,0]
-["record",0,0,0,0]
-["record",0,0,[0]]
-["record",0,"0",0]
-["record",0,0,1.0]
-["record",0,0,1e0]
-["record",0,0,-0]
-["record",0,0,9223372036854775808]
-["Record",0,0,0]
-["records",0,0,0]
-[["record",0,0,0]]
-["record"]
-["start",0,[1]]
-["step",0]
-["cut"]
-["job",0,[1]]
-{"record":[0,0,0]}
-["record",0,0,0
-["record",0,0,0]]
-"#;
-    for line in table.lines() {
-        assert!(rt; put_by(rt.alloc(), line.as_bytes()) == Ok(None), "{line}");
+fn bytes_are_read(rt: HostRuntime) -> Result<(), Fail> {
+    let line = b" [ \"rec\\u006frd\", 7, -999999999999999, 999999999999999 ]\r";
+    let want = "RecordLine { table: 7, number: -999999999999999, value: 999999999999999 } \
+                puts Some(Record { key: Key { table: 7, id: -999999999999999 }, value: 999999999999999 })";
+    assert!(rt; read(rt.alloc(), line)?.as_str() == want);
+    assert!(rt; read(rt.alloc(), b"[\"record\",0,0,\xff]")?.as_str() == "none");
+    Ok(())
+}
+
+/// The database that these lines make, which have a table, a number there and a value.
+fn filled(alloc: Global, lines: &[(i64, i64, i64)]) -> Result<Database, NoMemory> {
+    let mut database = Database::empty(alloc);
+    for (table, number, value) in lines {
+        let line = RecordLine {
+            table: *table,
+            number: *number,
+            value: *value,
+        };
+        if let Some(record) = line.record() {
+            database.put(record.key, record.value)?;
+        }
     }
-    assert!(rt; put_by(rt.alloc(), b"") == Ok(None));
-    assert!(rt; put_by(rt.alloc(), b"[\"record\",0,0,\xff]") == Ok(None));
+    Ok(database)
+}
+
+/// The record lines of a database.
+fn written(alloc: Global, database: &Database) -> Result<Vec<u8>, NoMemory> {
+    let mut text = Vec::new(alloc);
+    append_records(&mut text, database)?;
+    Ok(text)
 }
 
 #[test]
 fn a_database_is_written_as_record_lines(rt: HostRuntime) -> Result<(), Fail> {
-    let mut database = Database::empty(rt.alloc());
-    database.put(Key::new(7, MOST).expect(&rt, "a key"), LEAST)?;
-    database.put(Key::new(0, 1).expect(&rt, "a key"), 101)?;
-    database.put(Key::new(7, LEAST).expect(&rt, "a key"), MOST)?;
-    database.put(Key::new(0, -1).expect(&rt, "a key"), 0)?;
-    let mut text = Vec::new(rt.alloc());
-    append_records(&mut text, &database)?;
+    let records = [(7, MOST, LEAST), (0, 1, 101), (7, LEAST, MOST), (0, -1, 0)];
+    let database = filled(rt.alloc(), &records)?;
     let lines = b"[\"record\",0,-1,0]
 [\"record\",0,1,101]
 [\"record\",7,-999999999999999,999999999999999]
 [\"record\",7,999999999999999,-999999999999999]
 ";
-    assert!(rt; text.as_slice() == lines.as_slice());
+    assert!(rt; written(rt.alloc(), &database)?.as_slice() == lines.as_slice());
     Ok(())
 }

@@ -1,8 +1,9 @@
 //! Procedures as trees of JSON: what is written of those that were read, and a misfit deeper than a line goes.
 
 use serde_json::Value;
+use sgt_proc::Checked;
 use sgt_proc_json::{ReadError, read, write};
-use std::alloc::Global;
+use std::alloc::{AllocError, Global};
 use std::test::Fail;
 
 /// Numbers at the ends of their ranges, and each kind of statement, condition and expression.
@@ -25,65 +26,64 @@ const SMALLBANK: &str =
 [2,[["if",["less",["arg",1],0],[["ask",2]],[]],["look",0,0,["arg",0],1],["look",1,1,["reg",0],5],["look",2,2,["reg",0],5],["if",["less",["sum",["reg",1],["reg",2]],["arg",1]],[["let",3,["diff",["diff",["reg",2],["arg",1]],100]]],[["let",3,["diff",["reg",2],["arg",1]]]]],["put",2,["reg",0],["reg",3]],["answer",["reg",3]]]]
 "#;
 
-/// What is written of the procedures in the lines of a text, as such lines.
-fn rewritten(alloc: Global, text: &str) -> Result<String, Fail> {
-    let mut lines = String::new(alloc);
-    for line in text.lines() {
-        let tree = Value::from_str(alloc, line)?;
-        let written = write(alloc, &read(alloc, &tree)?)?.to_string(alloc)?;
-        lines = format!(in alloc; "{lines}{written}\n")?;
-    }
-    Ok(lines)
+/// What is written of the procedure that a line spells.
+fn rewritten(alloc: Global, line: &str) -> Result<String, Fail> {
+    let tree = Value::from_str(alloc, line)?;
+    let procedure = read(alloc, &tree)?;
+    Ok(write(alloc, &procedure)?.to_string(alloc)?)
 }
 
 #[test]
 fn what_is_read_is_written_as_it_was(rt: HostRuntime) -> Result<(), Fail> {
-    assert_eq!(rt; rewritten(rt.alloc(), PROCEDURES)?.as_str(), PROCEDURES);
+    for line in PROCEDURES.lines() {
+        assert!(rt; rewritten(rt.alloc(), line)?.as_str() == line, "{line}");
+    }
     Ok(())
 }
 
-/// What is written of the program's procedures, each in a line.
-fn smallbank(alloc: Global) -> Result<String, Fail> {
+/// What is written of these procedures, each in a line.
+fn written(alloc: Global, procedures: &[Checked]) -> Result<String, Fail> {
     let mut lines = String::new(alloc);
-    for checked in &sgt_smallbank::procedures(alloc)? {
-        let written = write(alloc, checked.procedure())?.to_string(alloc)?;
-        lines = format!(in alloc; "{lines}{written}\n")?;
+    for checked in procedures {
+        let line = write(alloc, checked.procedure())?.to_string(alloc)?;
+        lines = format!(in alloc; "{lines}{line}\n")?;
     }
     Ok(lines)
 }
 
 #[test]
 fn smallbank_is_written_as_its_trees(rt: HostRuntime) -> Result<(), Fail> {
-    assert_eq!(rt; smallbank(rt.alloc())?.as_str(), SMALLBANK);
+    let procedures = sgt_smallbank::procedures(rt.alloc())?;
+    assert!(rt; written(rt.alloc(), procedures.as_slice())?.as_str() == SMALLBANK);
     Ok(())
 }
 
-/// The tree of a null with so many pieces of text before it, and as many behind it.
-fn nested(alloc: Global, before: &str, behind: &str, times: usize) -> Result<Value, Fail> {
+/// A null between so many pieces of text and as many others.
+fn nested(alloc: Global, before: &str, behind: &str, times: usize) -> Result<String, AllocError> {
     let before = before.repeat(alloc, times)?;
     let behind = behind.repeat(alloc, times)?;
-    let text = format!(in alloc; "{before}null{behind}")?;
-    Ok(Value::from_str(alloc, text.as_str())?)
+    format!(in alloc; "{before}null{behind}")
 }
 
-/// Puts a tree into another, at the place that a path leads to.
-fn put(tree: &mut Value, path: &str, part: Value) {
-    if let Some(place) = tree.pointer_mut(path) {
-        *place = part;
+/// A procedure that answers sums, more than a line can nest: ten of them, with a null as the second part of the innermost one, stand
+/// first in 124 more.
+fn deep_sums(alloc: Global) -> Result<Value, Fail> {
+    let outer = nested(alloc, r#"["sum","#, ",0]", 124)?;
+    let text = format!(in alloc; r#"[0,[["answer",{outer}]]]"#)?;
+    let mut tree = Value::from_str(alloc, text.as_str())?;
+    let path = "/1".repeat(alloc, 124)?;
+    let path = format!(in alloc; "/1/0/1{path}")?;
+    if let Some(place) = tree.pointer_mut(path.as_str()) {
+        *place = Value::from_str(alloc, nested(alloc, r#"["sum",0,"#, "]", 10)?.as_str())?;
     }
+    Ok(tree)
 }
 
-/// Why a procedure is none that has a misfit within more sums than a line can nest: it is the second part of the innermost of ten,
-/// and they stand first in 124 more.
-fn deep_misfit(alloc: Global) -> Result<String, Fail> {
-    let inner = nested(alloc, r#"["sum",0,"#, "]", 10)?;
-    let mut outer = nested(alloc, r#"["sum","#, ",0]", 124)?;
-    put(&mut outer, "/1".repeat(alloc, 124)?.as_str(), inner);
-    let mut tree = Value::from_str(alloc, r#"[0,[["answer",null]]]"#)?;
-    put(&mut tree, "/1/0/1", outer);
-    match read(alloc, &tree) {
-        Ok(_) => Ok(String::from_str(alloc, "no misfit")?),
-        Err(error) => Ok(error.to_string(alloc)?),
+/// What is told of the misfit of a tree.
+fn misfit(alloc: Global, tree: &Value) -> Result<String, Fail> {
+    match read(alloc, tree).err() {
+        Some(error) => Ok(error.to_string(alloc)?),
+        None => Ok(String::from_str(alloc, "no misfit")?),
     }
 }
 
@@ -91,15 +91,13 @@ fn deep_misfit(alloc: Global) -> Result<String, Fail> {
 fn a_place_keeps_its_first_128_positions(rt: HostRuntime) -> Result<(), Fail> {
     let ones = " 1".repeat(rt.alloc(), 125)?;
     let want = format!(in rt.alloc(); "shape at 1 0{ones} 2")?;
-    assert_eq!(rt; deep_misfit(rt.alloc())?.as_str(), want.as_str());
+    let told = misfit(rt.alloc(), &deep_sums(rt.alloc())?)?;
+    assert!(rt; told.as_str() == want.as_str());
     Ok(())
 }
 
 #[test]
 fn want_of_memory_shows(rt: HostRuntime) -> Result<(), Fail> {
-    assert_eq!(rt;
-        ReadError::NoMemory.to_string(rt.alloc())?.as_str(),
-        "no memory"
-    );
+    assert!(rt; ReadError::NoMemory.to_string(rt.alloc())?.as_str() == "no memory");
     Ok(())
 }

@@ -287,11 +287,9 @@ const MADE: [Made; 11] = [
 
 #[test]
 fn feeds_are_made_or_refused(rt: HostRuntime) {
-    for (room, jobs, takers, wanted) in &MADE {
-        assert!(rt;
-            made(rt.alloc(), *room, *jobs, *takers) == *wanted,
-            "{room:?} {jobs} {takers}"
-        );
+    for (row, (room, jobs, takers, wanted)) in MADE.iter().enumerate() {
+        let made = made(rt.alloc(), *room, *jobs, *takers);
+        assert!(rt; made == *wanted, "row {row}");
     }
 }
 

@@ -117,18 +117,32 @@ fn job(before: usize, call: Call) -> Job {
     }
 }
 
+/// Jobs, and what is told of them.
+#[derive(Drop)]
+struct Claims {
+    jobs: Vec<Job>,
+    outcomes: Vec<Outcome<u8>>,
+}
+
 /// Adds a job, where a word names its call, or what the word tells of one.
-fn add_told(
-    alloc: Global,
-    jobs: &mut Vec<Job>,
-    outcomes: &mut Vec<Outcome<u8>>,
-    word: &str,
-) -> Option<()> {
+fn add_told(alloc: Global, all: &mut Claims, word: &str) -> Option<()> {
     let (name, digits) = parts(word);
     match told(alloc, name, digits).ok()? {
-        Some(outcome) => outcomes.push(outcome).ok(),
-        None => jobs.push(job(jobs.len(), call(name)?)).ok(),
+        Some(outcome) => all.outcomes.push(outcome).ok(),
+        None => all.jobs.push(job(all.jobs.len(), call(name)?)).ok(),
     }
+}
+
+/// What these words tell.
+fn claims_of(alloc: Global, words: &str) -> Option<Claims> {
+    let mut all = Claims {
+        jobs: Vec::new(alloc),
+        outcomes: Vec::new(alloc),
+    };
+    for word in words.split_ascii_whitespace() {
+        add_told(alloc, &mut all, word)?;
+    }
+    Some(all)
 }
 
 /// Whether what is told of jobs stands, of so many workers with so many tries.
@@ -139,12 +153,16 @@ fn stands(
     tries: u32,
     words: &str,
 ) -> Option<bool> {
-    let mut jobs = Vec::new(alloc);
-    let mut outcomes = Vec::new(alloc);
-    for word in words.split_ascii_whitespace() {
-        add_told(alloc, &mut jobs, &mut outcomes, word)?;
-    }
-    audit(alloc, engine.history(), &jobs, &outcomes, workers, tries).ok()
+    let claims = claims_of(alloc, words)?;
+    audit(
+        alloc,
+        engine.history(),
+        &claims.jobs,
+        &claims.outcomes,
+        workers,
+        tries,
+    )
+    .ok()
 }
 
 /// Whether what a line tells stands where the line is `right`, and does not where it is `wrong`.
@@ -255,6 +273,7 @@ wrong 2 1 <- balance untaken balance untaken balance untaken",
 #[test]
 fn outcomes_agree_with_the_history(rt: HostRuntime) {
     for (what, deeds, table) in &ROWS {
-        assert_eq!(rt; first_wrong_after(rt.alloc(), deeds, table), "", "{what}");
+        let wrong = first_wrong_after(rt.alloc(), deeds, table);
+        assert!(rt; wrong.is_empty(), "{what}: {wrong}");
     }
 }

@@ -8,4 +8,4 @@ walk-requires g c =
 
 pub walk-requires-2 : goal.walk-requires-2
 walk-requires-2 g c =
-    record { few = occurs_below 32 c.as_slice-4.result.now 31 (omega arith) (rw c.as_slice-4.ensures c.forward_pairs-links.ensures) }
+    record { few = occurs_below 32 c.as_slice-2.result.now 31 (omega arith) (rw c.as_slice-2.ensures c.forward_pairs-links.ensures) }
