@@ -6,7 +6,7 @@ use Rattle.std.proofs.lemmas.Grind.{common_steps}
 use Rattle.std.proofs.lemmas.Bool.{false≢true, cases_Bool, le-leb}
 use Rattle.std.proofs.lemmas.Bool.Decides.{nat_tests, eqb_tells}
 use Rattle.sgt_stream.proofs.Breaks.{no_break-append}
-use Rattle.sgt_stream.specs.Lines.{has_break, whole_lines, unended, last_line, lines, is_short, long_line, counted, before_long, ending_of, AtEnd, AtLongLine, AtLimit, cut_within}
+use Rattle.sgt_stream.specs.Lines.{has_break, whole_lines, unended, last_line, lines, is_short, long_line, counted, before_long, ending_of, AtLongLine, AtLimit, cut_within}
 
 -- a text without a byte 10 has no whole line
 pub whole_lines-none : (bytes : List ℕ) → has_break bytes ≡ false → whole_lines bytes ≡ []

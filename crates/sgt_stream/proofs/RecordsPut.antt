@@ -1,22 +1,17 @@
 -- Record lines that are put one after another.
-use Rattle.std.proofs.Common.{◌≡◌, ◌≢◌, ℕ, ◌+◌, true, false, List, [], ◌∷◌, ◌++◌, length, refl, ap, sym, ◌∙◌, arith, subst, inl, inr, ◌⊎◌, append_assoc, append-nil}
+use Rattle.std.proofs.Common.{◌≡◌, ℕ, ◌+◌, true, false, List, [], ◌∷◌, ◌++◌, length, refl, ap, sym, ◌∙◌, arith, subst, inl, inr, ◌⊎◌, append_assoc, append-nil}
 use Rattle.std.proofs.lemmas.Bool.{le-leb}
 use Rattle.std.proofs.lemmas.List.{length-append}
-use Rattle.std.specs.Prelude.{Option, None, Some, Result, Ok, Err, ⊤, Bool, cond, if◌then◌else◌, take, IfSome, IsSome, IsNone}
+use Rattle.std.specs.Prelude.{Option, None, Some, ⊤, Bool, cond, if◌then◌else◌, take, IfSome, IsSome, IsNone}
 use Rattle.std.specs.Option.{is_some, option_map}
-use Rattle.std.proofs.lemmas.Grind.{common_steps}
 use Rattle.std.specs.Io.KnownBytes.{Consumes, Keeps, prepend_known}
 use Rattle.sgt_model.specs.Contents.{Key, Contents, key_eq, put_in}
-use Rattle.sgt_format.specs.RecordLines.{record_line_of, record_of}
-use Rattle.sgt_format.specs.FilledOpenings.{AreRecordLines, leading_records, behind_records, led_by, from_other, put_record, put_records, put_new, and_then_put}
+use Rattle.sgt_format.specs.RecordLines.{record_line_of}
+use Rattle.sgt_format.specs.FilledOpenings.{AreRecordLines, leading_records, behind_records, led_by, from_other, put_record, put_records, and_then_put}
 use Rattle.sgt_format.specs.declared.record_line.RecordLine.{RecordLine}
-use Rattle.sgt_format.specs.declared.record_line.Record.{Record}
-use Rattle.sgt_stream.specs.declared.fault.Fault.{Fault}
-use Rattle.sgt_stream.specs.declared.fault.Fault.TheVariants as fault
 use Rattle.sgt_stream.specs.Lines.{Cut, before_long, cut_within, ending_of, has_break, long_line, unended, whole_lines, Ending, AtEnd, AtLongLine}
-use Rattle.sgt_stream.specs.Intake.{Intake, IsGiven, IsLong, Gives, EndsAs, Explains, NoLineCame, bytes_left, cut_left, taken}
-use Rattle.sgt_stream.specs.Ends.{IsOfInput}
-use Rattle.sgt_stream.specs.Records.{ArePassed, GivesRecord, LeadsNone, IsAhead, Stays, Leaves, LeavesCut, IsBadRecord, Passes, PutsNew, CantPut, ReadsRecords}
+use Rattle.sgt_stream.specs.Intake.{Intake, IsGiven, IsLong, Gives, EndsAs, NoLineCame, bytes_left, cut_left, taken}
+use Rattle.sgt_stream.specs.Records.{ArePassed, GivesRecord, LeadsNone, IsAhead, Passes, PutsNew, ReadsRecords}
 use Rattle.sgt_stream.proofs.Cuts.{whole_lines-first}
 use Rattle.sgt_stream.proofs.Given.{after-give, ends-at-long}
 

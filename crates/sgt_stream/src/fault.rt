@@ -2,58 +2,43 @@ ghost use Rattle.std.specs.Prelude.{◌≡◌};
 ghost use Rattle.sgt_stream.specs.declared.fault.Fault.TheVariants as fault;
 
 use crate::misfit::Misfit;
+use std::fmt;
 use thiserror::Error;
 
 /// How a run can end before its end. Lines are numbered from 1, and the opening is line 1.
-#[derive(Debug, Drop, PartialEq, Eq, Error)]
+#[derive(Debug, Drop, Error)]
 pub enum Fault {
     /// The input is empty.
-    #[error("line 1: no opening")]
     NoOpening,
     /// The line is no JSON text.
-    #[error("line {0}: not JSON")]
     NotJson(u64),
     /// The line's JSON text is no opening, or no event.
-    #[error("line {0}: bad line")]
     BadLine(u64),
     /// The line puts a record whose key or value is out of range, or whose key has a value already.
-    #[error("line {0}: bad record")]
     BadRecord(u64),
     /// A limit of the opening is out of its range.
-    #[error("line 1: bad limits")]
     BadLimits,
     /// An account of the opening is refused, with the number of the kind of its fault.
-    #[error("line 1: bad opening {0}")]
     BadOpening(u8),
     /// The procedure of this number in the opening spells none, and its first misfit is at this place.
-    #[error("line 1: procedure {0} shape {1}")]
     ProcShape(u64, Misfit),
     /// The procedure of this number in the opening has a flaw, and this is the number of the least.
-    #[error("line 1: procedure {0} flaw {1}")]
     ProcFlaw(u64, u8),
     /// The line is longer than 65,536 bytes without its byte 10.
-    #[error("line {0}: long line")]
     LongLine(u64),
     /// The input is longer than 16,777,216 bytes.
-    #[error("input too long")]
     TooLong,
     /// There are more than 1,000,000 jobs.
-    #[error("too many jobs")]
     TooManyJobs,
     /// A thread could not be started for each worker.
-    #[error("workers not started")]
     Spawn,
     /// What the workers were told is not what the history says.
-    #[error("receipts differ")]
     Mismatch,
     /// A read failed.
-    #[error("reading failed")]
     Reading,
     /// A write failed, or took nothing.
-    #[error("writing failed")]
     Writing,
     /// A growth was refused.
-    #[error("no memory")]
     NoMemory,
 }
 
@@ -62,5 +47,55 @@ impl From<sgt_model::NoMemory> for Fault {
 
     fn from(_: sgt_model::NoMemory) -> Self {
         Fault::NoMemory
+    }
+}
+
+impl Fault {
+    // The line that it names.
+    fn line(&self) -> Option<u64> {
+        match self {
+            Fault::NotJson(line) => Some(*line),
+            Fault::BadLine(line) => Some(*line),
+            Fault::BadRecord(line) => Some(*line),
+            Fault::LongLine(line) => Some(*line),
+            _ => None,
+        }
+    }
+
+    // What it tells behind that line, and before what else it names.
+    fn words(&self) -> &'static str {
+        match self {
+            Fault::NoOpening => "line 1: no opening",
+            Fault::NotJson(_) => "not JSON",
+            Fault::BadLine(_) => "bad line",
+            Fault::BadRecord(_) => "bad record",
+            Fault::BadLimits => "line 1: bad limits",
+            Fault::BadOpening(_) => "line 1: bad opening ",
+            Fault::ProcShape(_, _) => "line 1: procedure ",
+            Fault::ProcFlaw(_, _) => "line 1: procedure ",
+            Fault::LongLine(_) => "long line",
+            Fault::TooLong => "input too long",
+            Fault::TooManyJobs => "too many jobs",
+            Fault::Spawn => "workers not started",
+            Fault::Mismatch => "receipts differ",
+            Fault::Reading => "reading failed",
+            Fault::Writing => "writing failed",
+            Fault::NoMemory => "no memory",
+        }
+    }
+}
+
+impl fmt::Display for Fault {
+    fn fmt<W: fmt::Write>(&self, f: &mut fmt::Formatter<W>) -> fmt::Result {
+        if let Some(line) = self.line() {
+            write!(f, "line {line}: ")?;
+        }
+        f.write_str(self.words())?;
+        match self {
+            Fault::BadOpening(kind) => write!(f, "{kind}"),
+            Fault::ProcShape(number, place) => write!(f, "{number} shape {place}"),
+            Fault::ProcFlaw(number, flaw) => write!(f, "{number} flaw {flaw}"),
+            _ => Ok(()),
+        }
     }
 }

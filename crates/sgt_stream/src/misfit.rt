@@ -1,6 +1,4 @@
 ghost use Rattle.std.specs.Prelude.{◌≡◌, IfOk};
-ghost use Rattle.std.proofs.Common.{rules};
-ghost use Rattle.std.specs.Cmp.Rules.{comparing};
 
 use sgt_proc_json::Place;
 use std::alloc::{AllocError, Global};
@@ -48,18 +46,4 @@ impl fmt::Display for Misfit {
     fn fmt<W: fmt::Write>(&self, f: &mut fmt::Formatter<W>) -> fmt::Result {
         self.place.fmt(f)
     }
-}
-
-impl PartialEq for Misfit {
-    ghost eq = { ⟦<Place as PartialEq>⟧.eq };
-
-    ghost laws = { Prim.search (comparing, rules) };
-
-    fn eq(&self, other: &Self) -> bool {
-        self.place() == other.place()
-    }
-}
-
-impl Eq for Misfit {
-    ghost laws = { Prim.search (comparing, rules) };
 }

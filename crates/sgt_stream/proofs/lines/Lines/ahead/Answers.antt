@@ -1,6 +1,5 @@
 use Rattle.std.proofs.Common.{rules, ◌≡◌, ◌<◌, ◌≤◌, false, take, length, ap, sym, ◌∙◌, subst, inl, arith}
 use Rattle.std.specs.Prelude.{Some}
-use Rattle.std.proofs.lemmas.Grind.{common_steps}
 use Rattle.sgt_stream.specs.Lines.{IsBreak}
 use Rattle.sgt_stream.specs.Intake.{Intake, IsGiven, IsLong, IsReady}
 use Rattle.sgt_stream.proofs.Breaks.{long-found}
