@@ -7,3 +7,4 @@ pub mod Told
 pub mod Crossing
 pub mod Nexts
 pub mod Zips
+pub mod RowFacts

@@ -1,7 +1,9 @@
 -- The table of transactions after one entry more.
-use Rattle.std.proofs.Common.{◌≡◌, ◌≢◌, ℕ, zero, suc, ◌+◌, ◌<◌, ◌≤◌, ℤ, false, cond, ◌⊎◌, nat_eq, List, [], ◌∷◌, ◌++◌, length, length-append, Option, Some, None, refl, sym, ap, ap₂, subst, inl, inr, ◌∙◌, arith, slice_get}
+use Rattle.std.proofs.Common.{◌≡◌, ◌≢◌, ℕ, zero, suc, ◌+◌, ◌<◌, ◌≤◌, ℤ, Bool, true, false, cond, ◌||◌, ◌⊎◌, nat_eq, get_or, take, List, [], ◌∷◌, ◌++◌, length, length-append, Option, Some, None, refl, sym, ap, ap₂, subst, inl, inr, ◌∙◌, arith, slice_get}
 use Rattle.std.proofs.lemmas.Bool.{true≢false, eq-eqb, ne_eqb}
 use Rattle.std.proofs.lemmas.Option.{none-some, same_Some, slice_get_cases, slice_get_past}
+use Rattle.std.proofs.lemmas.List.Folds.{list_any_more}
+use Rattle.std.specs.List.{list_any}
 use Rattle.std.specs.Option.{is_some, option_map, option_or, unwrap_or}
 use Rattle.sgt_model.specs.declared.event.Event.TheVariants.{Start}
 use Rattle.sgt_model.specs.declared.reply.Reply.{Reply}
@@ -18,7 +20,7 @@ use Rattle.sgt_model.proofs.Room.{starts_or_not}
 use Rattle.sgt_audit.specs.declared.lives.Life.{Life}
 use Rattle.sgt_audit.specs.Spans.{starts_as, started_at, ended_at}
 use Rattle.sgt_audit.specs.Outcomes.{has_failed}
-use Rattle.sgt_audit.specs.Lives.{IsLife, AreLives, life_after, with_started}
+use Rattle.sgt_audit.specs.Lives.{IsLife, AreLives, ended_life, life_after, with_started}
 
 starts_not : (r : Reply) (t : ℕ) → is_start r ≡ false → starts_as r t ≡ false
 starts_not (reply.Started u) t e = absurd (true≢false e)
@@ -169,3 +171,25 @@ lives_started_by s past e lives t legal reply_legal is are = elim (starts_or_not
       (lives_started s past e lives legal b.procedure b.args b.event_is b.reply_is are)
   | inr not_one ↦ absurd (true≢false (sym (ap is_start is) ∙ not_one))
 ]
+
+ended_twice : (number : ℕ) (a b : Bool) (old : Option Life)
+    → option_map (λ life. cond b (ended_life number true life) life) (option_map (λ life. cond a (ended_life number true life) life) old)
+    ≡ option_map (λ life. cond (a || b) (ended_life number true life) life) old
+ended_twice number a b None = refl
+ended_twice number true true (Some life) = refl
+ended_twice number true false (Some life) = refl
+ended_twice number false true (Some life) = refl
+ended_twice number false false (Some life) = refl
+
+-- the row of t once the first of those that fell are ended, and once x is ended too, which is the next
+pub fallen_more : (number : ℕ) (fell : List ℕ) (i x t : ℕ) (old mid new : Option Life) → i < length fell → x ≡ get_or fell i x
+    → mid ≡ option_map (λ life. cond (list_any (λ u. nat_eq u t) (take i fell)) (ended_life number true life) life) old
+    → new ≡ option_map (λ life. cond (nat_eq x t) (ended_life number true life) life) mid
+    → new ≡ option_map (λ life. cond (list_any (λ u. nat_eq u t) (take (i + 1) fell)) (ended_life number true life) life) old
+fallen_more number fell i x t old mid new within is before after =
+    let fallen = list_any (λ u. nat_eq u t) (take i fell) in
+    let more : list_any (λ u. nat_eq u t) (take (i + 1) fell) ≡ (fallen || nat_eq x t) = list_any_more (λ u. nat_eq u t) fell i x within
+    ∙ ap (λ y. fallen || nat_eq y t) (sym is) in
+    after ∙ (ap (option_map (λ life. cond (nat_eq x t) (ended_life number true life) life)) before
+    ∙ (ended_twice number fallen (nat_eq x t) old
+    ∙ ap (λ b. option_map (λ life. cond b (ended_life number true life) life) old) (sym more)))

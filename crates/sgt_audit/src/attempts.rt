@@ -3,7 +3,7 @@ ghost use Rattle.std.specs.Prelude.{◌≡◌, ◌↔◌, ℕ, ◌+◌, ◌<◌,
 ghost use Rattle.std.specs.List.{All};
 ghost use Rattle.sgt_model.specs.declared.entry.Entry.{Entry as E};
 ghost use Rattle.sgt_audit.specs.Lives.{AreLives};
-ghost use Rattle.sgt_audit.specs.Spans.{started_at, ended_at, EndsBefore};
+ghost use Rattle.sgt_audit.specs.Spans.{EndsBefore};
 ghost use Rattle.sgt_audit.specs.Outcomes.{call_for, IsOf, IsFailed, GaveUp};
 
 use crate::lives::Life;
@@ -78,31 +78,14 @@ fn are_in_turn(lives: &[Life], attempts: &[Tid]) -> bool
 fn follows(lives: &[Life], first: Tid, second: Tid) -> bool
     ensures { (past : List E) → AreLives past lives.now → (IsTrue result ↔ EndsBefore past first second) }
 {
-    let Some(ended) = ended_at(lives, first) else {
+    let Some(first) = lives.get(first.0 as usize) else {
         return false;
     };
-    let Some(started) = started_at(lives, second) else {
+    let Some(second) = lives.get(second.0 as usize) else {
         return false;
     };
-    ended < started
-}
-
-/// The entry that started the transaction, if one did.
-fn started_at(lives: &[Life], t: Tid) -> Option<usize>
-    ensures { (past : List E) → AreLives past lives.now → result ≡ started_at past t }
-{
-    match lives.get(t.0 as usize) {
-        Some(life) => Some(life.started),
-        None => None,
-    }
-}
-
-/// The entry that ended the transaction, if one did.
-fn ended_at(lives: &[Life], t: Tid) -> Option<usize>
-    ensures { (past : List E) → AreLives past lives.now → result ≡ ended_at past t }
-{
-    match lives.get(t.0 as usize) {
-        Some(life) => life.ended,
-        None => None,
+    match first.ended {
+        Some(ended) => ended < second.started,
+        None => false,
     }
 }

@@ -13,7 +13,7 @@ use sgt_model::{Args, Event, NoMemory, Tid};
 use std::alloc::Global;
 
 /// What a history says of one transaction.
-#[derive(Debug, Drop)]
+#[derive(Drop)]
 pub struct Life {
     /// Its procedure and arguments.
     pub procedure: u16,

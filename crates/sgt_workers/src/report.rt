@@ -1,4 +1,5 @@
-ghost use Rattle.std.specs.Prelude.{◌≡◌, IfOk, IfErr, reverse};
+ghost use Rattle.std.specs.Prelude.{◌≡◌, IfOk, IfErr, OnOk, reverse};
+ghost use Rattle.sgt_audit.specs.AllOutcomes.{OutcomesStand};
 ghost use Rattle.sgt_engine.specs.EngineView.{setting_of};
 ghost use Rattle.sgt_workers.specs.Crews.{IsRunError};
 ghost use Rattle.sgt_workers.specs.Reports.{IsReportOf};
@@ -45,17 +46,35 @@ pub fn report_of<R: Records, A: Accesses, G: Graph, X: Drop>(
     let Ok(database) = engine.database(alloc) else {
         return Err(PoolError::NoMemory);
     };
+    test_outcomes(alloc, &engine, jobs, outcomes.as_slice(), workers, tries)?;
     let Past { opening, history } = engine.into_past();
-    let Ok(stands) = audit(alloc, &history, jobs, outcomes.as_slice(), workers, tries) else {
-        return Err(PoolError::NoMemory);
-    };
-    if !stands {
-        return Err(PoolError::Mismatch);
-    }
     Ok(Report {
         opening,
         history,
         outcomes,
         database,
     })
+}
+
+/// Tests whether the outcomes stand in the history of the engine.
+///
+/// `Mismatch` where one does not; `NoMemory` where a growth was refused.
+fn test_outcomes<R: Records, A: Accesses, G: Graph, X: Drop>(
+    alloc: Global,
+    engine: &Engine<R, A, G>,
+    jobs: &[Job],
+    outcomes: &[Outcome<X>],
+    workers: u32,
+    tries: u32,
+) -> Result<(), PoolError>
+    ensures stand { OnOk result (OutcomesStand (reverse engine.now.past) jobs.now outcomes.now workers tries) }
+    ensures error { IfErr result IsRunError }
+{
+    let Ok(stands) = audit(alloc, engine.history(), jobs, outcomes, workers, tries) else {
+        return Err(PoolError::NoMemory);
+    };
+    if !stands {
+        return Err(PoolError::Mismatch);
+    }
+    Ok(())
 }

@@ -76,19 +76,36 @@ fn run_bank<R: Records, A: Accesses, G: Graph, T: Gate + Sync, W: Threads + Wait
     ensures setting { IfOk result (λ r. made_with r.0 ≡ engine_setting bank) }
     ensures error { IfErr result IsRunError }
 {
+    let outcomes = Mutex::new(all_untaken::<T::Note>(alloc, jobs.len())?);
     let Bank {
         opening,
         procedures,
         limits,
     } = bank;
-    let Ok(engine) = Engine::<R, A, G>::new(alloc, opening, procedures, limits) else {
+    let Ok(mut engine) = Engine::<R, A, G>::new(alloc, opening, procedures, limits) else {
         return Err(PoolError::NoMemory);
     };
+    // With room ahead no list is moved while several threads run, which each of their processors would be stopped for. Where it
+    // is refused the lists grow as they need.
+    let calls = jobs.len().saturating_mul(CALLS_OF_A_JOB);
+    let _ = engine.reserve(calls);
     let blank = Blank::new(u64::from(workers));
-    run_named::<Brand, R, A, G, T, W>(rt, alloc, engine, blank, jobs, workers as u16, tries, gate)
+    let engine = run_named::<Brand, R, A, G, T, W>(
+        rt,
+        alloc,
+        engine,
+        blank,
+        &outcomes,
+        jobs,
+        workers as u16,
+        tries,
+        calls,
+        gate,
+    )?;
+    Ok((engine, outcomes.into_inner()))
 }
 
-/// The same, where the engine has a name.
+/// The engine that the jobs were run on, where it has a name, and room for so many calls.
 fn run_named<
     N: Named + Send + Sync,
     R: Records,
@@ -101,29 +118,25 @@ fn run_named<
     alloc: Global,
     engine: Engine<R, A, G>,
     blank: Blank,
+    outcomes: &Mutex<Vec<Outcome<T::Note>>>,
     jobs: &[Job],
     workers: u16,
     tries: u32,
+    calls: usize,
     gate: &T,
-) -> Result<(Engine<R, A, G>, Vec<Outcome<T::Note>>), PoolError>
+) -> Result<Engine<R, A, G>, PoolError>
     requires engine { (made_with engine ≡ N.setting) × (engine.past ≡ []) }
     requires blank { (blank.name ≡ N.name) × (blank.parts ≡ N.parts) × (blank.parts ≡ workers) × (N.sessions ≡ workers) }
     requires workers { AreWorkers workers }
-    ensures setting { IfOk result (λ r. made_with r.0 ≡ N.setting) }
+    ensures setting { IfOk result (λ e. made_with e ≡ N.setting) }
     ensures error { IfErr result IsRunError }
 {
-    let outcomes = Mutex::new(all_untaken::<T::Note>(alloc, jobs.len())?);
-    // With room ahead no list is moved while several threads run, which each of their processors would be stopped for. Where it
-    // is refused the lists grow as they need.
-    let calls = jobs.len().saturating_mul(CALLS_OF_A_JOB);
-    let mut engine = engine;
-    let _ = engine.reserve(calls);
     let Ok((shared, sessions)) = Shared::<N, R, A, G>::new(alloc, engine, blank, workers) else {
         return Err(PoolError::NoMemory);
     };
     let calls = calls / usize::from(workers);
     let sessions = run_sessions(
-        rt, alloc, &shared, gate, &outcomes, jobs, tries, calls, sessions,
+        rt, alloc, &shared, gate, outcomes, jobs, tries, calls, sessions,
     )?;
     let Ok(
         Closed {
@@ -134,7 +147,7 @@ fn run_named<
     else {
         return Err(PoolError::Mismatch);
     };
-    Ok((engine, outcomes.into_inner()))
+    Ok(engine)
 }
 
 /// An outcome for each job, which nobody has taken yet.

@@ -1,7 +1,12 @@
-use Rattle.std.proofs.Common.{◌+◌, arith}
+use Rattle.std.proofs.Common.{◌+◌, refl, ap, ◌∙◌, arith}
+use Rattle.std.specs.List.{count_by}
+use Rattle.std.proofs.lemmas.List.{take_all}
 use Rattle.sgt_audit.specs.AllOutcomes.{is_done, is_left, is_untaken, is_no_memory}
 use Rattle.sgt_audit.proofs.Nexts.{added, few}
 use Rattle.sgt_audit.proofs.counts.kinds_of.Goals as goal
+
+pub loop-outcome-init : goal.loop-outcome-init
+loop-outcome-init g c = record { done = refl; left = refl; untaken = refl; no_memory = refl }
 
 pub overflow_add-kinds : goal.overflow_add-kinds
 overflow_add-kinds g c =
@@ -45,3 +50,19 @@ loop-outcome-preserved g c =
       untaken = added is_untaken xs i x within c.outcome-item.is so.untaken one.untaken;
       no_memory = added is_no_memory xs i x within c.outcome-item.is so.no_memory one.no_memory;
     }
+
+pub returns-clause-done : goal.returns-clause-done
+returns-clause-done g c = c.loop-outcome.invariant.done
+    ∙ ap (count_by is_done) (take_all c.loop-outcome.outcome-index c.args.outcomes.now c.loop-outcome-test.false)
+
+pub returns-clause-left : goal.returns-clause-left
+returns-clause-left g c = c.loop-outcome.invariant.left
+    ∙ ap (count_by is_left) (take_all c.loop-outcome.outcome-index c.args.outcomes.now c.loop-outcome-test.false)
+
+pub returns-clause-untaken : goal.returns-clause-untaken
+returns-clause-untaken g c = c.loop-outcome.invariant.untaken
+    ∙ ap (count_by is_untaken) (take_all c.loop-outcome.outcome-index c.args.outcomes.now c.loop-outcome-test.false)
+
+pub returns-clause-no_memory : goal.returns-clause-no_memory
+returns-clause-no_memory g c = c.loop-outcome.invariant.no_memory
+    ∙ ap (count_by is_no_memory) (take_all c.loop-outcome.outcome-index c.args.outcomes.now c.loop-outcome-test.false)

@@ -1,7 +1,7 @@
 use Rattle.std.proofs.Common.{◌≡◌, ◌++◌, take, sym, ap, ◌∙◌}
 use Rattle.std.specs.List.{flat_map}
 use Rattle.std.specs.Option.{option_to_list}
-use Rattle.std.proofs.lemmas.List.{append-nil}
+use Rattle.std.proofs.lemmas.List.{append-nil, take_all}
 use Rattle.sgt_audit.specs.AllOutcomes.{entries_of}
 use Rattle.sgt_audit.proofs.Nexts.{flat_map_next}
 use Rattle.sgt_audit.proofs.names.entries_named.Goals.{in-Some+in_ok-push, in_default}
@@ -19,3 +19,7 @@ loop-outcome-preserved g c =
     added ∙ (ap (λ l. l ++ option_to_list c.entry_of.result) c.loop-outcome.invariant
     ∙ (ap (λ l. flat_map entries_of (take i xs) ++ l) c.entry_of.ensures
     ∙ sym (flat_map_next entries_of xs i c.outcome-item.result c.loop-outcome-test.true c.outcome-item.is)))
+
+pub returns : goal.returns
+returns g c = c.loop-outcome.invariant
+    ∙ ap (flat_map entries_of) (take_all c.loop-outcome.outcome-index c.args.outcomes.now c.loop-outcome-test.false)

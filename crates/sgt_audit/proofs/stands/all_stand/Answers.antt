@@ -1,4 +1,5 @@
-use Rattle.std.proofs.Common.{◌<◌, length, sym, subst, ◌∙◌}
+use Rattle.std.proofs.Common.{◌≡◌, ◌<◌, [], length, drop, refl, sym, subst, ◌∙◌, arith}
+use Rattle.std.proofs.lemmas.List.{drop_all}
 use Rattle.std.proofs.lemmas.Bool.{false≢true}
 use Rattle.sgt_audit.specs.Outcomes.{OutcomeStands}
 use Rattle.sgt_audit.proofs.Zips.{same_length, zip_put, zip_cut}
@@ -34,3 +35,13 @@ loop-i-preserved g c =
       λ all. (zip_cut stand c.args.jobs.now c.args.outcomes.now c.loop-i.i job outcome in_jobs in_outcomes
           c.index-jobs-i.is c.index-outcomes-i.is (c.loop-i.invariant.1 all)).1,
     )
+
+pub loop-i-init : goal.loop-i-init
+loop-i-init g c = ((λ all. all), λ all. all)
+
+pub returns : goal.returns
+returns g c =
+    let no_job : drop c.loop-i.i c.args.jobs.now ≡ [] = drop_all c.loop-i.i c.args.jobs.now (omega (arith, c.loop-i-test.false)) in
+    let no_outcome : drop c.loop-i.i c.args.outcomes.now ≡ [] = drop_all c.loop-i.i c.args.outcomes.now
+    (omega (arith, c.loop-i-test.false, c.if-jobs-outcomes.false)) in
+    ((λ t. c.loop-i.invariant.0 (rw (no_job, no_outcome) tt)), λ all. refl)

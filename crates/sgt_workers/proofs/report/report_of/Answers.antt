@@ -1,11 +1,39 @@
-use Rattle.std.proofs.Common.{sym, subst}
+use Rattle.std.proofs.Common.{◌≡◌, ◌∙◌, List, reverse, ap, sym, subst}
+use Rattle.std.proofs.lemmas.List.{reverse-reverse}
+use Rattle.sgt_model.specs.declared.entry.Entry.{Entry}
+use Rattle.sgt_model.specs.Aborts.{AbortsHaveCause}
+use Rattle.sgt_model.specs.CommitOrder.{CommitsInOrder}
+use Rattle.sgt_model.specs.Databases.{contents_of}
 use Rattle.sgt_model.specs.Legality.{Legal}
+use Rattle.sgt_model.specs.Pairs.{Pair}
+use Rattle.sgt_model.specs.Replay.{folded, IsSerializable}
+use Rattle.sgt_model.specs.Values.{settled}
+use Rattle.sgt_model.specs.Walks.{Acyclic}
 use Rattle.sgt_engine.specs.EngineView.{setting_of}
+use Rattle.sgt_audit.specs.AllOutcomes.{OutcomesStand}
 use Rattle.sgt_workers.proofs.report.report_of.Goals as goal
 
-pub audit-requires : goal.audit-requires
-audit-requires g c =
-    let s = setting_of c.args.engine in (
-      s,
-      subst (λ past. Legal s past) (sym c.into_past-opening.ensures.entries) c.into_past-opening.ensures.legal,
-    )
+pub returns-clause-report : goal.returns-clause-report
+returns-clause-report g c =
+    let s = setting_of c.args.engine in
+    let past = c.into_past-opening.ensures in
+    let h = c.into_past-opening.result.history.entries in
+    let is = sym past.entries in
+    let stand : OutcomesStand h c.args.jobs.now c.args.outcomes.items c.args.workers c.args.tries =
+    subst (λ (l : List Entry). OutcomesStand l c.args.jobs.now c.args.outcomes.items c.args.workers c.args.tries)
+    (ap reverse is ∙ reverse-reverse h)
+    (subst (λ o. OutcomesStand (reverse c.args.engine.past) c.args.jobs.now o c.args.workers c.args.tries) c.as_slice.ensures.value
+    c.in_ok-test_outcomes.ensures.stand) in
+    record {
+      opening = λ k. ap (λ o. contents_of o k) past.opening;
+      legal = subst (λ l. Legal s l) is past.legal;
+      outcomes = stand;
+      all_ended = stand.all_ended;
+      values = λ k. subst (λ l. contents_of c.in-Ok.database k ≡ settled s.opening l k) is (c.in-Ok.ensures.values k);
+      replayed = λ k. subst (λ l. contents_of c.in-Ok.database k ≡ (folded s l).last k) is (c.in-Ok.ensures.replayed k);
+      by_key = c.in-Ok.ensures.by_key;
+      replay = subst (λ l. IsSerializable s l) is past.replay;
+      no_cycle = subst (λ l. Acyclic (Pair l)) is past.no_cycle;
+      causes = subst (λ l. AbortsHaveCause s l) is past.causes;
+      order = subst (λ l. CommitsInOrder l) is past.order;
+    }
