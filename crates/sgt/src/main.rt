@@ -45,110 +45,147 @@ Usage: sgt <COMMAND>
 
 For more information, try '--help'.";
 
-/// The option that has a run written as a history.
-fn history_flag<'a>(alloc: Global, help: &'a str) -> Arg<'a> {
-    Arg::new(alloc, "history")
-        .long("history")
+/// An option that is given or not.
+fn flag<'a>(alloc: Global, name: &'a str, help: &'a str) -> Arg<'a> {
+    Arg::new(alloc, name)
+        .long(name)
         .help(help)
         .action(ArgAction::SetTrue)
 }
 
-/// The option that has the database written alone, as records.
-fn records_flag<'a>(alloc: Global, help: &'a str) -> Result<Arg<'a>, AllocError> {
-    Arg::new(alloc, "records")
-        .long("records")
+/// An option that takes a number from 1 to the most.
+fn number_option<'a>(
+    alloc: Global,
+    name: &'a str,
+    help: &'a str,
+    most: u32,
+    default: &'a str,
+) -> Arg<'a> {
+    Arg::new(alloc, name)
+        .long(name)
         .help(help)
-        .action(ArgAction::SetTrue)
-        .conflicts_with("history")
+        .value_parser(ValueParser::unsigned(1, u64::from(most)))
+        .default_value(default)
 }
 
-/// The option that has more told of a run than it writes.
-fn explain_flag<'a>(alloc: Global, help: &'a str) -> Result<Arg<'a>, AllocError> {
-    Arg::new(alloc, "explain")
-        .long("explain")
-        .help(help)
-        .action(ArgAction::SetTrue)
-        .conflicts_with("history")?
-        .conflicts_with("records")
+/// Adds the options of a run: to have it written as a history, to have the database written alone, as records, and to have more told of
+/// it than it writes.
+fn add_run_options<'a>(
+    alloc: Global,
+    options: &mut Vec<Arg<'a>>,
+    history: &'a str,
+    records: &'a str,
+    explain: &'a str,
+) -> Result<(), AllocError> {
+    options.push(flag(alloc, "history", history))?;
+    options.push(flag(alloc, "records", records).conflicts_with("history")?)?;
+    let explain = flag(alloc, "explain", explain).conflicts_with("history")?;
+    options.push(explain.conflicts_with("records")?)?;
+    Ok(())
 }
 
-/// The words of `sgt script`.
-fn script_command<'a>(alloc: Global) -> Result<Command<'a>, AllocError> {
-    Command::new(alloc, "script")
-        .about("Runs a script: an opening and then events, a JSON line each, from standard input")
-        .after_help(SCRIPT_HELP)
-        .arg(history_flag(
-            alloc,
-            "In place of the replies, writes the run as a history, for 'sgt check'",
-        ))?
-        .arg(records_flag(
-            alloc,
-            "In place of the replies, writes the committed database as records",
-        )?)?
-        .arg(explain_flag(
-            alloc,
-            "Tells on standard error why transactions are aborted, and what is wrong with a faulty line",
-        )?)
+/// The options of `sgt script`.
+fn script_options<'a>(alloc: Global) -> Result<Vec<Arg<'a>>, AllocError> {
+    let mut options = Vec::new(alloc);
+    add_run_options(
+        alloc,
+        &mut options,
+        "In place of the replies, writes the run as a history, for 'sgt check'",
+        "In place of the replies, writes the committed database as records",
+        "Tells on standard error why transactions are aborted, and what is wrong with a faulty line",
+    )?;
+    Ok(options)
 }
 
-/// The words of `sgt bank`.
-fn bank_command<'a>(alloc: Global) -> Result<Command<'a>, AllocError> {
-    let workers = Arg::new(alloc, "workers")
-        .long("workers")
-        .help("How many jobs run at the same time, from 1 to 16")
-        .value_parser(ValueParser::unsigned(1, u64::from(MOST_WORKERS)))
-        .default_value("4");
-    let tries = Arg::new(alloc, "tries")
-        .long("tries")
-        .help("How often a job is tried before it is given up, from 1 to 1000")
-        .value_parser(ValueParser::unsigned(1, u64::from(MOST_TRIES)))
-        .default_value("100");
-    Command::new(alloc, "bank")
-        .about(
-            "Runs jobs on worker threads: an opening and then jobs, a JSON line each, from standard input",
-        )
-        .after_help(BANK_HELP)
-        .arg(workers)?
-        .arg(tries)?
-        .arg(history_flag(
-            alloc,
-            "In place of the outcomes, writes the run as a history, for 'sgt check'",
-        ))?
-        .arg(records_flag(
-            alloc,
-            "In place of the outcomes, writes the committed database as records",
-        )?)?
-        .arg(explain_flag(
-            alloc,
-            "Tells on standard error how often each job was tried, and what is wrong with a faulty line",
-        )?)
+/// The options of `sgt bank`.
+fn bank_options<'a>(alloc: Global) -> Result<Vec<Arg<'a>>, AllocError> {
+    let mut options = Vec::new(alloc);
+    options.push(number_option(
+        alloc,
+        "workers",
+        "How many jobs run at the same time, from 1 to 16",
+        MOST_WORKERS,
+        "4",
+    ))?;
+    options.push(number_option(
+        alloc,
+        "tries",
+        "How often a job is tried before it is given up, from 1 to 1000",
+        MOST_TRIES,
+        "100",
+    ))?;
+    add_run_options(
+        alloc,
+        &mut options,
+        "In place of the outcomes, writes the run as a history, for 'sgt check'",
+        "In place of the outcomes, writes the committed database as records",
+        "Tells on standard error how often each job was tried, and what is wrong with a faulty line",
+    )?;
+    Ok(options)
 }
 
-/// The words of `sgt check`.
-fn check_command<'a>(alloc: Global) -> Result<Command<'a>, AllocError> {
-    let graph = Arg::new(alloc, "graph")
-        .long("graph")
-        .help("Writes the serialization graph in DOT, and no report")
-        .action(ArgAction::SetTrue);
-    Command::new(alloc, "check")
-        .about(
-            "Tells whether a history from standard input is serializable, recoverable, and of which other classes",
-        )
-        .after_help(CHECK_HELP)
-        .arg(graph)
+/// The options of `sgt check`.
+fn check_options<'a>(alloc: Global) -> Result<Vec<Arg<'a>>, AllocError> {
+    let mut options = Vec::new(alloc);
+    options.push(flag(
+        alloc,
+        "graph",
+        "Writes the serialization graph in DOT, and no report",
+    ))?;
+    Ok(options)
+}
+
+/// A word behind `sgt`, with its options.
+fn subcommand<'a>(
+    alloc: Global,
+    name: &'a str,
+    about: &'a str,
+    help: &'a str,
+    options: Vec<Arg<'a>>,
+) -> Result<Command<'a>, AllocError> {
+    Command::new(alloc, name)
+        .about(about)
+        .after_help(help)
+        .args(options)
+}
+
+/// The words behind `sgt`.
+fn subcommands<'a>(alloc: Global) -> Result<Vec<Command<'a>>, AllocError> {
+    let mut commands = Vec::new(alloc);
+    commands.push(subcommand(
+        alloc,
+        "script",
+        "Runs a script: an opening and then events, a JSON line each, from standard input",
+        SCRIPT_HELP,
+        script_options(alloc)?,
+    )?)?;
+    commands.push(subcommand(
+        alloc,
+        "bank",
+        "Runs jobs on worker threads: an opening and then jobs, a JSON line each, from standard input",
+        BANK_HELP,
+        bank_options(alloc)?,
+    )?)?;
+    commands.push(subcommand(
+        alloc,
+        "check",
+        "Tells whether a history from standard input is serializable, recoverable, and of which other classes",
+        CHECK_HELP,
+        check_options(alloc)?,
+    )?)?;
+    Ok(commands)
 }
 
 /// The command line. Without a word, and with an unknown one, it tells how to call it.
 fn command<'a>(alloc: Global) -> Result<Command<'a>, AllocError> {
+    let subcommands = subcommands(alloc)?;
     Command::new(alloc, "sgt")
         .about("An in-memory transaction engine that schedules by serialization graph testing")
         .version(VERSION)
         .after_help(HELP)
         .subcommand_required(true)
         .arg_required_else_help(true)
-        .subcommand(script_command(alloc)?)?
-        .subcommand(bank_command(alloc)?)?
-        .subcommand(check_command(alloc)?)
+        .subcommands(subcommands)
 }
 
 /// A number of the options. `clap` gives it a default, and keeps it from 1 to the most.
@@ -203,21 +240,39 @@ fn script<R: Print + Input>(
     stderr: Stderr,
     options: &ArgMatches<'_>,
 ) -> Result<(), Failure> {
+    if options.get_flag("explain") {
+        return explained_script(rt, alloc, stderr);
+    }
+    unexplained(plain_script(rt, alloc, options))
+}
+
+fn plain_script<R: Print + Input>(
+    rt: &R,
+    alloc: Global,
+    options: &ArgMatches<'_>,
+) -> Result<(), Fault> {
     let mut reader = Reader::new(rt.reader());
     let mut writer = Writer::new(io::writer(rt));
-    if options.get_flag("explain") {
-        let mut source = Remembering::new(alloc, reader);
-        let mut errors = Writer::new(stderr);
-        let ran = sgt_script::run_explained(alloc, &mut source, &mut writer, &mut errors);
-        return explained(alloc, sgt_diagnosis::Command::Script, &source, ran);
-    }
-    unexplained(if options.get_flag("history") {
+    if options.get_flag("history") {
         sgt_script::run_history(alloc, &mut reader, &mut writer)
     } else if options.get_flag("records") {
         sgt_script::run_records(alloc, &mut reader, &mut writer)
     } else {
         run_script(alloc, &mut reader, &mut writer)
-    })
+    }
+}
+
+/// The same, and tells on standard error why transactions are aborted.
+fn explained_script<R: Print + Input>(
+    rt: &R,
+    alloc: Global,
+    stderr: Stderr,
+) -> Result<(), Failure> {
+    let mut source = Remembering::new(alloc, Reader::new(rt.reader()));
+    let mut writer = Writer::new(io::writer(rt));
+    let mut errors = Writer::new(stderr);
+    let ran = sgt_script::run_explained(alloc, &mut source, &mut writer, &mut errors);
+    explained(alloc, sgt_diagnosis::Command::Script, &source, ran)
 }
 
 /// Runs the jobs of a bank from standard input to standard output.
@@ -227,20 +282,33 @@ fn bank<R: Print + Eprint + Input + Clock + Threads + Wait + Sync>(
     stderr: Stderr,
     options: &ArgMatches<'_>,
 ) -> Result<(), Failure> {
-    if options.get_flag("explain") {
-        return explained_bank(rt, alloc, stderr, options);
-    }
-    let mut reader = Reader::new(rt.reader());
-    let mut writer = Writer::new(io::writer(rt));
     let workers = number(options, "workers", WORKERS, MOST_WORKERS);
     let tries = number(options, "tries", TRIES, MOST_TRIES);
-    unexplained(if options.get_flag("history") {
+    if options.get_flag("explain") {
+        return explained_bank(rt, alloc, stderr, workers, tries);
+    }
+    unexplained(plain_bank(rt, alloc, options, workers, tries))
+}
+
+fn plain_bank<R: Print + Input + Threads + Wait + Sync>(
+    rt: &R,
+    alloc: Global,
+    options: &ArgMatches<'_>,
+    workers: u32,
+    tries: u32,
+) -> Result<(), Fault>
+    requires workers { (1 ≤ workers) × (workers ≤ 16) }
+    requires tries { (1 ≤ tries) × (tries ≤ 1000) }
+{
+    let mut reader = Reader::new(rt.reader());
+    let mut writer = Writer::new(io::writer(rt));
+    if options.get_flag("history") {
         sgt_bank::run_history(rt, alloc, &mut reader, &mut writer, workers, tries)
     } else if options.get_flag("records") {
         sgt_bank::run_records(rt, alloc, &mut reader, &mut writer, workers, tries)
     } else {
         run_jobs(rt, alloc, &mut reader, &mut writer, workers, tries)
-    })
+    }
 }
 
 /// The same, and tells on standard error how often each job was tried, and where that is a terminal, how many have ended.
@@ -248,14 +316,16 @@ fn explained_bank<R: Print + Eprint + Input + Clock + Threads + Wait + Sync>(
     rt: &R,
     alloc: Global,
     stderr: Stderr,
-    options: &ArgMatches<'_>,
-) -> Result<(), Failure> {
+    workers: u32,
+    tries: u32,
+) -> Result<(), Failure>
+    requires workers { (1 ≤ workers) × (workers ≤ 16) }
+    requires tries { (1 ≤ tries) × (tries ≤ 1000) }
+{
     let mut source = Remembering::new(alloc, Reader::new(rt.reader()));
     let mut writer = Writer::new(io::writer(rt));
     let tells_progress = stderr.is_terminal();
     let mut errors = Writer::new(stderr);
-    let workers = number(options, "workers", WORKERS, MOST_WORKERS);
-    let tries = number(options, "tries", TRIES, MOST_TRIES);
     let ran = sgt_bank::run_explained(
         rt,
         alloc,
@@ -296,18 +366,25 @@ fn run<R: Print + Eprint + Input + Clock + Threads + Wait + Sync>(
     stderr: Stderr,
     matches: &ArgMatches<'_>,
 ) -> ExitCode {
-    let ran = match matches.subcommand() {
-        Some(("check", options)) => {
-            return match check(rt, alloc, options) {
-                Ok(true) => ExitCode::SUCCESS,
-                Ok(false) => ExitCode::from(1),
-                Err(fault) => tell(rt, fault),
-            };
-        }
-        Some(("bank", options)) => bank(rt, alloc, stderr, options),
-        Some((_, options)) => script(rt, alloc, stderr, options),
-        None => Ok(()),
-    };
+    match matches.subcommand() {
+        Some(("check", options)) => checked(rt, check(rt, alloc, options)),
+        Some(("bank", options)) => ended(rt, bank(rt, alloc, stderr, options)),
+        Some((_, options)) => ended(rt, script(rt, alloc, stderr, options)),
+        None => ExitCode::SUCCESS,
+    }
+}
+
+/// The status of a check.
+fn checked<R: Eprint>(rt: &R, ran: Result<bool, CheckFault>) -> ExitCode {
+    match ran {
+        Ok(true) => ExitCode::SUCCESS,
+        Ok(false) => ExitCode::from(1),
+        Err(fault) => tell(rt, fault),
+    }
+}
+
+/// The status of a run.
+fn ended<R: Eprint>(rt: &R, ran: Result<(), Failure>) -> ExitCode {
     match ran {
         Ok(()) => ExitCode::SUCCESS,
         Err(failure) => tell_failure(rt, failure),
@@ -341,24 +418,31 @@ fn refuse<R: Print + Eprint>(rt: &R, error: &clap::Error) -> ExitCode {
     ExitCode::from(error.exit_code() as u8)
 }
 
+/// Runs what these words ask for, and gives the status.
+fn run_words<R: Print + Eprint + Input + Clock + Threads + Wait + Sync>(
+    rt: &R,
+    alloc: Global,
+    stderr: Stderr,
+    words: &[String],
+) -> ExitCode {
+    let Ok(command) = command(alloc) else {
+        return tell(rt, Fault::NoMemory);
+    };
+    match command.try_get_matches_from(words) {
+        Ok(matches) => run(rt, alloc, stderr, &matches),
+        Err(error) => refuse(rt, &error),
+    }
+}
+
 fn main(rt: HostRuntime) -> ExitCode {
     let alloc = rt.alloc();
-    let words = match env::args(&rt) {
+    let words: Result<Vec<String>, AllocError> = match env::args(&rt) {
         Ok(words) => words.collect(alloc),
         Err(error) if error.kind() == io::ErrorKind::InvalidData => return tell(&rt, NO_TEXT),
         Err(_) => return tell(&rt, Fault::NoMemory),
     };
-    let words: Vec<String> = match words {
-        Ok(words) => words,
-        Err(_) => return tell(&rt, Fault::NoMemory),
-    };
-    let command = match command(alloc) {
-        Ok(command) => command,
-        Err(_) => return tell(&rt, Fault::NoMemory),
-    };
-    let matches = match command.try_get_matches_from(words.as_slice()) {
-        Ok(matches) => matches,
-        Err(error) => return refuse(&rt, &error),
-    };
-    run(&rt, alloc, rt.stderr(), &matches)
+    match words {
+        Ok(words) => run_words(&rt, alloc, rt.stderr(), words.as_slice()),
+        Err(_) => tell(&rt, Fault::NoMemory),
+    }
 }

@@ -1,5 +1,6 @@
 use sgt_entries::History;
 use sgt_model::{Cause, Reply, Tids};
+use std::fmt;
 
 /// How many replies of each kind there were. A count stays at the greatest number of its type.
 #[derive(Clone, Copy)]
@@ -36,20 +37,6 @@ impl Counts {
         counts
     }
 
-    /// Each kind in words, with its count.
-    pub fn by_kind(&self) -> [(&'static str, u64); 8] {
-        [
-            ("starts", self.starts),
-            ("commits", self.commits),
-            ("aborts by cycle", self.cycles),
-            ("aborts by ask", self.asks),
-            ("aborts by quit", self.quits),
-            ("refusals", self.refusals),
-            ("fallen", self.fallen),
-            ("waits", self.waits),
-        ]
-    }
-
     /// Counts a reply.
     fn note(&mut self, reply: &Reply) {
         match reply {
@@ -78,5 +65,22 @@ impl Counts {
     /// Counts those that fell.
     fn note_fallen(&mut self, fell: &Tids) {
         self.fallen = self.fallen.saturating_add(fell.len() as u64);
+    }
+}
+
+impl fmt::Display for Counts {
+    fn fmt<W: fmt::Write>(&self, f: &mut fmt::Formatter<W>) -> fmt::Result {
+        write!(
+            f,
+            "starts {}\ncommits {}\naborts by cycle {}\naborts by ask {}\naborts by quit {}\nrefusals {}\nfallen {}\nwaits {}",
+            self.starts,
+            self.commits,
+            self.cycles,
+            self.asks,
+            self.quits,
+            self.refusals,
+            self.fallen,
+            self.waits
+        )
     }
 }

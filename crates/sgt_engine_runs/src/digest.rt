@@ -56,9 +56,10 @@ fn of_replies(
     let mut whole = BASIS;
     let mut first = BASIS;
     for place in 0..history.len() {
-        let reply = history.reply_at(place);
+        let mut reply = history.reply_at(place);
         whole = with_line(whole, &mut line, &reply, refusals)?;
-        first = with_line(first, &mut line, &by_first_member(&reply), refusals)?;
+        shorten(&mut reply);
+        first = with_line(first, &mut line, &reply, refusals)?;
     }
     Ok((whole, first))
 }
@@ -91,33 +92,23 @@ fn of_database<R: Records, A: Accesses, G: Graph>(
     Ok(hashed(BASIS, lines.as_slice()))
 }
 
-/// The reply, where a walk has its first member alone.
-fn by_first_member(reply: &Reply) -> Reply {
+/// Leaves of a walk its first member alone.
+fn shorten(reply: &mut Reply) {
     match reply {
-        Reply::Aborted { cause, fell } => Reply::Aborted {
-            cause: cause_by_first_member(cause),
-            fell: fell.copied(),
-        },
-        Reply::Over(Fate::Aborted(cause)) => {
-            Reply::Over(Fate::Aborted(cause_by_first_member(cause)))
+        Reply::Aborted { cause, .. } => shorten_cause(cause),
+        Reply::Over(Fate::Aborted(cause)) => shorten_cause(cause),
+        _ => {}
+    }
+}
+
+fn shorten_cause(cause: &mut Cause) {
+    if let Cause::Cycle(walk) = cause {
+        let first = walk.as_slice().first().copied();
+        *walk = Tids::new();
+        if let Some(t) = first {
+            walk.push(t);
         }
-        _ => reply.copied(),
     }
-}
-
-fn cause_by_first_member(cause: &Cause) -> Cause {
-    match cause {
-        Cause::Cycle(walk) => Cause::Cycle(first_member(walk)),
-        _ => cause.copied(),
-    }
-}
-
-fn first_member(walk: &Tids) -> Tids {
-    let mut first = Tids::new();
-    if let Some(t) = walk.as_slice().first() {
-        first.push(*t);
-    }
-    first
 }
 
 /// The hash with these bytes behind what it was taken of.

@@ -5,7 +5,7 @@ use sgt_format::append_reply;
 use sgt_graph::Graph;
 use sgt_model::{Entry, Event, Key, MOST_LIVE, NoMemory, Reply, Tid, Tids};
 use sgt_records::Records;
-use std::alloc::Global;
+use std::alloc::{AllocGlobal, Global};
 use std::io;
 use std::io::{ErrorKind, Print, Write};
 
@@ -28,8 +28,8 @@ pub enum Order {
 /// A run of events on an engine. All that it keeps for itself is taken when it is made: from then on it asks for
 /// memory only where the engine does.
 #[derive(Drop)]
-pub struct Run<R: Records, A: Accesses, G: Graph> {
-    engine: Engine<R, A, G>,
+pub struct Run<'a, R: Records, A: Accesses, G: Graph> {
+    engine: &'a mut Engine<R, A, G>,
     /// The events that were answered, with the replies that came.
     answered: Vec<Entry>,
     line: Vec<u8>,
@@ -42,9 +42,9 @@ struct Seen {
     live: Tids,
 }
 
-impl<R: Records, A: Accesses, G: Graph> Run<R, A, G> {
+impl<'a, R: Records, A: Accesses, G: Graph> Run<'a, R, A, G> {
     /// A run on an engine that has answered nothing.
-    pub fn new(alloc: Global, engine: Engine<R, A, G>) -> Result<Self, NoMemory> {
+    pub fn new(alloc: Global, engine: &'a mut Engine<R, A, G>) -> Result<Self, NoMemory> {
         Ok(Run {
             answered: Vec::with_capacity(alloc, MOST_ENTRIES)?,
             line: Vec::with_capacity(alloc, LONGEST_REPLY)?,
@@ -63,32 +63,36 @@ impl<R: Records, A: Accesses, G: Graph> Run<R, A, G> {
                 self.answered.push(Entry { event, reply })?;
                 Ok(true)
             }
-            Err(NoMemory) => {
-                self.tell_unchanged(rt, "refused", &before)?;
-                Ok(false)
-            }
+            Err(NoMemory) => self.tell_refused(rt, "refused", &before),
         }
     }
 
     /// Cuts the history off, and tells how many entries it had and whether they are those that were answered. Where it was
     /// refused, that is told, and whether all is as before; and the answer is false.
-    pub fn cut(&mut self, rt: &impl Print, alloc: Global) -> io::Result<bool> {
+    pub fn cut(&mut self, rt: &(impl AllocGlobal + Print)) -> io::Result<bool> {
         let before = self.seen();
-        match self.engine.cut(alloc) {
-            Ok(past) => {
-                let is_whole = is_history(&past.history, self.answered.as_slice());
-                println!(rt; "cut {}: history {}", past.history.len(), verdict(is_whole))?;
-                self.answered.clear();
-                Ok(true)
-            }
+        match self.engine.cut(rt.alloc()) {
+            Ok(past) => self.tell_cut(rt, &past.history),
             Err(CutError::StillLive) => self.tell_refused(rt, "still live", &before),
             Err(CutError::NoMemory) => self.tell_refused(rt, "refused", &before),
         }
     }
 
-    /// Tells of a cut that was refused whether all is as before.
+    /// Tells of a history that was cut off.
+    fn tell_cut(&mut self, rt: &impl Print, past: &History) -> io::Result<bool> {
+        let is_whole = is_history(past, self.answered.as_slice());
+        self.answered.clear();
+        println!(rt; "cut {}: history {}", past.len(), verdict(is_whole))?;
+        Ok(true)
+    }
+
+    /// Tells of what was refused whether all is as before.
     fn tell_refused(&self, rt: &impl Print, refusal: &str, before: &Seen) -> io::Result<bool> {
-        self.tell_unchanged(rt, refusal, before)?;
+        let history = verdict(self.has_history());
+        let seen = verdict(self.seen() == *before);
+        println!(rt;
+            "{refusal}: history {history}\n{refusal}: committed values and who is live {seen}"
+        )?;
         Ok(false)
     }
 
@@ -106,22 +110,17 @@ impl<R: Records, A: Accesses, G: Graph> Run<R, A, G> {
     /// Tells the committed values, each with its record, and what is left.
     pub fn tell_end(&self, rt: &impl Print) -> io::Result<()> {
         for (table, id) in RECORDS {
-            match self.committed(table, id) {
-                Some(value) => println!(rt; "{table}/{id} {value}")?,
-                None => println!(rt; "{table}/{id} none")?,
-            }
+            self.tell_record(rt, table, id)?;
         }
-        println!(rt; "{} live", self.engine.sched().live().len())?;
-        println!(rt; "history {}", verdict(self.has_history()))
+        let live = self.engine.sched().live_count();
+        println!(rt; "{live} live\nhistory {}", verdict(self.has_history()))
     }
 
-    /// Tells of what was refused whether all is as before.
-    fn tell_unchanged(&self, rt: &impl Print, refusal: &str, before: &Seen) -> io::Result<()> {
-        println!(rt; "{refusal}: history {}", verdict(self.has_history()))?;
-        println!(rt;
-            "{refusal}: committed values and who is live {}",
-            verdict(self.seen() == *before)
-        )
+    fn tell_record(&self, rt: &impl Print, table: u8, id: i64) -> io::Result<()> {
+        match self.committed(table, id) {
+            Some(value) => println!(rt; "{table}/{id} {value}"),
+            None => println!(rt; "{table}/{id} none"),
+        }
     }
 
     /// Tells a reply's line.

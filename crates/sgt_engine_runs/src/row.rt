@@ -1,0 +1,157 @@
+//! The events of the row `two_level_cascade` on `Engine::apply`, made to be run where memory is refused, as `tests/growths` does.
+//! An event that is refused memory it tells, and whether the history, the committed values and who is live are as before.
+
+use crate::accounts::open;
+use crate::events::start;
+use crate::run::{Order, Run};
+use sgt_access::{Accesses, PerKey};
+use sgt_engine::Engine;
+use sgt_graph::{BitGraph, Graph};
+use sgt_model::{Asks, Event, Limits, NoMemory, Tid};
+use sgt_records::{Records, SlabRecords};
+use sgt_smallbank::Account;
+use std::alloc::AllocGlobal;
+use std::io;
+use std::io::Print;
+
+/// The two accounts of the row.
+const ACCOUNTS: [Account; 2] = [
+    Account {
+        name: 1,
+        customer: 101,
+        saving: 500,
+        checking: 1000,
+    },
+    Account {
+        name: 2,
+        customer: 102,
+        saving: 0,
+        checking: 200,
+    },
+];
+
+const LIMITS: Limits = Limits {
+    live: 8,
+    begins: 100,
+    asks: Asks::AtStep,
+};
+
+/// What a run does besides applying the row's events.
+#[derive(Clone, Copy)]
+pub enum Plan {
+    /// It makes an event that was refused memory once more, and goes on.
+    Again,
+    /// The same; and it cuts the history off behind the row, then while a transaction is live, and then behind its quit.
+    Cut,
+    /// Where an event was refused memory it quits all who are live, and applies no further event.
+    Quit(Order),
+}
+
+/// How many events the row has.
+const EVENTS: u32 = 18;
+
+/// The row's events: a deposit, an Amalgamate that reads what it stored, and a Balance that reads what that one stored. Then
+/// the deposit is quit.
+fn event_at(place: u32) -> Event {
+    match place {
+        0 => start(1, 1, 10, 0),
+        1..=3 => Event::Step(Tid(0)),
+        4 => start(3, 1, 0, 2),
+        5..=12 => Event::Step(Tid(1)),
+        13 => start(0, 2, 0, 0),
+        14..=16 => Event::Step(Tid(2)),
+        _ => Event::Quit(Tid(0)),
+    }
+}
+
+/// Runs the row by this plan, and tells its replies and then the committed values.
+pub fn tell_row(rt: &(impl AllocGlobal + Print), plan: Plan) -> io::Result<()> {
+    match open::<SlabRecords, PerKey, BitGraph>(rt.alloc(), &ACCOUNTS, LIMITS) {
+        Some(mut engine) => run_row(rt, &mut engine, plan),
+        None => println!(rt; "no memory"),
+    }
+}
+
+/// The run on an engine that has answered nothing.
+fn run_row<R: Records, A: Accesses, G: Graph>(
+    rt: &(impl AllocGlobal + Print),
+    engine: &mut Engine<R, A, G>,
+    plan: Plan,
+) -> io::Result<()> {
+    match Run::new(rt.alloc(), engine) {
+        Ok(mut run) => carry_out(rt, &mut run, plan),
+        Err(NoMemory) => println!(rt; "no memory"),
+    }
+}
+
+/// A run of the plan, from its first event to its end.
+fn carry_out<R: Records, A: Accesses, G: Graph>(
+    rt: &(impl AllocGlobal + Print),
+    run: &mut Run<'_, R, A, G>,
+    plan: Plan,
+) -> io::Result<()> {
+    apply_all(rt, run, plan)?;
+    if let Plan::Cut = plan {
+        return cut_and_go_on(rt, run);
+    }
+    run.tell_end(rt)
+}
+
+/// Applies the row's events, but none behind one that all who are live were quit for.
+fn apply_all<R: Records, A: Accesses, G: Graph>(
+    rt: &impl Print,
+    run: &mut Run<'_, R, A, G>,
+    plan: Plan,
+) -> io::Result<()> {
+    for place in 0..EVENTS {
+        if !apply(rt, run, &event_at(place), plan)? {
+            break;
+        }
+    }
+    Ok(())
+}
+
+/// Applies an event. Where it is refused memory, all who are live are quit, if this is the plan, and the answer is false; else the
+/// event is made once more.
+fn apply<R: Records, A: Accesses, G: Graph>(
+    rt: &impl Print,
+    run: &mut Run<'_, R, A, G>,
+    event: &Event,
+    plan: Plan,
+) -> io::Result<bool> {
+    if run.apply(rt, event)? {
+        return Ok(true);
+    }
+    if let Plan::Quit(order) = plan {
+        run.quit_all(rt, order)?;
+        return Ok(false);
+    }
+    run.apply(rt, event)?;
+    Ok(true)
+}
+
+/// Cuts, starts one more transaction, is told that it is live, quits it, and cuts again; but no more than the first where that is
+/// refused memory twice.
+fn cut_and_go_on<R: Records, A: Accesses, G: Graph>(
+    rt: &(impl AllocGlobal + Print),
+    run: &mut Run<'_, R, A, G>,
+) -> io::Result<()> {
+    if cut(rt, run)? {
+        apply(rt, run, &start(0, 1, 0, 0), Plan::Again)?;
+        run.cut(rt)?;
+        run.quit_all(rt, Order::Oldest)?;
+        cut(rt, run)?;
+    }
+    run.tell_end(rt)
+}
+
+/// Cuts the history off; once more where that was refused memory.
+fn cut<R: Records, A: Accesses, G: Graph>(
+    rt: &(impl AllocGlobal + Print),
+    run: &mut Run<'_, R, A, G>,
+) -> io::Result<bool> {
+    if run.cut(rt)? {
+        return Ok(true);
+    }
+    run.cut(rt)
+}

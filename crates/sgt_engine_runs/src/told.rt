@@ -1,0 +1,160 @@
+use crate::accounts::total;
+use crate::counts::Counts;
+use crate::digest::Digests;
+use crate::drawn::{ACCOUNTS, CUSTOMER, apply_all, limits, open, place_of};
+use crate::refusals::Refusals;
+use sgt_access::{Accesses, OneList, PerKey};
+use sgt_engine::Engine;
+use sgt_entries::History;
+use sgt_graph::{BitGraph, Graph, PairGraph};
+use sgt_model::{Asks, Event, Limits, NoMemory};
+use sgt_records::{ListRecords, Records, SlabRecords};
+use std::alloc::{AllocGlobal, Global};
+use std::io;
+use std::io::Print;
+
+/// Runs the list on an engine with up to eight live, with asks answered at the step and at the commit, and tells how many of each
+/// kind of reply there were, what the committed accounts hold in all, and a digest of the replies' lines. Then it runs the list
+/// over other bodies of the layers too, with up to 8 and up to 32 live, and tells the digests for each: of the replies, of the
+/// replies where each walk is told by its first member alone, and of the committed database.
+///
+/// What is refused memory once is tried again, so that whichever one allocation is refused, it tells the same but for the last
+/// line: that counts the calls that were refused memory.
+pub fn tell_drawn(rt: &(impl AllocGlobal + Print)) -> io::Result<()> {
+    let mut refusals = Refusals { calls: 0 };
+    for asks in [Asks::AtStep, Asks::AtCommit] {
+        println!(rt; "asks at the {}", place_of(asks))?;
+        tell_engine::<SlabRecords, PerKey, BitGraph>(rt, asks, &mut refusals)?;
+    }
+    for live in [8, 32] {
+        tell_bodies(rt, limits(live, Asks::AtStep), &mut refusals)?;
+        tell_bodies(rt, limits(live, Asks::AtCommit), &mut refusals)?;
+    }
+    println!(rt; "refused memory {}", refusals.calls)
+}
+
+/// Runs the list on an engine over these bodies, and tells what became of it.
+fn tell_engine<R: Records, A: Accesses, G: Graph>(
+    rt: &(impl AllocGlobal + Print),
+    asks: Asks,
+    refusals: &mut Refusals,
+) -> io::Result<()> {
+    match open::<R, A, G>(rt.alloc(), limits(8, asks), refusals) {
+        Some(mut engine) => tell_events(rt, &mut engine, refusals),
+        None => println!(rt; "no memory"),
+    }
+}
+
+/// Applies the list to the engine, and tells what became of it.
+fn tell_events<R: Records, A: Accesses, G: Graph>(
+    rt: &(impl AllocGlobal + Print),
+    engine: &mut Engine<R, A, G>,
+    refusals: &mut Refusals,
+) -> io::Result<()> {
+    let applied = apply_all(engine, refusals);
+    tell_applied(rt, applied)?;
+    tell_counts(rt, engine.history())?;
+    let digests = Digests::of(rt.alloc(), engine, refusals);
+    tell_replies(rt, digests)?;
+    println!(rt; "live at the end {}", engine.sched().live_count())?;
+    quit_all(engine, refusals);
+    tell_quit(rt, engine)
+}
+
+/// Tells of a list that was refused memory.
+fn tell_applied(rt: &impl Print, applied: Result<(), NoMemory>) -> io::Result<()> {
+    match applied {
+        Ok(()) => Ok(()),
+        Err(NoMemory) => println!(rt; "no memory"),
+    }
+}
+
+/// Tells how many events the history has, and how many replies of each kind.
+fn tell_counts(rt: &impl Print, history: &History) -> io::Result<()> {
+    let counts = Counts::of(history);
+    println!(rt; "events {}\n{counts}", history.len())
+}
+
+/// Tells the digest of the replies alone.
+fn tell_replies(rt: &impl Print, digests: Result<Digests, NoMemory>) -> io::Result<()> {
+    match digests {
+        Ok(digests) => println!(rt; "digest {:016x}", digests.replies),
+        Err(NoMemory) => println!(rt; "no memory"),
+    }
+}
+
+/// Tells of an engine where all have quit.
+fn tell_quit<R: Records, A: Accesses, G: Graph>(
+    rt: &impl Print,
+    engine: &Engine<R, A, G>,
+) -> io::Result<()> {
+    let live = engine.sched().live_count();
+    let total = total(engine, CUSTOMER, ACCOUNTS.len() as i64);
+    println!(rt; "live when all have quit {live}\ncommitted total {total}")
+}
+
+/// Quits those who are live, which takes no memory. Who falls before its turn is over then.
+fn quit_all<R: Records, A: Accesses, G: Graph>(
+    engine: &mut Engine<R, A, G>,
+    refusals: &mut Refusals,
+) {
+    let live = engine.sched().live();
+    for t in live.as_slice() {
+        refusals.note(engine.apply(Event::Quit(*t)).is_err());
+    }
+}
+
+/// Runs the list by these limits, over the plain bodies of the layers and over the quick ones, which `sgt` has.
+fn tell_bodies(
+    rt: &(impl AllocGlobal + Print),
+    limits: Limits,
+    refusals: &mut Refusals,
+) -> io::Result<()> {
+    let (live, when) = (limits.live, place_of(limits.asks));
+    println!(rt;
+        "up to {live} live, asks at the {when}: replies, replies by first members, database"
+    )?;
+    let plain = digests::<ListRecords, OneList, PairGraph>(rt.alloc(), limits, refusals);
+    tell_digests(rt, plain, "ListRecords OneList PairGraph")?;
+    let quick = digests::<SlabRecords, PerKey, BitGraph>(rt.alloc(), limits, refusals);
+    tell_digests(rt, quick, "SlabRecords PerKey BitGraph")
+}
+
+/// The digests of a run over these bodies.
+fn digests<R: Records, A: Accesses, G: Graph>(
+    alloc: Global,
+    limits: Limits,
+    refusals: &mut Refusals,
+) -> Result<Digests, NoMemory> {
+    match open::<R, A, G>(alloc, limits, refusals) {
+        Some(mut engine) => digests_on(alloc, &mut engine, refusals),
+        None => Err(NoMemory),
+    }
+}
+
+fn digests_on<R: Records, A: Accesses, G: Graph>(
+    alloc: Global,
+    engine: &mut Engine<R, A, G>,
+    refusals: &mut Refusals,
+) -> Result<Digests, NoMemory> {
+    apply_all(engine, refusals)?;
+    Digests::of(alloc, engine, refusals)
+}
+
+/// Tells the digests of a run over these bodies.
+fn tell_digests(
+    rt: &impl Print,
+    digests: Result<Digests, NoMemory>,
+    bodies: &str,
+) -> io::Result<()> {
+    match digests {
+        Ok(
+            Digests {
+                replies,
+                first_members,
+                database,
+            },
+        ) => println!(rt; "{replies:016x} {first_members:016x} {database:016x} {bodies}"),
+        Err(NoMemory) => println!(rt; "no memory {bodies}"),
+    }
+}
