@@ -1,15 +1,16 @@
-ghost use Rattle.std.specs.Prelude.{◌≡◌, ◌≤◌, ◌<◌, IfErr};
+ghost use Rattle.std.specs.Prelude.{◌≡◌, ◌≤◌, ◌<◌, Ok, IfErr};
 ghost use Rattle.arrayvec.specs.ArrayVec.{array_vec_len};
 ghost use Rattle.sgt_model.specs.Syntax.{Block};
 ghost use Rattle.sgt_model.specs.Programs.{term_of, before, block_of};
 ghost use Rattle.sgt_model.specs.Meaning.{value_of};
+ghost use Rattle.sgt_model.specs.Executions.{and_then, in_turn, key_of};
 ghost use Rattle.sgt_model.specs.Left.{number_or_code};
 ghost use Rattle.sgt_proc.specs.Flaws.{depth, size};
 ghost use Rattle.sgt_proc.specs.Paths.{behind, branch, inner};
 ghost use Rattle.sgt_proc.specs.Places.{with_found_in, IsIn, Steps, Stops, StopsAtValue};
 
 use crate::answers::MOST_ANSWERS;
-use crate::value::{WRONG, key, test, value};
+use crate::value::{WRONG, key, numbers, test, value};
 use arrayvec::ArrayVec;
 use sgt_model::{Answers, Args, Expr, Key, Statement, is_value};
 
@@ -100,7 +101,7 @@ impl Place {
                 id,
                 absent,
             } => {
-                let key = key(*table, self.value(id)?)?;
+                let key = self.key(*table, id)?;
                 Err(Stop::Look {
                     key,
                     reg: *reg,
@@ -113,23 +114,15 @@ impl Place {
                 id,
                 absent,
             } => {
-                let id = self.value(id)?;
-                let absent = self.value(absent)?;
-                let key = key(*table, id)?;
+                let (key, absent) = self.key_and_value(*table, id, absent)?;
                 Err(Stop::Find {
                     key,
                     reg: *reg,
                     absent,
                 })
             }
-            Statement::Put {
-                table,
-                id,
-                value: stored,
-            } => {
-                let id = self.value(id)?;
-                let stored = self.value(stored)?;
-                let key = key(*table, id)?;
+            Statement::Put { table, id, value } => {
+                let (key, stored) = self.key_and_value(*table, id, value)?;
                 if !is_value(stored) {
                     return Err(Stop::Asks(WRONG));
                 }
@@ -168,6 +161,27 @@ impl Place {
         if place < self.registers.len() {
             self.registers[place] = Some(value);
         }
+    }
+
+    // The key of this table's record that an expression names there, or the code that is asked in its place.
+    #[inline(always)]
+    fn key(&self, table: u8, id: &Expr) -> Result<Key, u16>
+        ensures { result ≡ and_then (number_or_code (value_of (term_of id.now) self.now.args self.now.registers))
+            (λ n. key_of table n) }
+    {
+        key(table, self.value(id)?)
+    }
+
+    // The same key, and what another expression gives, which is evaluated before it is known whether there is a key.
+    #[inline(always)]
+    fn key_and_value(&self, table: u8, id: &Expr, other: &Expr) -> Result<(Key, i64), u16>
+        ensures { result ≡ in_turn (number_or_code (value_of (term_of id.now) self.now.args self.now.registers))
+            (number_or_code (value_of (term_of other.now) self.now.args self.now.registers))
+            (λ n v. and_then (key_of table n) (λ k. Ok (k, v))) }
+    {
+        let (id, other) = numbers(id, other, self.args.as_slice(), &self.registers)?;
+        let key = key(table, id)?;
+        Ok((key, other))
     }
 
     // What an expression gives there, or the code that is asked in its place.
