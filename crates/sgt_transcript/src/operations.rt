@@ -50,16 +50,7 @@ fn append_lines(text: &mut Vec<u8>, event: &Event, reply: &Reply) -> Result<(), 
         Reply::Committed(_) => append_named(text, b"c", event),
         Reply::Aborted { fell, .. } => append_aborts(text, event, fell),
         Reply::Refused { fell, .. } => append_aborts(text, event, fell),
-        Reply::Started(_)
-        | Reply::NoProcedure
-        | Reply::BadArgs
-        | Reply::Spent
-        | Reply::Full
-        | Reply::Unknown
-        | Reply::Over(_)
-        | Reply::Ended
-        | Reply::NotEnded
-        | Reply::Waits(_) => Ok(()),
+        _ => Ok(()),
     }
 }
 
