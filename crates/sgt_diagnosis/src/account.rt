@@ -1,3 +1,4 @@
+use crate::message::{Piece, told};
 use crate::tree::items;
 use serde_json::Value;
 use sgt_model::{LEAST, MOST, NoMemory, is_value};
@@ -23,45 +24,80 @@ fn fault_behind(
     earlier: &[Value],
     account: &Value,
 ) -> Result<Option<String>, NoMemory> {
-    let number = earlier.len().saturating_add(1);
+    match out_of_range(account) {
+        Some((name, amount)) => {
+            told(
+                alloc,
+                &[
+                    Piece::Words("\"accounts\": the "),
+                    Piece::Words(name),
+                    Piece::Words(" of account "),
+                    Piece::Count(number_behind(earlier)),
+                    Piece::Words(" is "),
+                    Piece::Number(amount),
+                    Piece::Words(", and has to be from "),
+                    Piece::Number(LEAST),
+                    Piece::Words(" to "),
+                    Piece::Number(MOST),
+                ],
+            )
+        }
+        None => taken_fault(alloc, earlier, account),
+    }
+}
+
+// The first number of an account that is no value, and what it is.
+fn out_of_range(account: &Value) -> Option<(&'static str, i64)> {
     for (position, name) in NAMES.iter().enumerate() {
         if let Some(amount) = number_at(account, position) {
             if !is_value(amount) {
-                return Ok(Some(format!(in alloc;
-                    "\"accounts\": the {name} of account {number} is {amount}, and has to be from {LEAST} to {MOST}"
-                )?));
+                return Some((*name, amount));
             }
         }
     }
-    for position in 0..2 {
-        if let Some(fault) = same_number(alloc, earlier, account, position)? {
-            return Ok(Some(fault));
+    None
+}
+
+// That an earlier account has the name or the customer of this one.
+fn taken_fault(
+    alloc: Global,
+    earlier: &[Value],
+    account: &Value,
+) -> Result<Option<String>, NoMemory> {
+    for (position, name) in ["name", "customer"].iter().enumerate() {
+        if let Some((number, first)) = taken(earlier, account, position) {
+            return told(
+                alloc,
+                &[
+                    Piece::Words("\"accounts\": account "),
+                    Piece::Count(number_behind(earlier)),
+                    Piece::Words(" has the "),
+                    Piece::Words(*name),
+                    Piece::Words(" "),
+                    Piece::Number(number),
+                    Piece::Words(" of account "),
+                    Piece::Count(first),
+                ],
+            );
         }
     }
     Ok(None)
 }
 
-// That an earlier account has the number that this one has at a position.
-fn same_number(
-    alloc: Global,
-    earlier: &[Value],
-    account: &Value,
-    position: usize,
-) -> Result<Option<String>, NoMemory> {
-    let Some(wanted) = number_at(account, position) else {
-        return Ok(None);
-    };
-    let number = earlier.len().saturating_add(1);
+// The number at a position of an account that an earlier one has there too, and the number of that one.
+fn taken(earlier: &[Value], account: &Value, position: usize) -> Option<(i64, u64)> {
+    let wanted = number_at(account, position)?;
     for (index, other) in earlier.iter().enumerate() {
         if number_at(other, position) == Some(wanted) {
-            let name = if position == 0 { "name" } else { "customer" };
-            let first = index.saturating_add(1);
-            return Ok(Some(format!(in alloc;
-                "\"accounts\": account {number} has the {name} {wanted} of account {first}"
-            )?));
+            return Some((wanted, (index as u64).saturating_add(1)));
         }
     }
-    Ok(None)
+    None
+}
+
+// The number of the account behind these.
+fn number_behind(earlier: &[Value]) -> u64 {
+    (earlier.len() as u64).saturating_add(1)
 }
 
 // The whole number at a position of an account.

@@ -6,6 +6,7 @@ use crate::command::Command;
 use crate::flaw::{find_flaw, flaw_numbered};
 use crate::json_text::json_fault;
 use crate::limit::limit_fault;
+use crate::message::{Piece, told};
 use crate::misfit::misfit;
 use crate::opening::opening_fault;
 use crate::record::record_fault;
@@ -32,8 +33,8 @@ pub fn diagnose(
     ensures none { IfOk result (λ text. line_of fault.now ≡ None → text ≡ None) }
 {
     match fault {
-        Fault::NoOpening => Ok(Some(format!(in alloc; "the input is empty")?)),
-        Fault::LongLine(_) => Ok(Some(format!(in alloc; "a line has at most 65536 bytes")?)),
+        Fault::NoOpening => told(alloc, &[Piece::Words("the input is empty")]),
+        Fault::LongLine(_) => told(alloc, &[Piece::Words("a line has at most 65536 bytes")]),
         Fault::NotJson(_) => json_fault(alloc, line),
         _ => match tree_of(alloc, line)? {
             Some(tree) => tree_fault(alloc, fault, command, &tree),
@@ -101,29 +102,23 @@ fn flaw_fault(
 }
 
 // What is wrong at a place of the procedure of this number. A place shows as in the fault's own line.
-fn located(
+fn located<'a>(
     alloc: Global,
     number: u64,
-    place: &[u64],
-    what: &str,
+    place: &'a [u64],
+    what: &'a str,
 ) -> Result<Option<String>, NoMemory> {
-    let place = place_text(alloc, place)?;
-    Ok(Some(format!(in alloc; "procedure {number}, at {place}: {what}")?))
-}
-
-// A place's positions, parted by blanks, or `top`.
-fn place_text(alloc: Global, place: &[u64]) -> Result<String, NoMemory> {
-    if place.is_empty() {
-        return Ok(String::from_str(alloc, "top")?);
-    }
-    let mut text = String::new(alloc);
-    for position in place {
-        if !text.is_empty() {
-            text.push_str(" ")?;
-        }
-        text.push_str(format!(in alloc; "{position}")?.as_str())?;
-    }
-    Ok(text)
+    told(
+        alloc,
+        &[
+            Piece::Words("procedure "),
+            Piece::Count(number),
+            Piece::Words(", at "),
+            Piece::Place(place),
+            Piece::Words(": "),
+            Piece::Words(what),
+        ],
+    )
 }
 
 // How many transactions have to be allowed to be live at least.

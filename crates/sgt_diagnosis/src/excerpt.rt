@@ -1,5 +1,3 @@
-ghost use Rattle.std.specs.Prelude.{IfOk};
-
 use serde_json::Value;
 use sgt_model::NoMemory;
 use std::alloc::Global;
@@ -7,19 +5,25 @@ use std::alloc::Global;
 /// How many characters of a text are shown.
 const LONGEST: usize = 40;
 
-/// A tree as compact JSON, for a message: its first 40 characters, with `?` for each that is not printable ASCII, and two dots where
-/// it goes on.
-pub(crate) fn excerpt(alloc: Global, tree: &Value) -> Result<String, NoMemory> {
-    let text = tree.to_string(alloc)?;
-    let mut shown = String::new(alloc);
+/// Adds a tree as compact JSON to a message: its first 40 characters, with `?` for each that is not printable ASCII, and two dots
+/// where it goes on.
+pub(crate) fn append_excerpt(
+    alloc: Global,
+    message: &mut String,
+    tree: &Value,
+) -> Result<(), NoMemory> {
+    append_shortened(message, tree.to_string(alloc)?.as_str())
+}
+
+fn append_shortened(message: &mut String, text: &str) -> Result<(), NoMemory> {
     for (count, character) in text.chars().enumerate() {
         if count == LONGEST {
-            shown.push_str("..")?;
-            return Ok(shown);
+            message.push_str("..")?;
+            return Ok(());
         }
-        shown.push(printable(character))?;
+        message.push(printable(character))?;
     }
-    Ok(shown)
+    Ok(())
 }
 
 // The character, where it is printable ASCII, and else `?`.

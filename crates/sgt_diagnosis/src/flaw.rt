@@ -1,3 +1,4 @@
+use crate::message::{Piece, message};
 use crate::search::{
     DEEPEST, LAST_CODE, LAST_REGISTER, MOST_ANSWERS, MOST_ARGUMENTS, MOST_STATEMENTS, Search,
 };
@@ -59,29 +60,69 @@ fn arguments_of(procedure: &Value) -> Option<i64> {
 
 // A flaw of a number, in a procedure that takes so many arguments, in words.
 fn flaw_text(alloc: Global, flaw: Flaw, number: i64, arguments: i64) -> Result<String, NoMemory> {
-    let text = match flaw {
-        Flaw::HighRegister => format!(in alloc; "register {number} is over {LAST_REGISTER}")?,
-        Flaw::UnsetRegister => {
-            format!(in alloc; "register {number} is not set on every path that leads here")?
+    let (before, behind) = words_around(flaw);
+    match most(flaw, arguments) {
+        Some(most) => {
+            message(
+                alloc,
+                &[
+                    Piece::Words(before),
+                    Piece::Number(number),
+                    Piece::Words(behind),
+                    Piece::Number(most),
+                    Piece::Words(words_behind_most(flaw)),
+                ],
+            )
         }
-        Flaw::NoArgument => {
-            format!(in alloc;
-                "argument {number} is not below {arguments}, the number of arguments"
-            )?
+        None => {
+            message(
+                alloc,
+                &[
+                    Piece::Words(before),
+                    Piece::Number(number),
+                    Piece::Words(behind),
+                ],
+            )
         }
-        Flaw::HighTable => format!(in alloc; "table {number} is over {LAST_TABLE}")?,
-        Flaw::TooLong => {
-            format!(in alloc; "this is statement {number}, and at most {MOST_STATEMENTS} may be")?
-        }
-        Flaw::TooDeep => format!(in alloc; "this is {number} deep, and at most {DEEPEST} may be")?,
-        Flaw::ManyAnswers => {
-            format!(in alloc; "a path has answer {number} here, and at most {MOST_ANSWERS} may be")?
-        }
-        Flaw::BadCode => format!(in alloc; "code {number} is not from 1 to {LAST_CODE}")?,
-        Flaw::ManyArguments => {
-            format!(in alloc; "{number} arguments are taken, and at most {MOST_ARGUMENTS} may be")?
-        }
-        Flaw::BadLiteral => format!(in alloc; "{number} has more than fifteen digits")?,
-    };
-    Ok(text)
+    }
+}
+
+// What stands before the number of a flaw in its text, and behind it.
+fn words_around(flaw: Flaw) -> (&'static str, &'static str) {
+    match flaw {
+        Flaw::HighRegister => ("register ", " is over "),
+        Flaw::UnsetRegister => ("register ", " is not set on every path that leads here"),
+        Flaw::NoArgument => ("argument ", " is not below "),
+        Flaw::HighTable => ("table ", " is over "),
+        Flaw::TooLong => ("this is statement ", ", and at most "),
+        Flaw::TooDeep => ("this is ", " deep, and at most "),
+        Flaw::ManyAnswers => ("a path has answer ", " here, and at most "),
+        Flaw::BadCode => ("code ", " is not from 1 to "),
+        Flaw::ManyArguments => ("", " arguments are taken, and at most "),
+        Flaw::BadLiteral => ("", " has more than fifteen digits"),
+    }
+}
+
+// The most that the number of a flaw may be, where its text tells it, in a procedure that takes so many arguments.
+fn most(flaw: Flaw, arguments: i64) -> Option<i64> {
+    match flaw {
+        Flaw::HighRegister => Some(LAST_REGISTER),
+        Flaw::NoArgument => Some(arguments),
+        Flaw::HighTable => Some(i64::from(LAST_TABLE)),
+        Flaw::TooLong => Some(MOST_STATEMENTS),
+        Flaw::TooDeep => Some(DEEPEST),
+        Flaw::ManyAnswers => Some(MOST_ANSWERS),
+        Flaw::BadCode => Some(LAST_CODE),
+        Flaw::ManyArguments => Some(MOST_ARGUMENTS),
+        Flaw::UnsetRegister | Flaw::BadLiteral => None,
+    }
+}
+
+// What stands behind that in its text.
+fn words_behind_most(flaw: Flaw) -> &'static str {
+    match flaw {
+        Flaw::NoArgument => ", the number of arguments",
+        Flaw::TooLong | Flaw::TooDeep | Flaw::ManyAnswers | Flaw::ManyArguments => " may be",
+        _ => "",
+    }
 }

@@ -1,6 +1,6 @@
 /// What is so on the paths that lead to a place of a procedure: which registers all of them set, and how many answers the one with
 /// the most has.
-#[derive(Clone, Copy, Debug, PartialEq, Eq)]
+#[derive(Clone, Copy)]
 pub(crate) struct Flow {
     /// Whether there is such a path.
     is_reached: bool,

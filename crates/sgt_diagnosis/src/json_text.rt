@@ -1,3 +1,4 @@
+use crate::message::{Piece, told};
 use json::{Scratch, is_valid};
 use serde_json::Value;
 use sgt_model::NoMemory;
@@ -11,8 +12,11 @@ pub(crate) fn json_fault(alloc: Global, line: &[u8]) -> Result<Option<String>, N
     let text = match str::from_utf8(line) {
         Ok(text) => text,
         Err(error) => {
-            let column = error.valid_up_to().saturating_add(1);
-            return Ok(Some(format!(in alloc; "column {column}: not UTF-8 from here")?));
+            return at_column(
+                alloc,
+                error.valid_up_to().saturating_add(1),
+                "not UTF-8 from here",
+            );
         }
     };
     match Value::from_str(alloc, text) {
@@ -20,28 +24,39 @@ pub(crate) fn json_fault(alloc: Global, line: &[u8]) -> Result<Option<String>, N
         Err(error) => if error.is_memory() {
             Err(NoMemory)
         } else if error.is_eof() {
-            let column = line.len().saturating_add(1);
-            Ok(Some(format!(in alloc;
-                "column {column}: the line ends where its JSON has to go on"
-            )?))
+            at_column(
+                alloc,
+                line.len().saturating_add(1),
+                "the line ends where its JSON has to go on",
+            )
         } else {
-            Ok(Some(text_fault(alloc, text, error.column())?))
+            text_fault(alloc, text, error.column())
         },
     }
 }
 
 // What is wrong with a text, which ends to be JSON at this column.
-fn text_fault(alloc: Global, text: &str, column: usize) -> Result<String, NoMemory> {
+fn text_fault(alloc: Global, text: &str, column: usize) -> Result<Option<String>, NoMemory> {
     let before = &text.as_bytes()[..column.min(text.len())];
     if depth(before) > DEEPEST {
-        return Ok(format!(in alloc;
-            "column {column}: lists and objects are more than {DEEPEST} deep"
-        )?);
+        return at_column(alloc, column, "lists and objects are more than 127 deep");
     }
     if is_valid(text, &mut Scratch::new(alloc))? {
-        return Ok(format!(in alloc; "column {column}: the number before it is too large")?);
+        return at_column(alloc, column, "the number before it is too large");
     }
-    Ok(format!(in alloc; "column {column}: not JSON from here")?)
+    at_column(alloc, column, "not JSON from here")
+}
+
+fn at_column(alloc: Global, column: usize, words: &str) -> Result<Option<String>, NoMemory> {
+    told(
+        alloc,
+        &[
+            Piece::Words("column "),
+            Piece::Count(column as u64),
+            Piece::Words(": "),
+            Piece::Words(words),
+        ],
+    )
 }
 
 // How many lists and objects are open at the end of a text, as long as it is JSON.

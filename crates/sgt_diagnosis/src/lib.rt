@@ -27,6 +27,7 @@ mod flaw;
 mod flow;
 mod json_text;
 mod limit;
+mod message;
 mod misfit;
 mod opening;
 mod part;

@@ -1,3 +1,4 @@
+use crate::message::{Piece, told};
 use serde_json::Value;
 use sgt_model::{MOST_BEGINS, MOST_LIVE, NoMemory};
 use std::alloc::Global;
@@ -8,37 +9,61 @@ pub(crate) fn limit_fault(
     least: u32,
     limits: &[Value],
 ) -> Result<Option<String>, NoMemory> {
-    let ranges = [
-        (1, i64::from(MOST_LIVE)),
-        (1, i64::from(MOST_BEGINS)),
-        (0, 1),
-    ];
-    for (tree, (position, (first, last))) in limits.iter().zip(ranges.iter().enumerate()) {
+    for (position, tree) in limits[..limits.len().min(3)].iter().enumerate() {
         let Some(number) = tree.as_i64() else {
             return Ok(None);
         };
-        if number < *first || *last < number {
-            let which = ordinal(position);
-            return Ok(Some(format!(in alloc;
-                "\"limits\": the {which} number is {number}, and has to be from {first} to {last}"
-            )?));
+        let (first, last) = range(position);
+        if number < first || last < number {
+            return told(
+                alloc,
+                &[
+                    Piece::Words("\"limits\": the "),
+                    Piece::Words(ordinal(position)),
+                    Piece::Words(" number is "),
+                    Piece::Number(number),
+                    Piece::Words(", and has to be from "),
+                    Piece::Number(first),
+                    Piece::Words(" to "),
+                    Piece::Number(last),
+                ],
+            );
         }
     }
     worker_fault(alloc, least, limits)
 }
 
+// From where to where a limit may be.
+fn range(position: usize) -> (i64, i64) {
+    match position {
+        0 => (1, i64::from(MOST_LIVE)),
+        1 => (1, i64::from(MOST_BEGINS)),
+        _ => (0, 1),
+    }
+}
+
 // That fewer may be live than there are workers.
 fn worker_fault(alloc: Global, least: u32, limits: &[Value]) -> Result<Option<String>, NoMemory> {
-    let live = match limits.first() {
-        Some(tree) => tree.as_i64(),
-        None => None,
-    };
-    match live {
-        Some(live) if live < i64::from(least) => Ok(Some(format!(in alloc;
-            "\"limits\": the first number is {live}, and has to be at least {least}, the number of workers"
-        )?)),
+    match live(limits) {
+        Some(live) if live < i64::from(least) => {
+            told(
+                alloc,
+                &[
+                    Piece::Words("\"limits\": the first number is "),
+                    Piece::Number(live),
+                    Piece::Words(", and has to be at least "),
+                    Piece::Count(u64::from(least)),
+                    Piece::Words(", the number of workers"),
+                ],
+            )
+        }
         _ => Ok(None),
     }
+}
+
+// How many transactions may be live.
+fn live(limits: &[Value]) -> Option<i64> {
+    limits.first()?.as_i64()
 }
 
 /// The place of an item of a short list, in words.

@@ -1,4 +1,4 @@
-use crate::excerpt::excerpt;
+use crate::message::{Piece, told, unexpected, unknown};
 use crate::part::{Part, is_known};
 use crate::tree::{items, word_of};
 use serde_json::Value;
@@ -20,7 +20,7 @@ pub(crate) fn misfit(
         part = next;
         tree = item;
     }
-    Ok(Some(misfit_of(alloc, part, tree)?))
+    misfit_of(alloc, part, tree)
 }
 
 // What may stand at a position of a list, and what stands there.
@@ -30,24 +30,34 @@ fn item_at(part: Part, tree: &Value, position: usize) -> Option<(Part, &Value)> 
 }
 
 // Why a tree does not fit where this has to stand.
-fn misfit_of(alloc: Global, part: Part, tree: &Value) -> Result<String, NoMemory> {
-    let found = excerpt(alloc, tree)?;
-    let wanted = part.words();
-    let Some(word) = word_in(part, tree) else {
-        return Ok(format!(in alloc; "expected {wanted}, found {found}")?);
-    };
+fn misfit_of(alloc: Global, part: Part, tree: &Value) -> Result<Option<String>, NoMemory> {
+    match word_in(part, tree) {
+        Some(word) => word_misfit(alloc, part, word, tree),
+        None => unexpected(alloc, part.words(), tree),
+    }
+}
+
+// Why a list that begins with this word does not fit where this has to stand.
+fn word_misfit(
+    alloc: Global,
+    part: Part,
+    word: &str,
+    tree: &Value,
+) -> Result<Option<String>, NoMemory> {
     match part.behind(word) {
-        Some(parts) => {
-            let form = Part::form(alloc, word, parts)?;
-            Ok(format!(in alloc; "expected {form}, found {found}")?)
-        }
-        None => {
-            let shown = excerpt(alloc, &Value::try_from_str(alloc, word)?)?;
-            if is_known(word) {
-                return Ok(format!(in alloc; "{shown} does not begin {wanted}")?);
-            }
-            Ok(format!(in alloc; "unknown word {shown}")?)
-        }
+        Some(parts) => unexpected(alloc, Part::form(alloc, word, parts)?.as_str(), tree),
+        None => if is_known(word) {
+            told(
+                alloc,
+                &[
+                    Piece::Word(word),
+                    Piece::Words(" does not begin "),
+                    Piece::Words(part.words()),
+                ],
+            )
+        } else {
+            unknown(alloc, word)
+        },
     }
 }
 

@@ -1,7 +1,7 @@
 use crate::account::NAMES;
-use crate::excerpt::excerpt;
 use crate::limit::ordinal;
-use crate::tree::items;
+use crate::message::{Piece, told, unexpected};
+use crate::tree::{first_not_whole, items};
 use serde_json::Value;
 use sgt_model::NoMemory;
 use std::alloc::Global;
@@ -9,41 +9,62 @@ use std::alloc::Global;
 /// The members of an opening.
 const MEMBERS: [&str; 3] = ["limits", "accounts", "procedures"];
 
+/// How an opening is written.
+const OPENING: &str = "an opening, as {\"limits\":[1,10],\"accounts\":[],\"procedures\":[]}";
+
+/// A part of an opening that has not the shape that it has to have, with its tree.
+#[derive(Clone, Copy)]
+enum Misshapen<'a> {
+    Limits(&'a Value),
+    /// The limit at this position.
+    Limit(usize, &'a Value),
+    /// The member of this name, which is to be a list.
+    Member(&'static str, &'a Value),
+    /// The account of this number, from 1.
+    Account(u64, &'a Value),
+    /// The number of this name in the account of this number.
+    Amount(&'static str, u64, &'a Value),
+}
+
 /// Why a tree has not the shape of an opening: the first of its faults, in the order in which a run tests them.
 pub(crate) fn opening_fault(alloc: Global, tree: &Value) -> Result<Option<String>, NoMemory> {
     if !tree.is_object() {
-        let found = excerpt(alloc, tree)?;
-        return Ok(Some(format!(in alloc;
-            "expected an opening, as {{\"limits\":[1,10],\"accounts\":[],\"procedures\":[]}}, found {found}"
-        )?));
+        return unexpected(alloc, OPENING, tree);
     }
-    if let Some(fault) = member_fault(alloc, tree)? {
-        return Ok(Some(fault));
-    }
-    if let Some(fault) = limits_fault(alloc, tree)? {
-        return Ok(Some(fault));
-    }
-    for name in ["accounts", "procedures"] {
-        if let Some(fault) = list_fault(alloc, tree, name)? {
-            return Ok(Some(fault));
+    match (missing_member(tree), unknown_member(tree)) {
+        (Some(name), Some(unknown)) => {
+            told(
+                alloc,
+                &[
+                    Piece::Words("the member \""),
+                    Piece::Words(name),
+                    Piece::Words("\" is missing, and "),
+                    Piece::Word(unknown),
+                    Piece::Words(" is unknown"),
+                ],
+            )
         }
-    }
-    accounts_fault(alloc, tree)
-}
-
-// Which member is missing, and which is unknown.
-fn member_fault(alloc: Global, tree: &Value) -> Result<Option<String>, NoMemory> {
-    let unknown = match unknown_member(tree) {
-        Some(name) => Some(excerpt(alloc, &Value::try_from_str(alloc, name)?)?),
-        None => None,
-    };
-    match (missing_member(tree), unknown) {
-        (Some(name), Some(unknown)) => Ok(Some(format!(in alloc;
-            "the member \"{name}\" is missing, and {unknown} is unknown"
-        )?)),
-        (Some(name), None) => Ok(Some(format!(in alloc; "the member \"{name}\" is missing")?)),
-        (None, Some(unknown)) => Ok(Some(format!(in alloc; "the member {unknown} is unknown")?)),
-        (None, None) => Ok(None),
+        (Some(name), None) => {
+            told(
+                alloc,
+                &[
+                    Piece::Words("the member \""),
+                    Piece::Words(name),
+                    Piece::Words("\" is missing"),
+                ],
+            )
+        }
+        (None, Some(unknown)) => {
+            told(
+                alloc,
+                &[
+                    Piece::Words("the member "),
+                    Piece::Word(unknown),
+                    Piece::Words(" is unknown"),
+                ],
+            )
+        }
+        (None, None) => shape_fault(alloc, tree),
     }
 }
 
@@ -67,84 +88,125 @@ fn unknown_member(tree: &Value) -> Option<&str> {
     None
 }
 
-// What is wrong with the shape of the limits.
-fn limits_fault(alloc: Global, tree: &Value) -> Result<Option<String>, NoMemory> {
-    let Some(limits) = tree.get("limits") else {
-        return Ok(None);
-    };
-    let numbers = match items(limits) {
-        Some(numbers) if numbers.len() == 2 || numbers.len() == 3 => numbers,
-        _ => {
-            let found = excerpt(alloc, limits)?;
-            return Ok(Some(format!(in alloc;
-                "\"limits\": expected a list of two or three whole numbers, found {found}"
-            )?));
-        }
-    };
-    for (position, number) in numbers.iter().enumerate() {
-        if number.as_i64().is_none() {
-            let which = ordinal(position);
-            let found = excerpt(alloc, number)?;
-            return Ok(Some(format!(in alloc;
-                "\"limits\": expected a whole number as the {which}, found {found}"
-            )?));
-        }
+// What is wrong with the shape of the members of an opening.
+fn shape_fault(alloc: Global, tree: &Value) -> Result<Option<String>, NoMemory> {
+    match first_misshapen(tree) {
+        Some(part) => part_fault(alloc, part),
+        None => Ok(None),
     }
-    Ok(None)
 }
 
-// That a member is no list.
-fn list_fault(alloc: Global, tree: &Value, name: &str) -> Result<Option<String>, NoMemory> {
-    let Some(member) = tree.get(name) else {
-        return Ok(None);
-    };
-    if items(member).is_some() {
-        return Ok(None);
+// What was expected where a part of an opening is misshapen.
+fn part_fault(alloc: Global, part: Misshapen<'_>) -> Result<Option<String>, NoMemory> {
+    match part {
+        Misshapen::Limits(tree) => {
+            told(
+                alloc,
+                &[
+                    Piece::Words(
+                        "\"limits\": expected a list of two or three whole numbers, found ",
+                    ),
+                    Piece::Tree(tree),
+                ],
+            )
+        }
+        Misshapen::Limit(position, tree) => {
+            told(
+                alloc,
+                &[
+                    Piece::Words("\"limits\": expected a whole number as the "),
+                    Piece::Words(ordinal(position)),
+                    Piece::Words(", found "),
+                    Piece::Tree(tree),
+                ],
+            )
+        }
+        Misshapen::Member(name, tree) => {
+            told(
+                alloc,
+                &[
+                    Piece::Words("\""),
+                    Piece::Words(name),
+                    Piece::Words("\": expected a list, found "),
+                    Piece::Tree(tree),
+                ],
+            )
+        }
+        Misshapen::Account(number, tree) => {
+            told(
+                alloc,
+                &[
+                    Piece::Words(
+                        "\"accounts\": expected [name,customer,saving,checking] as account ",
+                    ),
+                    Piece::Count(number),
+                    Piece::Words(", found "),
+                    Piece::Tree(tree),
+                ],
+            )
+        }
+        Misshapen::Amount(name, number, tree) => {
+            told(
+                alloc,
+                &[
+                    Piece::Words("\"accounts\": expected a whole number as the "),
+                    Piece::Words(name),
+                    Piece::Words(" of account "),
+                    Piece::Count(number),
+                    Piece::Words(", found "),
+                    Piece::Tree(tree),
+                ],
+            )
+        }
     }
-    let found = excerpt(alloc, member)?;
-    Ok(Some(format!(in alloc; "\"{name}\": expected a list, found {found}")?))
 }
 
-// What is wrong with the shape of the first account that has none. Accounts are counted from 1.
-fn accounts_fault(alloc: Global, tree: &Value) -> Result<Option<String>, NoMemory> {
-    let accounts = match tree.get("accounts") {
-        Some(accounts) => items(accounts),
-        None => None,
-    };
-    let Some(accounts) = accounts else {
-        return Ok(None);
-    };
+// The first part of an opening that is misshapen.
+fn first_misshapen(tree: &Value) -> Option<Misshapen<'_>> {
+    let accounts = tree.get("accounts")?;
+    let misshapen = misshapen_limits(tree.get("limits")?);
+    if misshapen.is_some() {
+        return misshapen;
+    }
+    if items(accounts).is_none() {
+        return Some(Misshapen::Member("accounts", accounts));
+    }
+    let procedures = tree.get("procedures")?;
+    if items(procedures).is_none() {
+        return Some(Misshapen::Member("procedures", procedures));
+    }
+    misshapen_accounts(items(accounts)?)
+}
+
+// What is misshapen in the limits.
+fn misshapen_limits(limits: &Value) -> Option<Misshapen<'_>> {
+    match items(limits) {
+        Some(numbers) if numbers.len() == 2 || numbers.len() == 3 => {
+            let (position, tree) = first_not_whole(numbers)?;
+            Some(Misshapen::Limit(position, tree))
+        }
+        _ => Some(Misshapen::Limits(limits)),
+    }
+}
+
+// What is misshapen in the accounts.
+fn misshapen_accounts(accounts: &[Value]) -> Option<Misshapen<'_>> {
     for (index, account) in accounts.iter().enumerate() {
-        let fault = account_fault(alloc, index.saturating_add(1), account)?;
-        if fault.is_some() {
-            return Ok(fault);
+        let misshapen = misshapen_account((index as u64).saturating_add(1), account);
+        if misshapen.is_some() {
+            return misshapen;
         }
     }
-    Ok(None)
+    None
 }
 
-// What is wrong with the shape of the account of this number.
-fn account_fault(
-    alloc: Global,
-    number: usize,
-    account: &Value,
-) -> Result<Option<String>, NoMemory> {
-    let numbers = match items(account) {
-        Some(numbers) if numbers.len() == 4 => numbers,
-        _ => {
-            let found = excerpt(alloc, account)?;
-            return Ok(Some(format!(in alloc;
-                "\"accounts\": expected [name,customer,saving,checking] as account {number}, found {found}"
-            )?));
+// What is misshapen in the account of this number.
+fn misshapen_account(number: u64, account: &Value) -> Option<Misshapen<'_>> {
+    match items(account) {
+        Some(numbers) if numbers.len() == 4 => {
+            let (position, tree) = first_not_whole(numbers)?;
+            Some(Misshapen::Amount(*NAMES.get(position)?, number, tree))
         }
-    };
-    for (name, tree) in NAMES.iter().zip(numbers.iter()) {
-        if tree.as_i64().is_none() {
-            let found = excerpt(alloc, tree)?;
-            return Ok(Some(format!(in alloc;
-                "\"accounts\": expected a whole number as the {name} of account {number}, found {found}"
-            )?));
-        }
+        _ => Some(Misshapen::Account(number, account)),
     }
-    Ok(None)
 }

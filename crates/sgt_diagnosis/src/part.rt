@@ -2,7 +2,7 @@ use sgt_model::NoMemory;
 use std::alloc::Global;
 
 /// What may stand at a place of a procedure that is written as JSON.
-#[derive(Clone, Copy, Debug, PartialEq, Eq)]
+#[derive(Clone, Copy, PartialEq, Eq)]
 pub(crate) enum Part {
     /// `[args,[statement,..]]`.
     Procedure,

@@ -1,10 +1,11 @@
+use crate::message::{Piece, told};
 use crate::tree::items;
 use serde_json::Value;
 use sgt_model::{LAST_TABLE, LEAST, MOST, NoMemory};
 use std::alloc::Global;
 
 /// The numbers of a record line, whichever they are.
-#[derive(Clone, Copy, Debug, PartialEq, Eq)]
+#[derive(Clone, Copy)]
 pub(crate) struct RecordNumbers {
     table: i64,
     number: i64,
@@ -26,24 +27,43 @@ pub(crate) fn numbers(tree: &Value) -> Option<RecordNumbers> {
 /// Why a record line puts no record, or none where a tree has not its form.
 pub(crate) fn record_fault(alloc: Global, tree: &Value) -> Result<Option<String>, NoMemory> {
     match numbers(tree) {
-        Some(said) => Ok(Some(numbers_fault(alloc, said.table, said.number, said.value)?)),
+        Some(said) => numbers_fault(alloc, said),
         None => Ok(None),
     }
 }
 
 // The first of the numbers that is out of its range, or else that their record is there.
-fn numbers_fault(alloc: Global, table: i64, number: i64, value: i64) -> Result<String, NoMemory> {
+fn numbers_fault(alloc: Global, said: RecordNumbers) -> Result<Option<String>, NoMemory> {
     let ranges = [
-        ("table", table, 0, i64::from(LAST_TABLE)),
-        ("number", number, LEAST, MOST),
-        ("value", value, LEAST, MOST),
+        ("table", said.table, 0, i64::from(LAST_TABLE)),
+        ("number", said.number, LEAST, MOST),
+        ("value", said.value, LEAST, MOST),
     ];
     for (name, given, first, last) in ranges.iter() {
         if *given < *first || *last < *given {
-            return Ok(format!(in alloc;
-                "the {name} is {given}, and has to be from {first} to {last}"
-            )?);
+            return told(
+                alloc,
+                &[
+                    Piece::Words("the "),
+                    Piece::Words(*name),
+                    Piece::Words(" is "),
+                    Piece::Number(*given),
+                    Piece::Words(", and has to be from "),
+                    Piece::Number(*first),
+                    Piece::Words(" to "),
+                    Piece::Number(*last),
+                ],
+            );
         }
     }
-    Ok(format!(in alloc; "record {table}/{number} is there already")?)
+    told(
+        alloc,
+        &[
+            Piece::Words("record "),
+            Piece::Number(said.table),
+            Piece::Words("/"),
+            Piece::Number(said.number),
+            Piece::Words(" is there already"),
+        ],
+    )
 }

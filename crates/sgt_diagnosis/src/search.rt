@@ -192,18 +192,20 @@ fn depth_at(part: Part, next: Part, depth: i64) -> i64 {
 // What is so behind a statement of these items, where this was so behind its expressions, and that behind its blocks.
 fn behind(flow: Flow, blocks: Flow, items: &[Value]) -> Flow {
     match word_of(items) {
-        Some("look" | "find" | "let") => match register_of(items) {
-            Some(register) => flow.setting(register),
-            None => flow,
-        },
         Some("ask") => Flow::stopped(),
         Some("if") => blocks,
         Some("answer") => flow.answering(),
-        _ => flow,
+        _ => match register_of(items) {
+            Some(register) => flow.setting(register),
+            None => flow,
+        },
     }
 }
 
 // The register that a statement sets.
 fn register_of(items: &[Value]) -> Option<i64> {
-    items.get(1)?.as_i64()
+    match Part::Statement.at(word_of(items), 1)? {
+        Part::Register => items.get(1)?.as_i64(),
+        _ => None,
+    }
 }

@@ -1,0 +1,86 @@
+use crate::excerpt::append_excerpt;
+use serde_json::Value;
+use sgt_model::NoMemory;
+use std::alloc::Global;
+
+/// A piece of a message.
+#[derive(Clone, Copy)]
+pub(crate) enum Piece<'a> {
+    Words(&'a str),
+    Number(i64),
+    /// How many there are of something, or which of them.
+    Count(u64),
+    /// A tree, cut short.
+    Tree(&'a Value),
+    /// A word of the input as JSON, cut short.
+    Word(&'a str),
+    /// The positions that lead to a place, parted by blanks, or `top`.
+    Place(&'a [u64]),
+}
+
+/// The message of these pieces.
+pub(crate) fn message(alloc: Global, pieces: &[Piece<'_>]) -> Result<String, NoMemory> {
+    let mut message = String::new(alloc);
+    for piece in pieces {
+        append_piece(alloc, &mut message, *piece)?;
+    }
+    Ok(message)
+}
+
+/// The same, where there may be none.
+pub(crate) fn told(alloc: Global, pieces: &[Piece<'_>]) -> Result<Option<String>, NoMemory> {
+    Ok(Some(message(alloc, pieces)?))
+}
+
+/// That something else was expected than this tree.
+pub(crate) fn unexpected<'a>(
+    alloc: Global,
+    wanted: &'a str,
+    tree: &'a Value,
+) -> Result<Option<String>, NoMemory> {
+    told(
+        alloc,
+        &[
+            Piece::Words("expected "),
+            Piece::Words(wanted),
+            Piece::Words(", found "),
+            Piece::Tree(tree),
+        ],
+    )
+}
+
+/// That a word begins nothing.
+pub(crate) fn unknown(alloc: Global, word: &str) -> Result<Option<String>, NoMemory> {
+    told(alloc, &[Piece::Words("unknown word "), Piece::Word(word)])
+}
+
+fn append_piece(alloc: Global, message: &mut String, piece: Piece<'_>) -> Result<(), NoMemory> {
+    match piece {
+        Piece::Words(words) => append(message, words),
+        Piece::Number(number) => append(message, format!(in alloc; "{number}")?.as_str()),
+        Piece::Count(count) => append_count(alloc, message, count),
+        Piece::Tree(tree) => append_excerpt(alloc, message, tree),
+        Piece::Word(word) => append_excerpt(alloc, message, &Value::try_from_str(alloc, word)?),
+        Piece::Place(place) => append_place(alloc, message, place),
+    }
+}
+
+fn append(message: &mut String, words: &str) -> Result<(), NoMemory> {
+    message.push_str(words)?;
+    Ok(())
+}
+
+fn append_count(alloc: Global, message: &mut String, count: u64) -> Result<(), NoMemory> {
+    append(message, format!(in alloc; "{count}")?.as_str())
+}
+
+fn append_place(alloc: Global, message: &mut String, place: &[u64]) -> Result<(), NoMemory> {
+    if place.is_empty() {
+        return append(message, "top");
+    }
+    for (index, position) in place.iter().enumerate() {
+        append(message, if index == 0 { "" } else { " " })?;
+        append_count(alloc, message, *position)?;
+    }
+    Ok(())
+}
