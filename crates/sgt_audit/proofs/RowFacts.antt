@@ -19,12 +19,6 @@ pub not_lent : (lives : List Life) (n t : ℕ) → length lives ≤ n → n ≡ 
 not_lent lives n t behind same = subst (λ k. slice_get lives k ≡ None) same (slice_get_past lives n behind)
 
 module _ (past : List Entry) (lives : List Life) (are : AreLives past lives) (first second : ℕ) where
-  pub unstarted_first : slice_get lives first ≡ None → ¬ EndsBefore past first second
-  unstarted_first out before = none-some before.ended (sym (are.none first out).ended ∙ before.first_ended)
-
-  pub unstarted_second : slice_get lives second ≡ None → ¬ EndsBefore past first second
-  unstarted_second out before = none-some before.started (sym (are.none second out).started ∙ before.second_started)
-
   pub never_ended : (a : Life) → slice_get lives first ≡ Some a → a.ended ≡ None → ¬ EndsBefore past first second
   never_ended a at not before = none-some before.ended (sym not ∙ (sym (are.each first a at).ended ∙ before.first_ended))
 
@@ -49,7 +43,7 @@ module _ (past : List Entry) (lives : List Life) (are : AreLives past lives) (jo
   unstarted out of = let less : t < length lives = subst (λ n. t < n) (sym are.counted) of.started in
       elim (slice_get_cases lives t).1 [
         | inl w ↦ none-some w.0 (sym out ∙ w.2)
-        | inr w ↦ let past = w.0 in absurd (omega arith)
+        | inr w ↦ let behind = w.0 in absurd (omega arith)
       ]
 
   module _ (life : Life) (at : slice_get lives t ≡ Some life) where
