@@ -5,7 +5,7 @@ ghost use Rattle.sgt_history.specs.Histories.{item_of};
 ///
 /// Two operations of different transactions conflict where both are on one item and one of them writes it (Bernstein,
 /// Hadzilacos and Goodman (1987), chapter 2).
-#[derive(Clone, Copy, PartialEq, Eq)]
+#[derive(Clone, Copy, Debug, PartialEq, Eq)]
 pub enum Action {
     /// It reads the item.
     Read(u32),
@@ -31,7 +31,7 @@ impl Action {
 
 /// An operation of a history. A history is a slice of them, the first at place 0 (Bernstein, Hadzilacos and Goodman (1987),
 /// chapter 2, with all operations in one order).
-#[derive(Clone, Copy)]
+#[derive(Clone, Copy, Debug, PartialEq, Eq)]
 pub struct Operation {
     /// The transaction whose operation it is.
     pub transaction: u32,
@@ -40,7 +40,7 @@ pub struct Operation {
 }
 
 /// Two operations by which a history is not of a class.
-#[derive(Clone, Copy)]
+#[derive(Clone, Copy, Debug, PartialEq, Eq)]
 pub struct Violation {
     /// The place of the one that came first.
     pub earlier: usize,

@@ -10,7 +10,7 @@ use std::marker::Model;
 
 /// A finite map from keys to values, kept as rows in the order of their keys. It finds a row by halving and adds one by
 /// moving those behind it: it serves openings and snapshots, and is no engine's store.
-#[derive(Drop)]
+#[derive(Debug, Drop)]
 pub struct Database {
     rows: Vec<(Key, i64)>,
 }

@@ -8,7 +8,7 @@ pub const MOST_LIVE: u32 = 32;
 pub const MOST_BEGINS: u32 = 4_000_000_000;
 
 /// When a transaction is told that its procedure asked a code.
-#[derive(Clone, Copy)]
+#[derive(Clone, Copy, Debug, PartialEq, Eq)]
 pub enum Asks {
     /// At the step that finds it, by an abort. What the procedure looked at then may be undone later: the code is no
     /// more than a sign that the transaction could not go on.
@@ -18,7 +18,7 @@ pub enum Asks {
 }
 
 /// How many transactions an engine may hold, and when it answers an ask.
-#[derive(Clone, Copy)]
+#[derive(Clone, Copy, Debug, PartialEq, Eq)]
 pub struct Limits {
     /// How many may be live at once, from 1 to `MOST_LIVE`.
     pub live: u32,

@@ -10,7 +10,7 @@ use std::alloc::Global;
 
 /// A bank account: its name, the customer that it belongs to, and what the customer has. An opening takes each of the four
 /// only where it lies within fifteen digits.
-#[derive(Clone, Copy)]
+#[derive(Clone, Copy, Debug, PartialEq, Eq)]
 pub struct Account {
     /// The name, a number that the five procedures are given.
     pub name: i64,

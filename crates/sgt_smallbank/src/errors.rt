@@ -4,7 +4,7 @@ ghost use Rattle.sgt_smallbank.specs.declared.errors.BadOpening.TheVariants as b
 use sgt_model::NoMemory;
 
 /// Why accounts open no database.
-#[derive(Clone, Copy)]
+#[derive(Clone, Copy, Debug, PartialEq, Eq)]
 pub enum BadOpening {
     /// An account has this fault, and none before it has one.
     Fault(OpeningFault),
