@@ -19,7 +19,8 @@ use Rattle.sgt_program.specs.Openings.{opened_setting}
 use Rattle.sgt_stream.specs.declared.fault.Fault.{Fault}
 use Rattle.sgt_stream.specs.declared.fault.Fault.TheVariants as fault
 use Rattle.sgt_stream.specs.Lines.{Cut, cut, has_break}
-use Rattle.sgt_stream.specs.Intake.{Intake, before_input, bytes_left, cut_left, taken}
+use Rattle.sgt_stream.specs.Intake.{Intake, bytes_left, cut_left, taken}
+use Rattle.sgt_script.specs.Opened.{HasOpened}
 use Rattle.sgt_stream.specs.Records.{Passes, ReadsRecords}
 use Rattle.sgt_stream.proofs.Begun.{Begun, HaveBegun}
 use Rattle.sgt_stream.specs.Ends.{End, IsOfInput}
@@ -400,35 +401,35 @@ stops-nothing w None to held end read = tt
 stops-nothing w (Some bytes) to held end read = ([], appends-none held, inl refl, read)
 
 -- nor where a read failed, or a growth was refused, behind line 1
-pub stops-records : (w : Telling) (i j : Intake) (rest rest' to held : Option (List ℕ)) (end : End) → i ≡ before_input
-    → Consumes (bytes_left i rest) (bytes_left j rest') (taken j) → has_break j.line ≡ false
-    → (end ≡ Err fault.Reading → (j.ended ≡ false) × ReadsRecords (bytes_left j rest') to) → ScriptStops w rest to held held end
-stops-records w i j None rest' to held end start took unbroken read = tt
-stops-records w i j (Some bytes) rest' to held end start took unbroken read = (
+pub stops-records : (w : Telling) (input : Option (List ℕ)) (i : Intake) (rest to held : Option (List ℕ)) (o : Opening) (end : End)
+    → HasOpened 1 input i rest o → (end ≡ Err fault.Reading → (i.ended ≡ false) × ReadsRecords (bytes_left i rest) to)
+    → ScriptStops w input to held held end
+stops-records w None i rest to held o end opened read = tt
+stops-records w (Some bytes) i rest to held o end opened read = (
   [],
   appends-none held,
   inl refl,
-  λ reading. read-opened i j bytes rest' to [] start took unbroken (read reading).0 (only-records (bytes_left j rest') to (read reading).1),
+  λ reading. read-opened i bytes rest to o [] opened (read reading).0 (only-records (bytes_left i rest) to (read reading).1),
 )
 
 -- behind an opening
-pub stops-opened : (w : Telling) (i j k : Intake) (s : Setting) (rest rest' rest'' to old new : Option (List ℕ)) (known : Option Cut)
-    (o : Opening) (end : End) → i ≡ before_input → Begun 1 rest j.line o (k.number + 1) known → s ≡ opened_setting o
-    → Consumes (bytes_left i rest) (bytes_left j rest') (taken j) → has_break j.line ≡ false → j.number ≡ 1
-    → (k.ended ≡ false → (j.ended ≡ false) × Passes j.number (bytes_left j rest') k.number (bytes_left k rest''))
-    → (end ≡ Err fault.Reading → k.ended ≡ false) → Stops w s (k.number + 1) known (bytes_left k rest'') to old new end
-    → ScriptStops w rest to old new end
-stops-opened w i j k s None rest' rest'' to old new known o end start begun is took unbroken one passes going stops = tt
-stops-opened w i j k s (Some bytes) rest' rest'' to old new None o end start begun is took unbroken one passes going stops = absurd begun
-stops-opened w i j k s (Some bytes) rest' rest'' to old new (Some c) o end start begun is took unbroken one passes going
+pub stops-opened : (w : Telling) (i k : Intake) (s : Setting) (input rest rest' to old new : Option (List ℕ)) (known : Option Cut)
+    (first o : Opening) (end : End) → HasOpened 1 input i rest first → Begun 1 input i.line o (k.number + 1) known
+    → s ≡ opened_setting o
+    → (k.ended ≡ false → (i.ended ≡ false) × Passes i.number (bytes_left i rest) k.number (bytes_left k rest'))
+    → (end ≡ Err fault.Reading → k.ended ≡ false) → Stops w s (k.number + 1) known (bytes_left k rest') to old new end
+    → ScriptStops w input to old new end
+stops-opened w i k s None rest rest' to old new known first o end opened begun is passes going stops = tt
+stops-opened w i k s (Some bytes) rest rest' to old new None first o end opened begun is passes going stops = absurd begun
+stops-opened w i k s (Some bytes) rest rest' to old new (Some c) first o end opened begun is passes going
     (answered, wrote, begins, read) = (
       answered,
       wrote,
-      inr (of-script w s bytes j.line (k.number + 1) c o answered (answers_text w answered) begun is begins),
+      inr (of-script w s bytes i.line (k.number + 1) c o answered (answers_text w answered) begun is begins),
       λ reading.
           let still = passes (going reading) in
-          read-opened i j bytes rest' to answered start took unbroken still.0
-          (behind-records (bytes_left j rest') (bytes_left k rest'') to j.number k.number answered one still.1 (read reading)),
+          read-opened i bytes rest to first answered opened still.0
+          (behind-records (bytes_left i rest) (bytes_left k rest') to i.number k.number answered opened.number still.1 (read reading)),
     )
 
 pub fails-opened : (w : Telling) (s : Setting) (rest old new : Option (List ℕ)) (line : List ℕ) (n : ℕ) (known : Option Cut) (o : Opening)

@@ -1,6 +1,8 @@
 pub mod Answers
+pub mod NextLines
 pub mod Parts
 pub mod WholeLines
+pub mod Opened
 pub mod Runs
 pub mod RunLaws
 pub mod RecordLaws

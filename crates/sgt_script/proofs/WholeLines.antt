@@ -5,7 +5,9 @@ use Rattle.std.specs.Prelude.{Result, Option, None, Some, ⊤, Ok, Err}
 use Rattle.std.specs.Io.KnownBytes.{Consumes, Keeps, prepend_known}
 use Rattle.sgt_stream.specs.declared.fault.Fault.{Fault}
 use Rattle.sgt_stream.specs.Lines.{AtEnd, has_break, whole_lines}
-use Rattle.sgt_stream.specs.Intake.{Intake, NoLineCame, before_input, bytes_left, taken}
+use Rattle.sgt_format.specs.declared.opening.Opening.{Opening}
+use Rattle.sgt_stream.specs.Intake.{Intake, NoLineCame, bytes_left, taken}
+use Rattle.sgt_script.specs.Opened.{HasOpened, ReadsNoLine}
 use Rattle.sgt_stream.specs.Records.{Passes, ReadsRecords}
 use Rattle.sgt_stream.specs.Ends.{End}
 use Rattle.sgt_stream.specs.Spelled.{and_later, or_later, spelled, end_of}
@@ -113,17 +115,8 @@ read-failed n m from i i' rest rest' answers read none = (
 -- from the first line
 
 -- where it was not whole
-pub read-nothing : (i i' : Intake) (rest rest' : Option (List ℕ)) → i ≡ before_input → NoLineCame i rest i' rest'
-    → AnswersScriptRead rest rest' []
-read-nothing i i' None rest' start none = (i'.held, tt, subst (λ (ls : List (List ℕ)). AreLaterAnswered ls []) (sym none.1) refl)
-read-nothing i i' (Some bytes) rest' start none =
-    let left : bytes_left i (Some bytes) ≡ Some bytes = ap (λ (j : Intake). bytes_left j (Some bytes)) start in (
-      i'.held,
-      consumes-held (Some bytes) (bytes_left i (Some bytes)) rest' [] i'.held
-          (subst (λ (k : Option (List ℕ)). Consumes (Some bytes) k []) (sym left) refl)
-          (subst (Keeps (bytes_left i (Some bytes))) (left-going i' rest' none.2) none.0),
-      subst (λ (ls : List (List ℕ)). AreLaterAnswered ls []) (sym none.1) refl,
-    )
+pub read-nothing : (rest to : Option (List ℕ)) → ReadsNoLine rest to → AnswersScriptRead rest to []
+read-nothing rest to (read, took, none) = (read, took, subst (λ (ls : List (List ℕ)). AreLaterAnswered ls []) (sym none) refl)
 
 -- known bytes were read whose whole lines are record lines and lines that got these answers
 abbrev pub AnswersBehind : Option (List ℕ) → Option (List ℕ) → List Answer → Type 0
@@ -131,27 +124,23 @@ AnswersBehind None to answers = ⊤
 AnswersBehind (Some old) to answers = (read : List ℕ) × Consumes (Some old) to read × AreBehindRecords (whole_lines read) answers
 
 -- behind line 1
-pub read-opened : (i i' : Intake) (bytes : List ℕ) (rest' to : Option (List ℕ)) (answers : List Answer) → i ≡ before_input
-    → Consumes (bytes_left i (Some bytes)) (bytes_left i' rest') (taken i') → has_break i'.line ≡ false → i'.ended ≡ false
-    → AnswersBehind (bytes_left i' rest') to answers → AnswersScriptRead (Some bytes) to answers
-read-opened i i' bytes rest' to answers start took unbroken going behind =
-    go (bytes_left i' rest') (subst (Consumes (Some bytes) (bytes_left i' rest')) line
-    (subst (λ (k : Option (List ℕ)). Consumes k (bytes_left i' rest') (taken i')) left took)) behind
+pub read-opened : (i : Intake) (bytes : List ℕ) (rest to : Option (List ℕ)) (o : Opening) (answers : List Answer)
+    → HasOpened 1 (Some bytes) i rest o → i.ended ≡ false → AnswersBehind (bytes_left i rest) to answers
+    → AnswersScriptRead (Some bytes) to answers
+read-opened i bytes rest to o answers opened going behind =
+    go (bytes_left i rest) (subst (Consumes (Some bytes) (bytes_left i rest)) line opened.took) behind
   where
-    left : bytes_left i (Some bytes) ≡ Some bytes
-    left = ap (λ (j : Intake). bytes_left j (Some bytes)) start
-
-    line : taken i' ≡ i'.line ++ 10 ∷ []
+    line : taken i ≡ i.line ++ 10 ∷ []
     line = rw going refl
 
-    go : (mid : Option (List ℕ)) → Consumes (Some bytes) mid (i'.line ++ 10 ∷ []) → AnswersBehind mid to answers
+    go : (mid : Option (List ℕ)) → Consumes (Some bytes) mid (i.line ++ 10 ∷ []) → AnswersBehind mid to answers
         → AnswersScriptRead (Some bytes) to answers
     go None consumed answered = absurd consumed
     go (Some mid) consumed (read, then, events) = (
-      i'.line ++ 10 ∷ read,
-      subst (Consumes (Some bytes) to) (append_assoc i'.line (10 ∷ []) read)
-          (consumes-trans (Some bytes) (Some mid) to (i'.line ++ 10 ∷ []) read consumed then),
-      subst (λ (ls : List (List ℕ)). AreLaterAnswered ls answers) (sym (whole_lines-first i'.line read unbroken)) events,
+      i.line ++ 10 ∷ read,
+      subst (Consumes (Some bytes) to) (append_assoc i.line (10 ∷ []) read)
+          (consumes-trans (Some bytes) (Some mid) to (i.line ++ 10 ∷ []) read consumed then),
+      subst (λ (ls : List (List ℕ)). AreLaterAnswered ls answers) (sym (whole_lines-first i.line read opened.unbroken)) events,
     )
 
 -- record lines alone were read

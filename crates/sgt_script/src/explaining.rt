@@ -135,7 +135,7 @@ impl<E: Sink> Explains for Explaining<'_, E> {
     }
 
     fn ended(&mut self, engine: &SgtEngine) {
-        if append_live(&mut self.text, engine.sched().live().as_slice()).is_err() {
+        if append_live(self.alloc, &mut self.text, engine.sched().live().as_slice()).is_err() {
             self.has_lost = true;
         }
     }

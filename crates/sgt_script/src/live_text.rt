@@ -1,36 +1,35 @@
 ghost use Rattle.std.specs.Prelude.{◌≡◌, take, OnErr, vec_len};
 
-use itoa::Buffer;
+use sgt_format::append_numbered;
 use sgt_model::{NoMemory, Tid};
-use std::alloc::AllocError;
+use std::alloc::{AllocError, Global};
 
 /// Adds a line that tells which transactions are live at the end, as `2 transactions are live at the end: 3, 7`; nothing where
 /// none is.
 ///
-/// `NoMemory` where the growth was refused; the text is as it was then.
-pub(crate) fn append_live(text: &mut Vec<u8>, live: &[Tid]) -> Result<(), NoMemory>
+/// `NoMemory` where a growth was refused; the text is as it was then.
+pub(crate) fn append_live(alloc: Global, text: &mut Vec<u8>, live: &[Tid]) -> Result<(), NoMemory>
     ensures kept { take (vec_len text.old) text.new.items ≡ text.old.items }
     ensures err { OnErr result (text.new.items ≡ text.old.items) }
 {
-    let before = text.len();
-    if !live.is_empty() && append_live_line(text, live).is_err() {
-        text.truncate(before);
-        return Err(NoMemory);
+    let mut line = Vec::new(alloc);
+    if !live.is_empty() {
+        append_live_line(&mut line, live)?;
     }
+    text.extend_from_slice(line.as_slice())?;
     Ok(())
 }
 
-// Adds the line. On an error the text still begins with what it held.
-fn append_live_line(text: &mut Vec<u8>, live: &[Tid]) -> Result<(), AllocError>
-    ensures kept { take (vec_len text.old) text.new.items ≡ text.old.items }
-{
-    append_number(text, b"", live.len() as u64)?;
-    text.extend_from_slice(words_for(live.len()))?;
-    for number in 0..live.len() {
-        let t = live[number];
-        append_number(text, parting(number), u64::from(t.0))?;
+// Adds the line.
+fn append_live_line(line: &mut Vec<u8>, live: &[Tid]) -> Result<(), AllocError> {
+    append_numbered(line, b"", live.len())?;
+    line.extend_from_slice(words_for(live.len()))?;
+    let mut parting: &'static [u8] = b" ";
+    for t in live {
+        append_numbered(line, parting, t.0)?;
+        parting = b", ";
     }
-    text.extend_from_slice(b"\n")
+    line.extend_from_slice(b"\n")
 }
 
 // The words behind the number of those that are live.
@@ -40,17 +39,4 @@ fn words_for(count: usize) -> &'static [u8] {
     } else {
         b" transactions are live at the end:"
     }
-}
-
-// What stands before the name of the transaction with this number, from 0.
-fn parting(number: usize) -> &'static [u8] {
-    if number == 0 { b" " } else { b", " }
-}
-
-// Adds words and a number. On an error the text still begins with what it held.
-fn append_number(text: &mut Vec<u8>, words: &[u8], number: u64) -> Result<(), AllocError>
-    ensures kept { take (vec_len text.old) text.new.items ≡ text.old.items }
-{
-    text.extend_from_slice(words)?;
-    text.extend_from_slice(Buffer::new().format(number).as_bytes())
 }

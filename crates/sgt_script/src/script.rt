@@ -9,6 +9,7 @@ ghost use Rattle.sgt_stream.specs.Ends.{IsOfInput, IsExact};
 ghost use Rattle.sgt_script.specs.Parts.{Answer, Replied, StillLive, WasCut, answer_text, answers_text, left_by, part_at, part_of};
 ghost use Rattle.sgt_script.specs.Scripts.{Execution, Last, RunOutput, Script, script_line_at};
 ghost use Rattle.sgt_script.specs.Answering.{AnswersAll, AnswersLine, AnswersRead, AnswersScriptRead, AnswersSome, BeginWith, NoLine};
+ghost use Rattle.sgt_script.specs.Opened.{HasOpened, IsRefused, ReadsNoLine};
 ghost use Rattle.sgt_script.specs.Beginnings.{AppendsPart, Begins, IsStop, LineRuns, ScriptRuns, WritesAt};
 
 use crate::explain::Explains;
@@ -16,8 +17,8 @@ use crate::telling::Telling;
 use json::Scratch;
 use sgt_engine::CutError;
 use sgt_format::{
-    ScriptLine, append_cut, append_database, append_records, append_reply, append_still_live,
-    read_script_line,
+    Opening, ScriptLine, append_cut, append_database, append_records, append_reply,
+    append_still_live, read_script_line,
 };
 use sgt_model::{Entry, Event, NoMemory, histories_go_on, some_reply_is_legal};
 use sgt_program::{SgtEngine, open_engine};
@@ -109,10 +110,7 @@ fn answer_cut(
     ensures kept { OnErr result (text.new.items ≡ text.old.items) }
 {
     match engine.cut(alloc) {
-        Ok(past) => {
-            append_was_cut(past.history.len(), telling, text)?;
-            Ok(())
-        }
+        Ok(past) => append_was_cut(past.history.len(), telling, text),
         Err(CutError::StillLive) => {
             append_was_not_cut(telling, text)?;
             Ok(())
@@ -150,12 +148,25 @@ fn last_text(alloc: Global, engine: &SgtEngine, telling: Telling) -> Result<Vec<
     ensures { IfOk result (λ text. Last telling (left_by (part_at engine.now)) text.items) }
 {
     let mut text = Vec::new(alloc);
-    match telling {
-        Telling::Replies => append_database(&mut text, &engine.database(alloc)?)?,
-        Telling::Operations => (),
-        Telling::Records => append_records(&mut text, &engine.database(alloc)?)?,
-    }
+    append_last(alloc, engine, telling, &mut text)?;
     Ok(text)
+}
+
+/// Adds that to no text.
+fn append_last(
+    alloc: Global,
+    engine: &SgtEngine,
+    telling: Telling,
+    text: &mut Vec<u8>,
+) -> Result<(), NoMemory>
+    requires { text.old.items ≡ [] }
+    ensures { OnOk result (Last telling (left_by (part_at engine.now)) text.new.items) }
+{
+    match telling {
+        Telling::Replies => append_database(text, &engine.database(alloc)?),
+        Telling::Operations => Ok(()),
+        Telling::Records => append_records(text, &engine.database(alloc)?),
+    }
 }
 
 /// Writes out what was gathered.
@@ -353,6 +364,29 @@ pub(crate) fn run_opened<S: Source, T: Sink, X: Explains>(
     flush(sink, &mut text)
 }
 
+/// Reads line 1, and tells the opening that it spells: line 1 is the line given last, then.
+fn open_input<S: Source>(alloc: Global, source: &mut S) -> Result<(Lines, Opening), Fault>
+    requires { S.failures source.old + 1 < 2 ^ 64 }
+    ensures opened { IfOk result (λ input.
+        HasOpened 1 (S.rest source.old) input.0 (S.rest source.new) input.1) }
+    ensures fault { IfErr result (λ f. IsOfInput f → IsRefused 1 (S.rest source.old) f) }
+    ensures unread { result ≡ Err Fault.Reading → ReadsNoLine (S.rest source.old) (S.rest source.new) }
+    ensures come { IfOk result (λ input. (S.given source.new ≤ S.given source.old + come input.0)
+        × (come input.0 ≤ 16777217)) }
+    ensures bounded { S.given source.new ≤ S.given source.old + 16777217 }
+    ensures writing { result ≢ Err Fault.Writing }
+    ensures well { result ≢ Err Fault.Reading → S.failures source.new ≡ S.failures source.old }
+    ensures failed { result ≡ Err Fault.Reading →
+        S.failures source.new ≡ S.failures source.old + 1 }
+{
+    let mut lines = Lines::new(alloc)?;
+    if !lines.next_line(source)? {
+        return Err(Fault::NoOpening);
+    }
+    let opening = opening_of(alloc, 1, &lines)?;
+    Ok((lines, opening))
+}
+
 /// Runs a script: line 1 opens and the record lines behind it fill the database, each later line is an event or a cut and is
 /// answered, and the committed database comes last.
 ///
@@ -390,11 +424,7 @@ pub(crate) fn run_with<S: Source, T: Sink, X: Explains>(
     ensures write_failed { result ≡ Err Fault.Writing →
         T.failures sink.new ≡ T.failures sink.old + 1 }
 {
-    let mut lines = Lines::new(alloc)?;
-    if !lines.next_line(source)? {
-        return Err(Fault::NoOpening);
-    }
-    let opening = opening_of(alloc, 1, &lines)?;
+    let (mut lines, opening) = open_input(alloc, source)?;
     explains.opened(&lines);
     let opening = read_records(alloc, &mut lines, source, opening)?;
     let mut engine = open_engine(alloc, opening)?;

@@ -1,5 +1,5 @@
 /// What is written of a run.
-#[derive(Clone, Copy, PartialEq, Eq)]
+#[derive(Clone, Copy)]
 pub(crate) enum Telling {
     /// The reply to each line, and the committed database at the end.
     Replies,

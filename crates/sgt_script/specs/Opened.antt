@@ -1,0 +1,33 @@
+-- Line 1 of an input, which opens it or does not.
+use Rattle.std.specs.Prelude.{◌≡◌, ◌≢◌, ℕ, false, List, [], ◌∷◌, Option, IfSome, Err}
+use Rattle.std.specs.Io.KnownBytes.{Consumes}
+use Rattle.sgt_format.specs.Openings.{Opens, Refuses}
+use Rattle.sgt_format.specs.declared.opening.Opening.{Opening}
+use Rattle.sgt_format.specs.declared.errors.OpeningError.{OpeningError}
+use Rattle.sgt_format.specs.declared.errors.OpeningError.TheVariants as opening_error
+use Rattle.sgt_stream.specs.declared.fault.Fault.{Fault}
+use Rattle.sgt_stream.specs.Lines.{Ending, cut, has_break, whole_lines}
+use Rattle.sgt_stream.specs.Intake.{Intake, Gives, before_input, bytes_left, cut_left, taken}
+use Rattle.sgt_stream.specs.Ends.{fault_of_opening, no_opening}
+
+-- of an input line 1 was given, which spells this opening
+pub record HasOpened (least : ℕ) (input : Option (List ℕ)) (i : Intake) (rest : Option (List ℕ)) (o : Opening) : Type 0 where
+  pub opens : Opens least i.line o
+  pub gives : Gives (cut_left before_input input) i.line (cut_left i rest)
+  pub number : i.number ≡ 1
+  pub took : Consumes (bytes_left before_input input) (bytes_left i rest) (taken i)
+  pub unbroken : has_break i.line ≡ false
+
+-- these lines do not open, with this fault: there is no line 1, or it is refused as an opening
+abbrev pub LinesRefused : ℕ → List (List ℕ) → Ending → Fault → Type 0
+LinesRefused least [] ending f = no_opening ending ≡ Err f
+LinesRefused least (line ∷ later) ending f =
+    (e : OpeningError) × Refuses least line e × (e ≢ opening_error.NoMemory) × (f ≡ fault_of_opening e)
+
+-- the same of known bytes
+abbrev pub IsRefused : ℕ → Option (List ℕ) → Fault → Type 0
+IsRefused least input f = IfSome input (λ bytes. LinesRefused least (cut bytes).given (cut bytes).ending f)
+
+-- from there to here known bytes were read that have no whole line
+abbrev pub ReadsNoLine : Option (List ℕ) → Option (List ℕ) → Type 0
+ReadsNoLine input rest = (read : List ℕ) × Consumes input rest read × (whole_lines read ≡ [])
