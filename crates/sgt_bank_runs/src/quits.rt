@@ -27,6 +27,11 @@ const LIMITS: Limits = Limits {
     asks: Asks::AtStep,
 };
 
+/// What is told of a transaction that was started, and of one that was quit, where nobody fell.
+const STARTED: &str = "started";
+
+const QUIT: &str = "aborted quit fell none";
+
 const ACCOUNT: Account = Account {
     name: 1,
     customer: 101,
@@ -53,48 +58,24 @@ fn balance() -> Event {
     }
 }
 
-/// What became of a call.
-#[derive(Clone, Copy, PartialEq, Eq)]
-enum Told {
-    Started(Tid),
-    /// The caller quit, and nobody fell.
-    Quit,
-    Full,
-    NoMemory,
-    Another,
-}
-
-impl Told {
-    /// The words for it, which take no memory.
-    fn words(self) -> &'static str {
-        match self {
-            Told::Started(_) => "started",
-            Told::Quit => "aborted quit fell none",
-            Told::Full => "full",
-            Told::NoMemory => "no memory",
-            Told::Another => "another reply",
-        }
-    }
-}
-
-/// Makes a call.
+/// Makes a call, and tells what became of it in words, which take no memory.
 fn call<N: Named, W: Wait>(
     rt: &W,
     shared: &SharedEngine<N>,
     session: &mut Session<N>,
     event: Event,
-) -> Told {
+) -> &'static str {
     if session.make(rt, shared, event).is_err() {
-        return Told::NoMemory;
+        return "no memory";
     }
     match &session.last().reply {
-        Reply::Started(t) => Told::Started(*t),
-        Reply::Full => Told::Full,
+        Reply::Started(_) => STARTED,
+        Reply::Full => "full",
         Reply::Aborted {
             cause: Cause::Quit,
             fell,
-        } if fell.is_empty() => Told::Quit,
-        _ => Told::Another,
+        } if fell.is_empty() => QUIT,
+        _ => "another reply",
     }
 }
 
@@ -103,14 +84,14 @@ fn start_many<N: Named, W: Wait>(
     rt: &W,
     shared: &SharedEngine<N>,
     session: &mut Session<N>,
-) -> (u32, Told) {
+) -> (u32, &'static str) {
     for started in 0..LIMITS.begins {
         let told = call(rt, shared, session, balance());
-        if !matches!(told, Told::Started(_)) {
+        if told != STARTED {
             return (started, told);
         }
     }
-    (LIMITS.begins, Told::Another)
+    (LIMITS.begins, STARTED)
 }
 
 /// Quits so many transactions from this number on, and answers how many of them were quit.
@@ -123,14 +104,14 @@ fn quit_many<N: Named, W: Wait>(
 ) -> u32 {
     let mut quit = 0u32;
     for t in first..first.saturating_add(count) {
-        if call(rt, shared, session, Event::Quit(Tid(t))) == Told::Quit {
+        if call(rt, shared, session, Event::Quit(Tid(t))) == QUIT {
             quit = quit.saturating_add(1);
         }
     }
     quit
 }
 
-/// Starts a transaction and quits it, and then starts and quits as many as it may.
+/// Shares the engine with one session, and tells what that is answered.
 fn play<N: Named, W: Wait + Print>(
     rt: &W,
     alloc: Global,
@@ -148,14 +129,20 @@ fn play<N: Named, W: Wait + Print>(
     let Some(session) = sessions.first_mut() else {
         return Err(io::Error::from(ErrorKind::Other));
     };
-    println!(rt; "{}", call(rt, &shared, session, balance()).words())?;
-    println!(rt;
-        "{}",
-        call(rt, &shared, session, Event::Quit(Tid(0))).words()
-    )?;
-    let (started, told) = start_many(rt, &shared, session);
-    println!(rt; "{started} started, then {}", told.words())?;
-    println!(rt; "{} quit", quit_many(rt, &shared, session, 1, started))
+    tell_session(rt, &shared, session)
+}
+
+/// Starts a transaction and quits it, and then starts and quits as many as it may.
+fn tell_session<N: Named, W: Wait + Print>(
+    rt: &W,
+    shared: &SharedEngine<N>,
+    session: &mut Session<N>,
+) -> io::Result<()> {
+    println!(rt; "{}", call(rt, shared, session, balance()))?;
+    println!(rt; "{}", call(rt, shared, session, Event::Quit(Tid(0))))?;
+    let (started, told) = start_many(rt, shared, session);
+    println!(rt; "{started} started, then {told}")?;
+    println!(rt; "{} quit", quit_many(rt, shared, session, 1, started))
 }
 
 /// Tells what a session is answered that starts a transaction and quits it.

@@ -1,0 +1,119 @@
+//! A bank of five accounts, and jobs for it.
+use crate::banks::{Crew, run_bank};
+use crate::gates::Gates;
+use sgt_access::{Accesses, PerKey};
+use sgt_dispatch::Job;
+use sgt_format::Opening;
+use sgt_graph::{BitGraph, Graph};
+use sgt_model::{Args, Asks, Database, Key, Limits};
+use sgt_records::{Records, SlabRecords};
+use sgt_smallbank::{Account, opening};
+use sgt_workers::{PoolError, Report};
+use std::alloc::Global;
+use std::io;
+use std::io::Print;
+use std::sync::Wait;
+use std::thread::Threads;
+
+pub const BALANCE: u16 = 0;
+
+pub const DEPOSIT_CHECKING: u16 = 1;
+
+pub const TRANSACT_SAVING: u16 = 2;
+
+pub const AMALGAMATE: u16 = 3;
+
+pub const WRITE_CHECK: u16 = 4;
+
+/// How many accounts the bank has. Their names are numbers from 1.
+pub const ACCOUNTS: u32 = 5;
+
+pub const LIMITS: Limits = Limits {
+    live: 32,
+    begins: 4_000_000_000,
+    asks: Asks::AtStep,
+};
+
+/// The same, where asks are answered at the commit.
+pub const LIMITS_AT_COMMIT: Limits = Limits {
+    live: 32,
+    begins: 4_000_000_000,
+    asks: Asks::AtCommit,
+};
+
+/// A call of this procedure with these arguments, of which there are at most four.
+pub fn job(number: u32, procedure: u16, args: &[i64]) -> Job {
+    Job {
+        number,
+        procedure,
+        args: Args::from_slice(args).unwrap_or(Args::new()),
+    }
+}
+
+/// The account of this name. All begin with the same.
+fn account(name: i64) -> Account {
+    Account {
+        name,
+        customer: name.wrapping_add(100),
+        saving: 500,
+        checking: 1000,
+    }
+}
+
+/// Runs the jobs on five accounts, over these bodies of the layers.
+pub fn run_on<R: Records, A: Accesses, G: Graph, W: Threads + Wait + Sync>(
+    rt: &W,
+    alloc: Global,
+    limits: Limits,
+    jobs: &[Job],
+    crew: Crew,
+    gates: &Gates,
+) -> Result<Report<u64>, PoolError> {
+    let accounts = [account(1), account(2), account(3), account(4), account(5)];
+    let Ok(database) = opening(alloc, &accounts) else {
+        return Err(PoolError::NoMemory);
+    };
+    let opening = Opening {
+        limits,
+        database,
+        procedures: Vec::new(alloc),
+    };
+    run_bank::<R, A, G, W>(rt, alloc, opening, jobs, crew, gates)
+}
+
+/// The same over the bodies that the program uses. It tells what the jobs came to, or why there is no report.
+pub fn run<W: Threads + Wait + Sync + Print, F: FnOnce(&Report<u64>) -> io::Result<()>>(
+    rt: &W,
+    alloc: Global,
+    limits: Limits,
+    jobs: &[Job],
+    crew: Crew,
+    gates: &Gates,
+    tell: F,
+) -> io::Result<()>
+    requires { F.IsAlwaysCallable tell }
+{
+    match run_on::<SlabRecords, PerKey, BitGraph, W>(rt, alloc, limits, jobs, crew, gates) {
+        Ok(report) => tell(&report),
+        Err(error) => println!(rt; "{error}"),
+    }
+}
+
+/// What the customer of this name has on the checking account.
+pub fn checking(database: &Database, name: u32) -> i64 {
+    match Key::new(2, i64::from(name).wrapping_add(100)) {
+        Some(key) => database.get(key).unwrap_or(0),
+        None => 0,
+    }
+}
+
+/// What all customers have, on both accounts.
+pub fn held(database: &Database) -> i64 {
+    let mut total = 0i64;
+    for (key, value) in database.rows() {
+        if key.table() != 0 {
+            total = total.wrapping_add(*value);
+        }
+    }
+    total
+}

@@ -1,0 +1,145 @@
+//! Workers that are held by gates until the others have come to where they are wanted: that workers run side by side, that the lock
+//! is let go between two calls, and that the gate is asked.
+use crate::accounts::{
+    BALANCE, DEPOSIT_CHECKING, LIMITS, TRANSACT_SAVING, WRITE_CHECK, job, run, run_on,
+};
+use crate::banks::Crew;
+use crate::gates::{Gates, Plan};
+use crate::told::{tell_order, tell_report};
+use sgt_access::PerKey;
+use sgt_dispatch::Job;
+use sgt_graph::BitGraph;
+use sgt_model::{Asks, Limits};
+use sgt_records::SlabRecords;
+use std::alloc::Global;
+use std::io;
+use std::io::Print;
+use std::sync::Wait;
+use std::thread::Threads;
+
+/// Runs that are refused, by the number of the first of two jobs, the most live ones, the workers and the tries; and two that are
+/// not.
+const REFUSALS: [(u32, u32, u32, u32); 9] = [
+    (1, 0, 17, 0),
+    (1, 0, 0, 1),
+    (1, 0, 1, 1001),
+    (1, 0, 1, 0),
+    (1, 33, 1, 1),
+    (1, 1, 2, 1),
+    (1, 1, 1, 1),
+    (0, 16, 16, 1000),
+    (0, 1, 1, 1),
+];
+
+/// Two deposits to different customers. The second worker makes all its calls between two of the first one's.
+pub fn second_commits_first<W: Threads + Wait + Sync + Print>(
+    rt: &W,
+    alloc: Global,
+) -> io::Result<()> {
+    println!(rt; "second commits first:")?;
+    let jobs = [
+        job(0, DEPOSIT_CHECKING, &[1, 10]),
+        job(1, DEPOSIT_CHECKING, &[2, 20]),
+    ];
+    let crew = Crew {
+        workers: 2,
+        tries: 100,
+    };
+    let gates = Gates::new(Plan::SecondFirst);
+    run(rt, alloc, LIMITS, &jobs, crew, &gates, |report| {
+        tell_order(rt, &report.history)?;
+        tell_report(rt, report)
+    })
+}
+
+/// Two checks of one customer, each of which reads what the other writes: one of them is aborted.
+pub fn one_gives_up<W: Threads + Wait + Sync + Print>(
+    rt: &W,
+    alloc: Global,
+    tries: u32,
+) -> io::Result<()> {
+    println!(rt; "two checks, each tried up to {tries} times:")?;
+    let jobs = [
+        job(0, WRITE_CHECK, &[1, 100]),
+        job(1, WRITE_CHECK, &[1, 100]),
+    ];
+    let crew = Crew { workers: 2, tries };
+    let gates = Gates::new(Plan::BothRead);
+    run(
+        rt,
+        alloc,
+        LIMITS,
+        &jobs,
+        crew,
+        &gates,
+        |report| tell_report(rt, report),
+    )
+}
+
+/// A job that asks, two that are refused, one that is done, and two more.
+fn jobs_of_each_outcome() -> [Job; 6] {
+    [
+        job(0, TRANSACT_SAVING, &[2, -501]),
+        job(1, 99, &[]),
+        job(2, BALANCE, &[]),
+        job(3, BALANCE, &[1]),
+        job(4, DEPOSIT_CHECKING, &[1, 10]),
+        job(5, DEPOSIT_CHECKING, &[1, 10]),
+    ]
+}
+
+/// One worker, which is made to leave after so many calls, in the midst of its fifth job.
+pub fn each_outcome<W: Threads + Wait + Sync + Print>(
+    rt: &W,
+    alloc: Global,
+    limits: Limits,
+    calls: u64,
+) -> io::Result<()> {
+    println!(rt; "one worker, which leaves after {calls} calls:")?;
+    let jobs = jobs_of_each_outcome();
+    let crew = Crew {
+        workers: 1,
+        tries: 100,
+    };
+    let gates = Gates::new(Plan::LeavesAt(calls));
+    run(
+        rt,
+        alloc,
+        limits,
+        &jobs,
+        crew,
+        &gates,
+        |report| tell_report(rt, report),
+    )?;
+    println!(rt; "told of {} jobs", gates.finished())
+}
+
+/// What is refused before any growth, the first fault before the others.
+pub fn refusals<W: Threads + Wait + Sync + Print>(rt: &W, alloc: Global) -> io::Result<()> {
+    for (first, live, workers, tries) in REFUSALS {
+        print!(rt; "job {first}, {live} live, {workers} workers, {tries} tries: ")?;
+        tell_refusal(rt, alloc, first, live, Crew { workers, tries })?;
+    }
+    Ok(())
+}
+
+/// What a run of two jobs is refused for. Its first job has this number.
+fn tell_refusal<W: Threads + Wait + Sync + Print>(
+    rt: &W,
+    alloc: Global,
+    first: u32,
+    live: u32,
+    crew: Crew,
+) -> io::Result<()> {
+    let jobs = [job(first, BALANCE, &[1]), job(1, BALANCE, &[1])];
+    let limits = Limits {
+        live,
+        begins: 100,
+        asks: Asks::AtStep,
+    };
+    let gates = Gates::new(Plan::Open);
+    match run_on::<SlabRecords, PerKey, BitGraph, W>(rt, alloc, limits, &jobs, crew, &gates) {
+        Ok(_) => println!(rt; "a report"),
+        Err(error) => println!(rt; "{error}"),
+    }
+}

@@ -1,0 +1,98 @@
+//! Workers that leave, and what they leave behind.
+use crate::accounts::{DEPOSIT_CHECKING, LIMITS, job, run};
+use crate::banks::Crew;
+use crate::gates::{Gates, Plan};
+use crate::told::{tell_aborts, tell_reply, tell_report, tell_size};
+use sgt_dispatch::Job;
+use sgt_workers::Report;
+use std::alloc::{AllocError, Global};
+use std::io;
+use std::io::Print;
+use std::sync::Wait;
+use std::thread::Threads;
+
+/// A worker that leaves before each call of a job, before the first of all, and not at all.
+pub fn leave_at_each_call<W: Threads + Wait + Sync + Print>(
+    rt: &W,
+    alloc: Global,
+) -> io::Result<()> {
+    println!(rt; "one deposit, whose worker leaves:")?;
+    for calls in 0..=6 {
+        leaves_after(rt, alloc, calls)?;
+    }
+    Ok(())
+}
+
+/// One deposit of 100 by one worker, which leaves after so many calls.
+fn leaves_after<W: Threads + Wait + Sync + Print>(
+    rt: &W,
+    alloc: Global,
+    calls: u64,
+) -> io::Result<()> {
+    print!(rt; "after {calls} calls: ")?;
+    let jobs = [job(0, DEPOSIT_CHECKING, &[1, 100])];
+    let crew = Crew {
+        workers: 1,
+        tries: 1,
+    };
+    let gates = Gates::new(Plan::LeavesAt(calls));
+    run(
+        rt,
+        alloc,
+        LIMITS,
+        &jobs,
+        crew,
+        &gates,
+        |report| tell_leaver(rt, alloc, report),
+    )
+}
+
+/// Tells the outcomes, the size of the history, and its last reply.
+fn tell_leaver<W: Print>(rt: &W, alloc: Global, report: &Report<u64>) -> io::Result<()> {
+    for outcome in &report.outcomes {
+        print!(rt; "{outcome:?}, ")?;
+    }
+    tell_size(rt, report)?;
+    match report.history.last_reply() {
+        Some(reply) => tell_reply(rt, alloc, &reply),
+        None => Ok(()),
+    }
+}
+
+/// Sixteen workers, of whom each reads what the one before it has written, and the first leaves.
+pub fn deep_fall<W: Threads + Wait + Sync + Print>(rt: &W, alloc: Global) -> io::Result<()> {
+    println!(rt; "the first of sixteen leaves, and the others have read from it:")?;
+    tell_deposits(rt, alloc, 16, 16, &Gates::new(Plan::DeepFall(16)))
+}
+
+/// Four workers that leave before their first call.
+pub fn all_leave<W: Threads + Wait + Sync + Print>(rt: &W, alloc: Global) -> io::Result<()> {
+    println!(rt; "all of four leave at once:")?;
+    tell_deposits(rt, alloc, 100, 4, &Gates::new(Plan::LeavesAt(0)))
+}
+
+/// Tells what a run of deposits came to, and how its history ends.
+fn tell_deposits<W: Threads + Wait + Sync + Print>(
+    rt: &W,
+    alloc: Global,
+    count: u32,
+    workers: u32,
+    gates: &Gates,
+) -> io::Result<()> {
+    let jobs = deposits(alloc, count)?;
+    let crew = Crew { workers, tries: 1 };
+    run(rt, alloc, LIMITS, jobs.as_slice(), crew, gates, |report| {
+        tell_report(rt, report)?;
+        tell_size(rt, report)?;
+        tell_aborts(rt, alloc, &report.history)
+    })
+}
+
+/// So many deposits of 1 to the first account.
+fn deposits(alloc: Global, count: u32) -> Result<Vec<Job>, AllocError> {
+    let mut jobs = Vec::with_capacity(alloc, count as usize)?;
+    for number in 0..count {
+        jobs.push(job(number, DEPOSIT_CHECKING, &[1, 1]))?;
+    }
+    Ok(jobs)
+}
