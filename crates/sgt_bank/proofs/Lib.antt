@@ -1,2 +1,3 @@
 pub mod Reported
 pub mod SerialTexts
+pub mod NextCalls
