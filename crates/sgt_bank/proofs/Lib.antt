@@ -1,3 +1,2 @@
 pub mod Reported
 pub mod SerialTexts
-pub mod NextCalls

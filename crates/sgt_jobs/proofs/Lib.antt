@@ -1,2 +1,3 @@
 pub mod Takings
 pub mod Beginnings
+pub mod NextCalls

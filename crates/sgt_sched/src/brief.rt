@@ -1,7 +1,7 @@
 ghost use Rattle.std.specs.Prelude.{◌≡◌, ◌≢◌};
 ghost use Rattle.sgt_model.specs.declared.reply.Reply.{Reply as Answer};
 ghost use Rattle.sgt_sched.specs.declared.brief.Brief.TheVariants.{Placed};
-ghost use Rattle.sgt_sched.specs.Briefs.{in_full, IsShort};
+ghost use Rattle.sgt_sched.specs.Briefs.{in_full};
 
 use sgt_model::{Key, Reply, Tid};
 use std::fmt;
@@ -26,35 +26,6 @@ pub enum Brief {
 }
 
 impl Brief {
-    /// A reply in short, where what is placed stands in the reply itself.
-    #[inline(always)]
-    pub fn of(reply: &Reply) -> Brief
-        ensures reply { in_full result reply.now ≡ reply.now }
-        ensures short { IsShort result reply.now }
-    {
-        match reply {
-            Reply::Started(t) => Brief::Started(*t),
-            Reply::NoProcedure => Brief::NoProcedure,
-            Reply::BadArgs => Brief::BadArgs,
-            Reply::Spent => Brief::Spent,
-            Reply::Full => Brief::Full,
-            Reply::Unknown => Brief::Unknown,
-            Reply::Looked { key, value } => Brief::Looked {
-                key: *key,
-                value: *value,
-            },
-            Reply::Wrote { key, value } => Brief::Wrote {
-                key: *key,
-                value: *value,
-            },
-            Reply::Ended => Brief::Ended,
-            Reply::NotEnded => Brief::NotEnded,
-            Reply::Waits(first) => Brief::Waits(*first),
-            Reply::Over(_) | Reply::Committed(_) | Reply::Aborted { .. } | Reply::Refused { .. } =>
-                Brief::Placed,
-        }
-    }
-
     /// The reply in full, where what is placed stands in `out`. This takes no memory.
     pub fn reply(&self, out: &Reply) -> Reply
         ensures { result ≡ in_full self.now out.now }

@@ -3,9 +3,9 @@ use Rattle.std.specs.Prelude.{IfErr}
 use Rattle.sgt_format.specs.JobLines.{job_of}
 use Rattle.sgt_stream.specs.Intake.{cut_left}
 use Rattle.sgt_stream.specs.Ends.{IsOfInput}
-use Rattle.sgt_bank.specs.Taking.{EndsWith}
-use Rattle.sgt_bank.proofs.NextCalls.{call-fails, no-call-fits, spells-none}
-use Rattle.sgt_bank.proofs.jobs.next_call.Goals as goal
+use Rattle.sgt_jobs.specs.Taking.{EndsWith}
+use Rattle.sgt_jobs.proofs.NextCalls.{call-fails, no-call-fits, spells-none}
+use Rattle.sgt_jobs.proofs.jobs.next_call.Goals as goal
 
 pub returns-in_err-next_line-clause-fault : goal.returns-in_err-next_line-clause-fault
 returns-in_err-next_line-clause-fault g c =

@@ -10,8 +10,8 @@ use Rattle.sgt_stream.specs.Lines.{AtLongLine, AtLimit, Cut, Ending}
 use Rattle.sgt_stream.specs.Intake.{EndsAs, Explains, Gives}
 use Rattle.sgt_stream.specs.Ends.{IsOfInput, end_at}
 use Rattle.sgt_stream.specs.Spelled.{at_line, or_later, end_of}
-use Rattle.sgt_bank.specs.Jobs.{job_at, unless_too_many}
-use Rattle.sgt_bank.specs.Taking.{EndsWith}
+use Rattle.sgt_jobs.specs.Jobs.{job_at, unless_too_many}
+use Rattle.sgt_jobs.specs.Taking.{EndsWith}
 
 -- what was read of it
 pub spells-none : {A : Type 0} (n : ℕ) (said read : Result A LineError) (f : Fault)
