@@ -8,22 +8,37 @@ use std::test::Fail;
 /// What a line says, where it is a record line, and the record that it puts, where all is in range.
 fn read(alloc: Global, line: &[u8]) -> Result<String, Fail> {
     match read_record_line(alloc, line)? {
-        Some(said) => Ok(format!(in alloc; "{said:?} puts {:?}", said.record())?),
+        Some(said) => told(alloc, &said),
         None => Ok(String::from_str(alloc, "none")?),
     }
 }
 
+/// The numbers of a record line, and its record, if it puts one.
+fn told(alloc: Global, said: &RecordLine) -> Result<String, Fail> {
+    let RecordLine {
+        table,
+        number,
+        value,
+    } = said;
+    match said.record() {
+        Some(record) => Ok(format!(in alloc;
+            "{table} {number} {value} puts {:?} {}",
+            record.key, record.value
+        )?),
+        None => Ok(format!(in alloc; "{table} {number} {value} puts none")?),
+    }
+}
+
 /// Lines of records, of records out of range, and lines that are no record lines. Behind each stands what is read.
-const LINES: &str =
-    r#"["record",8,-1,9223372036854775807]: RecordLine { table: 8, number: -1, value: 9223372036854775807 } puts None
-["record",2,101,-30]: RecordLine { table: 2, number: 101, value: -30 } puts Some(Record { key: Key { table: 2, id: 101 }, value: -30 })
-["record",8,0,0]: RecordLine { table: 8, number: 0, value: 0 } puts None
-["record",256,0,0]: RecordLine { table: 256, number: 0, value: 0 } puts None
-["record",-1,0,0]: RecordLine { table: -1, number: 0, value: 0 } puts None
-["record",0,1000000000000000,0]: RecordLine { table: 0, number: 1000000000000000, value: 0 } puts None
-["record",0,-1000000000000000,0]: RecordLine { table: 0, number: -1000000000000000, value: 0 } puts None
-["record",0,0,1000000000000000]: RecordLine { table: 0, number: 0, value: 1000000000000000 } puts None
-["record",0,0,-1000000000000000]: RecordLine { table: 0, number: 0, value: -1000000000000000 } puts None
+const LINES: &str = r#"["record",8,-1,9223372036854775807]: 8 -1 9223372036854775807 puts none
+["record",2,101,-30]: 2 101 -30 puts Key { table: 2, id: 101 } -30
+["record",8,0,0]: 8 0 0 puts none
+["record",256,0,0]: 256 0 0 puts none
+["record",-1,0,0]: -1 0 0 puts none
+["record",0,1000000000000000,0]: 0 1000000000000000 0 puts none
+["record",0,-1000000000000000,0]: 0 -1000000000000000 0 puts none
+["record",0,0,1000000000000000]: 0 0 1000000000000000 puts none
+["record",0,0,-1000000000000000]: 0 0 -1000000000000000 puts none
 ["record",0,0]: none
 ["record",0,0,0,0]: none
 ["record",0,0,[0]]: none
@@ -60,8 +75,8 @@ fn lines_are_read(rt: HostRuntime) -> Result<(), Fail> {
 #[test]
 fn bytes_are_read(rt: HostRuntime) -> Result<(), Fail> {
     let line = b" [ \"rec\\u006frd\", 7, -999999999999999, 999999999999999 ]\r";
-    let want = "RecordLine { table: 7, number: -999999999999999, value: 999999999999999 } \
-                puts Some(Record { key: Key { table: 7, id: -999999999999999 }, value: 999999999999999 })";
+    let want = "7 -999999999999999 999999999999999 \
+                puts Key { table: 7, id: -999999999999999 } 999999999999999";
     assert!(rt; read(rt.alloc(), line)?.as_str() == want);
     assert!(rt; read(rt.alloc(), b"[\"record\",0,0,\xff]")?.as_str() == "none");
     Ok(())
