@@ -5,7 +5,7 @@ use sgt_notation::NotationFault;
 use thiserror::Error;
 
 /// How a check can end without a report.
-#[derive(Debug, Drop, Error)]
+#[derive(Debug, Drop, PartialEq, Eq, Error)]
 pub enum CheckFault {
     /// The text spells no history.
     #[error("{0}")]

@@ -16,7 +16,7 @@ use sgt_model::NoMemory;
 use std::alloc::Global;
 
 /// How many transactions a history has, and how many of them have ended.
-#[derive(Clone, Copy, Default)]
+#[derive(Clone, Copy, Debug, Default, PartialEq, Eq)]
 pub struct Counts {
     /// The transactions: the operations that are the first of theirs.
     pub transactions: usize,
@@ -38,7 +38,7 @@ impl Counts {
 }
 
 /// What a check finds of a history. Of each class the first operation that breaks it stands here, with one that it breaks it by.
-#[derive(Drop)]
+#[derive(Debug, Drop, PartialEq, Eq)]
 pub struct Report {
     pub counts: Counts,
     /// A serial order or a cycle.

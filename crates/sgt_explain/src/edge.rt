@@ -12,7 +12,7 @@ use sgt_entries::History;
 use sgt_model::{Cause, Key, Kind, Reply, Tid, Tids};
 
 /// A transaction's first accesses of a key that conflict with a later one, by their places. At least one of them is there.
-#[derive(Clone, Copy)]
+#[derive(Clone, Copy, Debug, PartialEq, Eq)]
 pub struct Earlier {
     /// Its first look at the key; none where the later access is a look, with which none conflicts.
     pub looked: Option<usize>,
@@ -21,7 +21,7 @@ pub struct Earlier {
 }
 
 /// An edge of a walk, with the accesses that make its two transactions a conflict pair.
-#[derive(Clone, Copy)]
+#[derive(Clone, Copy, Debug, PartialEq, Eq)]
 pub struct Edge {
     /// The transaction that comes first.
     pub from: Tid,

@@ -11,7 +11,7 @@ use sgt_model::{Args, Event, Kind, NoMemory, Tid};
 use std::alloc::Global;
 
 /// What a transaction was started with.
-#[derive(Drop)]
+#[derive(Debug, Drop)]
 pub struct Call {
     /// The number of its procedure.
     pub procedure: u16,
@@ -20,7 +20,7 @@ pub struct Call {
 }
 
 /// How far a transaction has come.
-#[derive(Drop)]
+#[derive(Debug, Drop)]
 pub struct Progress {
     /// The values that its looks found, oldest first.
     pub read: Vec<Option<i64>>,

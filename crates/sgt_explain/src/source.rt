@@ -11,7 +11,7 @@ use sgt_entries::History;
 use sgt_model::{Key, Kind, Tid};
 
 /// A look that found the value of another transaction.
-#[derive(Clone, Copy)]
+#[derive(Clone, Copy, Debug, PartialEq, Eq)]
 pub struct Source {
     /// Who looked.
     pub reader: Tid,

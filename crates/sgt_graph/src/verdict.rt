@@ -1,7 +1,7 @@
 use sgt_model::Tids;
 
 /// What the graph says of pairs that are to lead to a transaction.
-#[derive(Drop, PartialEq, Eq)]
+#[derive(Debug, Drop, PartialEq, Eq)]
 pub enum Verdict {
     /// No cycle would come.
     Accepted,
@@ -11,14 +11,14 @@ pub enum Verdict {
 
 /// Where a transaction and its new predecessors are in a graph, as a plan has found it, so that linking them looks for nothing.
 /// What it holds is for the graph that made it; a graph of lists needs none of it.
-#[derive(Clone, Copy, Default)]
+#[derive(Clone, Copy, Debug, Default, PartialEq, Eq)]
 pub struct Link {
     pub to: u8,
     pub from: u32,
 }
 
 /// A verdict, where it accepts with what links the pairs.
-#[derive(Drop)]
+#[derive(Debug, Drop, PartialEq, Eq)]
 pub enum Plan {
     /// No cycle would come.
     Free(Link),

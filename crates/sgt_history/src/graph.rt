@@ -18,7 +18,7 @@ use std::alloc::Global;
 /// An edge of the serialization graph, by two operations that conflict.
 ///
 /// Bernstein, Hadzilacos and Goodman (1987), chapter 2: serialization graph.
-#[derive(Clone, Copy)]
+#[derive(Clone, Copy, Debug, PartialEq, Eq)]
 pub struct Edge {
     /// The transaction of the operation that came first.
     pub from: u32,

@@ -25,7 +25,7 @@ use std::collections::BTreeMap;
 /// Whether a history is serializable, and what shows it.
 ///
 /// Bernstein, Hadzilacos and Goodman (1987), chapter 2: serializability theorem.
-#[derive(Drop)]
+#[derive(Debug, Drop, PartialEq, Eq)]
 pub enum Serializability {
     /// It is: a serial order of the committed transactions. Of those that may come next it is always the one that committed
     /// first, so it is the commit order where that serves.

@@ -9,7 +9,7 @@ use std::str;
 use thiserror::Error;
 
 /// What is wrong with a text. Lines are numbered from 1.
-#[derive(Debug, Drop, Error)]
+#[derive(Debug, Drop, PartialEq, Eq, Error)]
 pub enum NotationFault {
     /// A word of the line spells no operation.
     #[error("line {0}: no operation: {1}")]
@@ -35,7 +35,7 @@ const LONGEST_SHOWN: usize = 32;
 
 /// The beginning of a word that spells no operation, for a message: its first 32 bytes, with `?` for each that is not printable
 /// ASCII.
-#[derive(Debug, Drop)]
+#[derive(Debug, Drop, PartialEq, Eq)]
 pub struct Shown {
     pub text: Vec<u8>,
 }

@@ -1,7 +1,7 @@
 use sgt_history::Operation;
 
 /// The history that a text spells.
-#[derive(Drop)]
+#[derive(Debug, Drop, PartialEq, Eq)]
 pub struct History {
     /// The operations, in their order. Each item has a number of its own.
     pub operations: Vec<Operation>,
