@@ -1,12 +1,14 @@
-ghost use Rattle.std.specs.Prelude.{◌≡◌, ◌≢◌, ℕ, List, IfErr, IfSome, Err, Ok, take, ◌+◌, ◌^◌, ◌<◌, ◌≤◌};
+ghost use Rattle.std.specs.Prelude.{◌≡◌, ◌≢◌, ℕ, List, IfOk, IfErr, IfSome, Err, Ok, take, ◌+◌, ◌^◌, ◌<◌, ◌≤◌};
 ghost use Rattle.std.specs.Io.KnownBytes.{Appends};
 ghost use Rattle.sgt_workers.specs.Banks.{AreWorkers, AreTries};
+ghost use Rattle.sgt_format.specs.RecordText.{record_lines};
 ghost use Rattle.sgt_jobs.specs.Inputs.{InputFails, IsOfText};
 ghost use Rattle.sgt_bank.specs.Banks.{IsRecords};
 
 use crate::gate::OpenGate;
 use crate::run::{run_input, write_text};
 use sgt_format::append_records;
+use sgt_model::{Database, NoMemory};
 use sgt_stream::{Fault, Sink, Source};
 use std::alloc::Global;
 use std::sync::Wait;
@@ -48,8 +50,15 @@ pub fn run_records<S: Source, T: Sink, W: Threads + Wait + Sync>(
         T.failures sink.new ≡ T.failures sink.old + 1 }
 {
     let report = run_input(rt, alloc, source, workers, tries, &OpenGate)?;
+    let text = records_text(alloc, &report.database)?;
+    write_text(sink, text.as_slice())
+}
+
+/// The records of a database, a line each.
+fn records_text(alloc: Global, database: &Database) -> Result<Vec<u8>, NoMemory>
+    ensures { IfOk result (λ text. text.items ≡ record_lines database.now) }
+{
     let mut text = Vec::new(alloc);
-    append_records(&mut text, &report.database)?;
-    write_text(sink, text.as_slice())?;
-    Ok(())
+    append_records(&mut text, database)?;
+    Ok(text)
 }

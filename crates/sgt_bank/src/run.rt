@@ -1,14 +1,16 @@
-ghost use Rattle.std.specs.Prelude.{◌≡◌, ◌≢◌, ℕ, List, IfOk, IfErr, OnOk, OnErr, IfSome, Err, Ok, length, take, ◌+◌, ◌^◌, ◌<◌, ◌≤◌};
+ghost use Rattle.std.specs.Prelude.{◌≡◌, ◌≢◌, ℕ, List, IfOk, IfErr, OnOk, OnErr, IfSome, Err, Ok, length, reverse, take, ◌+◌, ◌^◌, ◌<◌, ◌≤◌};
 ghost use Rattle.std.specs.Io.KnownBytes.{Appends};
 ghost use Rattle.sgt_program.specs.Openings.{opened_setting};
 ghost use Rattle.sgt_stream.specs.Ends.{IsOfInput};
 ghost use Rattle.sgt_workers.specs.Banks.{engine_setting, AreWorkers, AreTries, AreLimitsFor, AreJobs};
 ghost use Rattle.sgt_jobs.specs.Inputs.{InputFails, IsOfText};
+ghost use Rattle.sgt_transcript.specs.Transcripts.{transcript};
 ghost use Rattle.sgt_bank.specs.Banks.{AreRun, IsHistory, IsReport, IsRun};
 
 use crate::gate::OpenGate;
 use crate::report::report_text;
 use sgt_dispatch::Job;
+use sgt_entries::History;
 use sgt_format::Opening;
 use sgt_jobs::read_input;
 use sgt_model::NoMemory;
@@ -262,8 +264,15 @@ pub fn run_history<S: Source, T: Sink, W: Threads + Wait + Sync>(
     legal_are_serializable();
     legal_are_recoverable();
     transcripts_spell_textbooks();
+    let text = history_text(alloc, &report.history)?;
+    write_text(sink, text.as_slice())
+}
+
+/// The operations of a history, a line each.
+fn history_text(alloc: Global, history: &History) -> Result<Vec<u8>, NoMemory>
+    ensures { IfOk result (λ text. text.items ≡ transcript (reverse history.now.entries)) }
+{
     let mut text = Vec::new(alloc);
-    append_transcript(&mut text, &report.history)?;
-    write_text(sink, text.as_slice())?;
-    Ok(())
+    append_transcript(&mut text, history)?;
+    Ok(text)
 }

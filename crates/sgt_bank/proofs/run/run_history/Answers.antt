@@ -1,34 +1,28 @@
-use Rattle.std.proofs.Common.{rules, ap, ◌∙◌, ◌++◌, ℕ, List}
-use Rattle.std.specs.Prelude.{reverse}
 use Rattle.sgt_bank.specs.Banks.{IsHistory, IsRun}
-use Rattle.sgt_transcript.specs.Transcripts.{transcript}
 use Rattle.sgt_bank.proofs.Reported.{is-history, written-all, written-part}
 use Rattle.sgt_bank.proofs.run.run_history.Goals as goal
+use Rattle.std.proofs.Common.{rules}
 
 pub returns-clause-history : goal.returns-clause-history
 returns-clause-history g c = λ well.
     written-all (IsHistory c.args.workers c.args.tries)
     (λ bytes. IsRun c.args.workers c.args.tries bytes c.in_ok-report.report.history.entries c.in_ok-report.report.outcomes.items
     c.in_ok-report.report.database) (g.S.Source.rest c.args.source.now) (g.T.Sink.held c.args.sink.now)
-    (g.T.Sink.held c.write_text.new.sink) c.append_transcript.new.text.items
+    (g.T.Sink.held c.write_text.new.sink) c.in_ok-text.text.items
     (λ bytes ran. is-history c.legal_are_commit_ordered.ensures c.legal_are_serializable.ensures
     c.legal_are_recoverable.ensures c.transcripts_spell_textbooks.ensures c.args.workers c.args.tries bytes
     c.in_ok-report.report.history.entries c.in_ok-report.report.outcomes.items
-    c.in_ok-report.report.database c.append_transcript.new.text.items ran
-    (c.in_ok-append_transcript.ensures
-    ∙ ap (λ (l : List ℕ). l ++ transcript (reverse c.in_ok-report.report.history.entries)) c.new-text.ensures.items))
+    c.in_ok-report.report.database c.in_ok-text.text.items ran c.in_ok-text.ensures)
     c.in_ok-report.ensures.run (search rules)
 
-pub returns-in_err-write_text-clause-part : goal.returns-in_err-write_text-clause-part
-returns-in_err-write_text-clause-part g c = λ failed.
+pub returns-clause-part : goal.returns-clause-part
+returns-clause-part g c = λ failed.
     written-part (IsHistory c.args.workers c.args.tries)
     (λ bytes. IsRun c.args.workers c.args.tries bytes c.in_ok-report.report.history.entries c.in_ok-report.report.outcomes.items
     c.in_ok-report.report.database) (g.S.Source.rest c.args.source.now) (g.T.Sink.held c.args.sink.now)
-    (g.T.Sink.held c.write_text.new.sink) c.append_transcript.new.text.items
+    (g.T.Sink.held c.write_text.new.sink) c.in_ok-text.text.items
     (λ bytes ran. is-history c.legal_are_commit_ordered.ensures c.legal_are_serializable.ensures
     c.legal_are_recoverable.ensures c.transcripts_spell_textbooks.ensures c.args.workers c.args.tries bytes
     c.in_ok-report.report.history.entries c.in_ok-report.report.outcomes.items
-    c.in_ok-report.report.database c.append_transcript.new.text.items ran
-    (c.in_ok-append_transcript.ensures
-    ∙ ap (λ (l : List ℕ). l ++ transcript (reverse c.in_ok-report.report.history.entries)) c.new-text.ensures.items))
+    c.in_ok-report.report.database c.in_ok-text.text.items ran c.in_ok-text.ensures)
     c.in_ok-report.ensures.run (search rules)
