@@ -68,19 +68,34 @@ fn number_option<'a>(
         .default_value(default)
 }
 
-/// Adds the options of a run: to have it written as a history, to have the database written alone, as records, and to have more told of
-/// it than it writes.
+/// The options of a run: to have it written as a history, to have the database written alone, as records, and to have more told of
+/// it than it writes. None may stand beside one before it.
+const RUN_OPTIONS: [&str; 3] = ["history", "records", "explain"];
+
+/// An option of a run, which stands beside none of those others.
+fn run_option<'a>(
+    alloc: Global,
+    name: &'a str,
+    help: &'a str,
+    others: &[&'a str],
+) -> Result<Arg<'a>, AllocError> {
+    let mut option = flag(alloc, name, help);
+    for other in others {
+        option = option.conflicts_with(*other)?;
+    }
+    Ok(option)
+}
+
+/// Adds the options of a run, with their helps.
 fn add_run_options<'a>(
     alloc: Global,
     options: &mut Vec<Arg<'a>>,
-    history: &'a str,
-    records: &'a str,
-    explain: &'a str,
+    helps: [&'a str; 3],
 ) -> Result<(), AllocError> {
-    options.push(flag(alloc, "history", history))?;
-    options.push(flag(alloc, "records", records).conflicts_with("history")?)?;
-    let explain = flag(alloc, "explain", explain).conflicts_with("history")?;
-    options.push(explain.conflicts_with("records")?)?;
+    for place in 0..RUN_OPTIONS.len() {
+        let others = &RUN_OPTIONS[..place];
+        options.push(run_option(alloc, RUN_OPTIONS[place], helps[place], others)?)?;
+    }
     Ok(())
 }
 
@@ -90,9 +105,11 @@ fn script_options<'a>(alloc: Global) -> Result<Vec<Arg<'a>>, AllocError> {
     add_run_options(
         alloc,
         &mut options,
-        "In place of the replies, writes the run as a history, for 'sgt check'",
-        "In place of the replies, writes the committed database as records",
-        "Tells on standard error why transactions are aborted, and what is wrong with a faulty line",
+        [
+            "In place of the replies, writes the run as a history, for 'sgt check'",
+            "In place of the replies, writes the committed database as records",
+            "Tells on standard error why transactions are aborted, and what is wrong with a faulty line",
+        ],
     )?;
     Ok(options)
 }
@@ -117,9 +134,11 @@ fn bank_options<'a>(alloc: Global) -> Result<Vec<Arg<'a>>, AllocError> {
     add_run_options(
         alloc,
         &mut options,
-        "In place of the outcomes, writes the run as a history, for 'sgt check'",
-        "In place of the outcomes, writes the committed database as records",
-        "Tells on standard error how often each job was tried, and what is wrong with a faulty line",
+        [
+            "In place of the outcomes, writes the run as a history, for 'sgt check'",
+            "In place of the outcomes, writes the committed database as records",
+            "Tells on standard error how often each job was tried, and what is wrong with a faulty line",
+        ],
     )?;
     Ok(options)
 }
@@ -150,29 +169,48 @@ fn subcommand<'a>(
 }
 
 /// The words behind `sgt`.
+#[derive(Clone, Copy)]
+enum Word {
+    Script,
+    Bank,
+    Check,
+}
+
+impl Word {
+    /// The word with its options.
+    fn command<'a>(self, alloc: Global) -> Result<Command<'a>, AllocError> {
+        match self {
+            Word::Script => subcommand(
+                alloc,
+                "script",
+                "Runs a script: an opening and then events, a JSON line each, from standard input",
+                SCRIPT_HELP,
+                script_options(alloc)?,
+            ),
+            Word::Bank => subcommand(
+                alloc,
+                "bank",
+                "Runs jobs on worker threads: an opening and then jobs, a JSON line each, from standard input",
+                BANK_HELP,
+                bank_options(alloc)?,
+            ),
+            Word::Check => subcommand(
+                alloc,
+                "check",
+                "Tells whether a history from standard input is serializable, recoverable, and of which other classes",
+                CHECK_HELP,
+                check_options(alloc)?,
+            ),
+        }
+    }
+}
+
+/// All words behind `sgt`.
 fn subcommands<'a>(alloc: Global) -> Result<Vec<Command<'a>>, AllocError> {
     let mut commands = Vec::new(alloc);
-    commands.push(subcommand(
-        alloc,
-        "script",
-        "Runs a script: an opening and then events, a JSON line each, from standard input",
-        SCRIPT_HELP,
-        script_options(alloc)?,
-    )?)?;
-    commands.push(subcommand(
-        alloc,
-        "bank",
-        "Runs jobs on worker threads: an opening and then jobs, a JSON line each, from standard input",
-        BANK_HELP,
-        bank_options(alloc)?,
-    )?)?;
-    commands.push(subcommand(
-        alloc,
-        "check",
-        "Tells whether a history from standard input is serializable, recoverable, and of which other classes",
-        CHECK_HELP,
-        check_options(alloc)?,
-    )?)?;
+    for word in [Word::Script, Word::Bank, Word::Check] {
+        commands.push(word.command(alloc)?)?;
+    }
     Ok(commands)
 }
 
