@@ -4,7 +4,7 @@ use Rattle.serde_json.specs.Data.{array}
 use Rattle.serde_json.specs.Find.{as_str}
 use Rattle.serde_json.specs.View.{view, items_view}
 use Rattle.serde_json.specs.declared.value.Value.{Value}
-use Rattle.sgt_proc_json.specs.Readings.{Reading, here, at, byte, arg_or_reg, expression, comparison, condition, one_item, two_items, three_items, reading}
+use Rattle.sgt_proc_json.specs.Readings.{Reading, here, at, byte, arg_or_reg, expression, comparison, condition, one_item, two_items, three_items, four_items, reading}
 use Rattle.sgt_proc_json.specs.Refusals.{Tells}
 use Rattle.sgt_proc_json.specs.Rows.{other_row}
 use Rattle.sgt_proc_json.specs.declared.errors.ReadError.{ReadError}
@@ -94,3 +94,15 @@ three_behind (x ∷ y ∷ []) w a b c most least is-w is-a is-b is-c = absurd (o
 three_behind (x ∷ y ∷ z ∷ []) w a b c most least is-w is-a is-b is-c = absurd (omega arith)
 three_behind (x ∷ y ∷ z ∷ v ∷ []) w a b c most least is-w is-a is-b is-c = rw (is-w, is-a, is-b, is-c) refl
 three_behind (x ∷ y ∷ z ∷ v ∷ u ∷ items) w a b c most least is-w is-a is-b is-c = absurd (omega arith)
+
+-- of four
+pub four_behind : (items : List Value) (w a b c d : Value) → 5 ≤ length items → length items < 6 → w ≡ get_or items 0 w
+    → a ≡ get_or items 1 a → b ≡ get_or items 2 b → c ≡ get_or items 3 c → d ≡ get_or items 4 d
+    → other_row (items_view items) ≡ four_items (as_str (view w)) (view a) (view b) (view c) (view d)
+four_behind [] w a b c d most least is-w is-a is-b is-c is-d = absurd (omega arith)
+four_behind (x ∷ []) w a b c d most least is-w is-a is-b is-c is-d = absurd (omega arith)
+four_behind (x ∷ y ∷ []) w a b c d most least is-w is-a is-b is-c is-d = absurd (omega arith)
+four_behind (x ∷ y ∷ z ∷ []) w a b c d most least is-w is-a is-b is-c is-d = absurd (omega arith)
+four_behind (x ∷ y ∷ z ∷ v ∷ []) w a b c d most least is-w is-a is-b is-c is-d = absurd (omega arith)
+four_behind (x ∷ y ∷ z ∷ v ∷ u ∷ []) w a b c d most least is-w is-a is-b is-c is-d = rw (is-w, is-a, is-b, is-c, is-d) refl
+four_behind (x ∷ y ∷ z ∷ v ∷ u ∷ t ∷ items) w a b c d most least is-w is-a is-b is-c is-d = absurd (omega arith)
