@@ -1,7 +1,7 @@
 -- The row of an If, and what its misfits tell.
 use Rattle.std.proofs.Common.{◌≡◌, refl, ap, sym, ◌∙◌, ◌≤◌, ◌<◌, ◌⊎◌, Bool, true, false, List, [], ◌∷◌, length, get_or, Ok, Err, Result, arith}
 use Rattle.std.proofs.Math.Path.{fun_ext}
-use Rattle.std.specs.Prelude.{cond, codes, IfErr}
+use Rattle.std.specs.Prelude.{cond, codes}
 use Rattle.serde_json.specs.Data.{array, Items, no_items, item}
 use Rattle.serde_json.specs.Find.{as_str}
 use Rattle.serde_json.specs.View.{view, items_view}
@@ -15,9 +15,7 @@ use Rattle.sgt_model.specs.Syntax.{Test, Block, choose}
 use Rattle.sgt_model.specs.Programs.{test_of, before, block_of}
 use Rattle.sgt_model.proofs.Texts.{before_if}
 use Rattle.sgt_proc_json.specs.Readings.{Reading, here, at, two, is_word, condition, block, statement}
-use Rattle.sgt_proc_json.specs.Refusals.{Tells}
 use Rattle.sgt_proc_json.specs.Rows.{other_row, if_of, if_row, is_if, branches}
-use Rattle.sgt_proc_json.specs.declared.errors.ReadError.{ReadError}
 
 -- a row is that of an If or another
 pub row_is : (items : Items) → statement (array items) ≡ cond (is_if items) (if_row items) (other_row items)
@@ -110,25 +108,3 @@ pub if_made : (reading : Reading (Block → Block)) (a : Reading Test) (found : 
 if_made reading a found test ys ns is read read' =
     is ∙ (ap (λ r. if_of_two r found) read ∙ (ap (λ r. if_of_two (Ok (test_of test)) r) read'
     ∙ ap Ok (fun_ext (λ rest. sym (before_if test ys ns rest)))))
-
--- an error that is handed on tells the same
-pub handed_on : {A B : Type 0} (reading : Reading A) (error : ReadError) (result : Result B ReadError) → result ≡ Err error
-    → Tells reading error → IfErr result (Tells reading)
-handed_on reading error result is told = rw is told
-
--- the first part's misfit is that of both
-pub first_tells : {A B C : Type 0} (make : A → B → C) (reading : Reading C) (a : Reading A) (b : Reading B) (error : ReadError)
-    → reading ≡ two make a b → Tells a error → Tells reading error
-first_tells make reading a b error is told place same = is ∙ ap (λ r. two make r b) (told place same)
-
--- the second's, where the first is read
-pub second_tells : {A B C : Type 0} (make : A → B → C) (reading : Reading C) (a : Reading A) (b : Reading B) (first : A)
-    (error : ReadError) → reading ≡ two make a b → a ≡ Ok first → Tells b error → Tells reading error
-second_tells make reading a b first error is read told place same = is
-    ∙ (ap (λ r. two make r b) read ∙ ap (λ r. two make (Ok first) r) (told place same))
-
--- both
-pub both_read : {A B C : Type 0} (make : A → B → C) (reading : Reading C) (a : Reading A) (b : Reading B) (first : A) (second : B)
-    → reading ≡ two make a b → a ≡ Ok first → b ≡ Ok second → reading ≡ Ok (make first second)
-both_read make reading a b first second is read read' =
-    is ∙ (ap (λ r. two make r b) read ∙ ap (λ r. two make (Ok first) r) read')

@@ -78,10 +78,7 @@ fn if_row(alloc: Global, items: &[Value]) -> Result<Statement, ReadError>
 
 /// The branches of the If that a list of these items spells, behind its condition.
 #[cycle(statement)]
-fn branches(
-    alloc: Global,
-    items: &[Value],
-) -> Result<(Vec<Statement>, Vec<Statement>), ReadError>
+fn branches(alloc: Global, items: &[Value]) -> Result<(Vec<Statement>, Vec<Statement>), ReadError>
     ensures ok { IfOk result (λ found. branches (items_view items.now) ≡ Ok (block_of found.0.items, block_of found.1.items)) }
     ensures err { IfErr result (Tells (branches (items_view items.now))) }
 {

@@ -1,7 +1,8 @@
 use Rattle.std.proofs.Common.{rules, inl, inr}
 use Rattle.std.proofs.lemmas.List.{drop_all}
 use Rattle.serde_json.specs.View.{items_view}
-use Rattle.sgt_proc_json.proofs.IfRows.{row_of_if, row_of_other, four_are, branches_are, no_if_row, no_branches, if_made, handed_on, first_tells, second_tells, both_read}
+use Rattle.sgt_proc_json.proofs.IfRows.{row_of_if, row_of_other, four_are, branches_are, no_if_row, no_branches, if_made}
+use Rattle.sgt_proc_json.proofs.InTurn.{handed_on, first_tells, second_tells, both_read}
 use Rattle.sgt_proc_json.proofs.Lengths.{told_here}
 use Rattle.sgt_proc_json.proofs.StatementsRead.{one_more, all_read}
 use Rattle.sgt_proc_json.proofs.read_statement.+statement.Goals as goal
