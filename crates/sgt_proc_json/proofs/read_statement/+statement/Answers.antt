@@ -4,7 +4,7 @@ use Rattle.serde_json.specs.View.{items_view}
 use Rattle.sgt_proc_json.proofs.IfRows.{row_of_if, row_of_other, four_are, branches_are, no_if_row, no_branches, if_made}
 use Rattle.sgt_proc_json.proofs.InTurn.{handed_on, first_tells, second_tells, both_read}
 use Rattle.sgt_proc_json.proofs.Lengths.{told_here}
-use Rattle.sgt_proc_json.proofs.StatementsRead.{one_more, all_read}
+use Rattle.sgt_proc_json.proofs.StatementsRead.{one_more, one_refused, all_read}
 use Rattle.sgt_proc_json.proofs.read_statement.+statement.Goals as goal
 use Rattle.sgt_proc_json.proofs.read_statement.+statement.Goals.{branches-in_default-via-then-items-lt4, branches-in_default-via-else-items-lt4+else-items-lt5, if_row-in_default-via-then-items-lt4, if_row-in_default-via-else-items-lt4+else-items-lt5}
 
@@ -78,6 +78,12 @@ read_statements-loop-position-preserved t c = record {
   room = search rules;
   count = search rules;
 }
+
+pub read_statements-returns-in_err-statement_at-clause-err : goal.read_statements-returns-in_err-statement_at-clause-err
+read_statements-returns-in_err-statement_at-clause-err t c =
+    handed_on _ c.in_err-statement_at.field-0.0 c.from_residual-in_err-statement_at.result (search rules)
+    (one_refused c.args.items.now c.loop-position.position _ c.loop-position.list.items _ _ c.loop-position.invariant.so_far
+    c.loop-position-test.true c.index-items-position.is c.in_err-statement_at.ensures.err)
 
 pub read_statements-returns-clause-ok : goal.read_statements-returns-clause-ok
 read_statements-returns-clause-ok t c =
