@@ -1,6 +1,5 @@
 -- Lists and objects of another size than an opening's.
 use Rattle.std.proofs.Common.{◌≡◌, ◌≢◌, ℕ, suc, ℤ, List, [], ◌∷◌, Some, None, Option, refl, ap, sym, ◌∙◌, length, get_or, map, arith}
-use Rattle.std.proofs.lemmas.List.{length-map}
 use Rattle.std.specs.Prelude.{Result, Ok, Err, IfOk, IfErr, cond, nat_eq, nat_le, false, codes, option_map, option_and_then, String, ◌<◌, ◌≤◌}
 use Rattle.std.specs.declared.alloc.Global.{Global}
 use Rattle.serde_json.specs.Data.{Data, Members}
