@@ -166,43 +166,49 @@ one_more old before after texts text numbers more n is first are one longer = (
     shifted [] = refl
     shifted (s ∷ texts) = ap (λ ts. number s ∷ ts) (shifted texts)
 
+-- a list of numbers that is the last item of a list, token after token
+pub last_list : (old e f g : List Token) (texts : List (List ℕ)) → old ≡ begin_array ∷ e → e ≡ map number texts ++ end_array ∷ f
+    → f ≡ end_array ∷ g → g ≡ [] → old ≡ begin_array ∷ (map number texts ++ end_array ∷ end_array ∷ [])
+last_list old e f g texts one two three four = cc
+
+-- a word and a number that a list begins with
+pub head_is : (old a b d : List Token) (w s : List ℕ) → old ≡ begin_array ∷ a → a ≡ string w ∷ b → b ≡ number s ∷ d
+    → old ≡ begin_array ∷ string w ∷ number s ∷ d
+head_is old a b d w s one two three = cc
+
 -- a word and a transaction, token after token
-pub spelled_transaction : (old a b d e : List Token) (w s : List ℕ) (n : ℤ) (t : ℕ) (found : Option Event)
-    → old ≡ begin_array ∷ a → a ≡ string w ∷ b → b ≡ number s ∷ d → d ≡ end_array ∷ e → e ≡ []
+pub spelled_transaction : (old d e : List Token) (w s : List ℕ) (n : ℤ) (t : ℕ) (found : Option Event)
+    → old ≡ begin_array ∷ string w ∷ number s ∷ d → d ≡ end_array ∷ e → e ≡ []
     → whole_number s ≡ Some n → natural_of 32 n ≡ Some t → found ≡ of_transaction w t
     → IfSome found (λ event. event_at old ≡ Some event)
-spelled_transaction old a b d e w s n t None one two three four five is small found = tt
-spelled_transaction old a b d e w s n t (Some event) one two three four five is small found =
+spelled_transaction old d e w s n t None one two three is small found = tt
+spelled_transaction old d e w s n t (Some event) one two three is small found =
     let all : old ≡ begin_array ∷ string w ∷ number s ∷ end_array ∷ [] = cc in
     ap event_at all ∙ transaction w s n is ∙ ap (option_and_then (of_transaction w)) small ∙ sym found
 
 -- a word, a procedure and arguments, token after token
 spelled_call : {A : Type 0} (meaning : Data → Option A) (of_call : List ℕ → ℕ → List ℤ → Option A) → MeansCall meaning of_call
-    → (old a b d e f g : List Token) (w s : List ℕ) (n : ℤ) (p : ℕ) (texts : List (List ℕ)) (args : List ℤ) (found : Option A)
-    → old ≡ begin_array ∷ a → a ≡ string w ∷ b → b ≡ number s ∷ d → d ≡ begin_array ∷ e
-    → e ≡ map number texts ++ end_array ∷ f → f ≡ end_array ∷ g → g ≡ []
+    → (old d : List Token) (w s : List ℕ) (n : ℤ) (p : ℕ) (texts : List (List ℕ)) (args : List ℤ) (found : Option A)
+    → old ≡ begin_array ∷ string w ∷ number s ∷ d → d ≡ begin_array ∷ (map number texts ++ end_array ∷ end_array ∷ [])
     → whole_number s ≡ Some n → whole_numbers texts ≡ Some args → length texts ≤ 4 → natural_of 16 n ≡ Some p
     → found ≡ of_call w p args
     → IfSome found (λ asked. option_and_then meaning (tree_at old) ≡ Some asked)
-spelled_call meaning of_call means old a b d e f g w s n p texts args None one two three four five six seven is are few small found = tt
-spelled_call meaning of_call means old a b d e f g w s n p texts args (Some asked) one two three four five six seven is are few small
-    found =
+spelled_call meaning of_call means old d w s n p texts args None one two is are few small found = tt
+spelled_call meaning of_call means old d w s n p texts args (Some asked) one two is are few small found =
     let all : old ≡ call_tokens w s texts = cc in
     ap (λ ts. option_and_then meaning (tree_at ts)) all ∙ called meaning of_call means w s n texts args is are few
     ∙ ap (option_and_then (λ p. of_call w p args)) small ∙ sym found
 
 -- an event's
-pub spelled_start : (old a b d e f g : List Token) (w s : List ℕ) (n : ℤ) (p : ℕ) (texts : List (List ℕ)) (args : List ℤ)
-    (found : Option Event) → old ≡ begin_array ∷ a → a ≡ string w ∷ b → b ≡ number s ∷ d → d ≡ begin_array ∷ e
-    → e ≡ map number texts ++ end_array ∷ f → f ≡ end_array ∷ g → g ≡ []
+pub spelled_start : (old d : List Token) (w s : List ℕ) (n : ℤ) (p : ℕ) (texts : List (List ℕ)) (args : List ℤ)
+    (found : Option Event) → old ≡ begin_array ∷ string w ∷ number s ∷ d → d ≡ begin_array ∷ (map number texts ++ end_array ∷ end_array ∷ [])
     → whole_number s ≡ Some n → whole_numbers texts ≡ Some args → length texts ≤ 4 → natural_of 16 n ≡ Some p
     → found ≡ of_procedure w p args → IfSome found (λ event. event_at old ≡ Some event)
 spelled_start = spelled_call event_in of_procedure (λ w m trees. refl)
 
 -- a job's
-pub spelled_job : (old a b d e f g : List Token) (w s : List ℕ) (n : ℤ) (p : ℕ) (texts : List (List ℕ)) (args : List ℤ)
-    (found : Option JobCall) → old ≡ begin_array ∷ a → a ≡ string w ∷ b → b ≡ number s ∷ d → d ≡ begin_array ∷ e
-    → e ≡ map number texts ++ end_array ∷ f → f ≡ end_array ∷ g → g ≡ []
+pub spelled_job : (old d : List Token) (w s : List ℕ) (n : ℤ) (p : ℕ) (texts : List (List ℕ)) (args : List ℤ)
+    (found : Option JobCall) → old ≡ begin_array ∷ string w ∷ number s ∷ d → d ≡ begin_array ∷ (map number texts ++ end_array ∷ end_array ∷ [])
     → whole_number s ≡ Some n → whole_numbers texts ≡ Some args → length texts ≤ 4 → natural_of 16 n ≡ Some p
     → found ≡ job_call w p args → IfSome found (λ call. job_at old ≡ Some call)
 spelled_job = spelled_call job_in job_call (λ w m trees. refl)

@@ -154,8 +154,8 @@ unfolding print_from escape_byte all_ascii
 plain_start line rest call begins asks =
     let ts = call_tokens_are (codes "start") (codes "[\"start\",") line rest call begins asks refl in
     let small = whole_decimal call.procedure (omega (arith, asks.procedure)) in
-    let found = spelled_start (tokens line) _ _ _ _ _ _ (codes "start") (decimal call.procedure) (pos call.procedure) call.procedure
-    (map signed_decimal call.args) call.args (Some (Start call.procedure call.args)) ts refl refl refl refl refl refl small
+    let found = spelled_start (tokens line) _ (codes "start") (decimal call.procedure) (pos call.procedure) call.procedure
+    (map signed_decimal call.args) call.args (Some (Start call.procedure call.args)) ts refl small
     (texts_are call.args asks.small) (few_texts call.args asks.few) (number_is call.procedure asks.procedure) refl in
     event_found line line (tokens line) (Some (Start call.procedure call.args))
     (call_utf8 (codes "[\"start\",") line rest call (ascii_from (codes "[\"start\",") refl) begins asks) refl refl found
@@ -165,8 +165,8 @@ unfolding print_from escape_byte all_ascii
 job_called line rest call begins asks =
     let ts = call_tokens_are (codes "job") (codes "[\"job\",") line rest call begins asks refl in
     let small = whole_decimal call.procedure (omega (arith, asks.procedure)) in
-    let found = spelled_job (tokens line) _ _ _ _ _ _ (codes "job") (decimal call.procedure) (pos call.procedure) call.procedure
-    (map signed_decimal call.args) call.args (Some call) ts refl refl refl refl refl refl small
+    let found = spelled_job (tokens line) _ (codes "job") (decimal call.procedure) (pos call.procedure) call.procedure
+    (map signed_decimal call.args) call.args (Some call) ts refl small
     (texts_are call.args asks.small) (few_texts call.args asks.few) (number_is call.procedure asks.procedure) refl in
     job_found line line (tokens line) (Some call)
     (call_utf8 (codes "[\"job\",") line rest call (ascii_from (codes "[\"job\",") refl) begins asks) refl refl found

@@ -1,16 +1,17 @@
 -- Lists and objects of another size than an opening's.
 use Rattle.std.proofs.Common.{◌≡◌, ◌≢◌, ℕ, suc, ℤ, List, [], ◌∷◌, Some, None, Option, refl, ap, sym, ◌∙◌, length, get_or, map, arith}
-use Rattle.std.proofs.lemmas.List.{length-map}
-use Rattle.std.specs.Prelude.{Result, Ok, Err, IfErr, cond, nat_eq, codes, option_map, option_and_then, String, ◌<◌, ◌≤◌}
+use Rattle.std.specs.Prelude.{Result, Ok, Err, IfOk, IfErr, cond, nat_eq, nat_le, false, codes, option_map, option_and_then, String, ◌<◌, ◌≤◌}
 use Rattle.std.specs.declared.alloc.Global.{Global}
 use Rattle.serde_json.specs.Data.{Data, Members}
 use Rattle.serde_json.specs.Find.{get, as_object}
 use Rattle.serde_json.specs.View.{view, members_view}
 use Rattle.serde_json.specs.declared.value.Value.{Value}
+use Rattle.sgt_format.specs.EventLines.{arguments_from, arguments, event_from}
+use Rattle.sgt_format.specs.JobLines.{job_from}
 use Rattle.sgt_format.specs.Trees.{tree_of, list, each}
 use Rattle.sgt_proc_json.specs.Trees.{whole}
 use Rattle.sgt_smallbank.specs.declared.account.Account.{Account}
-use Rattle.sgt_format.specs.Openings.{Sheet, count, limits_from, limit_numbers, account_from, account_in, list_at, all_three, parts_of, parts_in, sheet_of, RefusesSheet, Refuses}
+use Rattle.sgt_format.specs.Openings.{Sheet, count, limits_from, limit_numbers, account_from, account_in, list_at, all_three, parts_of, parts_in, sheet_in, sheet_of, IsOpened, Opens, RefusesSheet, Refuses}
 use Rattle.sgt_format.specs.declared.errors.OpeningError.{OpeningError}
 use Rattle.sgt_format.specs.declared.opening.Opening.{Opening}
 use Rattle.sgt_format.specs.declared.sheet.LimitNumbers.{LimitNumbers}
@@ -55,6 +56,22 @@ two_values (x ∷ []) a b least most at_a at_b = absurd (omega arith)
 two_values (x ∷ y ∷ []) a b least most at_a at_b = rw (at_a, at_b) refl
 two_values (x ∷ y ∷ z ∷ rest) a b least most at_a at_b = absurd (omega arith)
 
+-- a list of more than three or fewer than two is no event
+pub no_event : (values : List Value) → length values ≢ 2 → length values ≢ 3 → event_from (map view values) ≡ None
+no_event [] two three = refl
+no_event (a ∷ []) two three = refl
+no_event (a ∷ b ∷ []) two three = absurd (two refl)
+no_event (a ∷ b ∷ c ∷ []) two three = absurd (three refl)
+no_event (a ∷ b ∷ c ∷ d ∷ rest) two three = refl
+
+-- a list of more or fewer than three is no job
+pub no_job : (values : List Value) → length values ≢ 3 → job_from (map view values) ≡ None
+no_job [] three = refl
+no_job (a ∷ []) three = refl
+no_job (a ∷ b ∷ []) three = refl
+no_job (a ∷ b ∷ c ∷ []) three = absurd (three refl)
+no_job (a ∷ b ∷ c ∷ d ∷ rest) three = refl
+
 -- a list of more than three or fewer than two is no limits
 pub limits_from-length : (numbers : List ℤ) → length numbers ≢ 2 → length numbers ≢ 3 → limits_from numbers ≡ None
 limits_from-length [] two three = refl
@@ -71,10 +88,25 @@ not_limits trees two three = by_numbers (each whole trees) refl
     by_numbers (Some numbers) same = limits_from-length numbers (λ is. two (grind (arith, length-each whole trees numbers same)))
         (λ is. three (grind (arith, length-each whole trees numbers same)))
 
-pub no_limits : (tree : Data) (values : List Value) → Some (map view values) ≡ list tree → length values ≢ 2 → length values ≢ 3
-    → None ≡ limit_numbers tree
-no_limits tree values is two three = sym (ap (λ o. option_and_then limits_from (option_and_then (each whole) o)) (sym is)
-    ∙ not_limits (map view values) (λ n. two (sym (length-map values view) ∙ n)) (λ n. three (sym (length-map values view) ∙ n)))
+more_than_four : (n : ℕ) → 4 < n → nat_le n 4 ≡ false
+more_than_four n many = grind arith
+
+-- limits are those of at most four numbers
+pub limits_by_arguments : (tree : Data) → limit_numbers tree ≡ option_and_then limits_from (arguments tree)
+limits_by_arguments tree = by_list (list tree)
+  where
+    by_list : (trees : Option (List Data)) → option_and_then limits_from (option_and_then (each whole) trees)
+        ≡ option_and_then limits_from (option_and_then arguments_from trees)
+    by_list None = refl
+    by_list (Some []) = refl
+    by_list (Some (a ∷ [])) = refl
+    by_list (Some (a ∷ b ∷ [])) = refl
+    by_list (Some (a ∷ b ∷ c ∷ [])) = refl
+    by_list (Some (a ∷ b ∷ c ∷ d ∷ [])) = refl
+    by_list (Some (a ∷ b ∷ c ∷ d ∷ e ∷ rest)) =
+        let trees = a ∷ b ∷ c ∷ d ∷ e ∷ rest in
+        not_limits trees (omega arith) (omega arith)
+        ∙ sym (ap (λ few. option_and_then limits_from (cond few (each whole trees) None)) (more_than_four (length trees) (omega arith)))
 
 -- a list of more or fewer than four is no account
 pub account_from-length : (numbers : List ℤ) → length numbers ≢ 4 → account_from numbers ≡ None
@@ -92,63 +124,22 @@ not_four trees other = by_numbers (each whole trees) refl
     by_numbers None same = refl
     by_numbers (Some numbers) same = account_from-length numbers (λ four. other (grind (arith, length-each whole trees numbers same)))
 
-pub no_account : (tree : Data) (values : List Value) → Some (map view values) ≡ list tree → length values ≢ 4 → None ≡ account_in tree
-no_account tree values is other = sym (ap (λ o. option_and_then account_from (option_and_then (each whole) o)) (sym is)
-    ∙ not_four (map view values) (λ four. other (sym (length-map values view) ∙ four)))
-
--- the account of four numbers, where all four are there
-abbrev account_of : Option ℤ → Option ℤ → Option ℤ → Option ℤ → Option Account
-account_of name customer saving checking = option_and_then account_from
-    (option_and_then (λ n. option_map (λ others. n ∷ others)
-    (option_and_then (λ c. option_map (λ others. c ∷ others)
-    (option_and_then (λ s. option_map (λ others. s ∷ others) (option_and_then (λ k. Some (k ∷ [])) checking)) saving)) customer)) name)
-
-account_of_four : (values : List Value) (n c s k : Value) (name customer saving checking : Option ℤ) → values ≡ n ∷ c ∷ s ∷ k ∷ []
-    → name ≡ whole (view n) → customer ≡ whole (view c) → saving ≡ whole (view s) → checking ≡ whole (view k)
-    → account_of name customer saving checking ≡ option_and_then account_from (each whole (map view values))
-account_of_four values n c s k name customer saving checking are is_n is_c is_s is_k = rw (are, is_n, is_c, is_s, is_k) refl
-
--- the account of a list of four
-pub account_at : (tree : Data) (values : List Value) (n c s k : Value) (name customer saving checking : Option ℤ)
-    → Some (map view values) ≡ list tree → values ≡ n ∷ c ∷ s ∷ k ∷ [] → name ≡ whole (view n) → customer ≡ whole (view c)
-    → saving ≡ whole (view s) → checking ≡ whole (view k) → account_of name customer saving checking ≡ account_in tree
-account_at tree values n c s k name customer saving checking is are is_n is_c is_s is_k =
-    account_of_four values n c s k name customer saving checking are is_n is_c is_s is_k
-    ∙ ap (λ o. option_and_then account_from (option_and_then (each whole) o)) is
-
--- the limits of two numbers, where both are there
-abbrev limits_of_two : Option ℤ → Option ℤ → Option LimitNumbers
-limits_of_two live begins = option_and_then limits_from
-    (option_and_then (λ l. option_map (λ others. l ∷ others) (option_and_then (λ b. Some (b ∷ [])) begins)) live)
-
-two_limits : (values : List Value) (l b : Value) (live begins : Option ℤ) → values ≡ l ∷ b ∷ [] → live ≡ whole (view l)
-    → begins ≡ whole (view b) → limits_of_two live begins ≡ option_and_then limits_from (each whole (map view values))
-two_limits values l b live begins are is_l is_b = rw (are, is_l, is_b) refl
-
--- the limits of a list of two
-pub two_limits_at : (tree : Data) (values : List Value) (l b : Value) (live begins : Option ℤ) → Some (map view values) ≡ list tree
-    → values ≡ l ∷ b ∷ [] → live ≡ whole (view l) → begins ≡ whole (view b) → limits_of_two live begins ≡ limit_numbers tree
-two_limits_at tree values l b live begins is are is_l is_b =
-    two_limits values l b live begins are is_l is_b ∙ ap (λ o. option_and_then limits_from (option_and_then (each whole) o)) is
-
--- the limits of three numbers, where all three are there
-abbrev limits_of_three : Option ℤ → Option ℤ → Option ℤ → Option LimitNumbers
-limits_of_three live begins asks = option_and_then limits_from
-    (option_and_then (λ l. option_map (λ others. l ∷ others)
-    (option_and_then (λ b. option_map (λ others. b ∷ others) (option_and_then (λ a. Some (a ∷ [])) asks)) begins)) live)
-
-three_limits : (values : List Value) (l b a : Value) (live begins asks : Option ℤ) → values ≡ l ∷ b ∷ a ∷ [] → live ≡ whole (view l)
-    → begins ≡ whole (view b) → asks ≡ whole (view a)
-    → limits_of_three live begins asks ≡ option_and_then limits_from (each whole (map view values))
-three_limits values l b a live begins asks are is_l is_b is_a = rw (are, is_l, is_b, is_a) refl
-
--- the limits of a list of three
-pub three_limits_at : (tree : Data) (values : List Value) (l b a : Value) (live begins asks : Option ℤ)
-    → Some (map view values) ≡ list tree → values ≡ l ∷ b ∷ a ∷ [] → live ≡ whole (view l) → begins ≡ whole (view b)
-    → asks ≡ whole (view a) → limits_of_three live begins asks ≡ limit_numbers tree
-three_limits_at tree values l b a live begins asks is are is_l is_b is_a =
-    three_limits values l b a live begins asks are is_l is_b is_a
-    ∙ ap (λ o. option_and_then limits_from (option_and_then (each whole) o)) is
+-- an account is that of at most four numbers
+pub account_by_arguments : (tree : Data) → account_in tree ≡ option_and_then account_from (arguments tree)
+account_by_arguments tree = by_list (list tree)
+  where
+    by_list : (trees : Option (List Data)) → option_and_then account_from (option_and_then (each whole) trees)
+        ≡ option_and_then account_from (option_and_then arguments_from trees)
+    by_list None = refl
+    by_list (Some []) = refl
+    by_list (Some (a ∷ [])) = refl
+    by_list (Some (a ∷ b ∷ [])) = refl
+    by_list (Some (a ∷ b ∷ c ∷ [])) = refl
+    by_list (Some (a ∷ b ∷ c ∷ d ∷ [])) = refl
+    by_list (Some (a ∷ b ∷ c ∷ d ∷ e ∷ rest)) =
+        let trees = a ∷ b ∷ c ∷ d ∷ e ∷ rest in
+        not_four trees (omega arith)
+        ∙ sym (ap (λ few. option_and_then account_from (cond few (each whole trees) None)) (more_than_four (length trees) (omega arith)))
 
 -- an object has as many members as its map has entries
 pub count_members : (members : List (String Global × Value)) → count (members_view members) ≡ length members
@@ -167,11 +158,11 @@ parts_found tree ms limits accounts procedures object three at_limits at_account
     ∙ ap (λ o. all_three (Some limits) o (list_at (codes "procedures") tree)) (sym at_accounts)
     ∙ ap (λ o. all_three (Some limits) (Some accounts) o) (sym at_procedures))
 
--- the sheet of a line
-pub sheet_found : (line : List ℕ) (tree : Data) (limits : LimitNumbers) (trees procedures : List Data) (accounts : List Account)
-    → Some tree ≡ tree_of line → Some (limits, trees, procedures) ≡ parts_in tree → Some accounts ≡ each account_in trees
-    → sheet_of line ≡ Some (record { limits = limits; accounts = accounts; procedures = procedures })
-sheet_found line tree limits trees procedures accounts at_line at_tree at_trees = rw (← at_line) (rw (← at_tree) (rw (← at_trees) refl))
+-- the sheet of a tree
+pub sheet_found : (tree : Data) (limits : LimitNumbers) (trees procedures : List Data) (accounts : List Account)
+    → Some (limits, trees, procedures) ≡ parts_in tree → Some accounts ≡ each account_in trees
+    → sheet_in tree ≡ Some (record { limits = limits; accounts = accounts; procedures = procedures })
+sheet_found tree limits trees procedures accounts at_tree at_trees = rw (← at_tree) (rw (← at_trees) refl)
 
 refused_sheet : (least : ℕ) (line : List ℕ) (sheet : Sheet) (error : OpeningError) → sheet_of line ≡ Some sheet
     → RefusesSheet least sheet error → Refuses least line error
@@ -183,8 +174,17 @@ refused_sheet least line sheet (ProcShape number place) shape is = (sheet, shape
 refused_sheet least line sheet (ProcFlaw number flaw) shape is = (sheet, shape, is)
 refused_sheet least line sheet NoMemory shape is = tt
 
--- what gives an opening or not is refused as what the line says is
-pub refused_line : (least : ℕ) (line : List ℕ) (sheet : Sheet) (result : Result Opening OpeningError) → sheet_of line ≡ Some sheet
-    → IfErr result (RefusesSheet least sheet) → IfErr result (Refuses least line)
-refused_line least line sheet (Ok opening) shape is = tt
-refused_line least line sheet (Err error) shape is = refused_sheet least line sheet error shape is
+-- what gives an opening or not does so for the line of the tree
+pub opens_each : (least : ℕ) (tree : Data) (sheet : Sheet) (result : Result Opening OpeningError) → sheet_in tree ≡ Some sheet
+    → IfOk result (IsOpened least sheet)
+    → IfOk result (λ opening. (line : List ℕ) → tree_of line ≡ Some tree → Opens least line opening)
+opens_each least tree sheet (Ok opening) shape is =
+    λ line at. record { sheet = sheet; shape = ap (option_and_then sheet_in) at ∙ shape; opens = is }
+opens_each least tree sheet (Err error) shape is = tt
+
+pub refuses_each : (least : ℕ) (tree : Data) (sheet : Sheet) (result : Result Opening OpeningError) → sheet_in tree ≡ Some sheet
+    → IfErr result (RefusesSheet least sheet)
+    → IfErr result (λ error. (line : List ℕ) → tree_of line ≡ Some tree → Refuses least line error)
+refuses_each least tree sheet (Ok opening) shape is = tt
+refuses_each least tree sheet (Err error) shape is =
+    λ line at. refused_sheet least line sheet error (ap (option_and_then sheet_in) at ∙ shape) is

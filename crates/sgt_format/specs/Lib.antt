@@ -5,6 +5,7 @@ pub mod DatabaseText
 pub mod RecordText
 pub mod Trees
 pub mod EventLines
+pub mod Calls
 pub mod ScriptLines
 pub mod JobLines
 pub mod RecordLines

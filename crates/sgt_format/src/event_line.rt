@@ -1,6 +1,8 @@
 ghost use Rattle.std.specs.Prelude.{◌≡◌, ◌≢◌, Ok, Err, IfOk, IfErr, map};
 ghost use Rattle.std.specs.Option.{option_map};
+ghost use Rattle.serde_json.specs.Find.{as_str};
 ghost use Rattle.serde_json.specs.View.{view};
+ghost use Rattle.sgt_format.specs.Calls.{of_two, of_three};
 ghost use Rattle.sgt_format.specs.EventLines.{tid, procedure, arguments, of_transaction, of_procedure, event_from, event_in, event_of};
 ghost use Rattle.sgt_format.specs.declared.errors.LineError.TheVariants.{NoMemory};
 
@@ -24,7 +26,9 @@ pub fn read_event(alloc: Global, scratch: &mut Scratch, line: &[u8]) -> Result<E
     if let Some(event) = quick_event(line, scratch)? {
         return Ok(event);
     }
-    let tree = read_tree(alloc, line)?.ok_or(LineError::NotJson)?;
+    let Some(tree) = read_tree(alloc, line)? else {
+        return Err(LineError::NotJson);
+    };
     event_in(&tree).ok_or(LineError::BadLine)
 }
 
@@ -38,10 +42,24 @@ pub(crate) fn event_from(trees: &[Value]) -> Option<Event>
     ensures { result ≡ event_from (map view trees.now) }
 {
     match trees {
-        [word, number] => of_transaction(word.as_str()?, tid(number)?),
-        [word, number, list] => of_procedure(word.as_str()?, procedure(number)?, arguments(list)?),
+        [word, number] => of_two(word, number),
+        [word, number, list] => of_three(word, number, list),
         _ => None,
     }
+}
+
+/// The event of a word and a transaction's number.
+fn of_two(word: &Value, number: &Value) -> Option<Event>
+    ensures { result ≡ of_two (as_str (view word.now)) (tid (view number.now)) }
+{
+    of_transaction(word.as_str()?, tid(number)?)
+}
+
+/// The event of a word, a procedure's number and a list of arguments.
+fn of_three(word: &Value, number: &Value, list: &Value) -> Option<Event>
+    ensures { result ≡ of_three of_procedure (as_str (view word.now)) (procedure (view number.now)) (arguments (view list.now)) }
+{
+    of_procedure(word.as_str()?, procedure(number)?, arguments(list)?)
 }
 
 pub(crate) fn of_transaction(word: &str, t: Tid) -> Option<Event>

@@ -1,5 +1,8 @@
 ghost use Rattle.std.specs.Prelude.{◌≡◌, ◌≢◌, Ok, Err, IfOk, IfErr};
+ghost use Rattle.serde_json.specs.Find.{as_str};
 ghost use Rattle.serde_json.specs.View.{view};
+ghost use Rattle.sgt_format.specs.Calls.{of_three};
+ghost use Rattle.sgt_format.specs.EventLines.{procedure, arguments};
 ghost use Rattle.sgt_format.specs.JobLines.{job_call, job_in, job_of};
 ghost use Rattle.sgt_format.specs.declared.errors.LineError.TheVariants.{NoMemory};
 
@@ -24,7 +27,9 @@ pub fn read_job(alloc: Global, scratch: &mut Scratch, line: &[u8]) -> Result<Job
     if let Some(call) = quick_job(line, scratch)? {
         return Ok(call);
     }
-    let tree = read_tree(alloc, line)?.ok_or(LineError::NotJson)?;
+    let Some(tree) = read_tree(alloc, line)? else {
+        return Err(LineError::NotJson);
+    };
     job_in(&tree).ok_or(LineError::BadLine)
 }
 
@@ -32,9 +37,16 @@ fn job_in(tree: &Value) -> Option<JobCall>
     ensures { result ≡ job_in (view tree.now) }
 {
     match items(tree)? {
-        [word, number, list] => job_call(word.as_str()?, procedure(number)?, arguments(list)?),
+        [word, number, list] => of_three(word, number, list),
         _ => None,
     }
+}
+
+/// The job of a word, a procedure's number and a list of arguments.
+fn of_three(word: &Value, number: &Value, list: &Value) -> Option<JobCall>
+    ensures { result ≡ of_three job_call (as_str (view word.now)) (procedure (view number.now)) (arguments (view list.now)) }
+{
+    job_call(word.as_str()?, procedure(number)?, arguments(list)?)
 }
 
 pub(crate) fn job_call(word: &str, procedure: u16, args: Args) -> Option<JobCall>

@@ -49,35 +49,45 @@ pub(crate) fn quick_job(line: &[u8], scratch: &mut Scratch) -> Result<Option<Job
 fn event_at(reader: &mut Reader<'_>) -> Option<Event>
     ensures { IfSome result (λ event. event_at reader.old ≡ Some event) }
 {
-    if !takes_begin_array(reader) {
-        return None;
-    }
-    let word = take_word(reader)?;
-    let first = take_whole(reader)?;
+    let (word, first) = take_head(reader)?;
     if takes_end_array(reader) {
         if !has_ended(reader) {
             return None;
         }
         return of_transaction(word, tid_of(first)?);
     }
-    if !takes_begin_array(reader) {
-        return None;
-    }
-    let args = take_arguments(reader)?;
-    if !takes_end_array(reader) || !has_ended(reader) {
-        return None;
-    }
+    let args = take_last_arguments(reader)?;
     of_procedure(word, procedure_of(first)?, args)
 }
 
 fn job_at(reader: &mut Reader<'_>) -> Option<JobCall>
     ensures { IfSome result (λ call. job_at reader.old ≡ Some call) }
 {
+    let (word, first) = take_head(reader)?;
+    let args = take_last_arguments(reader)?;
+    job_call(word, procedure_of(first)?, args)
+}
+
+/// The word and the number that a list begins with.
+fn take_head<'a>(reader: &mut Reader<'a>) -> Option<(&'a str, i64)>
+    ensures { IfSome result (λ head. (text : List ℕ)
+        × (reader.old ≡ begin_array ∷ string head.0.now ∷ number text ∷ reader.new)
+        × (whole_number text ≡ Some head.1)) }
+{
     if !takes_begin_array(reader) {
         return None;
     }
     let word = take_word(reader)?;
     let first = take_whole(reader)?;
+    Some((word, first))
+}
+
+/// The numbers of a list that is the last item of another, which ends the text.
+fn take_last_arguments(reader: &mut Reader<'_>) -> Option<Args>
+    ensures { IfSome result (λ args. (texts : List (List ℕ))
+        × (reader.old ≡ begin_array ∷ (map number texts ++ end_array ∷ end_array ∷ []))
+        × (whole_numbers texts ≡ Some args) × (length texts ≤ 4)) }
+{
     if !takes_begin_array(reader) {
         return None;
     }
@@ -85,7 +95,7 @@ fn job_at(reader: &mut Reader<'_>) -> Option<JobCall>
     if !takes_end_array(reader) || !has_ended(reader) {
         return None;
     }
-    job_call(word, procedure_of(first)?, args)
+    Some(args)
 }
 
 fn tid_of(n: i64) -> Option<Tid>

@@ -1,6 +1,7 @@
-ghost use Rattle.std.specs.Prelude.{◌≡◌, IfOk, IfErr, map};
+ghost use Rattle.std.specs.Prelude.{◌≡◌, List, ℕ, Some, IfOk, IfErr, map};
 ghost use Rattle.serde_json.specs.View.{view};
 ghost use Rattle.sgt_format.specs.Openings.{Opens, Refuses, IsOpened, RefusesSheet};
+ghost use Rattle.sgt_format.specs.Trees.{tree_of};
 
 use crate::errors::OpeningError;
 use crate::procedures::read_procedures;
@@ -35,9 +36,25 @@ pub fn read_opening(alloc: Global, least: u32, line: &[u8]) -> Result<Opening, O
     ensures opening { IfOk result (Opens least line.now) }
     ensures refused { IfErr result (Refuses least line.now) }
 {
-    let tree = read_tree(alloc, line)?.ok_or(OpeningError::NotJson)?;
-    let (numbers, trees, procedures) = parts(&tree).ok_or(OpeningError::BadLine)?;
-    let accounts = read_accounts(alloc, trees)?.ok_or(OpeningError::BadLine)?;
+    match read_tree(alloc, line)? {
+        Some(tree) => opening_in(alloc, least, &tree),
+        None => Err(OpeningError::NotJson),
+    }
+}
+
+/// The opening that a tree spells, as that of a line.
+fn opening_in(alloc: Global, least: u32, tree: &Value) -> Result<Opening, OpeningError>
+    ensures opening { IfOk result (λ opening.
+        (line : List ℕ) → tree_of line ≡ Some (view tree.now) → Opens least line opening) }
+    ensures refused { IfErr result (λ error.
+        (line : List ℕ) → tree_of line ≡ Some (view tree.now) → Refuses least line error) }
+{
+    let Some((numbers, trees, procedures)) = parts(tree) else {
+        return Err(OpeningError::BadLine);
+    };
+    let Some(accounts) = read_accounts(alloc, trees)? else {
+        return Err(OpeningError::BadLine);
+    };
     open(alloc, least, numbers, accounts.as_slice(), procedures)
 }
 

@@ -18,6 +18,8 @@ pub fn read_procedure_line(alloc: Global, number: u64, line: &[u8]) -> Result<Ch
     ensures procedure { IfOk result (SpellsProcedure line.now) }
     ensures refused { IfErr result (RefusesProcedure number line.now) }
 {
-    let tree = read_tree(alloc, line)?.ok_or(OpeningError::NotJson)?;
+    let Some(tree) = read_tree(alloc, line)? else {
+        return Err(OpeningError::NotJson);
+    };
     read_procedure(alloc, number, &tree)
 }

@@ -37,7 +37,9 @@ pub fn read_script_line(
     if let Some(event) = quick_event(line, scratch)? {
         return Ok(ScriptLine::Event(event));
     }
-    let tree = read_tree(alloc, line)?.ok_or(LineError::NotJson)?;
+    let Some(tree) = read_tree(alloc, line)? else {
+        return Err(LineError::NotJson);
+    };
     script_line_in(&tree).ok_or(LineError::BadLine)
 }
 

@@ -1,10 +1,12 @@
-ghost use Rattle.std.specs.Prelude.{◌≡◌, IfOk, IfSome, IsNone, map, option_map};
+ghost use Rattle.std.specs.Prelude.{◌≡◌, IfOk, IfSome, IsNone, codes, map, option_and_then, option_map};
+ghost use Rattle.serde_json.specs.Find.{get};
 ghost use Rattle.serde_json.specs.View.{view};
 ghost use Rattle.sgt_model.specs.declared.limits.Limits.{Limits as L};
 ghost use Rattle.sgt_format.specs.Trees.{each};
 ghost use Rattle.sgt_model.specs.declared.limits.Asks.{Asks as When};
-ghost use Rattle.sgt_format.specs.Openings.{limit_numbers, account_in, parts_in, AreAsks, AreLimits};
+ghost use Rattle.sgt_format.specs.Openings.{limits_from, limit_numbers, list_at, account_from, account_in, parts_in, AreAsks, AreLimits};
 
+use crate::event_line::arguments;
 use crate::tree::items;
 use serde_json::Value;
 use sgt_model::{Asks, Limits, NoMemory};
@@ -31,25 +33,47 @@ pub(crate) fn parts(tree: &Value) -> Option<(LimitNumbers, &[Value], &[Value])>
     if tree.as_object()?.len() != 3 {
         return None;
     }
-    let limits = limit_numbers(tree.get("limits")?)?;
-    let accounts = items(tree.get("accounts")?)?;
-    let procedures = items(tree.get("procedures")?)?;
+    let limits = limits_in(tree)?;
+    let accounts = list_at(tree, "accounts")?;
+    let procedures = list_at(tree, "procedures")?;
     Some((limits, accounts, procedures))
 }
 
+/// The numbers at the name `limits`.
+fn limits_in(tree: &Value) -> Option<LimitNumbers>
+    ensures { result ≡ option_and_then limit_numbers (get (codes "limits") (view tree.now)) }
+{
+    limit_numbers(tree.get("limits")?)
+}
+
+/// The items of the list at a name.
+fn list_at<'a>(tree: &'a Value, name: &str) -> Option<&'a [Value]>
+    ensures { option_map (λ items. map view items.now) result ≡ list_at name.now (view tree.now) }
+{
+    items(tree.get(name)?)
+}
+
+#[tactic(auto, using(crate::proofs::Shapes::limits_by_arguments))]
 fn limit_numbers(tree: &Value) -> Option<LimitNumbers>
     ensures { result ≡ limit_numbers (view tree.now) }
 {
-    match items(tree)? {
+    limits_from(arguments(tree)?.as_slice())
+}
+
+/// The limits of two numbers or three.
+fn limits_from(numbers: &[i64]) -> Option<LimitNumbers>
+    ensures { result ≡ limits_from numbers.now }
+{
+    match numbers {
         [live, begins] => Some(LimitNumbers {
-            live: live.as_i64()?,
-            begins: begins.as_i64()?,
+            live: *live,
+            begins: *begins,
             asks: 0,
         }),
         [live, begins, asks] => Some(LimitNumbers {
-            live: live.as_i64()?,
-            begins: begins.as_i64()?,
-            asks: asks.as_i64()?,
+            live: *live,
+            begins: *begins,
+            asks: *asks,
         }),
         _ => None,
     }
@@ -73,15 +97,23 @@ pub(crate) fn read_accounts(
     Ok(Some(accounts))
 }
 
+#[tactic(auto, using(crate::proofs::Shapes::account_by_arguments))]
 fn account(tree: &Value) -> Option<Account>
     ensures { result ≡ account_in (view tree.now) }
 {
-    match items(tree)? {
+    account_from(arguments(tree)?.as_slice())
+}
+
+/// The account of four numbers.
+fn account_from(numbers: &[i64]) -> Option<Account>
+    ensures { result ≡ account_from numbers.now }
+{
+    match numbers {
         [name, customer, saving, checking] => Some(Account {
-            name: name.as_i64()?,
-            customer: customer.as_i64()?,
-            saving: saving.as_i64()?,
-            checking: checking.as_i64()?,
+            name: *name,
+            customer: *customer,
+            saving: *saving,
+            checking: *checking,
         }),
         _ => None,
     }

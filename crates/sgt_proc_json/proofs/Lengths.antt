@@ -1,10 +1,11 @@
 -- Lists of a row's length and of another, and errors.
-use Rattle.std.proofs.Common.{◌≡◌, ◌≢◌, refl, ◌∙◌, ◌<◌, ◌≤◌, ◌⊎◌, List, [], ◌∷◌, length, get_or, arith}
+use Rattle.std.proofs.Common.{◌≡◌, ◌≢◌, refl, ◌∙◌, ◌<◌, ◌≤◌, ◌⊎◌, ℕ, List, [], ◌∷◌, length, get_or, arith}
 use Rattle.serde_json.specs.Data.{array}
 use Rattle.serde_json.specs.Find.{as_str}
 use Rattle.serde_json.specs.View.{view, items_view}
 use Rattle.serde_json.specs.declared.value.Value.{Value}
-use Rattle.sgt_proc_json.specs.Readings.{Reading, here, at, byte, arg_or_reg, expression, comparison, condition, one_item, two_items, three_items, reading}
+use Rattle.sgt_model.specs.Syntax.{Block, Program}
+use Rattle.sgt_proc_json.specs.Readings.{Reading, here, at, two, byte, arg_or_reg, arithmetic, expression, block, comparison, condition, one_item, two_items, three_items, four_items, reading}
 use Rattle.sgt_proc_json.specs.Refusals.{Tells}
 use Rattle.sgt_proc_json.specs.Rows.{other_row}
 use Rattle.sgt_proc_json.specs.declared.errors.ReadError.{ReadError}
@@ -40,7 +41,11 @@ no_other_row (a ∷ b ∷ c ∷ d ∷ []) other = absurd (omega arith)
 no_other_row (a ∷ b ∷ c ∷ d ∷ e ∷ []) other = absurd (omega arith)
 no_other_row (a ∷ b ∷ c ∷ d ∷ e ∷ f ∷ rest) other = refl
 
--- nor a procedure
+-- the procedure of a count of arguments and statements
+abbrev pub made_of : ℕ → Block → Program
+made_of args body = record { args = args; body = body }
+
+-- nor is a procedure
 pub no_procedure : (items : List Value) → length items ≢ 2 → reading (array (items_view items)) ≡ here
 no_procedure [] other = refl
 no_procedure (a ∷ []) other = refl
@@ -56,6 +61,24 @@ two_are [] w n most least is-w is-n = absurd (omega arith)
 two_are (x ∷ []) w n most least is-w is-n = absurd (omega arith)
 two_are (x ∷ y ∷ []) w n most least is-w is-n = rw (is-w, is-n) refl
 two_are (x ∷ y ∷ z ∷ items) w n most least is-w is-n = absurd (omega arith)
+
+-- arithmetic
+pub operands_are : (items : List Value) (w a b : Value) → 3 ≤ length items → length items < 4 → w ≡ get_or items 0 w → a ≡ get_or items 1 a
+    → b ≡ get_or items 2 b
+    → expression (array (items_view items)) ≡ arithmetic (as_str (view w)) (at 1 (expression (view a))) (at 2 (expression (view b)))
+operands_are [] w a b most least is-w is-a is-b = absurd (omega arith)
+operands_are (x ∷ []) w a b most least is-w is-a is-b = absurd (omega arith)
+operands_are (x ∷ y ∷ []) w a b most least is-w is-a is-b = absurd (omega arith)
+operands_are (x ∷ y ∷ z ∷ []) w a b most least is-w is-a is-b = rw (is-w, is-a, is-b) refl
+operands_are (x ∷ y ∷ z ∷ v ∷ items) w a b most least is-w is-a is-b = absurd (omega arith)
+
+-- a procedure
+pub procedure_are : (items : List Value) (a b : Value) → 2 ≤ length items → length items < 3 → a ≡ get_or items 0 a → b ≡ get_or items 1 b
+    → reading (array (items_view items)) ≡ two made_of (at 0 (byte (view a))) (at 1 (block (view b)))
+procedure_are [] a b most least is-a is-b = absurd (omega arith)
+procedure_are (x ∷ []) a b most least is-a is-b = absurd (omega arith)
+procedure_are (x ∷ y ∷ []) a b most least is-a is-b = rw (is-a, is-b) refl
+procedure_are (x ∷ y ∷ z ∷ items) a b most least is-a is-b = absurd (omega arith)
 
 -- a condition
 pub three_are : (items : List Value) (w a b : Value) → 3 ≤ length items → length items < 4 → w ≡ get_or items 0 w → a ≡ get_or items 1 a
@@ -94,3 +117,15 @@ three_behind (x ∷ y ∷ []) w a b c most least is-w is-a is-b is-c = absurd (o
 three_behind (x ∷ y ∷ z ∷ []) w a b c most least is-w is-a is-b is-c = absurd (omega arith)
 three_behind (x ∷ y ∷ z ∷ v ∷ []) w a b c most least is-w is-a is-b is-c = rw (is-w, is-a, is-b, is-c) refl
 three_behind (x ∷ y ∷ z ∷ v ∷ u ∷ items) w a b c most least is-w is-a is-b is-c = absurd (omega arith)
+
+-- of four
+pub four_behind : (items : List Value) (w a b c d : Value) → 5 ≤ length items → length items < 6 → w ≡ get_or items 0 w
+    → a ≡ get_or items 1 a → b ≡ get_or items 2 b → c ≡ get_or items 3 c → d ≡ get_or items 4 d
+    → other_row (items_view items) ≡ four_items (as_str (view w)) (view a) (view b) (view c) (view d)
+four_behind [] w a b c d most least is-w is-a is-b is-c is-d = absurd (omega arith)
+four_behind (x ∷ []) w a b c d most least is-w is-a is-b is-c is-d = absurd (omega arith)
+four_behind (x ∷ y ∷ []) w a b c d most least is-w is-a is-b is-c is-d = absurd (omega arith)
+four_behind (x ∷ y ∷ z ∷ []) w a b c d most least is-w is-a is-b is-c is-d = absurd (omega arith)
+four_behind (x ∷ y ∷ z ∷ v ∷ []) w a b c d most least is-w is-a is-b is-c is-d = absurd (omega arith)
+four_behind (x ∷ y ∷ z ∷ v ∷ u ∷ []) w a b c d most least is-w is-a is-b is-c is-d = rw (is-w, is-a, is-b, is-c, is-d) refl
+four_behind (x ∷ y ∷ z ∷ v ∷ u ∷ t ∷ items) w a b c d most least is-w is-a is-b is-c is-d = absurd (omega arith)

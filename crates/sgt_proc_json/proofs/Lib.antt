@@ -3,6 +3,7 @@ pub mod Places
 pub mod StatementsRead
 pub mod TermSizes
 pub mod IfRows
+pub mod InTurn
 pub mod SpelledIsRead
 pub mod Written
 pub mod ReadIsSpelled

@@ -5,6 +5,8 @@ use Rattle.serde_json.specs.declared.value.Value.{Value}
 use Rattle.sgt_model.specs.declared.procedure.Statement.{Statement}
 use Rattle.sgt_model.specs.Syntax.{Block, empty}
 use Rattle.sgt_model.specs.Programs.{before, block_of}
+use Rattle.sgt_proc_json.specs.Refusals.{Tells}
+use Rattle.sgt_proc_json.specs.declared.errors.ReadError.{ReadError}
 use Rattle.sgt_proc_json.specs.Readings.{Reading, at, one, two, statement, statements}
 
 -- statements in front of others
@@ -38,6 +40,14 @@ one_more items i v list s r so h e read =
     so ∙ ap (one (onto_block list)) (items_next items i v h e
     ∙ ap (λ f. two (λ first rest. first rest) f (statements (i + 1) (items_view (drop (i + 1) items)))) read)
     ∙ one_last list s (statements (i + 1) (items_view (drop (i + 1) items)))
+
+-- the next is none
+pub one_refused : (items : List Value) (i : ℕ) (v : Value) (list : List Statement) (error : ReadError) (r : Reading Block)
+    → r ≡ one (onto_block list) (statements i (items_view (drop i items))) → i < length items → v ≡ get_or items i v
+    → Tells (at i (statement (view v))) error → Tells r error
+one_refused items i v list error r so h e told place same =
+    so ∙ ap (one (onto_block list)) (items_next items i v h e
+    ∙ ap (λ f. two (λ first rest. first rest) f (statements (i + 1) (items_view (drop (i + 1) items)))) (told place same))
 
 -- in front of none
 pub onto_all : (list : List Statement) → onto_block list empty ≡ block_of list

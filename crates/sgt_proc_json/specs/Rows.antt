@@ -1,8 +1,9 @@
 -- What the items behind a statement's word spell.
+use Rattle.std.specs.Prelude.{Bool, false, codes}
 use Rattle.serde_json.specs.Data.{Data, Items, no_items, item}
 use Rattle.serde_json.specs.Find.{as_str}
-use Rattle.sgt_model.specs.Syntax.{Block, look, find, put, save, ask, answer}
-use Rattle.sgt_proc_json.specs.Readings.{Reading, here, at, one, two, three, four, byte, short, expression, one_item, two_items, three_items, four_items}
+use Rattle.sgt_model.specs.Syntax.{Test, Block, look, find, put, save, ask, choose, answer}
+use Rattle.sgt_proc_json.specs.Readings.{Reading, here, at, one, two, three, four, is_word, byte, short, expression, condition, block, one_item, two_items, three_items, four_items}
 
 -- behind `ask`
 abbrev pub ask_of : Data → Reading (Block → Block)
@@ -29,6 +30,25 @@ look_of a b c d =
 abbrev pub find_of : Data → Data → Data → Data → Reading (Block → Block)
 find_of a b c d =
     four (λ to table id absent rest. find to table id absent rest) (at 1 (byte a)) (at 2 (byte b)) (at 3 (expression c)) (at 4 (expression d))
+
+-- behind `if`
+abbrev pub if_of : Reading Test → Reading Block → Reading Block → Reading (Block → Block)
+if_of = three (λ test ys ns rest. choose test ys ns rest)
+
+-- a word and three items behind it, where the word is that of an If
+abbrev pub if_row : Items → Reading (Block → Block)
+if_row (item w (item a (item b (item c no_items)))) = if_of (at 1 (condition a)) (at 2 (block b)) (at 3 (block c))
+if_row items = here
+
+-- the branches of such a row
+abbrev pub branches : Items → Reading (Block × Block)
+branches (item w (item a (item b (item c no_items)))) = two (λ ys ns. (ys, ns)) (at 2 (block b)) (at 3 (block c))
+branches items = here
+
+-- whether the items are so
+abbrev pub is_if : Items → Bool
+is_if (item w (item a (item b (item c no_items)))) = is_word (as_str w) (codes "if")
+is_if items = false
 
 -- a word and the items behind it, where they spell no If
 abbrev pub other_row : Items → Reading (Block → Block)

@@ -27,6 +27,7 @@ mod reader;
 mod write_cond;
 mod write_expr;
 mod write_number;
+mod write_row;
 mod write_statement;
 mod writer;
 

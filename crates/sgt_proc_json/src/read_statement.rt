@@ -1,11 +1,11 @@
-ghost use Rattle.std.specs.Prelude.{◌≡◌, Ok, IfOk, IfErr};
+ghost use Rattle.std.specs.Prelude.{◌≡◌, Ok, IfOk, IfErr, codes};
 ghost use Rattle.serde_json.specs.Data.{array};
 ghost use Rattle.serde_json.specs.Find.{as_str};
 ghost use Rattle.serde_json.specs.View.{view, items_view};
 ghost use Rattle.sgt_model.specs.Programs.{before, block_of};
-ghost use Rattle.sgt_proc_json.specs.Readings.{at, statement, block, one_item, two_items, three_items, four_items};
+ghost use Rattle.sgt_proc_json.specs.Readings.{at, is_word, statement, block, one_item, two_items, three_items, four_items};
 ghost use Rattle.sgt_proc_json.specs.Refusals.{Tells};
-ghost use Rattle.sgt_proc_json.specs.Rows.{other_row, ask_of, answer_of, let_of, put_of, look_of, find_of};
+ghost use Rattle.sgt_proc_json.specs.Rows.{is_if, if_row, branches, other_row, ask_of, answer_of, let_of, put_of, look_of, find_of};
 
 use crate::errors::ReadError;
 use crate::read_cond::cond_at;
@@ -37,17 +37,58 @@ fn read_row(alloc: Global, items: &[Value]) -> Result<Statement, ReadError>
     ensures ok { IfOk result (λ s. statement (array (items_view items.now)) ≡ Ok (before s)) }
     ensures err { IfErr result (Tells (statement (array (items_view items.now)))) }
 {
+    if is_if(items) {
+        return if_row(alloc, items);
+    }
+    other_row(alloc, items)
+}
+
+/// Whether these items are four, of which the first is the word of an If.
+fn is_if(items: &[Value]) -> bool
+    ensures { result ≡ is_if (items_view items.now) }
+{
     match items {
-        [word, a, b, c] => match word.as_str() {
-            Some("if") => {
-                let cond = cond_at(alloc, 1, a)?;
-                let yes = block_at(alloc, 2, b)?;
-                let no = block_at(alloc, 3, c)?;
-                Ok(Statement::If { cond, yes, no })
-            }
-            _ => other_row(alloc, items),
-        },
-        _ => other_row(alloc, items),
+        [word, _, _, _] => is_word_if(word),
+        _ => false,
+    }
+}
+
+/// Whether an item is the word of an If.
+fn is_word_if(word: &Value) -> bool
+    ensures { result ≡ is_word (as_str (view word.now)) (codes "if") }
+{
+    matches!(word.as_str(), Some("if"))
+}
+
+/// The If that a list of these items spells, whose first is its word.
+#[cycle(statement)]
+fn if_row(alloc: Global, items: &[Value]) -> Result<Statement, ReadError>
+    ensures ok { IfOk result (λ s. if_row (items_view items.now) ≡ Ok (before s)) }
+    ensures err { IfErr result (Tells (if_row (items_view items.now))) }
+{
+    match items {
+        [_, cond, _, _] => {
+            let cond = cond_at(alloc, 1, cond)?;
+            let (yes, no) = branches(alloc, items)?;
+            Ok(Statement::If { cond, yes, no })
+        }
+        _ => Err(ReadError::here()),
+    }
+}
+
+/// The branches of the If that a list of these items spells, behind its condition.
+#[cycle(statement)]
+fn branches(alloc: Global, items: &[Value]) -> Result<(Vec<Statement>, Vec<Statement>), ReadError>
+    ensures ok { IfOk result (λ found. branches (items_view items.now) ≡ Ok (block_of found.0.items, block_of found.1.items)) }
+    ensures err { IfErr result (Tells (branches (items_view items.now))) }
+{
+    match items {
+        [_, _, yes, no] => {
+            let yes = block_at(alloc, 2, yes)?;
+            let no = block_at(alloc, 3, no)?;
+            Ok((yes, no))
+        }
+        _ => Err(ReadError::here()),
     }
 }
 

@@ -4,6 +4,7 @@ ghost use Rattle.sgt_model.specs.Programs.{term_of};
 ghost use Rattle.sgt_proc_json.specs.Spelling.{SpellsTerm, WordAnd};
 
 use crate::write_number::write_byte;
+use crate::write_row::{row_of_one, row_of_two};
 use serde_json::Value;
 use sgt_model::{Expr, NoMemory};
 use std::alloc::Global;
@@ -15,14 +16,8 @@ pub(crate) fn write_expr(alloc: Global, expr: &Expr) -> Result<Value, NoMemory>
 {
     match expr {
         Expr::Num(n) => Ok(Value::from(*n)),
-        Expr::Arg(n) => Ok(Value::Array(vec![in alloc;
-            Value::try_from_str(alloc, "arg")?,
-            write_byte(*n),
-        ]?)),
-        Expr::Reg(n) => Ok(Value::Array(vec![in alloc;
-            Value::try_from_str(alloc, "reg")?,
-            write_byte(*n),
-        ]?)),
+        Expr::Arg(n) => row_of_one(alloc, "arg", write_byte(*n)),
+        Expr::Reg(n) => row_of_one(alloc, "reg", write_byte(*n)),
         Expr::Sum(left, right) => write_pair(alloc, "sum", left, right),
         Expr::Diff(left, right) => write_pair(alloc, "diff", left, right),
         Expr::Product(left, right) => write_pair(alloc, "product", left, right),
@@ -43,5 +38,5 @@ pub(crate) fn write_pair(
 {
     let left = write_expr(alloc, left)?;
     let right = write_expr(alloc, right)?;
-    Ok(Value::Array(vec![in alloc; Value::try_from_str(alloc, word)?, left, right]?))
+    row_of_two(alloc, word, left, right)
 }

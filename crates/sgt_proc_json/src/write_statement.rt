@@ -8,6 +8,7 @@ ghost use Rattle.sgt_proc_json.specs.Spelling.{WordAnd, Byte, Short, SpellsTerm,
 use crate::write_cond::write_cond;
 use crate::write_expr::write_expr;
 use crate::write_number::{write_byte, write_short};
+use crate::write_row::{row_of_four, row_of_one, row_of_three, row_of_two};
 use serde_json::Value;
 use sgt_model::{Cond, Expr, NoMemory, Statement};
 use std::alloc::Global;
@@ -48,13 +49,15 @@ fn write_look(alloc: Global, reg: u8, table: u8, id: &Expr, absent: u16) -> Resu
     ensures { IfOk result (λ v. WordAnd (codes "look")
         (Byte reg ∷ Byte table ∷ SpellsTerm (term_of id.now) ∷ Short absent ∷ []) (view v)) }
 {
-    Ok(Value::Array(vec![in alloc;
-        Value::try_from_str(alloc, "look")?,
+    let id = write_expr(alloc, id)?;
+    row_of_four(
+        alloc,
+        "look",
         write_byte(reg),
         write_byte(table),
-        write_expr(alloc, id)?,
+        id,
         write_short(absent),
-    ]?))
+    )
 }
 
 /// The tree of a find.
@@ -68,13 +71,16 @@ fn write_find(
     ensures { IfOk result (λ v. WordAnd (codes "find")
         (Byte reg ∷ Byte table ∷ SpellsTerm (term_of id.now) ∷ SpellsTerm (term_of absent.now) ∷ []) (view v)) }
 {
-    Ok(Value::Array(vec![in alloc;
-        Value::try_from_str(alloc, "find")?,
+    let id = write_expr(alloc, id)?;
+    let absent = write_expr(alloc, absent)?;
+    row_of_four(
+        alloc,
+        "find",
         write_byte(reg),
         write_byte(table),
-        write_expr(alloc, id)?,
-        write_expr(alloc, absent)?,
-    ]?))
+        id,
+        absent,
+    )
 }
 
 /// The tree of a put.
@@ -82,12 +88,9 @@ fn write_put(alloc: Global, table: u8, id: &Expr, value: &Expr) -> Result<Value,
     ensures { IfOk result (λ v. WordAnd (codes "put")
         (Byte table ∷ SpellsTerm (term_of id.now) ∷ SpellsTerm (term_of value.now) ∷ []) (view v)) }
 {
-    Ok(Value::Array(vec![in alloc;
-        Value::try_from_str(alloc, "put")?,
-        write_byte(table),
-        write_expr(alloc, id)?,
-        write_expr(alloc, value)?,
-    ]?))
+    let id = write_expr(alloc, id)?;
+    let value = write_expr(alloc, value)?;
+    row_of_three(alloc, "put", write_byte(table), id, value)
 }
 
 /// The tree of a Let.
@@ -95,18 +98,15 @@ fn write_let(alloc: Global, reg: u8, value: &Expr) -> Result<Value, NoMemory>
     ensures { IfOk result (λ v. WordAnd (codes "let")
         (Byte reg ∷ SpellsTerm (term_of value.now) ∷ []) (view v)) }
 {
-    Ok(Value::Array(vec![in alloc;
-        Value::try_from_str(alloc, "let")?,
-        write_byte(reg),
-        write_expr(alloc, value)?,
-    ]?))
+    let value = write_expr(alloc, value)?;
+    row_of_two(alloc, "let", write_byte(reg), value)
 }
 
 /// The tree of an Ask.
 fn write_ask(alloc: Global, code: u16) -> Result<Value, NoMemory>
     ensures { IfOk result (λ v. WordAnd (codes "ask") (Short code ∷ []) (view v)) }
 {
-    Ok(Value::Array(vec![in alloc; Value::try_from_str(alloc, "ask")?, write_short(code)]?))
+    row_of_one(alloc, "ask", write_short(code))
 }
 
 /// The tree of an If with these branches.
@@ -116,17 +116,15 @@ fn write_if(alloc: Global, cond: &Cond, yes: Value, no: Value) -> Result<Value, 
         WordAnd (codes "if") (SpellsTest (test_of cond.now) ∷ Listed (SpellsBlock ys) ∷ Listed (SpellsBlock ns) ∷ []) (view v)) }
 {
     let cond = write_cond(alloc, cond)?;
-    Ok(Value::Array(vec![in alloc; Value::try_from_str(alloc, "if")?, cond, yes, no]?))
+    row_of_three(alloc, "if", cond, yes, no)
 }
 
 /// The tree of an answer.
 fn write_answer(alloc: Global, value: &Expr) -> Result<Value, NoMemory>
     ensures { IfOk result (λ v. WordAnd (codes "answer") (SpellsTerm (term_of value.now) ∷ []) (view v)) }
 {
-    Ok(Value::Array(vec![in alloc;
-        Value::try_from_str(alloc, "answer")?,
-        write_expr(alloc, value)?,
-    ]?))
+    let value = write_expr(alloc, value)?;
+    row_of_one(alloc, "answer", value)
 }
 
 /// The tree of statements in a row.

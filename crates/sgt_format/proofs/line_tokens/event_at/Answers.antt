@@ -6,16 +6,13 @@ use Rattle.sgt_format.proofs.line_tokens.event_at.Goals as goal
 
 pub returns-then-takes_end_array : goal.returns-then-takes_end_array
 returns-then-takes_end_array c =
-    let small = ap (natural 32) (from_bits c.in_ok-first.first (search rules)) ∙ sym c.in_ok-tid_of.ensures in
-    spelled_transaction _ _ _ _ _ _ c.in_ok-first.ensures.0 c.in_ok-first.first c.in_ok-tid_of.field-0 _
-    (c.if-not-takes_begin_array.ensures refl) c.in_ok-word.ensures c.in_ok-first.ensures.1 (c.if-takes_end_array.ensures.taken refl)
-    (c.if-not-has_ended.ensures refl) c.in_ok-first.ensures.2 small c.of_transaction.ensures
+    let small = ap (natural 32) (from_bits c.in_ok-word.first (search rules)) ∙ sym c.in_ok-tid_of.ensures in
+    spelled_transaction _ _ _ _ c.in_ok-word.ensures.0 c.in_ok-word.first c.in_ok-tid_of.field-0 _ c.in_ok-word.ensures.1
+    (c.if-takes_end_array.ensures.taken refl) (c.if-not-has_ended.ensures refl) c.in_ok-word.ensures.2 small c.of_transaction.ensures
 
 pub returns : goal.returns
 returns c =
-    let small = ap (natural 16) (from_bits c.in_ok-first.first (search rules)) ∙ sym c.in_ok-procedure_of.ensures in
-    let list = sym (c.if-takes_end_array.ensures.kept refl) ∙ c.if-not-takes_begin_array-2.ensures refl in
-    spelled_start _ _ _ _ _ _ _ _ c.in_ok-first.ensures.0 c.in_ok-first.first c.in_ok-procedure_of.field-0 c.in_ok-args.ensures.0
-    c.in_ok-args.args _ (c.if-not-takes_begin_array.ensures refl) c.in_ok-word.ensures c.in_ok-first.ensures.1 list
-    c.in_ok-args.ensures.1 (c.if-not-takes_end_array.ensures.taken refl) (c.if-not-has_ended-2.ensures refl) c.in_ok-first.ensures.2
-    c.in_ok-args.ensures.2 c.in_ok-args.ensures.3 small c.of_procedure.ensures
+    let small = ap (natural 16) (from_bits c.in_ok-word.first (search rules)) ∙ sym c.in_ok-procedure_of.ensures in
+    spelled_start _ _ _ c.in_ok-word.ensures.0 c.in_ok-word.first c.in_ok-procedure_of.field-0 c.in_ok-args.ensures.0
+    c.in_ok-args.args _ c.in_ok-word.ensures.1 (sym (c.if-takes_end_array.ensures.kept refl) ∙ c.in_ok-args.ensures.1)
+    c.in_ok-word.ensures.2 c.in_ok-args.ensures.2 c.in_ok-args.ensures.3 small c.of_procedure.ensures

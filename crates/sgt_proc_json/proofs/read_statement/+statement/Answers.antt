@@ -1,84 +1,72 @@
-use Rattle.std.proofs.Common.{rules, ◌≡◌, true, false, inl, inr}
+use Rattle.std.proofs.Common.{rules, inl, inr}
 use Rattle.std.proofs.lemmas.List.{drop_all}
-use Rattle.std.specs.Prelude.{codes}
-use Rattle.serde_json.specs.Find.{as_str}
-use Rattle.serde_json.specs.View.{view}
-use Rattle.sgt_proc_json.specs.Readings.{is_word}
-use Rattle.sgt_proc_json.proofs.IfRows.{four_are, if_row, no_if_row, not_four, if_made, handed_on, first_tells, second_tells, third_tells}
-use Rattle.sgt_proc_json.proofs.StatementsRead.{one_more, all_read}
+use Rattle.serde_json.specs.View.{items_view}
+use Rattle.sgt_proc_json.proofs.IfRows.{row_of_if, row_of_other, four_are, branches_are, no_if_row, no_branches, if_made}
+use Rattle.sgt_proc_json.proofs.InTurn.{handed_on, first_tells, second_tells, both_read}
+use Rattle.sgt_proc_json.proofs.Lengths.{told_here}
+use Rattle.sgt_proc_json.proofs.StatementsRead.{one_more, one_refused, all_read}
 use Rattle.sgt_proc_json.proofs.read_statement.+statement.Goals as goal
-use Rattle.sgt_proc_json.proofs.read_statement.+statement.Goals.{read_row-in_default-via-then-items-lt4, read_row-in_default-via-else-items-lt4+else-items-lt5, read_row-in_default-as_str-via-in-Some+in_default-as_str, read_row-in_default-as_str-via-in_default}
+use Rattle.sgt_proc_json.proofs.read_statement.+statement.Goals.{branches-in_default-via-then-items-lt4, branches-in_default-via-else-items-lt4+else-items-lt5, if_row-in_default-via-then-items-lt4, if_row-in_default-via-else-items-lt4+else-items-lt5}
 
-pub read_row-returns-in_err-cond-in-Some-if-clause-err : goal.read_row-returns-in_err-cond-in-Some-if-clause-err
-read_row-returns-in_err-cond-in-Some-if-clause-err t c =
-    let row : _ = four_are c.args.items.now _ _ _ _ (search rules) (search rules) c.word-item.is c.a-item.is
-    c.b-item.is c.c-item.is in
-    let word : is_word (as_str (view c.word-item.result)) (codes "if") ≡ true = search rules in
-    let is : _ = if_row _ _ _ _ _ row word in
-    handed_on _ c.in_err-cond-in-Some-if.field-0.0 c.from_residual.result (search rules)
-    (first_tells _ _ _ _ _ is c.in_err-cond-in-Some-if.ensures.err)
+pub read_row-returns-then-is_if-clause-ok : goal.read_row-returns-then-is_if-clause-ok
+read_row-returns-then-is_if-clause-ok t c =
+    rw (row_of_if (items_view c.args.items.now) c.is_if.result c.is_if.ensures c.if-is_if.true) c.if_row.ensures.ok
 
-pub read_row-returns-in_err-yes-in-Some-if-clause-err : goal.read_row-returns-in_err-yes-in-Some-if-clause-err
-read_row-returns-in_err-yes-in-Some-if-clause-err t c =
-    let row : _ = four_are c.args.items.now _ _ _ _ (search rules) (search rules) c.word-item.is c.a-item.is
-    c.b-item.is c.c-item.is in
-    let word : is_word (as_str (view c.word-item.result)) (codes "if") ≡ true = search rules in
-    let is : _ = if_row _ _ _ _ _ row word in
-    handed_on _ c.in_err-yes-in-Some-if.field-0.0 c.from_residual-in_err-yes-in-Some-if.result (search rules)
-    (second_tells _ _ _ _ _ _ is c.in_ok-cond-in-Some-if.ensures.ok c.in_err-yes-in-Some-if.ensures.err)
+pub read_row-returns-clause-ok : goal.read_row-returns-clause-ok
+read_row-returns-clause-ok t c =
+    rw (row_of_other (items_view c.args.items.now) c.is_if.result c.is_if.ensures c.if-is_if.false) c.other_row.ensures.ok
 
-pub read_row-returns-in_err-no-in-Some-if-clause-err : goal.read_row-returns-in_err-no-in-Some-if-clause-err
-read_row-returns-in_err-no-in-Some-if-clause-err t c =
-    let row : _ = four_are c.args.items.now _ _ _ _ (search rules) (search rules) c.word-item.is c.a-item.is
-    c.b-item.is c.c-item.is in
-    let word : is_word (as_str (view c.word-item.result)) (codes "if") ≡ true = search rules in
-    let is : _ = if_row _ _ _ _ _ row word in
-    handed_on _ c.in_err-no-in-Some-if.field-0.0 c.from_residual-in_err-no-in-Some-if.result (search rules)
-    (third_tells _ _ _ _ _ _ _ is c.in_ok-cond-in-Some-if.ensures.ok c.in_ok-yes-in-Some-if.ensures.ok
-    c.in_err-no-in-Some-if.ensures.err)
+pub read_row-returns-then-is_if-clause-err : goal.read_row-returns-then-is_if-clause-err
+read_row-returns-then-is_if-clause-err t c =
+    rw (row_of_if (items_view c.args.items.now) c.is_if.result c.is_if.ensures c.if-is_if.true) c.if_row.ensures.err
 
-pub read_row-returns-in_ok-no-in-Some-if-clause-ok : goal.read_row-returns-in_ok-no-in-Some-if-clause-ok
-read_row-returns-in_ok-no-in-Some-if-clause-ok t c =
-    let row : _ = four_are c.args.items.now _ _ _ _ (search rules) (search rules) c.word-item.is c.a-item.is
-    c.b-item.is c.c-item.is in
-    let word : is_word (as_str (view c.word-item.result)) (codes "if") ≡ true = search rules in
-    let is : _ = if_row _ _ _ _ _ row word in
-    if_made _ _ _ _ _ _ _ is c.in_ok-cond-in-Some-if.ensures.ok c.in_ok-yes-in-Some-if.ensures.ok c.in_ok-no-in-Some-if.ensures.ok
+pub read_row-returns-clause-err : goal.read_row-returns-clause-err
+read_row-returns-clause-err t c =
+    rw (row_of_other (items_view c.args.items.now) c.is_if.result c.is_if.ensures c.if-is_if.false) c.other_row.ensures.err
 
-pub read_row-returns-in_default-as_str-clause-ok : goal.read_row-returns-in_default-as_str-clause-ok
-read_row-returns-in_default-as_str-clause-ok t c =
-    let word : is_word (as_str (view c.word-item.result)) (codes "if") ≡ false =
-    elim c.in_default-as_str.branch [
-      | read_row-in_default-as_str-via-in-Some+in_default-as_str w ↦ search rules
-      | read_row-in_default-as_str-via-in_default w ↦ search rules
-    ] in
-    rw (no_if_row c.args.items.now _ (search rules) (search rules) c.word-item.is word) c.other_row.ensures.ok
+pub if_row-returns-in_err-cond-in-len4-clause-err : goal.if_row-returns-in_err-cond-in-len4-clause-err
+if_row-returns-in_err-cond-in-len4-clause-err t c =
+    handed_on _ c.in_err-cond-in-len4.field-0.0 c.from_residual.result (search rules)
+    (first_tells _ _ _ _ _ (four_are c.args.items.now _ c.in-len4.len_at_least c.in-len4.len_below c.cond-item.is) c.in_err-cond-in-len4.ensures.err)
 
-pub read_row-returns-in_default-as_str-clause-err : goal.read_row-returns-in_default-as_str-clause-err
-read_row-returns-in_default-as_str-clause-err t c =
-    let word : is_word (as_str (view c.word-item.result)) (codes "if") ≡ false =
-    elim c.in_default-as_str.branch [
-      | read_row-in_default-as_str-via-in-Some+in_default-as_str w ↦ search rules
-      | read_row-in_default-as_str-via-in_default w ↦ search rules
-    ] in
-    rw (no_if_row c.args.items.now _ (search rules) (search rules) c.word-item.is word) c.other_row.ensures.err
+pub if_row-returns-in_err-yes-in-len4-clause-err : goal.if_row-returns-in_err-yes-in-len4-clause-err
+if_row-returns-in_err-yes-in-len4-clause-err t c =
+    handed_on _ c.in_err-yes-in-len4.field-0.0 c.from_residual-in_err-yes-in-len4.result (search rules)
+    (second_tells _ _ _ _ _ _ (four_are c.args.items.now _ c.in-len4.len_at_least c.in-len4.len_below c.cond-item.is) c.in_ok-cond-in-len4.ensures.ok
+    c.in_err-yes-in-len4.ensures.err)
 
-pub read_row-returns-in_default-clause-ok : goal.read_row-returns-in_default-clause-ok
-read_row-returns-in_default-clause-ok t c =
+pub if_row-returns-in_ok-yes-in-len4-clause-ok : goal.if_row-returns-in_ok-yes-in-len4-clause-ok
+if_row-returns-in_ok-yes-in-len4-clause-ok t c =
+    if_made _ _ _ _ _ _ (four_are c.args.items.now _ c.in-len4.len_at_least c.in-len4.len_below c.cond-item.is) c.in_ok-cond-in-len4.ensures.ok
+    c.in_ok-yes-in-len4.ensures.ok
+
+pub if_row-returns-in_default-clause-err : goal.if_row-returns-in_default-clause-err
+if_row-returns-in_default-clause-err t c =
     elim c.in_default.branch [
-      | read_row-in_default-via-then-items-lt4 w ↦
-          rw (not_four c.args.items.now (inl (search rules))) c.other_row-in_default.ensures.ok
-      | read_row-in_default-via-else-items-lt4+else-items-lt5 w ↦
-          rw (not_four c.args.items.now (inr (search rules))) c.other_row-in_default.ensures.ok
+      | if_row-in_default-via-then-items-lt4 w ↦ told_here _ _ c.here.ensures (no_if_row c.args.items.now (inl (search rules)))
+      | if_row-in_default-via-else-items-lt4+else-items-lt5 w ↦ told_here _ _ c.here.ensures (no_if_row c.args.items.now (inr (search rules)))
     ]
 
-pub read_row-returns-in_default-clause-err : goal.read_row-returns-in_default-clause-err
-read_row-returns-in_default-clause-err t c =
+pub branches-returns-in_err-yes-in-len4-clause-err : goal.branches-returns-in_err-yes-in-len4-clause-err
+branches-returns-in_err-yes-in-len4-clause-err t c =
+    handed_on _ c.in_err-yes-in-len4.field-0.0 c.from_residual.result (search rules)
+    (first_tells _ _ _ _ _ (branches_are c.args.items.now _ _ c.in-len4.len_at_least c.in-len4.len_below c.yes-item.is c.no-item.is) c.in_err-yes-in-len4.ensures.err)
+
+pub branches-returns-in_err-no-in-len4-clause-err : goal.branches-returns-in_err-no-in-len4-clause-err
+branches-returns-in_err-no-in-len4-clause-err t c =
+    handed_on _ c.in_err-no-in-len4.field-0.0 c.from_residual-in_err-no-in-len4.result (search rules)
+    (second_tells _ _ _ _ _ _ (branches_are c.args.items.now _ _ c.in-len4.len_at_least c.in-len4.len_below c.yes-item.is c.no-item.is) c.in_ok-yes-in-len4.ensures.ok
+    c.in_err-no-in-len4.ensures.err)
+
+pub branches-returns-in_ok-no-in-len4-clause-ok : goal.branches-returns-in_ok-no-in-len4-clause-ok
+branches-returns-in_ok-no-in-len4-clause-ok t c =
+    both_read _ _ _ _ _ _ (branches_are c.args.items.now _ _ c.in-len4.len_at_least c.in-len4.len_below c.yes-item.is c.no-item.is) c.in_ok-yes-in-len4.ensures.ok c.in_ok-no-in-len4.ensures.ok
+
+pub branches-returns-in_default-clause-err : goal.branches-returns-in_default-clause-err
+branches-returns-in_default-clause-err t c =
     elim c.in_default.branch [
-      | read_row-in_default-via-then-items-lt4 w ↦
-          rw (not_four c.args.items.now (inl (search rules))) c.other_row-in_default.ensures.err
-      | read_row-in_default-via-else-items-lt4+else-items-lt5 w ↦
-          rw (not_four c.args.items.now (inr (search rules))) c.other_row-in_default.ensures.err
+      | branches-in_default-via-then-items-lt4 w ↦ told_here _ _ c.here.ensures (no_branches c.args.items.now (inl (search rules)))
+      | branches-in_default-via-else-items-lt4+else-items-lt5 w ↦ told_here _ _ c.here.ensures (no_branches c.args.items.now (inr (search rules)))
     ]
 
 pub read_statements-loop-position-preserved : goal.read_statements-loop-position-preserved
@@ -90,6 +78,12 @@ read_statements-loop-position-preserved t c = record {
   room = search rules;
   count = search rules;
 }
+
+pub read_statements-returns-in_err-statement_at-clause-err : goal.read_statements-returns-in_err-statement_at-clause-err
+read_statements-returns-in_err-statement_at-clause-err t c =
+    handed_on _ c.in_err-statement_at.field-0.0 c.from_residual-in_err-statement_at.result (search rules)
+    (one_refused c.args.items.now c.loop-position.position _ c.loop-position.list.items _ _ c.loop-position.invariant.so_far
+    c.loop-position-test.true c.index-items-position.is c.in_err-statement_at.ensures.err)
 
 pub read_statements-returns-clause-ok : goal.read_statements-returns-clause-ok
 read_statements-returns-clause-ok t c =
