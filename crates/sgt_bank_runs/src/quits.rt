@@ -121,13 +121,22 @@ fn play<N: Named, R: Records, A: Accesses, G: Graph, W: Wait + Print>(
     requires blank { (blank.name ≡ N.name) × (blank.parts ≡ N.parts) × (blank.parts ≡ 1) }
     requires sessions { N.sessions ≡ 1 }
 {
-    let Ok((shared, mut sessions)) = Shared::<N, R, A, G>::new(alloc, engine, blank, 1) else {
-        return Err(io::Error::from(ErrorKind::OutOfMemory));
-    };
-    let Some(session) = sessions.first_mut() else {
-        return Err(io::Error::from(ErrorKind::Other));
-    };
-    tell_session(rt, &shared, session)
+    match Shared::<N, R, A, G>::new(alloc, engine, blank, 1).ok() {
+        Some((shared, mut sessions)) => tell_first(rt, &shared, sessions.as_mut_slice()),
+        None => Err(io::Error::from(ErrorKind::OutOfMemory)),
+    }
+}
+
+/// Tells what the first of the sessions is answered.
+fn tell_first<N: Named, R: Records, A: Accesses, G: Graph, W: Wait + Print>(
+    rt: &W,
+    shared: &Shared<N, R, A, G>,
+    sessions: &mut [Session<N>],
+) -> io::Result<()> {
+    match sessions.first_mut() {
+        Some(session) => tell_session(rt, shared, session),
+        None => Err(io::Error::from(ErrorKind::Other)),
+    }
 }
 
 /// Starts a transaction and quits it, and then starts and quits as many as it may.
