@@ -1,6 +1,7 @@
 //! A bank of five accounts, and jobs for it.
 use crate::banks::{Crew, run_bank};
 use crate::gates::Gates;
+use crate::told::{Told, tell};
 use sgt_access::{Accesses, PerKey};
 use sgt_dispatch::Job;
 use sgt_format::Opening;
@@ -81,20 +82,18 @@ pub fn run_on<R: Records, A: Accesses, G: Graph, W: Threads + Wait + Sync>(
     run_bank::<R, A, G, W>(rt, alloc, opening, jobs, crew, gates)
 }
 
-/// The same over the bodies that the program uses. It tells what the jobs came to, or why there is no report.
-pub fn run<W: Threads + Wait + Sync + Print, F: FnOnce(&Report<u64>) -> io::Result<()>>(
+/// The same over the bodies that the program uses. It tells this of the report, or why there is none.
+pub fn run<W: Threads + Wait + Sync + Print>(
     rt: &W,
     alloc: Global,
     limits: Limits,
     jobs: &[Job],
     crew: Crew,
     gates: &Gates,
-    tell: F,
-) -> io::Result<()>
-    requires { F.IsAlwaysCallable tell }
-{
+    told: Told<'_>,
+) -> io::Result<()> {
     match run_on::<SlabRecords, PerKey, BitGraph, W>(rt, alloc, limits, jobs, crew, gates) {
-        Ok(report) => tell(&report),
+        Ok(report) => tell(rt, alloc, &report, told),
         Err(error) => println!(rt; "{error}"),
     }
 }

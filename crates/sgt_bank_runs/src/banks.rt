@@ -5,18 +5,18 @@ use sgt_access::{Accesses, PerKey};
 use sgt_bank::{read_input, report_text};
 use sgt_dispatch::Job;
 use sgt_entries::History;
-use sgt_format::{Opening, append_reply};
+use sgt_format::{Opening, append_numbered, append_reply};
 use sgt_graph::{BitGraph, Graph};
-use sgt_model::Event;
+use sgt_model::{Event, Tid};
 use sgt_program::all_procedures;
 use sgt_records::{Records, SlabRecords};
 use sgt_stream::Reader;
 use sgt_workers::{Bank, PoolError, Report, run};
-use std::alloc::Global;
+use std::alloc::{AllocError, Global};
+use std::io;
 use std::io::{ErrorKind, Input, Print, Write};
 use std::sync::Wait;
 use std::thread::Threads;
-use std::{fmt, io};
 
 /// How many workers run jobs, and how often each job is tried.
 #[derive(Clone, Copy)]
@@ -98,8 +98,7 @@ fn lines(alloc: Global, history: &History) -> io::Result<Vec<u8>> {
     let mut text = Vec::new(alloc);
     for place in 0..history.len() {
         let entry = history.at(place);
-        let line = format!(in alloc; "{}\n", Line(&entry.event))?;
-        text.extend_from_slice(line.as_bytes())?;
+        append_event(&mut text, &entry.event)?;
         if append_reply(&mut text, &entry.reply).is_err() {
             return Err(io::Error::from(ErrorKind::OutOfMemory));
         }
@@ -107,34 +106,30 @@ fn lines(alloc: Global, history: &History) -> io::Result<Vec<u8>> {
     Ok(text)
 }
 
-/// The line that asks for an event.
-#[derive(Drop)]
-struct Line<'a>(&'a Event);
-
-impl fmt::Display for Line<'_> {
-    fn fmt<W: fmt::Write>(&self, f: &mut fmt::Formatter<W>) -> fmt::Result {
-        match self.0 {
-            Event::Start { procedure, args } => {
-                write!(f, "[\"start\",{procedure},[{}]]", List(args.as_slice()))
-            }
-            Event::Step(t) => write!(f, "[\"step\",{}]", t.0),
-            Event::Commit(t) => write!(f, "[\"commit\",{}]", t.0),
-            Event::Quit(t) => write!(f, "[\"quit\",{}]", t.0),
-        }
+/// Adds the line that asks for an event.
+fn append_event(text: &mut Vec<u8>, event: &Event) -> Result<(), AllocError> {
+    match event {
+        Event::Start { procedure, args } => append_start(text, *procedure, args.as_slice()),
+        Event::Step(t) => append_call(text, "[\"step\",", *t),
+        Event::Commit(t) => append_call(text, "[\"commit\",", *t),
+        Event::Quit(t) => append_call(text, "[\"quit\",", *t),
     }
 }
 
-/// Numbers with commas between them.
-#[derive(Drop)]
-struct List<'a>(&'a [i64]);
+/// Adds the line of a call of this transaction, which begins with these words.
+fn append_call(text: &mut Vec<u8>, words: &str, t: Tid) -> Result<(), AllocError> {
+    append_numbered(text, words.as_bytes(), t.0)?;
+    text.extend_from_slice(b"]\n")
+}
 
-impl fmt::Display for List<'_> {
-    fn fmt<W: fmt::Write>(&self, f: &mut fmt::Formatter<W>) -> fmt::Result {
-        let mut comma = "";
-        for number in self.0 {
-            write!(f, "{comma}{number}")?;
-            comma = ",";
-        }
-        Ok(())
+/// Adds the line of a start. Commas stand between its numbers.
+fn append_start(text: &mut Vec<u8>, procedure: u16, args: &[i64]) -> Result<(), AllocError> {
+    append_numbered(text, b"[\"start\",", procedure)?;
+    let mut before = ",[";
+    for number in args {
+        append_numbered(text, before.as_bytes(), *number)?;
+        before = ",";
     }
+    let end = if args.is_empty() { ",[]]\n" } else { "]]\n" };
+    text.extend_from_slice(end.as_bytes())
 }

@@ -2,6 +2,7 @@
 use crate::accounts::{ACCOUNTS, AMALGAMATE, BALANCE, DEPOSIT_CHECKING, held, job, run, run_on};
 use crate::banks::Crew;
 use crate::gates::{Gates, Plan};
+use crate::told::Told;
 use sgt_access::OneList;
 use sgt_dispatch::Job;
 use sgt_entries::History;
@@ -31,20 +32,21 @@ pub fn tell_crowd<W: Threads + Wait + Sync + Print>(
         workers: 16,
         tries: 1000,
     };
+    let gates = Gates::new(Plan::Open);
     run(
         rt,
         alloc,
         limits,
         jobs,
         crew,
-        &Gates::new(Plan::Open),
-        |crowd| { tell_compared(rt, alloc, limits, jobs, crowd) },
+        &gates,
+        Told::Compared { limits, jobs },
     )
 }
 
 /// Runs the jobs that were done by one worker over other bodies of the layers, in the order of their commits, and tells what the crowd
 /// came to and whether it is the same.
-fn tell_compared<W: Threads + Wait + Sync + Print>(
+pub fn tell_compared<W: Threads + Wait + Sync + Print>(
     rt: &W,
     alloc: Global,
     limits: Limits,

@@ -1,16 +1,11 @@
 //! Workers that are held by gates until the others have come to where they are wanted: that workers run side by side, that the lock
 //! is let go between two calls, and that the gate is asked.
-use crate::accounts::{
-    BALANCE, DEPOSIT_CHECKING, LIMITS, TRANSACT_SAVING, WRITE_CHECK, job, run, run_on,
-};
+use crate::accounts::{BALANCE, DEPOSIT_CHECKING, LIMITS, TRANSACT_SAVING, WRITE_CHECK, job, run};
 use crate::banks::Crew;
 use crate::gates::{Gates, Plan};
-use crate::told::{tell_order, tell_report};
-use sgt_access::PerKey;
+use crate::told::Told;
 use sgt_dispatch::Job;
-use sgt_graph::BitGraph;
 use sgt_model::{Asks, Limits};
-use sgt_records::SlabRecords;
 use std::alloc::Global;
 use std::io;
 use std::io::Print;
@@ -46,10 +41,7 @@ pub fn second_commits_first<W: Threads + Wait + Sync + Print>(
         tries: 100,
     };
     let gates = Gates::new(Plan::SecondFirst);
-    run(rt, alloc, LIMITS, &jobs, crew, &gates, |report| {
-        tell_order(rt, &report.history)?;
-        tell_report(rt, report)
-    })
+    run(rt, alloc, LIMITS, &jobs, crew, &gates, Told::Order)
 }
 
 /// Two checks of one customer, each of which reads what the other writes: one of them is aborted.
@@ -65,15 +57,7 @@ pub fn one_gives_up<W: Threads + Wait + Sync + Print>(
     ];
     let crew = Crew { workers: 2, tries };
     let gates = Gates::new(Plan::BothRead);
-    run(
-        rt,
-        alloc,
-        LIMITS,
-        &jobs,
-        crew,
-        &gates,
-        |report| tell_report(rt, report),
-    )
+    run(rt, alloc, LIMITS, &jobs, crew, &gates, Told::Counts)
 }
 
 /// A job that asks, two that are refused, one that is done, and two more.
@@ -102,23 +86,19 @@ pub fn each_outcome<W: Threads + Wait + Sync + Print>(
         tries: 100,
     };
     let gates = Gates::new(Plan::LeavesAt(calls));
-    run(
-        rt,
-        alloc,
-        limits,
-        &jobs,
-        crew,
-        &gates,
-        |report| tell_report(rt, report),
-    )?;
+    run(rt, alloc, limits, &jobs, crew, &gates, Told::Counts)?;
     println!(rt; "told of {} jobs", gates.finished())
 }
 
 /// What is refused before any growth, the first fault before the others.
 pub fn refusals<W: Threads + Wait + Sync + Print>(rt: &W, alloc: Global) -> io::Result<()> {
-    for (first, live, workers, tries) in REFUSALS {
+    for (first, live, workers, tries) in &REFUSALS {
         print!(rt; "job {first}, {live} live, {workers} workers, {tries} tries: ")?;
-        tell_refusal(rt, alloc, first, live, Crew { workers, tries })?;
+        let crew = Crew {
+            workers: *workers,
+            tries: *tries,
+        };
+        tell_refusal(rt, alloc, *first, *live, crew)?;
     }
     Ok(())
 }
@@ -138,8 +118,5 @@ fn tell_refusal<W: Threads + Wait + Sync + Print>(
         asks: Asks::AtStep,
     };
     let gates = Gates::new(Plan::Open);
-    match run_on::<SlabRecords, PerKey, BitGraph, W>(rt, alloc, limits, &jobs, crew, &gates) {
-        Ok(_) => println!(rt; "a report"),
-        Err(error) => println!(rt; "{error}"),
-    }
+    run(rt, alloc, limits, &jobs, crew, &gates, Told::Report)
 }

@@ -2,9 +2,8 @@
 use crate::accounts::{DEPOSIT_CHECKING, LIMITS, job, run};
 use crate::banks::Crew;
 use crate::gates::{Gates, Plan};
-use crate::told::{tell_aborts, tell_reply, tell_report, tell_size};
+use crate::told::Told;
 use sgt_dispatch::Job;
-use sgt_workers::Report;
 use std::alloc::{AllocError, Global};
 use std::io;
 use std::io::Print;
@@ -36,27 +35,7 @@ fn leaves_after<W: Threads + Wait + Sync + Print>(
         tries: 1,
     };
     let gates = Gates::new(Plan::LeavesAt(calls));
-    run(
-        rt,
-        alloc,
-        LIMITS,
-        &jobs,
-        crew,
-        &gates,
-        |report| tell_leaver(rt, alloc, report),
-    )
-}
-
-/// Tells the outcomes, the size of the history, and its last reply.
-fn tell_leaver<W: Print>(rt: &W, alloc: Global, report: &Report<u64>) -> io::Result<()> {
-    for outcome in &report.outcomes {
-        print!(rt; "{outcome:?}, ")?;
-    }
-    tell_size(rt, report)?;
-    match report.history.last_reply() {
-        Some(reply) => tell_reply(rt, alloc, &reply),
-        None => Ok(()),
-    }
+    run(rt, alloc, LIMITS, &jobs, crew, &gates, Told::Leaver)
 }
 
 /// Sixteen workers, of whom each reads what the one before it has written, and the first leaves.
@@ -81,11 +60,15 @@ fn tell_deposits<W: Threads + Wait + Sync + Print>(
 ) -> io::Result<()> {
     let jobs = deposits(alloc, count)?;
     let crew = Crew { workers, tries: 1 };
-    run(rt, alloc, LIMITS, jobs.as_slice(), crew, gates, |report| {
-        tell_report(rt, report)?;
-        tell_size(rt, report)?;
-        tell_aborts(rt, alloc, &report.history)
-    })
+    run(
+        rt,
+        alloc,
+        LIMITS,
+        jobs.as_slice(),
+        crew,
+        gates,
+        Told::Aborts,
+    )
 }
 
 /// So many deposits of 1 to the first account.

@@ -86,13 +86,24 @@ fn tell_all<W: Print + Input + Threads + Wait + Sync>(rt: &W, alloc: Global) -> 
     tell_bank(rt, alloc, crew, &Gates::new(Plan::Open))
 }
 
+/// The run that these words name.
+fn tell<W: Print + Input + Threads + Wait + Sync>(
+    rt: &W,
+    alloc: Global,
+    words: &[String],
+) -> io::Result<()> {
+    let Some(word) = words.get(1) else {
+        return tell_all(rt, alloc);
+    };
+    match word.as_str() {
+        "quit" => tell_quits(rt, alloc),
+        "scripts" => tell_scripts(rt, alloc),
+        _ => tell_named_bank(rt, alloc, words),
+    }
+}
+
 fn main(rt: HostRuntime) -> io::Result<()> {
     let alloc = rt.alloc();
     let words: Vec<String> = env::args(&rt)?.collect(alloc)?;
-    match words.get(1).map(|word| word.as_str()) {
-        None => tell_all(&rt, alloc),
-        Some("quit") => tell_quits(&rt, alloc),
-        Some("scripts") => tell_scripts(&rt, alloc),
-        Some(_) => tell_named_bank(&rt, alloc, words.as_slice()),
-    }
+    tell(&rt, alloc, words.as_slice())
 }

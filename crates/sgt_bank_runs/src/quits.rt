@@ -3,11 +3,11 @@
 ghost use Rattle.std.specs.Prelude.{◌≡◌, [], IfOk};
 ghost use Rattle.sgt_engine.specs.EngineView.{setting_of};
 
-use sgt_access::PerKey;
+use sgt_access::{Accesses, PerKey};
 use sgt_engine::Engine;
-use sgt_graph::BitGraph;
+use sgt_graph::{BitGraph, Graph};
 use sgt_model::{Args, Asks, Cause, Event, Limits, MakeError, Reply, Tid};
-use sgt_records::SlabRecords;
+use sgt_records::{Records, SlabRecords};
 use sgt_session::{Named, Session, Shared};
 use sgt_smallbank::{Account, opening, procedures};
 use std::alloc::Global;
@@ -18,8 +18,6 @@ use std::sync::Wait;
 use std::sync::ledger::Blank;
 
 type SgtEngine = Engine<SlabRecords, PerKey, BitGraph>;
-
-type SharedEngine<N> = Shared<N, SlabRecords, PerKey, BitGraph>;
 
 const LIMITS: Limits = Limits {
     live: 32,
@@ -59,9 +57,9 @@ fn balance() -> Event {
 }
 
 /// Makes a call, and tells what became of it in words, which take no memory.
-fn call<N: Named, W: Wait>(
+fn call<N: Named, R: Records, A: Accesses, G: Graph, W: Wait>(
     rt: &W,
-    shared: &SharedEngine<N>,
+    shared: &Shared<N, R, A, G>,
     session: &mut Session<N>,
     event: Event,
 ) -> &'static str {
@@ -80,9 +78,9 @@ fn call<N: Named, W: Wait>(
 }
 
 /// Starts transactions until one is not started, and answers how many were, and what became of the last.
-fn start_many<N: Named, W: Wait>(
+fn start_many<N: Named, R: Records, A: Accesses, G: Graph, W: Wait>(
     rt: &W,
-    shared: &SharedEngine<N>,
+    shared: &Shared<N, R, A, G>,
     session: &mut Session<N>,
 ) -> (u32, &'static str) {
     for started in 0..LIMITS.begins {
@@ -95,9 +93,9 @@ fn start_many<N: Named, W: Wait>(
 }
 
 /// Quits so many transactions from this number on, and answers how many of them were quit.
-fn quit_many<N: Named, W: Wait>(
+fn quit_many<N: Named, R: Records, A: Accesses, G: Graph, W: Wait>(
     rt: &W,
-    shared: &SharedEngine<N>,
+    shared: &Shared<N, R, A, G>,
     session: &mut Session<N>,
     first: u32,
     count: u32,
@@ -112,10 +110,10 @@ fn quit_many<N: Named, W: Wait>(
 }
 
 /// Shares the engine with one session, and tells what that is answered.
-fn play<N: Named, W: Wait + Print>(
+fn play<N: Named, R: Records, A: Accesses, G: Graph, W: Wait + Print>(
     rt: &W,
     alloc: Global,
-    engine: SgtEngine,
+    engine: Engine<R, A, G>,
     blank: Blank,
 ) -> io::Result<()>
     requires setting { setting_of engine ≡ N.setting }
@@ -123,19 +121,28 @@ fn play<N: Named, W: Wait + Print>(
     requires blank { (blank.name ≡ N.name) × (blank.parts ≡ N.parts) × (blank.parts ≡ 1) }
     requires sessions { N.sessions ≡ 1 }
 {
-    let Ok((shared, mut sessions)) = Shared::<N, _, _, _>::new(alloc, engine, blank, 1) else {
-        return Err(io::Error::from(ErrorKind::OutOfMemory));
-    };
-    let Some(session) = sessions.first_mut() else {
-        return Err(io::Error::from(ErrorKind::Other));
-    };
-    tell_session(rt, &shared, session)
+    match Shared::<N, R, A, G>::new(alloc, engine, blank, 1).ok() {
+        Some((shared, mut sessions)) => tell_first(rt, &shared, sessions.as_mut_slice()),
+        None => Err(io::Error::from(ErrorKind::OutOfMemory)),
+    }
+}
+
+/// Tells what the first of the sessions is answered.
+fn tell_first<N: Named, R: Records, A: Accesses, G: Graph, W: Wait + Print>(
+    rt: &W,
+    shared: &Shared<N, R, A, G>,
+    sessions: &mut [Session<N>],
+) -> io::Result<()> {
+    match sessions.first_mut() {
+        Some(session) => tell_session(rt, shared, session),
+        None => Err(io::Error::from(ErrorKind::Other)),
+    }
 }
 
 /// Starts a transaction and quits it, and then starts and quits as many as it may.
-fn tell_session<N: Named, W: Wait + Print>(
+fn tell_session<N: Named, R: Records, A: Accesses, G: Graph, W: Wait + Print>(
     rt: &W,
-    shared: &SharedEngine<N>,
+    shared: &Shared<N, R, A, G>,
     session: &mut Session<N>,
 ) -> io::Result<()> {
     println!(rt; "{}", call(rt, shared, session, balance()))?;
@@ -148,7 +155,7 @@ fn tell_session<N: Named, W: Wait + Print>(
 /// Tells what a session is answered that starts a transaction and quits it.
 pub fn tell_quits<W: Wait + Print>(rt: &W, alloc: Global) -> io::Result<()> {
     match new_engine(alloc) {
-        Ok(engine) => play::<Brand, _>(rt, alloc, engine, Blank::new(1)),
+        Ok(engine) => play::<Brand, _, _, _, _>(rt, alloc, engine, Blank::new(1)),
         Err(_) => Err(io::Error::from(ErrorKind::OutOfMemory)),
     }
 }

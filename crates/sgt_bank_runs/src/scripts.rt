@@ -1,7 +1,7 @@
 //! Many scripts in one process, each run by itself as `sgt script` does.
 
 use sgt_script::run_script;
-use sgt_stream::{Reader, Writer};
+use sgt_stream::{Fault, Reader, Writer};
 use std::alloc::{AllocError, Global};
 use std::io;
 use std::io::{Input, Print, Read, Write};
@@ -11,39 +11,56 @@ fn told(alloc: Global, script: &[u8]) -> Result<Vec<u8>, AllocError> {
     let mut reader = Reader::new(script);
     let mut writer = Writer::new(Vec::new(alloc));
     let ended = run_script(alloc, &mut reader, &mut writer);
-    let line = match ended {
-        Ok(()) => String::from_str(alloc, "= done\n")?,
-        Err(fault) => format!(in alloc; "= {fault}\n")?,
-    };
     let mut text = writer.inner;
-    text.extend_from_slice(line.as_bytes())?;
+    append_end(alloc, &mut text, ended)?;
     Ok(text)
+}
+
+/// Adds the line that tells how a script ended.
+fn append_end(
+    alloc: Global,
+    text: &mut Vec<u8>,
+    ended: Result<(), Fault>,
+) -> Result<(), AllocError> {
+    match ended {
+        Ok(()) => text.extend_from_slice(b"= done\n"),
+        Err(fault) => append_fault(alloc, text, &fault),
+    }
+}
+
+fn append_fault(alloc: Global, text: &mut Vec<u8>, fault: &Fault) -> Result<(), AllocError> {
+    let line = format!(in alloc; "= {fault}\n")?;
+    text.extend_from_slice(line.as_bytes())
 }
 
 /// The first script, and what stands behind it; none where it is not whole. Its length stands in the four bytes before it, the
 /// highest first.
 fn first(input: &[u8]) -> Option<(&[u8], &[u8])> {
-    let [a, b, c, d, rest @ ..] = input else {
-        return None;
-    };
-    let mut length = 0usize;
-    for byte in [*a, *b, *c, *d] {
-        length = length.wrapping_mul(256).wrapping_add(usize::from(byte));
-    }
-    Some((rest.get(..length)?, rest.get(length..)?))
+    let (length, rest) = input.split_first_chunk::<4>()?;
+    rest.split_at_checked(u32::from_be_bytes(*length) as usize)
 }
 
 /// Runs the scripts of standard input, one behind the other, and tells each.
 pub fn tell_scripts<R: Print + Input>(rt: &R, alloc: Global) -> io::Result<()> {
     let mut input = Vec::new(alloc);
     rt.reader().read_to_end(&mut input)?;
-    let mut rest = input.as_slice();
-    for _ in 0..input.len() {
+    tell_each(rt, alloc, input.as_slice())
+}
+
+/// Runs these scripts.
+fn tell_each<R: Print>(rt: &R, alloc: Global, scripts: &[u8]) -> io::Result<()> {
+    let mut rest = scripts;
+    for _ in 0..scripts.len() {
         let Some((script, behind)) = first(rest) else {
             break;
         };
-        io::writer(rt).write_all(told(alloc, script)?.as_slice())?;
+        tell_script(rt, alloc, script)?;
         rest = behind;
     }
     Ok(())
+}
+
+fn tell_script<R: Print>(rt: &R, alloc: Global, script: &[u8]) -> io::Result<()> {
+    let text = told(alloc, script)?;
+    io::writer(rt).write_all(text.as_slice())
 }

@@ -1,11 +1,15 @@
 //! What runs of jobs came to, as text.
 use crate::accounts::{ACCOUNTS, checking};
+use crate::crowd::tell_compared;
+use sgt_dispatch::Job;
 use sgt_entries::History;
 use sgt_format::reply_line;
-use sgt_model::Reply;
+use sgt_model::{Limits, Reply};
 use sgt_workers::{Outcome, Report};
 use std::alloc::Global;
 use std::io::{ErrorKind, Print, Write};
+use std::sync::Wait;
+use std::thread::Threads;
 use std::{fmt, io};
 
 /// How many jobs came to what.
@@ -72,8 +76,67 @@ impl fmt::Display for Counts {
     }
 }
 
+/// What is told of a report.
+#[derive(Clone, Copy)]
+pub enum Told<'a> {
+    /// That there is one.
+    Report,
+    /// How many jobs came to what.
+    Counts,
+    /// The same, behind the transactions of the entries.
+    Order,
+    /// The outcomes and the last reply.
+    Leaver,
+    /// How many jobs came to what, the size of the history, and its aborts.
+    Aborts,
+    /// Whether these jobs come to the same by one worker.
+    Compared { limits: Limits, jobs: &'a [Job] },
+}
+
+/// Tells this of a report.
+pub fn tell<W: Threads + Wait + Sync + Print>(
+    rt: &W,
+    alloc: Global,
+    report: &Report<u64>,
+    told: Told<'_>,
+) -> io::Result<()> {
+    match told {
+        Told::Report => println!(rt; "a report"),
+        Told::Counts => tell_report(rt, report),
+        Told::Order => tell_ordered(rt, report),
+        Told::Leaver => tell_leaver(rt, alloc, report),
+        Told::Aborts => tell_deposits(rt, alloc, report),
+        Told::Compared { limits, jobs } => tell_compared(rt, alloc, limits, jobs, report),
+    }
+}
+
+/// Tells of which transactions the entries are, and how many jobs came to what.
+fn tell_ordered<W: Print>(rt: &W, report: &Report<u64>) -> io::Result<()> {
+    tell_order(rt, &report.history)?;
+    tell_report(rt, report)
+}
+
+/// Tells what a run of deposits came to, and how its history ends.
+fn tell_deposits<W: Print>(rt: &W, alloc: Global, report: &Report<u64>) -> io::Result<()> {
+    tell_report(rt, report)?;
+    tell_size(rt, report)?;
+    tell_aborts(rt, alloc, &report.history)
+}
+
+/// Tells the outcomes, the size of the history, and its last reply.
+fn tell_leaver<W: Print>(rt: &W, alloc: Global, report: &Report<u64>) -> io::Result<()> {
+    for outcome in &report.outcomes {
+        print!(rt; "{outcome:?}, ")?;
+    }
+    tell_size(rt, report)?;
+    match report.history.last_reply() {
+        Some(reply) => tell_reply(rt, alloc, &reply),
+        None => Ok(()),
+    }
+}
+
 /// Tells how many jobs came to what, and what all customers have on their checking accounts.
-pub fn tell_report<W: Print>(rt: &W, report: &Report<u64>) -> io::Result<()> {
+fn tell_report<W: Print>(rt: &W, report: &Report<u64>) -> io::Result<()> {
     let counts = Counts::of(report.outcomes.as_slice());
     print!(rt; "{counts}; checking")?;
     for name in 1..=ACCOUNTS {
@@ -83,7 +146,7 @@ pub fn tell_report<W: Print>(rt: &W, report: &Report<u64>) -> io::Result<()> {
 }
 
 /// Tells how many entries the history has, and whether the database is as it was opened.
-pub fn tell_size<W: Print>(rt: &W, report: &Report<u64>) -> io::Result<()> {
+fn tell_size<W: Print>(rt: &W, report: &Report<u64>) -> io::Result<()> {
     let is_as_opened = report.database.rows() == report.opening.rows();
     println!(rt;
         "{} entries, as opened: {is_as_opened}",
@@ -92,7 +155,7 @@ pub fn tell_size<W: Print>(rt: &W, report: &Report<u64>) -> io::Result<()> {
 }
 
 /// Tells a reply, on a line of its own.
-pub fn tell_reply<W: Print>(rt: &W, alloc: Global, reply: &Reply) -> io::Result<()> {
+fn tell_reply<W: Print>(rt: &W, alloc: Global, reply: &Reply) -> io::Result<()> {
     match reply_line(alloc, reply) {
         Ok(line) => io::writer(rt).write_all(line.as_slice()),
         Err(_) => Err(io::Error::from(ErrorKind::OutOfMemory)),
@@ -100,7 +163,7 @@ pub fn tell_reply<W: Print>(rt: &W, alloc: Global, reply: &Reply) -> io::Result<
 }
 
 /// Tells the aborts of a history, each on a line.
-pub fn tell_aborts<W: Print>(rt: &W, alloc: Global, history: &History) -> io::Result<()> {
+fn tell_aborts<W: Print>(rt: &W, alloc: Global, history: &History) -> io::Result<()> {
     for place in 0..history.len() {
         let reply = history.reply_at(place);
         if matches!(reply, Reply::Aborted { .. }) {
@@ -111,7 +174,7 @@ pub fn tell_aborts<W: Print>(rt: &W, alloc: Global, history: &History) -> io::Re
 }
 
 /// Tells of which transactions the entries are.
-pub fn tell_order<W: Print>(rt: &W, history: &History) -> io::Result<()> {
+fn tell_order<W: Print>(rt: &W, history: &History) -> io::Result<()> {
     print!(rt; "entries of")?;
     for place in 0..history.len() {
         let entry = history.entry(place);

@@ -7,6 +7,8 @@ use sgt_model::{Key, Limits};
 use sgt_records::Records;
 use sgt_smallbank::{Account, opening, procedures};
 use std::alloc::Global;
+use std::io;
+use std::io::Print;
 
 /// An engine over any bodies of the layers, with SmallBank's procedures, these accounts and no event yet; or none where memory
 /// was wanting.
@@ -18,6 +20,11 @@ pub fn open<R: Records, A: Accesses, G: Graph>(
     let database = opening(alloc, accounts).ok()?;
     let procedures = procedures(alloc).ok()?;
     Engine::new(alloc, database, procedures, limits).ok()
+}
+
+/// Tells that memory was wanting.
+pub fn tell_no_memory(rt: &impl Print) -> io::Result<()> {
+    println!(rt; "no memory")
 }
 
 /// What so many customers, from this number on, have committed in all.

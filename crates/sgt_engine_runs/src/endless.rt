@@ -2,7 +2,7 @@
 //! and when the last one has ended the history is cut off. Up to 8 transactions of SmallBank's five procedures are live,
 //! interleaved at random.
 
-use crate::accounts::{open, total};
+use crate::accounts::{open, tell_no_memory, total};
 use crate::draws::Draws;
 use crate::events::start;
 use sgt_access::{Accesses, PerKey};
@@ -144,9 +144,17 @@ fn accounts(alloc: Global) -> Result<Vec<Account>, NoMemory> {
 
 /// Sends so many events, and tells at each tenth of the way how far it has come.
 pub fn tell_endless(rt: &(impl AllocGlobal + Print), events: u64) -> io::Result<()> {
-    match open_accounts::<SlabRecords, PerKey, BitGraph>(rt.alloc()) {
+    tell_endless_on::<SlabRecords, PerKey, BitGraph>(rt, events)
+}
+
+/// The same over these bodies of the layers.
+fn tell_endless_on<R: Records, A: Accesses, G: Graph>(
+    rt: &(impl AllocGlobal + Print),
+    events: u64,
+) -> io::Result<()> {
+    match open_accounts::<R, A, G>(rt.alloc()) {
         Some(mut engine) => tell_clients(rt, &mut engine, events),
-        None => println!(rt; "no memory"),
+        None => tell_no_memory(rt),
     }
 }
 
@@ -173,7 +181,7 @@ fn tell_tenths<R: Records, A: Accesses, G: Graph>(
 ) -> io::Result<()> {
     for tenth in 1..=10u64 {
         if clients.send_all(rt.alloc(), events / 10).is_err() {
-            return println!(rt; "no memory");
+            return tell_no_memory(rt);
         }
         clients.tell(rt, tenth.wrapping_mul(events / 10))?;
     }

@@ -1,7 +1,7 @@
 //! The events of the row `two_level_cascade` on `Engine::apply`, made to be run where memory is refused, as `tests/growths` does.
 //! An event that is refused memory it tells, and whether the history, the committed values and who is live are as before.
 
-use crate::accounts::open;
+use crate::accounts::{open, tell_no_memory};
 use crate::events::start;
 use crate::run::{Order, Run};
 use sgt_access::{Accesses, PerKey};
@@ -66,9 +66,17 @@ fn event_at(place: u32) -> Event {
 
 /// Runs the row by this plan, and tells its replies and then the committed values.
 pub fn tell_row(rt: &(impl AllocGlobal + Print), plan: Plan) -> io::Result<()> {
-    match open::<SlabRecords, PerKey, BitGraph>(rt.alloc(), &ACCOUNTS, LIMITS) {
+    tell_row_on::<SlabRecords, PerKey, BitGraph>(rt, plan)
+}
+
+/// The same over these bodies of the layers.
+fn tell_row_on<R: Records, A: Accesses, G: Graph>(
+    rt: &(impl AllocGlobal + Print),
+    plan: Plan,
+) -> io::Result<()> {
+    match open::<R, A, G>(rt.alloc(), &ACCOUNTS, LIMITS) {
         Some(mut engine) => run_row(rt, &mut engine, plan),
-        None => println!(rt; "no memory"),
+        None => tell_no_memory(rt),
     }
 }
 
@@ -80,7 +88,7 @@ fn run_row<R: Records, A: Accesses, G: Graph>(
 ) -> io::Result<()> {
     match Run::new(rt.alloc(), engine) {
         Ok(mut run) => carry_out(rt, &mut run, plan),
-        Err(NoMemory) => println!(rt; "no memory"),
+        Err(NoMemory) => tell_no_memory(rt),
     }
 }
 

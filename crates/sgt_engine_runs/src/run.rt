@@ -73,8 +73,7 @@ impl<'a, R: Records, A: Accesses, G: Graph> Run<'a, R, A, G> {
         let before = self.seen();
         match self.engine.cut(rt.alloc()) {
             Ok(past) => self.tell_cut(rt, &past.history),
-            Err(CutError::StillLive) => self.tell_refused(rt, "still live", &before),
-            Err(CutError::NoMemory) => self.tell_refused(rt, "refused", &before),
+            Err(error) => self.tell_refused(rt, word_for(error), &before),
         }
     }
 
@@ -109,8 +108,8 @@ impl<'a, R: Records, A: Accesses, G: Graph> Run<'a, R, A, G> {
 
     /// Tells the committed values, each with its record, and what is left.
     pub fn tell_end(&self, rt: &impl Print) -> io::Result<()> {
-        for (table, id) in RECORDS {
-            self.tell_record(rt, table, id)?;
+        for (table, id) in &RECORDS {
+            self.tell_record(rt, *table, *id)?;
         }
         let live = self.engine.sched().live_count();
         println!(rt; "{live} live\nhistory {}", verdict(self.has_history()))
@@ -138,8 +137,13 @@ impl<'a, R: Records, A: Accesses, G: Graph> Run<'a, R, A, G> {
     }
 
     fn seen(&self) -> Seen {
+        let mut committed = [None; 6];
+        for place in 0..RECORDS.len() {
+            let (table, id) = RECORDS[place];
+            committed[place] = self.committed(table, id);
+        }
         Seen {
-            committed: RECORDS.map(|(table, id)| self.committed(table, id)),
+            committed,
             live: self.engine.sched().live(),
         }
     }
@@ -169,6 +173,14 @@ fn is_history(history: &History, entries: &[Entry]) -> bool {
         }
     }
     true
+}
+
+/// Why a cut was refused.
+fn word_for(error: CutError) -> &'static str {
+    match error {
+        CutError::StillLive => "still live",
+        CutError::NoMemory => "refused",
+    }
 }
 
 fn verdict(is_as_before: bool) -> &'static str {

@@ -1,4 +1,4 @@
-use crate::accounts::total;
+use crate::accounts::{tell_no_memory, total};
 use crate::counts::Counts;
 use crate::digest::Digests;
 use crate::drawn::{ACCOUNTS, CUSTOMER, apply_all, limits, open, place_of};
@@ -22,13 +22,13 @@ use std::io::Print;
 /// line: that counts the calls that were refused memory.
 pub fn tell_drawn(rt: &(impl AllocGlobal + Print)) -> io::Result<()> {
     let mut refusals = Refusals { calls: 0 };
-    for asks in [Asks::AtStep, Asks::AtCommit] {
-        println!(rt; "asks at the {}", place_of(asks))?;
-        tell_engine::<SlabRecords, PerKey, BitGraph>(rt, asks, &mut refusals)?;
+    for asks in &[Asks::AtStep, Asks::AtCommit] {
+        println!(rt; "asks at the {}", place_of(*asks))?;
+        tell_engine::<SlabRecords, PerKey, BitGraph>(rt, *asks, &mut refusals)?;
     }
-    for live in [8, 32] {
-        tell_bodies(rt, limits(live, Asks::AtStep), &mut refusals)?;
-        tell_bodies(rt, limits(live, Asks::AtCommit), &mut refusals)?;
+    for live in &[8, 32] {
+        tell_bodies(rt, limits(*live, Asks::AtStep), &mut refusals)?;
+        tell_bodies(rt, limits(*live, Asks::AtCommit), &mut refusals)?;
     }
     println!(rt; "refused memory {}", refusals.calls)
 }
@@ -41,7 +41,7 @@ fn tell_engine<R: Records, A: Accesses, G: Graph>(
 ) -> io::Result<()> {
     match open::<R, A, G>(rt.alloc(), limits(8, asks), refusals) {
         Some(mut engine) => tell_events(rt, &mut engine, refusals),
-        None => println!(rt; "no memory"),
+        None => tell_no_memory(rt),
     }
 }
 
@@ -65,7 +65,7 @@ fn tell_events<R: Records, A: Accesses, G: Graph>(
 fn tell_applied(rt: &impl Print, applied: Result<(), NoMemory>) -> io::Result<()> {
     match applied {
         Ok(()) => Ok(()),
-        Err(NoMemory) => println!(rt; "no memory"),
+        Err(NoMemory) => tell_no_memory(rt),
     }
 }
 
@@ -79,7 +79,7 @@ fn tell_counts(rt: &impl Print, history: &History) -> io::Result<()> {
 fn tell_replies(rt: &impl Print, digests: Result<Digests, NoMemory>) -> io::Result<()> {
     match digests {
         Ok(digests) => println!(rt; "digest {:016x}", digests.replies),
-        Err(NoMemory) => println!(rt; "no memory"),
+        Err(NoMemory) => tell_no_memory(rt),
     }
 }
 
