@@ -199,9 +199,12 @@ fn first_wrong<'a>(alloc: Global, engine: &ListEngine, table: &'a str) -> &'a st
     ""
 }
 
-/// The first line that is not as wanted after these deeds; None where there is no engine.
-fn first_wrong_after<'a>(alloc: Global, deeds: &str, table: &'a str) -> Option<&'a str> {
-    Some(first_wrong(alloc, &engine_of(alloc, deeds)?, table))
+/// The first line that is not as wanted after these deeds.
+fn first_wrong_after<'a>(alloc: Global, deeds: &str, table: &'a str) -> &'a str {
+    match engine_of(alloc, deeds) {
+        Some(engine) => first_wrong(alloc, &engine, table),
+        None => "no engine",
+    }
 }
 
 /// What is shown; what is done at an engine; and a table of what is told then: whether that is right, how many workers there are
@@ -279,7 +282,7 @@ wrong 2 1 <- balance untaken balance untaken balance untaken",
 /// The first row of which a line is not as wanted, with that line.
 fn first_wrong_row(alloc: Global, rows: &[Row]) -> (&'static str, &'static str) {
     for (what, deeds, table) in rows {
-        let wrong = first_wrong_after(alloc, deeds, table).unwrap_or("no engine");
+        let wrong = first_wrong_after(alloc, deeds, table);
         if !wrong.is_empty() {
             return (what, wrong);
         }

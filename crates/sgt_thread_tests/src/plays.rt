@@ -1,7 +1,7 @@
 //! What threads do that share an engine, each with a session of its own.
 
 use crate::engine::{BALANCE, DEPOSIT_CHECKING, SharedEngine, TRANSACT_SAVING, start};
-use sgt_model::{Event, Tid};
+use sgt_model::{Event, Reply, Tid};
 use sgt_session::{Named, Session};
 use std::sync::Wait;
 use std::sync::atomic::{AtomicBool, Ordering};
@@ -157,8 +157,10 @@ fn started<N: Named, W: Wait>(
     session: &mut Session<N>,
     event: Event,
 ) -> Option<Tid> {
-    session.make(rt, shared, event).ok()?;
-    session.last_entry().started()
+    match &session.call(rt, shared, event).ok()?.reply {
+        Reply::Started(t) => Some(*t),
+        _ => None,
+    }
 }
 
 /// Makes steps at the procedure's end, which change nothing, until the other sessions have made so many calls, and lets their

@@ -238,9 +238,12 @@ fn all_told(history: &History, all: &[(u32, &[Told])]) -> bool {
     true
 }
 
-/// Whether each of these transactions of an engine was told just this; None where there is no engine.
-fn are_told(engine: Option<ListEngine>, all: &[(u32, &[Told])]) -> Option<bool> {
-    Some(all_told(engine?.history(), all))
+/// Whether each of these transactions of an engine was told just this.
+fn are_told(engine: Option<ListEngine>, all: &[(u32, &[Told])]) -> bool {
+    match engine {
+        Some(engine) => all_told(engine.history(), all),
+        None => false,
+    }
 }
 
 const DEPOSITED: [Told; 5] = [
@@ -299,7 +302,7 @@ const ROWS: [Row; 3] = [
 /// What the first row shows whose transactions are told anything else.
 fn first_wrong<R: Threads + Wait + Sync>(rt: &R, alloc: Global, rows: &[Row]) -> &'static str {
     for (what, threads, play, all) in rows {
-        if are_told(left_by(rt, alloc, *threads, *play), all) != Some(true) {
+        if !are_told(left_by(rt, alloc, *threads, *play), all) {
             return what;
         }
     }
@@ -339,5 +342,5 @@ const AGAIN: [(u32, &[Told]); 2] = [
 
 #[test]
 fn new_sessions_go_on_behind_a_cut(rt: HostRuntime) {
-    assert!(rt; are_told(left_behind_a_cut(&rt, rt.alloc()), &AGAIN) == Some(true));
+    assert!(rt; are_told(left_behind_a_cut(&rt, rt.alloc()), &AGAIN));
 }
