@@ -20,16 +20,6 @@ type SimpleRan = Ran<ListRecords, OneList, PairGraph>;
 const OPENING: &str =
     r#"{"limits":[1,1000],"accounts":[],"procedures":[[0,[["put",3,7,4],["look",0,3,7,6],["answer",["reg",0]]]]]}"#;
 
-/// An engine behind these events.
-fn ran(a: Global, events: &[Event]) -> Result<SimpleRan, Fail> {
-    let Opening {
-        limits,
-        database,
-        procedures,
-    } = read_opening(a, 1, OPENING.as_bytes())?;
-    Ok(run_list(a, database, procedures, limits, events)?)
-}
-
 /// Adds the event of a line.
 fn add_event(a: Global, events: &mut Vec<Event>, line: &[u8]) -> Result<(), Fail> {
     events.push(read_event(a, &mut Scratch::new(a), line)?)?;
@@ -61,15 +51,44 @@ fn told(a: Global, engine: &SimpleEngine) -> Result<Vec<u8>, Fail> {
     Ok(text)
 }
 
-/// An engine behind the events of these lines.
-fn behind(a: Global, lines: &str) -> Result<SimpleRan, Fail> {
-    ran(a, events_of(a, lines)?.as_slice())
+/// What is seen behind events.
+#[derive(Drop)]
+struct Seen {
+    /// How many were applied.
+    done: usize,
+    /// What is committed in record 7 of table 3.
+    committed: Option<i64>,
+    /// The lines of the replies, and those of the database.
+    text: Vec<u8>,
+}
+
+/// What is seen of an engine behind events.
+fn looked_at(a: Global, ran: &SimpleRan) -> Result<Seen, Fail> {
+    Ok(Seen {
+        done: ran.done,
+        committed: ran.engine.committed(Key::new(3, 7).unwrap()),
+        text: told(a, &ran.engine)?,
+    })
+}
+
+/// What is seen behind these events.
+fn seen_behind(a: Global, events: &[Event]) -> Result<Seen, Fail> {
+    let Opening {
+        limits,
+        database,
+        procedures,
+    } = read_opening(a, 1, OPENING.as_bytes())?;
+    looked_at(a, &run_list(a, database, procedures, limits, events)?)
+}
+
+/// What is seen behind the events of these lines.
+fn seen_of(a: Global, lines: &str) -> Result<Seen, Fail> {
+    seen_behind(a, events_of(a, lines)?.as_slice())
 }
 
 /// Whether this is told behind these events, all of which are applied.
 fn is_answered(a: Global, lines: &str, want: &str) -> Result<bool, Fail> {
-    let text = told(a, &behind(a, lines)?.engine)?;
-    Ok(text.as_slice() == want.as_bytes())
+    Ok(seen_of(a, lines)?.text.as_slice() == want.as_bytes())
 }
 
 /// A store, a look at it, and a commit.
@@ -145,19 +164,9 @@ fn events_are_answered(rt: HostRuntime) -> Result<(), Fail> {
     Ok(())
 }
 
-/// What is committed in record 7 of table 3.
-fn stored(engine: &SimpleEngine) -> Option<i64> {
-    engine.committed(Key::new(3, 7).unwrap())
-}
-
-/// The same behind these events.
-fn committed(a: Global, lines: &str) -> Result<Option<i64>, Fail> {
-    Ok(stored(&behind(a, lines)?.engine))
-}
-
 #[test]
 fn a_committed_value_is_told(rt: HostRuntime) -> Result<(), Fail> {
-    assert!(rt; committed(rt.alloc(), STORE)? == Some(4));
+    assert!(rt; seen_of(rt.alloc(), STORE)?.committed == Some(4));
     Ok(())
 }
 
@@ -215,7 +224,7 @@ fn events(a: Global, count: u32) -> Result<Vec<Event>, NoMemory> {
 
 /// Whether all of so many events are applied.
 fn are_applied(a: Global, count: u32) -> Result<bool, Fail> {
-    Ok(ran(a, events(a, count)?.as_slice())?.done == count as usize)
+    Ok(seen_behind(a, events(a, count)?.as_slice())?.done == count as usize)
 }
 
 #[test]

@@ -14,17 +14,7 @@ use std::test::Fail;
 
 type ListSched = Sched<ListRecords, OneList, PairGraph>;
 
-/// The scheduler of an opening.
-fn opened(alloc: Global, line: &str) -> Result<ListSched, Fail> {
-    let Opening {
-        limits,
-        database,
-        procedures,
-    } = read_opening(alloc, 1, line.as_bytes())?;
-    Ok(Sched::new(alloc, &database, procedures, limits)?)
-}
-
-/// Its call for an event.
+/// The call of a scheduler for an event.
 fn call(sched: &mut ListSched, event: &Event) -> Result<Reply, NoMemory> {
     match event {
         Event::Start { procedure, args } => sched.start(*procedure, args),
@@ -283,7 +273,12 @@ seen -> [] 0 [false, false] [Some(1), None, None, None, None] Some([]) None
 
 /// The first line that is wrong, of those that are said to the scheduler of an opening.
 fn first_wrong_of<'a>(alloc: Global, opening: &str, lines: &'a str) -> Result<&'a str, Fail> {
-    let mut sched = opened(alloc, opening)?;
+    let Opening {
+        limits,
+        database,
+        procedures,
+    } = read_opening(alloc, 1, opening.as_bytes())?;
+    let mut sched = ListSched::new(alloc, &database, procedures, limits)?;
     first_wrong(alloc, &mut sched, lines)
 }
 
