@@ -1,10 +1,11 @@
 //! An engine with SmallBank's procedures, for the tests to share.
-ghost use Rattle.std.specs.Prelude.{◌≡◌, [], IfOk};
+ghost use Rattle.std.specs.Prelude.{◌≡◌, [], IfSome};
 
 use sgt_access::OneList;
 use sgt_engine::{Engine, run_list};
 use sgt_graph::PairGraph;
-use sgt_model::{Args, Asks, Database, Event, Limits, MakeError};
+use sgt_model::{Args, Asks, Database, Event, Limits};
+use sgt_proc::Checked;
 use sgt_records::ListRecords;
 use sgt_session::Shared;
 use sgt_smallbank::{Account, opening, procedures};
@@ -38,29 +39,28 @@ fn account(name: i64) -> Account {
     }
 }
 
-/// Five accounts, of the names 1 to 5.
-fn five_accounts(alloc: Global) -> Result<Database, MakeError> {
+/// Five accounts, of the names 1 to 5, and the procedures.
+fn parts(alloc: Global) -> Option<(Database, Vec<Checked>)> {
     let accounts = [account(1), account(2), account(3), account(4), account(5)];
-    match opening(alloc, &accounts) {
-        Ok(database) => Ok(database),
-        Err(_) => Err(MakeError::NoMemory),
-    }
+    Some((opening(alloc, &accounts).ok()?, procedures(alloc).ok()?))
 }
 
 /// An engine with the five accounts, where nothing was done yet.
-pub fn new_engine(alloc: Global) -> Result<ListEngine, MakeError>
-    ensures { IfOk result (λ engine. engine.past ≡ []) }
+pub fn new_engine(alloc: Global) -> Option<ListEngine>
+    ensures { IfSome result (λ engine. engine.past ≡ []) }
 {
-    let database = five_accounts(alloc)?;
-    let procedures = procedures(alloc)?;
-    Engine::new(alloc, database, procedures, LIMITS)
+    let (database, procedures) = parts(alloc)?;
+    Engine::new(alloc, database, procedures, LIMITS).ok()
 }
 
 /// An engine with the five accounts, where these events were done.
-pub fn engine_after(alloc: Global, events: &[Event]) -> Result<ListEngine, MakeError> {
-    let database = five_accounts(alloc)?;
-    let procedures = procedures(alloc)?;
-    Ok(run_list(alloc, database, procedures, LIMITS, events)?.engine)
+pub fn engine_after(alloc: Global, events: &[Event]) -> Option<ListEngine> {
+    let (database, procedures) = parts(alloc)?;
+    Some(
+        run_list(alloc, database, procedures, LIMITS, events)
+            .ok()?
+            .engine,
+    )
 }
 
 /// The start of a procedure, with at most four arguments.

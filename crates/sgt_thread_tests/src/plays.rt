@@ -28,12 +28,94 @@ pub enum Play {
     AskBehindTwo,
 }
 
-/// What is played, and what the threads tell each other beside their calls.
+/// What a thread does at one time. Its transactions are told by how many it has started behind them; it starts them one after
+/// another, while no other thread starts one.
+enum Deed {
+    /// Starts a transaction of this procedure with these arguments, and makes three steps.
+    Starts(u16, &'static [i64]),
+    /// Tells the others that it has come so far.
+    Tells,
+    /// Waits until the thread of this seat has told that. Where it does not in time, nothing more is done.
+    Needs(usize),
+    /// Waits until the thread of this seat has told that, as long as there is time.
+    Awaits(usize),
+    /// Makes steps of a transaction until the other sessions have made so many calls, and lets their threads go to sleep.
+    LetsCall(u32, u64),
+    /// Makes one call of a commit, which does not wait.
+    CallsCommit(u32),
+    /// Commits, and waits for whom it has to.
+    Commits(u32),
+    /// Goes on only where its session has so many receipts.
+    Counts(usize),
+}
+
+/// Deposits 1.00, and commits once the other has asked to commit.
+const DEPOSITS: [Deed; 5] = [
+    Deed::Starts(DEPOSIT_CHECKING, &[1, 100]),
+    Deed::Tells,
+    Deed::Awaits(1),
+    Deed::LetsCall(0, 5),
+    Deed::Commits(0),
+];
+
+/// Deposits 1.00 on the checking and 0.50 on the saving, in two transactions. The first commits once both others wait for it,
+/// and the second once both wait again.
+const PUTS_IN_TWICE: [Deed; 9] = [
+    Deed::Starts(DEPOSIT_CHECKING, &[1, 100]),
+    Deed::Starts(TRANSACT_SAVING, &[1, 50]),
+    Deed::Tells,
+    Deed::Awaits(1),
+    Deed::Awaits(2),
+    Deed::LetsCall(1, 12),
+    Deed::Commits(1),
+    Deed::LetsCall(0, 14),
+    Deed::Commits(0),
+];
+
+/// Asks for the balance once all is stored, and commits behind whom it has read from.
+const ASKS: [Deed; 4] = [
+    Deed::Needs(0),
+    Deed::Starts(BALANCE, &[1]),
+    Deed::Tells,
+    Deed::Commits(0),
+];
+
+/// The same where two ask: each makes a call of its commit first, so it has made six calls when it waits.
+const ASKS_TWICE: [Deed; 5] = [
+    Deed::Needs(0),
+    Deed::Starts(BALANCE, &[1]),
+    Deed::CallsCommit(0),
+    Deed::Tells,
+    Deed::Commits(0),
+];
+
+/// Asks for a balance behind an own deposit. A call of that commit is answered at once, with one receipt; then both are committed.
+const ASKS_BEHIND_OWN: [Deed; 6] = [
+    Deed::Starts(DEPOSIT_CHECKING, &[1, 100]),
+    Deed::Starts(BALANCE, &[1]),
+    Deed::CallsCommit(0),
+    Deed::Counts(9),
+    Deed::CallsCommit(1),
+    Deed::CallsCommit(0),
+];
+
+/// What the thread of this seat does in a play.
+fn deeds(play: Play, seat: usize) -> &'static [Deed] {
+    match (play, seat) {
+        (Play::Meet, 0) => &DEPOSITS,
+        (Play::Meet, _) => &ASKS,
+        (Play::AskAtOnce, _) => &ASKS_BEHIND_OWN,
+        (Play::AskBehindTwo, 0) => &PUTS_IN_TWICE,
+        (Play::AskBehindTwo, _) => &ASKS_TWICE,
+    }
+}
+
+/// What is played, and which seats' threads have told that they have come so far: the first that all is stored, and the others that
+/// they ask for the balance.
 #[derive(Drop)]
 struct Stage {
     play: Play,
-    has_stored: AtomicBool,
-    has_asked: [AtomicBool; 2],
+    has_told: [AtomicBool; 3],
 }
 
 /// Waits for a flag, and tells whether it was raised in time.
@@ -54,56 +136,46 @@ fn naps() {
     }
 }
 
-/// Makes a call. It answers the call's number, and the transaction that was started or has to be waited for.
-pub fn calls<N: Named, W: Wait>(
-    rt: &W,
-    shared: &SharedEngine<N>,
-    session: &mut Session<N>,
-    event: Event,
-) -> Option<(u64, Option<Tid>)> {
-    let receipt = session.call(rt, shared, event).ok()?;
-    match &receipt.reply {
-        Reply::Started(t) | Reply::Waits(t) => Some((receipt.number, Some(*t))),
-        _ => Some((receipt.number, None)),
-    }
-}
-
-/// Commits, and waits for whom it has to.
-fn commits<N: Named, W: Wait>(
+/// Makes three steps of a transaction, and tells whether no call was refused memory.
+fn steps<N: Named, W: Wait>(
     rt: &W,
     shared: &SharedEngine<N>,
     session: &mut Session<N>,
     t: Tid,
-) -> Option<()> {
-    session.commit(rt, shared, t).ok()?;
-    Some(())
+) -> bool {
+    let mut is_made = true;
+    for _ in 0..3 {
+        is_made = is_made && session.make(rt, shared, Event::Step(t)).is_ok();
+    }
+    is_made
 }
 
-/// Starts a transaction, and makes three steps.
-fn makes_three_steps<N: Named, W: Wait>(
+/// Starts a transaction.
+fn started<N: Named, W: Wait>(
     rt: &W,
     shared: &SharedEngine<N>,
     session: &mut Session<N>,
     event: Event,
 ) -> Option<Tid> {
-    let t = calls(rt, shared, session, event)?.1?;
-    for _ in 0..3 {
-        calls(rt, shared, session, Event::Step(t))?;
+    match &session.call(rt, shared, event).ok()?.reply {
+        Reply::Started(t) => Some(*t),
+        _ => None,
     }
-    Some(t)
 }
 
-/// Makes steps at the procedure's end, which change nothing, until the other sessions have made so many calls.
+/// Makes steps at the procedure's end, which change nothing, until the other sessions have made so many calls, and lets their
+/// threads go to sleep.
 fn lets_others_call<N: Named, W: Wait>(
     rt: &W,
     shared: &SharedEngine<N>,
     session: &mut Session<N>,
     t: Tid,
     others: u64,
-) {
+) -> bool {
     for _ in 0..CALLS {
-        let Some((number, _)) = calls(rt, shared, session, Event::Step(t)) else {
-            break;
+        let number = match session.call(rt, shared, Event::Step(t)) {
+            Ok(receipt) => receipt.number,
+            Err(_) => break,
         };
         let own = session.receipts().len() as u64;
         if number.saturating_add(1) >= own.saturating_add(others) {
@@ -111,95 +183,96 @@ fn lets_others_call<N: Named, W: Wait>(
         }
         thread::yield_now();
     }
-}
-
-/// Deposits 1.00, and commits once the other has asked to commit.
-fn deposits<N: Named, W: Wait>(
-    rt: &W,
-    shared: &SharedEngine<N>,
-    session: &mut Session<N>,
-    stage: &Stage,
-) -> Option<()> {
-    let t = makes_three_steps(rt, shared, session, start(DEPOSIT_CHECKING, &[1, 100]))?;
-    stage.has_stored.store(true, Ordering::SeqCst);
-    if is_raised(&stage.has_asked[0]) {
-        lets_others_call(rt, shared, session, t, 5);
-    }
-    commits(rt, shared, session, t)
-}
-
-/// Deposits 1.00 on the checking and 0.50 on the saving, in two transactions. The first commits once both others wait for it,
-/// and the second once both wait again.
-fn puts_in_twice<N: Named, W: Wait>(
-    rt: &W,
-    shared: &SharedEngine<N>,
-    session: &mut Session<N>,
-    stage: &Stage,
-) -> Option<()> {
-    let first = makes_three_steps(rt, shared, session, start(DEPOSIT_CHECKING, &[1, 100]))?;
-    let second = makes_three_steps(rt, shared, session, start(TRANSACT_SAVING, &[1, 50]))?;
-    stage.has_stored.store(true, Ordering::SeqCst);
-    if is_raised(&stage.has_asked[0]) && is_raised(&stage.has_asked[1]) {
-        lets_others_call(rt, shared, session, first, 12);
-        naps();
-    }
-    commits(rt, shared, session, first)?;
-    lets_others_call(rt, shared, session, second, 14);
     naps();
-    commits(rt, shared, session, second)
+    true
 }
 
-/// Asks for the balance once all is stored, and commits behind whom it has read from. Where two ask, each makes a call of its
-/// commit first: it has made six calls when it waits.
-fn asks<N: Named, W: Wait>(
+/// Starts a transaction, which is the newest one then, and makes three steps.
+fn starts<N: Named, W: Wait>(
     rt: &W,
     shared: &SharedEngine<N>,
     session: &mut Session<N>,
-    stage: &Stage,
-    has_asked: &AtomicBool,
-) -> Option<()> {
-    if !is_raised(&stage.has_stored) {
-        return None;
+    newest: &mut Tid,
+    event: Event,
+) -> bool {
+    match started(rt, shared, session, event) {
+        Some(t) => {
+            *newest = t;
+            steps(rt, shared, session, t)
+        }
+        None => false,
     }
-    let t = makes_three_steps(rt, shared, session, start(BALANCE, &[1]))?;
-    if matches!(stage.play, Play::AskBehindTwo) {
-        calls(rt, shared, session, Event::Commit(t))?;
-    }
-    has_asked.store(true, Ordering::SeqCst);
-    commits(rt, shared, session, t)
 }
 
-/// The session of one thread asks for a balance behind its own deposit. A call of that commit is answered at once, with one
-/// receipt; then both are committed.
-fn asks_behind_own<N: Named, W: Wait>(
+/// The transaction behind which a thread has started so many.
+fn before(newest: Tid, behind: u32) -> Tid {
+    Tid(newest.0.saturating_sub(behind))
+}
+
+/// Does a deed by the session, and tells whether it goes on.
+fn does<N: Named, W: Wait>(
     rt: &W,
     shared: &SharedEngine<N>,
     session: &mut Session<N>,
-) -> Option<()> {
-    let first = makes_three_steps(rt, shared, session, start(DEPOSIT_CHECKING, &[1, 100]))?;
-    let second = makes_three_steps(rt, shared, session, start(BALANCE, &[1]))?;
-    let (_, waits) = calls(rt, shared, session, Event::Commit(second))?;
-    if waits == Some(first) && session.receipts().len() == 9 {
-        calls(rt, shared, session, Event::Commit(first))?;
-        calls(rt, shared, session, Event::Commit(second))?;
+    newest: &mut Tid,
+    deed: &Deed,
+) -> bool {
+    match deed {
+        Deed::Starts(procedure, args) => {
+            starts(rt, shared, session, newest, start(*procedure, args))
+        }
+        Deed::LetsCall(behind, others) => {
+            lets_others_call(rt, shared, session, before(*newest, *behind), *others)
+        }
+        Deed::CallsCommit(behind) => {
+            session
+                .make(rt, shared, Event::Commit(before(*newest, *behind)))
+                .is_ok()
+        }
+        Deed::Commits(behind) => {
+            session
+                .make_commit(rt, shared, before(*newest, *behind))
+                .is_ok()
+        }
+        Deed::Counts(count) => session.receipts().len() == *count,
+        _ => true,
     }
-    Some(())
 }
 
-/// What the thread of this seat does.
+/// The flag of a seat.
+fn flag(stage: &Stage, seat: usize) -> &AtomicBool {
+    stage.has_told.get(seat).unwrap_or(&stage.has_told[0])
+}
+
+/// Does a deed beside the session, and tells whether it goes on.
+fn meets(stage: &Stage, seat: usize, deed: &Deed) -> bool {
+    match deed {
+        Deed::Tells => {
+            flag(stage, seat).store(true, Ordering::SeqCst);
+            true
+        }
+        Deed::Needs(other) => is_raised(flag(stage, *other)),
+        Deed::Awaits(other) => {
+            is_raised(flag(stage, *other));
+            true
+        }
+        _ => true,
+    }
+}
+
+/// Does what the thread of this seat does.
 fn plays<N: Named, W: Wait>(
     rt: &W,
     shared: &SharedEngine<N>,
     session: &mut Session<N>,
     stage: &Stage,
     seat: usize,
-) -> Option<()> {
-    match (stage.play, seat) {
-        (Play::Meet, 0) => deposits(rt, shared, session, stage),
-        (Play::AskAtOnce, _) => asks_behind_own(rt, shared, session),
-        (Play::AskBehindTwo, 0) => puts_in_twice(rt, shared, session, stage),
-        (_, 1) => asks(rt, shared, session, stage, &stage.has_asked[0]),
-        _ => asks(rt, shared, session, stage, &stage.has_asked[1]),
+) {
+    let mut newest = Tid(0);
+    for deed in deeds(stage.play, seat) {
+        if !meets(stage, seat, deed) || !does(rt, shared, session, &mut newest, deed) {
+            break;
+        }
     }
 }
 
@@ -212,8 +285,11 @@ pub fn all_play<N: Named + Send + Sync, R: Threads + Wait + Sync>(
 ) {
     let stage = Stage {
         play,
-        has_stored: AtomicBool::new(false),
-        has_asked: [AtomicBool::new(false), AtomicBool::new(false)],
+        has_told: [
+            AtomicBool::new(false),
+            AtomicBool::new(false),
+            AtomicBool::new(false),
+        ],
     };
     let stage = &stage;
     thread::for_each_mut(
@@ -221,7 +297,7 @@ pub fn all_play<N: Named + Send + Sync, R: Threads + Wait + Sync>(
         sessions,
         3,
         &|seat, session| {
-            let _ = plays(rt, shared, session, stage, seat);
+            plays(rt, shared, session, stage, seat);
         },
     );
 }

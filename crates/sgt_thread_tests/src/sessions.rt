@@ -1,11 +1,14 @@
 //! Sessions: threads that share one engine, and what their transactions are told.
-ghost use Rattle.std.specs.Prelude.{◌≡◌, ◌≤◌, []};
+ghost use Rattle.std.specs.Prelude.{◌≡◌, ◌≤◌, [], IsTrue};
 ghost use Rattle.sgt_engine.specs.EngineView.{setting_of};
 
 use crate::engine::{ListEngine, SharedEngine, new_engine};
-use crate::plays::{Play, all_play, calls};
+use crate::plays::{Play, all_play};
+use sgt_access::OneList;
 use sgt_entries::History;
+use sgt_graph::PairGraph;
 use sgt_model::{Entry, Event, Reply, Tid};
+use sgt_records::ListRecords;
 use sgt_session::{CloseError, Named, Session, Shared};
 use std::alloc::Global;
 use std::marker::Brand;
@@ -13,49 +16,71 @@ use std::sync::Wait;
 use std::sync::ledger::Blank;
 use std::thread::Threads;
 
-/// Closes without one of the sessions.
-fn close_without_one<N: Named>(
-    shared: SharedEngine<N>,
-    sessions: Vec<Session<N>>,
-) -> Option<(SharedEngine<N>, Vec<Session<N>>)>
+/// The engine behind all sessions.
+fn closed<N: Named>(shared: SharedEngine<N>, sessions: Vec<Session<N>>) -> Option<ListEngine>
     requires { N.sessions ≡ N.parts }
 {
-    match shared.close(sessions) {
-        Err(CloseError::StillHeld(shared, sessions)) => Some((shared, sessions)),
-        _ => None,
+    Some(shared.close(sessions).ok()?.engine)
+}
+
+/// The last session makes one more call, joins the others, and all close.
+fn close_late<N: Named, W: Wait>(
+    rt: &W,
+    shared: SharedEngine<N>,
+    sessions: Vec<Session<N>>,
+    last: Session<N>,
+) -> Option<ListEngine>
+    requires { N.sessions ≡ N.parts }
+{
+    let (mut sessions, mut last) = (sessions, last);
+    let _ = last.make(rt, &shared, Event::Quit(Tid(0)));
+    let _ = sessions.push(last);
+    closed(shared, sessions)
+}
+
+/// Where a session is missing all are handed back, and close once it has come.
+fn close_again<N: Named, W: Wait>(
+    rt: &W,
+    error: CloseError<N, ListRecords, OneList, PairGraph>,
+    last: Session<N>,
+) -> Option<ListEngine>
+    requires { N.sessions ≡ N.parts }
+{
+    match error {
+        CloseError::StillHeld(shared, sessions) => close_late(rt, shared, sessions, last),
+        CloseError::Mismatch(..) => None,
     }
 }
 
-/// The last session is kept back while the others close. It joins those that are handed back, and makes one more call.
+/// The last session is kept back while the others close. It joins those that are handed back.
 fn close_too_early<N: Named, W: Wait>(
     rt: &W,
     shared: SharedEngine<N>,
     sessions: Vec<Session<N>>,
-) -> Option<(SharedEngine<N>, Vec<Session<N>>)>
+    last: Session<N>,
+) -> Option<ListEngine>
+    requires { N.sessions ≡ N.parts }
+{
+    close_again(rt, shared.close(sessions).err()?, last)
+}
+
+/// Threads play, each with a session, and leave an engine behind. A close without one of the sessions hands all back, and one with
+/// all of them closes.
+fn played_out<N: Named + Send + Sync, R: Threads + Wait + Sync>(
+    rt: &R,
+    shared: SharedEngine<N>,
+    sessions: Vec<Session<N>>,
+    play: Play,
+) -> Option<ListEngine>
     requires { N.sessions ≡ N.parts }
 {
     let mut sessions = sessions;
-    let last = sessions.pop();
-    let (shared, mut sessions) = close_without_one(shared, sessions)?;
-    if let Some(mut last) = last {
-        let _ = calls(rt, &shared, &mut last, Event::Quit(Tid(0)));
-        let _ = sessions.push(last);
-    }
-    Some((shared, sessions))
+    all_play(rt, &shared, sessions.as_mut_slice(), play);
+    let last = sessions.pop()?;
+    close_too_early(rt, shared, sessions, last)
 }
 
-/// Closes with all sessions.
-fn close_all<N: Named>(shared: SharedEngine<N>, sessions: Vec<Session<N>>) -> Option<ListEngine>
-    requires { N.sessions ≡ N.parts }
-{
-    match shared.close(sessions) {
-        Ok(closed) => Some(closed.engine),
-        Err(_) => None,
-    }
-}
-
-/// So many threads play, each with a session, and leave an engine behind. A close without one of the sessions hands all back, and
-/// one with all of them closes.
+/// So many threads play on an engine, each with a session.
 fn run<N: Named + Send + Sync, R: Threads + Wait + Sync>(
     rt: &R,
     alloc: Global,
@@ -69,12 +94,8 @@ fn run<N: Named + Send + Sync, R: Threads + Wait + Sync>(
     requires blank { (blank.name ≡ N.name) × (blank.parts ≡ N.parts) × (blank.parts ≡ threads) }
     requires threads { (N.sessions ≡ threads) × (1 ≤ threads) × (threads ≤ 64) }
 {
-    let Ok((shared, mut sessions)) = Shared::<N, _, _, _>::new(alloc, engine, blank, threads) else {
-        return None;
-    };
-    all_play(rt, &shared, sessions.as_mut_slice(), play);
-    let (shared, sessions) = close_too_early(rt, shared, sessions)?;
-    close_all(shared, sessions)
+    let (shared, sessions) = Shared::<N, _, _, _>::new(alloc, engine, blank, threads).ok()?;
+    played_out(rt, shared, sessions, play)
 }
 
 /// The same, on this engine.
@@ -102,14 +123,32 @@ fn left_by<R: Threads + Wait + Sync>(
     if threads < 1 || threads > 3 {
         return None;
     }
-    played(rt, alloc, new_engine(alloc).ok()?, threads, play)
+    played(rt, alloc, new_engine(alloc)?, threads, play)
 }
 
-/// Two threads meet, the history is cut off, and two new sessions meet on what is left.
-fn left_behind_a_cut<R: Threads + Wait + Sync>(rt: &R, alloc: Global) -> Option<ListEngine> {
-    let mut engine = left_by(rt, alloc, 2, Play::Meet)?;
-    engine.cut(alloc).ok()?;
+/// Cuts the history of an engine off, and tells whether that was done.
+fn is_cut(alloc: Global, engine: &mut ListEngine) -> bool
+    ensures { IsTrue result → (engine.new.past ≡ []) }
+{
+    engine.cut(alloc).is_ok()
+}
+
+/// Two new sessions meet on what a cut has left.
+fn met_behind_a_cut<R: Threads + Wait + Sync>(
+    rt: &R,
+    alloc: Global,
+    engine: ListEngine,
+) -> Option<ListEngine> {
+    let mut engine = engine;
+    if !is_cut(alloc, &mut engine) {
+        return None;
+    }
     played(rt, alloc, engine, 2, Play::Meet)
+}
+
+/// Two threads meet, and two new sessions behind a cut.
+fn left_behind_a_cut<R: Threads + Wait + Sync>(rt: &R, alloc: Global) -> Option<ListEngine> {
+    met_behind_a_cut(rt, alloc, left_by(rt, alloc, 2, Play::Meet)?)
 }
 
 /// What is compared of a reply.
@@ -260,14 +299,20 @@ const ROWS: [Row; 3] = [
     ),
 ];
 
+/// What the first row shows whose transactions are told anything else.
+fn first_wrong<R: Threads + Wait + Sync>(rt: &R, alloc: Global, rows: &[Row]) -> &'static str {
+    for (what, threads, play, all) in rows {
+        if !are_told(left_by(rt, alloc, *threads, *play), all) {
+            return what;
+        }
+    }
+    ""
+}
+
 #[test]
 fn sessions_are_told_what_they_share(rt: HostRuntime) {
-    for (what, threads, play, all) in &ROWS {
-        assert!(rt;
-            are_told(left_by(&rt, rt.alloc(), *threads, *play), all),
-            "{what}"
-        );
-    }
+    let wrong = first_wrong(&rt, rt.alloc(), &ROWS);
+    assert!(rt; wrong.is_empty(), "{wrong}");
 }
 
 /// The same as two that meet, told of the accounts that those before them have left.
