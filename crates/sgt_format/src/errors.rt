@@ -28,7 +28,7 @@ impl From<NoMemory> for LineError {
 }
 
 /// Why a line gives no opening.
-#[derive(Debug, Drop)]
+#[derive(Debug, Drop, PartialEq, Eq)]
 pub enum OpeningError {
     /// The line is no JSON.
     NotJson,

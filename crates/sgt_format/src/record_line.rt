@@ -9,7 +9,7 @@ use sgt_model::{Key, NoMemory, is_value};
 use std::alloc::Global;
 
 /// A line that puts a record into an opening: its numbers, whichever they are.
-#[derive(Clone, Copy, PartialEq, Eq)]
+#[derive(Clone, Copy, Debug, PartialEq, Eq)]
 pub struct RecordLine {
     /// The table of the record.
     pub table: i64,
@@ -20,7 +20,7 @@ pub struct RecordLine {
 }
 
 /// A record: its key and its value.
-#[derive(Clone, Copy, PartialEq, Eq)]
+#[derive(Clone, Copy, Debug, PartialEq, Eq)]
 pub struct Record {
     /// Which record it is.
     pub key: Key,

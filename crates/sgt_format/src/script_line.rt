@@ -13,7 +13,7 @@ use sgt_model::Event;
 use std::alloc::Global;
 
 /// What a line of a script asks for, behind its opening.
-#[derive(Drop)]
+#[derive(Debug, Drop, PartialEq, Eq)]
 pub enum ScriptLine {
     /// An event, which is answered by the engine and becomes an entry of its history.
     Event(Event),

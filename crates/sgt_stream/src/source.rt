@@ -4,7 +4,7 @@ ghost use Rattle.std.specs.Io.KnownBytes.{ReadConsumes};
 use std::io::Read;
 
 /// A call of a source or a sink failed.
-#[derive(Clone, Copy, Debug)]
+#[derive(Clone, Copy, Debug, PartialEq, Eq)]
 pub struct Failed;
 
 /// What gives bytes, and counts them and its failed calls.
