@@ -60,26 +60,15 @@ const LINES: &str = r#"["record",8,-1,9223372036854775807]: 8 -1 922337203685477
 ["record",0,0,0]]: none
 : none"#;
 
-/// Whether this is read of a line.
-fn is_read(alloc: Global, line: &[u8], want: &str) -> Result<bool, Fail> {
-    Ok(read(alloc, line)?.as_str() == want)
-}
-
-/// The first of these rows of which anything else is read; none is empty.
-fn first_wrong<'a>(alloc: Global, rows: &'a str) -> Result<&'a str, Fail> {
-    for row in rows.lines() {
-        let (line, want) = row.split_once(": ").unwrap_or((row, ""));
-        if !is_read(alloc, line.as_bytes(), want)? {
-            return Ok(row);
-        }
-    }
-    Ok("")
-}
-
 #[test]
 fn lines_are_read(rt: HostRuntime) -> Result<(), Fail> {
-    let wrong = first_wrong(rt.alloc(), LINES)?;
-    assert!(rt; wrong.is_empty(), "{wrong}");
+    for row in LINES.lines() {
+        let (line, want) = row.split_once(": ").unwrap_or((row, ""));
+        assert!(rt;
+            read(rt.alloc(), line.as_bytes())?.as_str() == want,
+            "{row}"
+        );
+    }
     Ok(())
 }
 
@@ -88,8 +77,8 @@ fn bytes_are_read(rt: HostRuntime) -> Result<(), Fail> {
     let line = b" [ \"rec\\u006frd\", 7, -999999999999999, 999999999999999 ]\r";
     let want = "7 -999999999999999 999999999999999 \
                 puts Key { table: 7, id: -999999999999999 } 999999999999999";
-    assert!(rt; is_read(rt.alloc(), line, want)?);
-    assert!(rt; is_read(rt.alloc(), b"[\"record\",0,0,\xff]", "none")?);
+    assert!(rt; read(rt.alloc(), line)?.as_str() == want);
+    assert!(rt; read(rt.alloc(), b"[\"record\",0,0,\xff]")?.as_str() == "none");
     Ok(())
 }
 
@@ -116,20 +105,15 @@ fn written(alloc: Global, database: &Database) -> Result<Vec<u8>, NoMemory> {
     Ok(text)
 }
 
-/// Whether the database of these records is written as these lines.
-fn is_written(alloc: Global, records: &[(i64, i64, i64)], lines: &str) -> Result<bool, NoMemory> {
-    let database = filled(alloc, records)?;
-    Ok(written(alloc, &database)?.as_slice() == lines.as_bytes())
-}
-
 #[test]
 fn a_database_is_written_as_record_lines(rt: HostRuntime) -> Result<(), Fail> {
     let records = [(7, MOST, LEAST), (0, 1, 101), (7, LEAST, MOST), (0, -1, 0)];
-    let lines = "[\"record\",0,-1,0]
+    let database = filled(rt.alloc(), &records)?;
+    let lines = b"[\"record\",0,-1,0]
 [\"record\",0,1,101]
 [\"record\",7,-999999999999999,999999999999999]
 [\"record\",7,999999999999999,-999999999999999]
 ";
-    assert!(rt; is_written(rt.alloc(), &records, lines)?);
+    assert!(rt; written(rt.alloc(), &database)?.as_slice() == lines.as_slice());
     Ok(())
 }

@@ -14,7 +14,17 @@ use std::test::Fail;
 
 type ListSched = Sched<ListRecords, OneList, PairGraph>;
 
-/// The call of a scheduler for an event.
+/// The scheduler of an opening.
+fn opened(alloc: Global, line: &str) -> Result<ListSched, Fail> {
+    let Opening {
+        limits,
+        database,
+        procedures,
+    } = read_opening(alloc, 1, line.as_bytes())?;
+    Ok(Sched::new(alloc, &database, procedures, limits)?)
+}
+
+/// Its call for an event.
 fn call(sched: &mut ListSched, event: &Event) -> Result<Reply, NoMemory> {
     match event {
         Event::Start { procedure, args } => sched.start(*procedure, args),
@@ -74,11 +84,6 @@ fn shortened(
     Ok(format!(in alloc; "{brief:?}, {place:?}")?)
 }
 
-/// The event of a line.
-fn event(alloc: Global, line: &str) -> Result<Event, Fail> {
-    Ok(read_event(alloc, &mut Scratch::new(alloc), line.as_bytes())?)
-}
-
 /// What is said to a line: what is seen; or to an event, or to one behind `short`, which is answered in short.
 fn said(
     alloc: Global,
@@ -89,28 +94,21 @@ fn said(
     if line == "seen" {
         return Ok(seen(alloc, sched)?);
     }
-    match line.strip_prefix("short ") {
-        Some(line) => shortened(alloc, sched, place, &event(alloc, line)?),
-        None => replied(alloc, sched, &event(alloc, line)?),
+    let in_short = line.strip_prefix("short ");
+    let line = in_short.unwrap_or(line).as_bytes();
+    let event = read_event(alloc, &mut Scratch::new(alloc), line)?;
+    if in_short.is_some() {
+        return shortened(alloc, sched, place, &event);
     }
+    replied(alloc, sched, &event)
 }
 
-/// Whether a line is said what stands behind its arrow.
-fn is_right(
-    alloc: Global,
-    sched: &mut ListSched,
-    place: &mut Reply,
-    line: &str,
-) -> Result<bool, Fail> {
-    let (event, want) = line.split_once(" -> ").unwrap_or((line, ""));
-    Ok(said(alloc, sched, place, event)?.as_str() == want)
-}
-
-/// The first line that is wrong, or nothing.
+/// The first line that is not said what stands behind its arrow, or nothing.
 fn first_wrong<'a>(alloc: Global, sched: &mut ListSched, lines: &'a str) -> Result<&'a str, Fail> {
     let mut place = Reply::Full;
     for line in lines.lines() {
-        if !is_right(alloc, sched, &mut place, line)? {
+        let (event, want) = line.split_once(" -> ").unwrap_or((line, ""));
+        if said(alloc, sched, &mut place, event)?.as_str() != want {
             return Ok(line);
         }
     }
@@ -273,29 +271,15 @@ seen -> [] 0 [false, false] [Some(1), None, None, None, None] Some([]) None
 
 /// The first line that is wrong, of those that are said to the scheduler of an opening.
 fn first_wrong_of<'a>(alloc: Global, opening: &str, lines: &'a str) -> Result<&'a str, Fail> {
-    let Opening {
-        limits,
-        database,
-        procedures,
-    } = read_opening(alloc, 1, opening.as_bytes())?;
-    let mut sched = ListSched::new(alloc, &database, procedures, limits)?;
+    let mut sched = opened(alloc, opening)?;
     first_wrong(alloc, &mut sched, lines)
-}
-
-/// The first row of which a line is wrong, with that line.
-fn first_wrong_row(alloc: Global, rows: &[Row]) -> Result<(&'static str, &'static str), Fail> {
-    for (what, opening, lines) in rows {
-        let wrong = first_wrong_of(alloc, opening, lines)?;
-        if !wrong.is_empty() {
-            return Ok((what, wrong));
-        }
-    }
-    Ok(("", ""))
 }
 
 #[test]
 fn schedulers_answer(rt: HostRuntime) -> Result<(), Fail> {
-    let (what, wrong) = first_wrong_row(rt.alloc(), &ROWS)?;
-    assert!(rt; wrong.is_empty(), "{what}: {wrong}");
+    for (what, opening, lines) in &ROWS {
+        let wrong = first_wrong_of(rt.alloc(), opening, lines)?;
+        assert!(rt; wrong.is_empty(), "{what}: {wrong}");
+    }
     Ok(())
 }

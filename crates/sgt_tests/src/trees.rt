@@ -26,40 +26,18 @@ const SMALLBANK: &str =
 [2,[["if",["less",["arg",1],0],[["ask",2]],[]],["look",0,0,["arg",0],1],["look",1,1,["reg",0],5],["look",2,2,["reg",0],5],["if",["less",["sum",["reg",1],["reg",2]],["arg",1]],[["let",3,["diff",["diff",["reg",2],["arg",1]],100]]],[["let",3,["diff",["reg",2],["arg",1]]]]],["put",2,["reg",0],["reg",3]],["answer",["reg",3]]]]
 "#;
 
-/// What is written of a tree's procedure.
-fn rewritten(alloc: Global, tree: &Value) -> Result<Value, Fail> {
-    Ok(write(alloc, &read(alloc, tree)?)?)
-}
-
-/// Whether the procedure that a line spells is written as that line.
-fn is_kept(alloc: Global, line: &str) -> Result<bool, Fail> {
+/// What is written of the procedure that a line spells.
+fn rewritten(alloc: Global, line: &str) -> Result<String, Fail> {
     let tree = Value::from_str(alloc, line)?;
-    let text = rewritten(alloc, &tree)?.to_string(alloc)?;
-    Ok(text.as_str() == line)
-}
-
-/// The first of these lines that is not written as it was read; none is empty.
-fn first_changed<'a>(alloc: Global, lines: &'a str) -> Result<&'a str, Fail> {
-    for line in lines.lines() {
-        if !is_kept(alloc, line)? {
-            return Ok(line);
-        }
-    }
-    Ok("")
+    let procedure = read(alloc, &tree)?;
+    Ok(write(alloc, &procedure)?.to_string(alloc)?)
 }
 
 #[test]
 fn what_is_read_is_written_as_it_was(rt: HostRuntime) -> Result<(), Fail> {
-    let changed = first_changed(rt.alloc(), PROCEDURES)?;
-    assert!(rt; changed.is_empty(), "{changed}");
-    Ok(())
-}
-
-/// Adds what is written of a procedure, in a line.
-fn add_written(alloc: Global, lines: &mut String, checked: &Checked) -> Result<(), Fail> {
-    let line = write(alloc, checked.procedure())?.to_string(alloc)?;
-    lines.push_str(line.as_str())?;
-    lines.push('\n')?;
+    for line in PROCEDURES.lines() {
+        assert!(rt; rewritten(rt.alloc(), line)?.as_str() == line, "{line}");
+    }
     Ok(())
 }
 
@@ -67,20 +45,16 @@ fn add_written(alloc: Global, lines: &mut String, checked: &Checked) -> Result<(
 fn written(alloc: Global, procedures: &[Checked]) -> Result<String, Fail> {
     let mut lines = String::new(alloc);
     for checked in procedures {
-        add_written(alloc, &mut lines, checked)?;
+        let line = write(alloc, checked.procedure())?.to_string(alloc)?;
+        lines = format!(in alloc; "{lines}{line}\n")?;
     }
     Ok(lines)
 }
 
-/// Whether SmallBank's procedures are written as this.
-fn are_written(alloc: Global, lines: &str) -> Result<bool, Fail> {
-    let procedures = sgt_smallbank::procedures(alloc)?;
-    Ok(written(alloc, procedures.as_slice())?.as_str() == lines)
-}
-
 #[test]
 fn smallbank_is_written_as_its_trees(rt: HostRuntime) -> Result<(), Fail> {
-    assert!(rt; are_written(rt.alloc(), SMALLBANK)?);
+    let procedures = sgt_smallbank::procedures(rt.alloc())?;
+    assert!(rt; written(rt.alloc(), procedures.as_slice())?.as_str() == SMALLBANK);
     Ok(())
 }
 
@@ -91,37 +65,17 @@ fn nested(alloc: Global, before: &str, behind: &str, times: usize) -> Result<Str
     format!(in alloc; "{before}null{behind}")
 }
 
-/// A procedure that answers 124 sums, one in another, and a null in the innermost.
-fn outer_sums(alloc: Global) -> Result<Value, Fail> {
-    let sums = nested(alloc, r#"["sum","#, ",0]", 124)?;
-    let text = format!(in alloc; r#"[0,[["answer",{sums}]]]"#)?;
-    Ok(Value::from_str(alloc, text.as_str())?)
-}
-
-/// Ten sums, one in another, with a null as the second part of the innermost one.
-fn inner_sums(alloc: Global) -> Result<Value, Fail> {
-    let sums = nested(alloc, r#"["sum",0,"#, "]", 10)?;
-    Ok(Value::from_str(alloc, sums.as_str())?)
-}
-
-/// The place of the null in the outer sums.
-fn null_place(alloc: Global) -> Result<String, AllocError> {
-    let path = "/1".repeat(alloc, 124)?;
-    format!(in alloc; "/1/0/1{path}")
-}
-
-/// Puts a tree in the place of this path.
-fn put_at(tree: &mut Value, path: &str, inner: Value) {
-    if let Some(place) = tree.pointer_mut(path) {
-        *place = inner;
-    }
-}
-
 /// A procedure that answers sums, more than a line can nest: ten of them, with a null as the second part of the innermost one, stand
 /// first in 124 more.
 fn deep_sums(alloc: Global) -> Result<Value, Fail> {
-    let mut tree = outer_sums(alloc)?;
-    put_at(&mut tree, null_place(alloc)?.as_str(), inner_sums(alloc)?);
+    let outer = nested(alloc, r#"["sum","#, ",0]", 124)?;
+    let text = format!(in alloc; r#"[0,[["answer",{outer}]]]"#)?;
+    let mut tree = Value::from_str(alloc, text.as_str())?;
+    let path = "/1".repeat(alloc, 124)?;
+    let path = format!(in alloc; "/1/0/1{path}")?;
+    if let Some(place) = tree.pointer_mut(path.as_str()) {
+        *place = Value::from_str(alloc, nested(alloc, r#"["sum",0,"#, "]", 10)?.as_str())?;
+    }
     Ok(tree)
 }
 
@@ -133,21 +87,12 @@ fn misfit(alloc: Global, tree: &Value) -> Result<String, Fail> {
     }
 }
 
-/// What is told of a misfit behind more positions than are kept.
-fn deep_place(alloc: Global) -> Result<String, AllocError> {
-    let ones = " 1".repeat(alloc, 125)?;
-    format!(in alloc; "shape at 1 0{ones} 2")
-}
-
-/// Whether just that is told of the deep sums.
-fn is_told_in_short(alloc: Global) -> Result<bool, Fail> {
-    let told = misfit(alloc, &deep_sums(alloc)?)?;
-    Ok(told.as_str() == deep_place(alloc)?.as_str())
-}
-
 #[test]
 fn a_place_keeps_its_first_128_positions(rt: HostRuntime) -> Result<(), Fail> {
-    assert!(rt; is_told_in_short(rt.alloc())?);
+    let ones = " 1".repeat(rt.alloc(), 125)?;
+    let want = format!(in rt.alloc(); "shape at 1 0{ones} 2")?;
+    let told = misfit(rt.alloc(), &deep_sums(rt.alloc())?)?;
+    assert!(rt; told.as_str() == want.as_str());
     Ok(())
 }
 
