@@ -42,7 +42,7 @@ pub fn read_opening(alloc: Global, least: u32, line: &[u8]) -> Result<Opening, O
     }
 }
 
-/// The opening that a tree spells, as that of a line.
+/// The opening of a line that has this tree.
 fn opening_in(alloc: Global, least: u32, tree: &Value) -> Result<Opening, OpeningError>
     ensures opening { IfOk result (λ opening.
         (line : List ℕ) → tree_of line ≡ Some (view tree.now) → Opens least line opening) }

@@ -36,6 +36,11 @@ if_written (Ok v) s test ys ns first second is spelled spelled' written =
     if_spelled s test ys ns (view v) is (written (block_of ys.items) (block_of ns.items) spelled spelled')
 if_written (Err e) s test ys ns first second is spelled spelled' written = tt
 
+-- what a tree that was written is, is so
+pub ok_then : {T E : Type 0} (result : Result T E) (P Q : T → Type 0) → ((value : T) → P value → Q value) → IfOk result P → IfOk result Q
+ok_then (Ok value) P Q step is = step value is
+ok_then (Err error) P Q step is = tt
+
 -- trees in front of items
 abbrev pub onto_items : List Data → Items → Items
 onto_items [] rest = rest

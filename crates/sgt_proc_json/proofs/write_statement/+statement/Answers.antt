@@ -1,7 +1,31 @@
 use Rattle.std.proofs.Common.{rules, subst}
 use Rattle.std.proofs.lemmas.List.{take_all}
-use Rattle.sgt_proc_json.proofs.Written.{Written, if_written, written_more, written_all}
+use Rattle.sgt_proc_json.proofs.Written.{Written, ok_then, if_written, written_more, written_all}
 use Rattle.sgt_proc_json.proofs.write_statement.+statement.Goals as goal
+
+pub write_statement-returns-in-Look : goal.write_statement-returns-in-Look
+write_statement-returns-in-Look t c =
+    rw c.in-Look.is (ok_then c.write_look.result _ _ (λ v is b items others. (is, others)) c.write_look.ensures)
+
+pub write_statement-returns-in-Find : goal.write_statement-returns-in-Find
+write_statement-returns-in-Find t c =
+    rw c.in-Find.is (ok_then c.write_find.result _ _ (λ v is b items others. (is, others)) c.write_find.ensures)
+
+pub write_statement-returns-in-Put : goal.write_statement-returns-in-Put
+write_statement-returns-in-Put t c =
+    rw c.in-Put.is (ok_then c.write_put.result _ _ (λ v is b items others. (is, others)) c.write_put.ensures)
+
+pub write_statement-returns-in-Let : goal.write_statement-returns-in-Let
+write_statement-returns-in-Let t c =
+    rw c.in-Let.is (ok_then c.write_let.result _ _ (λ v is b items others. (is, others)) c.write_let.ensures)
+
+pub write_statement-returns-in-Ask : goal.write_statement-returns-in-Ask
+write_statement-returns-in-Ask t c =
+    rw c.in-Ask.is (ok_then c.write_ask.result _ _ (λ v is b items others. (is, others)) c.write_ask.ensures)
+
+pub write_statement-returns-in-Answer : goal.write_statement-returns-in-Answer
+write_statement-returns-in-Answer t c =
+    rw c.in-Answer.is (ok_then c.write_answer.result _ _ (λ v is b items others. (is, others)) c.write_answer.ensures)
 
 pub write_statement-returns-in_ok-no-in-If : goal.write_statement-returns-in_ok-no-in-If
 write_statement-returns-in_ok-no-in-If t c =
