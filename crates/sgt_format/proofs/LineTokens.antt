@@ -1,5 +1,6 @@
 -- What the tokens of a line spell, where they are plain.
-use Rattle.std.proofs.Common.{◌≡◌, ◌≤◌, ◌<◌, ℕ, zero, suc, ℤ, List, [], ◌∷◌, ◌++◌, length, Some, None, Option, refl, ap, sym, ◌∙◌, arith, le-leb}
+use Rattle.std.proofs.Common.{◌≡◌, ◌≤◌, ◌<◌, ℕ, zero, suc, ℤ, List, [], ◌∷◌, ◌++◌, length, Some, None, Option, refl, ap, sym, ◌∙◌,
+    arith, le-leb}
 use Rattle.std.specs.Prelude.{map, IfSome, IsUtf8, Ok, Err, option_and_then, option_map}
 use Rattle.std.specs.Option.{ok_or, option_map_or}
 use Rattle.json.specs.Token.{Token, begin_array, end_array, string, number}
@@ -171,11 +172,6 @@ pub last_list : (old e f g : List Token) (texts : List (List ℕ)) → old ≡ b
     → f ≡ end_array ∷ g → g ≡ [] → old ≡ begin_array ∷ (map number texts ++ end_array ∷ end_array ∷ [])
 last_list old e f g texts one two three four = cc
 
--- a word and a number that a list begins with
-pub head_is : (old a b d : List Token) (w s : List ℕ) → old ≡ begin_array ∷ a → a ≡ string w ∷ b → b ≡ number s ∷ d
-    → old ≡ begin_array ∷ string w ∷ number s ∷ d
-head_is old a b d w s one two three = cc
-
 -- a word and a transaction, token after token
 pub spelled_transaction : (old d e : List Token) (w s : List ℕ) (n : ℤ) (t : ℕ) (found : Option Event)
     → old ≡ begin_array ∷ string w ∷ number s ∷ d → d ≡ end_array ∷ e → e ≡ []
@@ -201,14 +197,16 @@ spelled_call meaning of_call means old d w s n p texts args (Some asked) one two
 
 -- an event's
 pub spelled_start : (old d : List Token) (w s : List ℕ) (n : ℤ) (p : ℕ) (texts : List (List ℕ)) (args : List ℤ)
-    (found : Option Event) → old ≡ begin_array ∷ string w ∷ number s ∷ d → d ≡ begin_array ∷ (map number texts ++ end_array ∷ end_array ∷ [])
+    (found : Option Event) → old ≡ begin_array ∷ string w ∷ number s ∷ d → d ≡ begin_array ∷ (map number texts ++ end_array ∷
+    end_array ∷ [])
     → whole_number s ≡ Some n → whole_numbers texts ≡ Some args → length texts ≤ 4 → natural_of 16 n ≡ Some p
     → found ≡ of_procedure w p args → IfSome found (λ event. event_at old ≡ Some event)
 spelled_start = spelled_call event_in of_procedure (λ w m trees. refl)
 
 -- a job's
 pub spelled_job : (old d : List Token) (w s : List ℕ) (n : ℤ) (p : ℕ) (texts : List (List ℕ)) (args : List ℤ)
-    (found : Option JobCall) → old ≡ begin_array ∷ string w ∷ number s ∷ d → d ≡ begin_array ∷ (map number texts ++ end_array ∷ end_array ∷ [])
+    (found : Option JobCall) → old ≡ begin_array ∷ string w ∷ number s ∷ d → d ≡ begin_array ∷ (map number texts ++ end_array ∷
+    end_array ∷ [])
     → whole_number s ≡ Some n → whole_numbers texts ≡ Some args → length texts ≤ 4 → natural_of 16 n ≡ Some p
     → found ≡ job_call w p args → IfSome found (λ call. job_at old ≡ Some call)
 spelled_job = spelled_call job_in job_call (λ w m trees. refl)

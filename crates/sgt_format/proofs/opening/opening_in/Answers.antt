@@ -11,11 +11,13 @@ returns-clause-opening c =
     let at_tree : Some (c.in-Some.numbers, map view c.in-Some.trees.now, map view c.in-Some.procedures.now)
     ≡ parts_in (view c.args.tree.now) = search rules in
     let at_trees : Some c.as_slice.result.now ≡ each account_in (map view c.in-Some.trees.now) = search rules in
-    opens_each c.args.least (view c.args.tree.now) _ c.open.result (sheet_found (view c.args.tree.now) _ _ _ _ at_tree at_trees) c.open.ensures.opening
+    opens_each c.args.least (view c.args.tree.now) _ c.open.result (sheet_found (view c.args.tree.now) _ _ _ _ at_tree at_trees)
+    c.open.ensures.opening
 
 pub returns-clause-refused : goal.returns-clause-refused
 returns-clause-refused c =
     let at_tree : Some (c.in-Some.numbers, map view c.in-Some.trees.now, map view c.in-Some.procedures.now)
     ≡ parts_in (view c.args.tree.now) = search rules in
     let at_trees : Some c.as_slice.result.now ≡ each account_in (map view c.in-Some.trees.now) = search rules in
-    refuses_each c.args.least (view c.args.tree.now) _ c.open.result (sheet_found (view c.args.tree.now) _ _ _ _ at_tree at_trees) c.open.ensures.refused
+    refuses_each c.args.least (view c.args.tree.now) _ c.open.result (sheet_found (view c.args.tree.now) _ _ _ _ at_tree at_trees)
+    c.open.ensures.refused

@@ -6,7 +6,9 @@ use Rattle.sgt_proc_json.proofs.InTurn.{handed_on, first_tells, second_tells, bo
 use Rattle.sgt_proc_json.proofs.Lengths.{told_here}
 use Rattle.sgt_proc_json.proofs.StatementsRead.{one_more, one_refused, all_read}
 use Rattle.sgt_proc_json.proofs.read_statement.+statement.Goals as goal
-use Rattle.sgt_proc_json.proofs.read_statement.+statement.Goals.{branches-in_default-via-then-items-lt4, branches-in_default-via-else-items-lt4+else-items-lt5, if_row-in_default-via-then-items-lt4, if_row-in_default-via-else-items-lt4+else-items-lt5}
+use Rattle.sgt_proc_json.proofs.read_statement.+statement.Goals.{branches-in_default-via-then-items-lt4,
+    branches-in_default-via-else-items-lt4+else-items-lt5, if_row-in_default-via-then-items-lt4,
+    if_row-in_default-via-else-items-lt4+else-items-lt5}
 
 pub read_row-returns-then-is_if-clause-ok : goal.read_row-returns-then-is_if-clause-ok
 read_row-returns-then-is_if-clause-ok t c =
@@ -27,46 +29,54 @@ read_row-returns-clause-err t c =
 pub if_row-returns-in_err-cond-in-len4-clause-err : goal.if_row-returns-in_err-cond-in-len4-clause-err
 if_row-returns-in_err-cond-in-len4-clause-err t c =
     handed_on _ c.in_err-cond-in-len4.field-0.0 c.from_residual.result (search rules)
-    (first_tells _ _ _ _ _ (four_are c.args.items.now _ c.in-len4.len_at_least c.in-len4.len_below c.cond-item.is) c.in_err-cond-in-len4.ensures.err)
+    (first_tells _ _ _ _ _ (four_are c.args.items.now _ c.in-len4.len_at_least c.in-len4.len_below c.cond-item.is)
+    c.in_err-cond-in-len4.ensures.err)
 
 pub if_row-returns-in_err-yes-in-len4-clause-err : goal.if_row-returns-in_err-yes-in-len4-clause-err
 if_row-returns-in_err-yes-in-len4-clause-err t c =
     handed_on _ c.in_err-yes-in-len4.field-0.0 c.from_residual-in_err-yes-in-len4.result (search rules)
-    (second_tells _ _ _ _ _ _ (four_are c.args.items.now _ c.in-len4.len_at_least c.in-len4.len_below c.cond-item.is) c.in_ok-cond-in-len4.ensures.ok
+    (second_tells _ _ _ _ _ _ (four_are c.args.items.now _ c.in-len4.len_at_least c.in-len4.len_below c.cond-item.is)
+    c.in_ok-cond-in-len4.ensures.ok
     c.in_err-yes-in-len4.ensures.err)
 
 pub if_row-returns-in_ok-yes-in-len4-clause-ok : goal.if_row-returns-in_ok-yes-in-len4-clause-ok
 if_row-returns-in_ok-yes-in-len4-clause-ok t c =
-    if_made _ _ _ _ _ _ (four_are c.args.items.now _ c.in-len4.len_at_least c.in-len4.len_below c.cond-item.is) c.in_ok-cond-in-len4.ensures.ok
+    if_made _ _ _ _ _ _ (four_are c.args.items.now _ c.in-len4.len_at_least c.in-len4.len_below c.cond-item.is)
+    c.in_ok-cond-in-len4.ensures.ok
     c.in_ok-yes-in-len4.ensures.ok
 
 pub if_row-returns-in_default-clause-err : goal.if_row-returns-in_default-clause-err
 if_row-returns-in_default-clause-err t c =
     elim c.in_default.branch [
       | if_row-in_default-via-then-items-lt4 w ↦ told_here _ _ c.here.ensures (no_if_row c.args.items.now (inl (search rules)))
-      | if_row-in_default-via-else-items-lt4+else-items-lt5 w ↦ told_here _ _ c.here.ensures (no_if_row c.args.items.now (inr (search rules)))
+      | if_row-in_default-via-else-items-lt4+else-items-lt5 w ↦ told_here _ _ c.here.ensures (no_if_row c.args.items.now (inr
+      (search rules)))
     ]
 
 pub branches-returns-in_err-yes-in-len4-clause-err : goal.branches-returns-in_err-yes-in-len4-clause-err
 branches-returns-in_err-yes-in-len4-clause-err t c =
     handed_on _ c.in_err-yes-in-len4.field-0.0 c.from_residual.result (search rules)
-    (first_tells _ _ _ _ _ (branches_are c.args.items.now _ _ c.in-len4.len_at_least c.in-len4.len_below c.yes-item.is c.no-item.is) c.in_err-yes-in-len4.ensures.err)
+    (first_tells _ _ _ _ _ (branches_are c.args.items.now _ _ c.in-len4.len_at_least c.in-len4.len_below c.yes-item.is c.no-item.is)
+    c.in_err-yes-in-len4.ensures.err)
 
 pub branches-returns-in_err-no-in-len4-clause-err : goal.branches-returns-in_err-no-in-len4-clause-err
 branches-returns-in_err-no-in-len4-clause-err t c =
     handed_on _ c.in_err-no-in-len4.field-0.0 c.from_residual-in_err-no-in-len4.result (search rules)
-    (second_tells _ _ _ _ _ _ (branches_are c.args.items.now _ _ c.in-len4.len_at_least c.in-len4.len_below c.yes-item.is c.no-item.is) c.in_ok-yes-in-len4.ensures.ok
+    (second_tells _ _ _ _ _ _ (branches_are c.args.items.now _ _ c.in-len4.len_at_least c.in-len4.len_below c.yes-item.is
+    c.no-item.is) c.in_ok-yes-in-len4.ensures.ok
     c.in_err-no-in-len4.ensures.err)
 
 pub branches-returns-in_ok-no-in-len4-clause-ok : goal.branches-returns-in_ok-no-in-len4-clause-ok
 branches-returns-in_ok-no-in-len4-clause-ok t c =
-    both_read _ _ _ _ _ _ (branches_are c.args.items.now _ _ c.in-len4.len_at_least c.in-len4.len_below c.yes-item.is c.no-item.is) c.in_ok-yes-in-len4.ensures.ok c.in_ok-no-in-len4.ensures.ok
+    both_read _ _ _ _ _ _ (branches_are c.args.items.now _ _ c.in-len4.len_at_least c.in-len4.len_below c.yes-item.is c.no-item.is)
+    c.in_ok-yes-in-len4.ensures.ok c.in_ok-no-in-len4.ensures.ok
 
 pub branches-returns-in_default-clause-err : goal.branches-returns-in_default-clause-err
 branches-returns-in_default-clause-err t c =
     elim c.in_default.branch [
       | branches-in_default-via-then-items-lt4 w ↦ told_here _ _ c.here.ensures (no_branches c.args.items.now (inl (search rules)))
-      | branches-in_default-via-else-items-lt4+else-items-lt5 w ↦ told_here _ _ c.here.ensures (no_branches c.args.items.now (inr (search rules)))
+      | branches-in_default-via-else-items-lt4+else-items-lt5 w ↦ told_here _ _ c.here.ensures (no_branches c.args.items.now (inr
+      (search rules)))
     ]
 
 pub read_statements-loop-position-preserved : goal.read_statements-loop-position-preserved

@@ -14,16 +14,19 @@ returns-in_default-clause-shape c =
 pub returns-in_err-byte_at-in-len2-clause-shape : goal.returns-in_err-byte_at-in-len2-clause-shape
 returns-in_err-byte_at-in-len2-clause-shape c =
     handed_on _ c.in_err-byte_at-in-len2.field-0.0 c.from_residual.result (search rules)
-    (first_tells made_of _ _ _ _ (procedure_are c.args.items.now _ _ c.in-len2.len_at_least c.in-len2.len_below c.args-item.is c.body-item.is)
+    (first_tells made_of _ _ _ _ (procedure_are c.args.items.now _ _ c.in-len2.len_at_least c.in-len2.len_below c.args-item.is
+    c.body-item.is)
     c.in_err-byte_at-in-len2.ensures.err)
 
 pub returns-in_err-block_at-in-len2-clause-shape : goal.returns-in_err-block_at-in-len2-clause-shape
 returns-in_err-block_at-in-len2-clause-shape c =
     handed_on _ c.in_err-block_at-in-len2.field-0.0 c.from_residual-in_err-block_at-in-len2.result (search rules)
-    (second_tells made_of _ _ _ _ _ (procedure_are c.args.items.now _ _ c.in-len2.len_at_least c.in-len2.len_below c.args-item.is c.body-item.is)
+    (second_tells made_of _ _ _ _ _ (procedure_are c.args.items.now _ _ c.in-len2.len_at_least c.in-len2.len_below c.args-item.is
+    c.body-item.is)
     c.in_ok-byte_at-in-len2.ensures.ok c.in_err-block_at-in-len2.ensures.err)
 
 pub returns-in_ok-block_at-in-len2-clause-procedure : goal.returns-in_ok-block_at-in-len2-clause-procedure
 returns-in_ok-block_at-in-len2-clause-procedure c =
-    both_read made_of _ _ _ _ _ (procedure_are c.args.items.now _ _ c.in-len2.len_at_least c.in-len2.len_below c.args-item.is c.body-item.is)
+    both_read made_of _ _ _ _ _ (procedure_are c.args.items.now _ _ c.in-len2.len_at_least c.in-len2.len_below c.args-item.is
+    c.body-item.is)
     c.in_ok-byte_at-in-len2.ensures.ok c.in_ok-block_at-in-len2.ensures.ok
