@@ -1,6 +1,27 @@
 -- What the tokens of a line spell, where they are plain.
-use Rattle.std.proofs.Common.{◌≡◌, ◌≤◌, ◌<◌, ℕ, zero, suc, ℤ, List, [], ◌∷◌, ◌++◌, length, Some, None, Option, refl, ap, sym, ◌∙◌,
-    arith, le-leb}
+use Rattle.std.proofs.Common.{
+  ◌≡◌,
+  ◌≤◌,
+  ◌<◌,
+  ℕ,
+  zero,
+  suc,
+  ℤ,
+  List,
+  [],
+  ◌∷◌,
+  ◌++◌,
+  length,
+  Some,
+  None,
+  Option,
+  refl,
+  ap,
+  sym,
+  ◌∙◌,
+  arith,
+  le-leb,
+}
 use Rattle.std.specs.Prelude.{map, IfSome, IsUtf8, Ok, Err, option_and_then, option_map}
 use Rattle.std.specs.Option.{ok_or, option_map_or}
 use Rattle.json.specs.Token.{Token, begin_array, end_array, string, number}

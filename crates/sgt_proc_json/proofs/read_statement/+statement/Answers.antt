@@ -6,9 +6,12 @@ use Rattle.sgt_proc_json.proofs.InTurn.{handed_on, first_tells, second_tells, bo
 use Rattle.sgt_proc_json.proofs.Lengths.{told_here}
 use Rattle.sgt_proc_json.proofs.StatementsRead.{one_more, one_refused, all_read}
 use Rattle.sgt_proc_json.proofs.read_statement.+statement.Goals as goal
-use Rattle.sgt_proc_json.proofs.read_statement.+statement.Goals.{branches-in_default-via-then-items-lt4,
-    branches-in_default-via-else-items-lt4+else-items-lt5, if_row-in_default-via-then-items-lt4,
-    if_row-in_default-via-else-items-lt4+else-items-lt5}
+use Rattle.sgt_proc_json.proofs.read_statement.+statement.Goals.{
+  branches-in_default-via-then-items-lt4,
+  branches-in_default-via-else-items-lt4+else-items-lt5,
+  if_row-in_default-via-then-items-lt4,
+  if_row-in_default-via-else-items-lt4+else-items-lt5,
+}
 
 pub read_row-returns-then-is_if-clause-ok : goal.read_row-returns-then-is_if-clause-ok
 read_row-returns-then-is_if-clause-ok t c =
@@ -50,7 +53,7 @@ if_row-returns-in_default-clause-err t c =
     elim c.in_default.branch [
       | if_row-in_default-via-then-items-lt4 w ↦ told_here _ _ c.here.ensures (no_if_row c.args.items.now (inl (search rules)))
       | if_row-in_default-via-else-items-lt4+else-items-lt5 w ↦ told_here _ _ c.here.ensures (no_if_row c.args.items.now (inr
-      (search rules)))
+          (search rules)))
     ]
 
 pub branches-returns-in_err-yes-in-len4-clause-err : goal.branches-returns-in_err-yes-in-len4-clause-err
@@ -76,7 +79,7 @@ branches-returns-in_default-clause-err t c =
     elim c.in_default.branch [
       | branches-in_default-via-then-items-lt4 w ↦ told_here _ _ c.here.ensures (no_branches c.args.items.now (inl (search rules)))
       | branches-in_default-via-else-items-lt4+else-items-lt5 w ↦ told_here _ _ c.here.ensures (no_branches c.args.items.now (inr
-      (search rules)))
+          (search rules)))
     ]
 
 pub read_statements-loop-position-preserved : goal.read_statements-loop-position-preserved
