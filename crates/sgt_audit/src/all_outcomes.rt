@@ -10,7 +10,7 @@ use crate::names::{entries_named, none_twice, transactions_named};
 use crate::outcome::Outcome;
 use crate::stands::all_stand;
 use sgt_dispatch::Job;
-use sgt_entries::History;
+use sgt_log::History;
 use sgt_model::NoMemory;
 use std::alloc::Global;
 

@@ -6,7 +6,7 @@ ghost use Rattle.sgt_model.specs.Questions.{is_commit, is_quit};
 ghost use Rattle.sgt_audit.specs.AllOutcomes.{is_done, is_left, is_untaken, is_no_memory, CountsAgree};
 
 use crate::outcome::Outcome;
-use sgt_entries::History;
+use sgt_log::History;
 
 /// How many outcomes of a kind there are.
 #[derive(Clone, Copy)]

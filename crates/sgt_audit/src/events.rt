@@ -9,7 +9,7 @@ ghost use Rattle.sgt_audit.specs.Outcomes.{call_for, IsOf};
 use crate::attempts::{is_call, is_of};
 use crate::lives::Life;
 use sgt_dispatch::Job;
-use sgt_entries::EntryRef;
+use sgt_log::EntryRef;
 use sgt_model::Event;
 
 /// Whether the event is a start of the job.

@@ -5,7 +5,7 @@ ghost use Rattle.sgt_model.specs.Legality.{Legal};
 ghost use Rattle.sgt_audit.specs.LiveCount.{count_started, count_ended};
 ghost use Rattle.sgt_audit.specs.AllOutcomes.{FewLive, AllEnded};
 
-use sgt_entries::{EntryRef, History};
+use sgt_log::{EntryRef, History};
 
 /// Whether after no entry more transactions are live than there are workers, and at the end none is.
 pub fn live_counts_stand(history: &History, workers: u32) -> bool

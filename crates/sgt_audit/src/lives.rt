@@ -8,7 +8,7 @@ ghost use Rattle.sgt_model.specs.Settings.{Setting};
 ghost use Rattle.sgt_model.specs.Legality.{Legal, LegalReply};
 ghost use Rattle.sgt_audit.specs.Lives.{AreLives, ended_life, life_after, with_started};
 
-use sgt_entries::{EntryRef, History};
+use sgt_log::{EntryRef, History};
 use sgt_model::{Args, Event, NoMemory, Tid};
 use std::alloc::Global;
 

@@ -6,7 +6,7 @@ ghost use Rattle.sgt_model.specs.Walks.{Distinct};
 ghost use Rattle.sgt_audit.specs.AllOutcomes.{entries_of, transaction_at, transactions_of};
 
 use crate::outcome::Outcome;
-use sgt_entries::History;
+use sgt_log::History;
 use sgt_model::{NoMemory, Tid};
 use std::alloc::Global;
 

@@ -10,7 +10,7 @@ use crate::events::{asks_for, names_one_of};
 use crate::lives::Life;
 use crate::outcome::Outcome;
 use sgt_dispatch::Job;
-use sgt_entries::History;
+use sgt_log::History;
 
 /// Whether there is one outcome for each job, and each says what is so.
 pub fn all_stand<N>(

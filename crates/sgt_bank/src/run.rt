@@ -10,7 +10,7 @@ ghost use Rattle.sgt_bank.specs.Banks.{AreRun, IsHistory, IsReport, IsRun};
 use crate::gate::OpenGate;
 use crate::report::report_text;
 use sgt_dispatch::Job;
-use sgt_entries::History;
+use sgt_log::History;
 use sgt_format::Opening;
 use sgt_jobs::read_input;
 use sgt_model::NoMemory;

@@ -1,6 +1,6 @@
 //! What is told of the attempts at each job.
 use crate::watch::FailedTry;
-use sgt_entries::{EntryRef, History};
+use sgt_log::{EntryRef, History};
 use sgt_format::append_numbered;
 use sgt_model::{Cause, NoMemory, Reply, Tid};
 use sgt_workers::Outcome;

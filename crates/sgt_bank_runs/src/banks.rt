@@ -4,7 +4,7 @@ use crate::gates::Gates;
 use sgt_access::{Accesses, PerKey};
 use sgt_bank::{read_input, report_text};
 use sgt_dispatch::Job;
-use sgt_entries::History;
+use sgt_log::History;
 use sgt_format::{Opening, append_numbered, append_reply};
 use sgt_graph::{BitGraph, Graph};
 use sgt_model::{Event, Tid};

@@ -5,7 +5,7 @@ use crate::gates::{Gates, Plan};
 use crate::told::Told;
 use sgt_access::OneList;
 use sgt_dispatch::Job;
-use sgt_entries::History;
+use sgt_log::History;
 use sgt_graph::PairGraph;
 use sgt_model::{Limits, Reply};
 use sgt_records::ListRecords;

@@ -29,7 +29,7 @@ pub use cut::CutError;
 pub use procedures::AddError;
 pub use put::PutError;
 use sgt_access::Accesses;
-use sgt_entries::History;
+use sgt_log::History;
 use sgt_graph::Graph;
 use sgt_model::{
     Database, Event, Key, Limits, MakeError, NoMemory, Reply, calls_simulate, headline_holds,

@@ -1,4 +1,4 @@
-use sgt_entries::History;
+use sgt_log::History;
 use sgt_model::Database;
 
 /// What is left of an engine: the database that it began with, and all that it was asked and answered since.

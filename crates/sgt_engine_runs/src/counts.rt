@@ -1,4 +1,4 @@
-use sgt_entries::History;
+use sgt_log::History;
 use sgt_model::{Cause, Reply, Tids};
 use std::fmt;
 

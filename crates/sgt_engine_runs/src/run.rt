@@ -1,6 +1,6 @@
 use sgt_access::Accesses;
 use sgt_engine::{CutError, Engine};
-use sgt_entries::History;
+use sgt_log::History;
 use sgt_format::append_reply;
 use sgt_graph::Graph;
 use sgt_model::{Entry, Event, Key, MOST_LIVE, NoMemory, Reply, Tid, Tids};

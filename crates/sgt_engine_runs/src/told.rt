@@ -5,7 +5,7 @@ use crate::drawn::{ACCOUNTS, CUSTOMER, apply_all, limits, open, place_of};
 use crate::refusals::Refusals;
 use sgt_access::{Accesses, OneList, PerKey};
 use sgt_engine::Engine;
-use sgt_entries::History;
+use sgt_log::History;
 use sgt_graph::{BitGraph, Graph, PairGraph};
 use sgt_model::{Asks, Event, Limits, NoMemory};
 use sgt_records::{ListRecords, Records, SlabRecords};

@@ -6,7 +6,7 @@ use Rattle.sgt_model.specs.declared.reply.Reply.{Reply}
 use Rattle.sgt_model.specs.declared.reply.Reply.TheVariants as reply
 use Rattle.sgt_model.specs.Accesses.{Access, access_of}
 use Rattle.sgt_model.specs.Questions.{named_by}
-use Rattle.sgt_entries.specs.EntryParts.{walk_of, fell_in}
+use Rattle.sgt_log.specs.EntryParts.{walk_of, fell_in}
 
 -- the history that an entry at this place comes after, newest entry first
 abbrev pub before : List Entry → ℕ → List Entry

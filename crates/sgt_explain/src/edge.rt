@@ -8,7 +8,7 @@ ghost use Rattle.sgt_explain.specs.WalkEdges.{TellsEdge, HasEdge, WasAbout, IsPa
 
 use crate::made::made_at;
 use crate::search::earlier;
-use sgt_entries::History;
+use sgt_log::History;
 use sgt_model::{Cause, Key, Kind, Reply, Tid, Tids};
 
 /// A transaction's first accesses of a key that conflict with a later one, by their places. At least one of them is there.

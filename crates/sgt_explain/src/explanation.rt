@@ -3,7 +3,7 @@ ghost use Rattle.std.specs.Prelude.{◌≡◌, take, OnErr, vec_len};
 use crate::edge::{Edge, cycle_edge};
 use crate::source::{Source, fall_source};
 use crate::text::{append_edge_line, append_source_line};
-use sgt_entries::History;
+use sgt_log::History;
 use sgt_model::{Key, Kind, NoMemory};
 use std::alloc::AllocError;
 

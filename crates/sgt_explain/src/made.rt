@@ -2,7 +2,7 @@ ghost use Rattle.std.specs.Prelude.{◌≡◌, ◌<◌, length};
 ghost use Rattle.sgt_model.specs.Accesses.{access_at, access_of};
 ghost use Rattle.sgt_explain.specs.Places.{placed_access};
 
-use sgt_entries::{EntryRef, History};
+use sgt_log::{EntryRef, History};
 use sgt_model::{Event, Key, Kind, Reply, Tid};
 use std::marker::Model;
 

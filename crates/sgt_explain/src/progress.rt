@@ -6,7 +6,7 @@ ghost use Rattle.sgt_explain.specs.Places.{before};
 ghost use Rattle.sgt_explain.specs.Calls.{called, placed_call};
 
 use crate::made::{Made, made_at};
-use sgt_entries::{EntryRef, History};
+use sgt_log::{EntryRef, History};
 use sgt_model::{Args, Event, Kind, NoMemory, Tid};
 use std::alloc::Global;
 

@@ -7,7 +7,7 @@ ghost use Rattle.sgt_explain.specs.Edges.{ConflictsAt, TellsEarlier};
 
 use crate::edge::Earlier;
 use crate::made::made_at;
-use sgt_entries::History;
+use sgt_log::History;
 use sgt_model::{Key, Kind, Tid};
 
 /// The first look and the first store of the key by a transaction, before the end, that conflict with an access of that kind; or

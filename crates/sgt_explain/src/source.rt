@@ -7,7 +7,7 @@ ghost use Rattle.sgt_explain.specs.Sources.{IsUndoneAt, ReadsAt, ReadsUndoneAt, 
 
 use crate::made::made_at;
 use crate::writers::{is_among, newest_writer};
-use sgt_entries::History;
+use sgt_log::History;
 use sgt_model::{Key, Kind, Tid};
 
 /// A look that found the value of another transaction.

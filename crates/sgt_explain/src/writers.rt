@@ -8,7 +8,7 @@ ghost use Rattle.sgt_model.specs.Walks.{Member};
 ghost use Rattle.sgt_explain.specs.Places.{before, placed_access};
 
 use crate::made::made_at;
-use sgt_entries::{EntryRef, History};
+use sgt_log::{EntryRef, History};
 use sgt_model::{Key, Kind, Tid};
 
 /// Whose store of the key is the newest before the end, of those not aborted by then, if there is one.

@@ -5,9 +5,9 @@ use denote.Param.Send.{IsSend, sendable}
 use Rattle.std.proofs.Crossing.{crosses}
 use Rattle.sgt_model.proofs.procedure.Expr.TheLaws.TheKnot as expr
 use Rattle.sgt_model.proofs.procedure.Statement.TheLaws.TheKnot as statement
-use Rattle.sgt_entries.proofs.history.History.TheSendSync as history
-use Rattle.sgt_entries.proofs.short_entry.ShortEntry.TheSendSync as short_entry
-use Rattle.sgt_entries.specs.contracts.history.History as History
+use Rattle.sgt_log.proofs.history.History.TheSendSync as history
+use Rattle.sgt_log.proofs.short_entry.ShortEntry.TheSendSync as short_entry
+use Rattle.sgt_log.specs.contracts.history.History as History
 use Rattle.sgt_model.proofs.reply.Reply.TheSendSync as reply
 use Rattle.sgt_model.specs.contracts.database.Database as Database
 use Rattle.sgt_records.specs.declared.records.Records as records

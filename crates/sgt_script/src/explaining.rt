@@ -3,7 +3,7 @@ ghost use Rattle.std.specs.Prelude.{◌+◌, ◌^◌, ◌<◌};
 use crate::explain::Explains;
 use crate::live_text::append_live;
 use crate::pending::pending_at;
-use sgt_entries::History;
+use sgt_log::History;
 use sgt_explain::append_explanation;
 use sgt_format::Opening;
 use sgt_model::NoMemory;

@@ -1,4 +1,4 @@
-use sgt_entries::History;
+use sgt_log::History;
 use sgt_explain::{Call, Pending, Progress, call_before, progress_before};
 use sgt_model::{Kind, NoMemory, Tid};
 use sgt_proc::{Checked, Next};

@@ -16,7 +16,7 @@ use Rattle.sgt_access.specs.declared.accesses.Accesses as accesses
 use Rattle.sgt_graph.specs.declared.graph.Graph as graph
 use Rattle.sgt_session.specs.declared.named.Named as named
 use Rattle.std.specs.declared.sync.ledger.Ledger as ledger
-use Rattle.sgt_entries.proofs.history.History.TheSendSync as history
+use Rattle.sgt_log.proofs.history.History.TheSendSync as history
 use Rattle.sgt_model.proofs.reply.Reply.TheSendSync as reply
 use Rattle.std.proofs.sync.ledger.Book.TheSendSync as book
 use Rattle.sgt_model.specs.contracts.database.Database as Database

@@ -6,7 +6,7 @@ ghost use Rattle.sgt_session.specs.Receipts.{receipt_of};
 use crate::named::Named;
 use crate::receipts::Receipts;
 use crate::session::Session;
-use sgt_entries::{EntryRef, History};
+use sgt_log::{EntryRef, History};
 
 /// Whether the receipts are the entries, each once, in the order of each session's calls.
 pub fn accounts<N: Named>(history: &History, sessions: &[Session<N>]) -> bool

@@ -7,7 +7,7 @@ ghost use Rattle.sgt_model.specs.Questions.{started_in, over_in};
 ghost use Rattle.sgt_session.specs.Own.{with_one, open_without, open_by, is_open, room_needed};
 
 use crate::receipts::Receipts;
-use sgt_entries::EntryRef;
+use sgt_log::EntryRef;
 use sgt_model::{Event, NoMemory, Tid};
 
 /// Takes the room that a call of this event needs, whatever it is answered: for its receipt, and for the receipt of one end of

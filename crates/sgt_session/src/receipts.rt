@@ -7,7 +7,7 @@ ghost use Rattle.sgt_session.specs.declared.receipt.Receipt.{Receipt as Told};
 ghost use Rattle.sgt_session.specs.Receipts.{receipt_of, entry_of};
 
 use crate::receipt::Receipt;
-use sgt_entries::{EntryRef, History, touch_ahead};
+use sgt_log::{EntryRef, History, touch_ahead};
 use sgt_model::NoMemory;
 use std::alloc::Global;
 use std::marker::Model;

@@ -12,7 +12,7 @@ use crate::receipts::Receipts;
 use crate::session::{Session, lend};
 use sgt_access::Accesses;
 use sgt_engine::Engine;
-use sgt_entries::History;
+use sgt_log::History;
 use sgt_graph::Graph;
 use sgt_model::{Event, NoMemory};
 use sgt_records::Records;

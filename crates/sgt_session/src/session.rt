@@ -11,7 +11,7 @@ use crate::receipt::Receipt;
 use crate::receipts::Receipts;
 use crate::shared::Shared;
 use sgt_access::Accesses;
-use sgt_entries::EntryRef;
+use sgt_log::EntryRef;
 use sgt_graph::Graph;
 use sgt_model::{Event, NoMemory, Tid};
 use sgt_records::Records;

@@ -2,7 +2,7 @@ ghost use Rattle.std.specs.Prelude.{◌≡◌};
 ghost use Rattle.sgt_model.specs.Questions.{is_ending};
 
 use crate::lock_policy::Turn;
-use sgt_entries::EntryRef;
+use sgt_log::EntryRef;
 use std::sync::{Condvar, MutexGuard, Wait};
 
 /// Where commits wait until a live transaction ends.

@@ -5,7 +5,7 @@ ghost use Rattle.sgt_engine.specs.EngineView.{setting_of};
 use crate::engine::{ListEngine, SharedEngine, new_engine};
 use crate::plays::{Play, all_play};
 use sgt_access::OneList;
-use sgt_entries::History;
+use sgt_log::History;
 use sgt_graph::PairGraph;
 use sgt_model::{Entry, Event, Reply, Tid};
 use sgt_records::ListRecords;

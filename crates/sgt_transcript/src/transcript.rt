@@ -2,7 +2,7 @@ ghost use Rattle.std.specs.Prelude.{◌≡◌, ◌++◌, reverse, OnOk};
 ghost use Rattle.sgt_transcript.specs.Transcripts.{transcript};
 
 use crate::operations::append_operations;
-use sgt_entries::History;
+use sgt_log::History;
 use sgt_model::{Entry, NoMemory};
 
 /// Adds the operations of a whole history, a line each.

@@ -5,7 +5,7 @@ use crate::gate::{Gate, Pass};
 use sgt_access::Accesses;
 use sgt_audit::Outcome;
 use sgt_dispatch::Job;
-use sgt_entries::EntryRef;
+use sgt_log::EntryRef;
 use sgt_graph::Graph;
 use sgt_model::{Event, NoMemory, Tid};
 use sgt_records::Records;

@@ -9,7 +9,7 @@ use sgt_access::Accesses;
 use sgt_audit::{Outcome, audit};
 use sgt_dispatch::Job;
 use sgt_engine::{Engine, Past};
-use sgt_entries::History;
+use sgt_log::History;
 use sgt_graph::Graph;
 use sgt_model::Database;
 use sgt_records::Records;

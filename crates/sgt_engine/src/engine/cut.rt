@@ -13,7 +13,7 @@ ghost use Rattle.sgt_engine.specs.EngineView.{setting_of};
 use crate::engine::Engine;
 use crate::past::Past;
 use sgt_access::Accesses;
-use sgt_entries::History;
+use sgt_log::History;
 use sgt_graph::Graph;
 use sgt_model::{NoMemory, headline_holds, new_is_empty};
 use sgt_records::Records;

@@ -1,0 +1,422 @@
+ghost use Rattle.std.specs.Prelude.{◌≡◌, ℕ, ℤ, true, List, ◌+◌, ◌≤◌, ◌<◌, ◌↔◌, [], ◌∷◌, ◌++◌, length, take, min, reverse, slice_get};
+ghost use Rattle.std.specs.Prelude.{IsTrue, Some, OnOk, OnErr, ◌*◌, ◌^◌, vec_len, vec_capacity};
+ghost use Rattle.std.specs.Result.{IsOk};
+ghost use Rattle.std.specs.Option.{option_map};
+ghost use Rattle.sgt_model.specs.declared.entry.Entry.{Entry as E};
+ghost use Rattle.sgt_model.specs.declared.event.Event.TheVariants.{Start, Commit};
+ghost use Rattle.sgt_model.specs.declared.reply.Reply.TheVariants.{Started, Committed};
+ghost use Rattle.sgt_log.specs.ShortEntries.{entry_of};
+ghost use Rattle.sgt_log.specs.Plain.{is_plain};
+
+use crate::entry_ref::EntryRef;
+use crate::short_entry::ShortEntry;
+use crate::short_event::ShortEvent;
+use crate::short_reply::ShortReply;
+use crate::span::Span;
+use crate::touch::touch_ahead;
+use sgt_model::{Entry, Event, NoMemory, Reply, Tid};
+use std::alloc::Global;
+use std::marker::Model;
+
+/// How many transactions the lists of one reply can hold: a walk of 32, and 32 that fell.
+const MOST_TIDS: usize = 64;
+
+/// How many values the lists of one entry can hold: 4 arguments, and 8 answers.
+const MOST_VALUES: usize = 12;
+
+/// For how many entries a growth makes room beyond those that were asked for, so that growths are rare.
+const AHEAD: usize = 64;
+
+/// For how many more entries room can be counted, in the list that takes the most for each.
+const MOST_ROOM: usize = usize::MAX / MOST_TIDS - AHEAD;
+
+/// The entries of a history, oldest first. An entry takes 72 bytes, and what its lists hold: 4 for each transaction, 8 for each
+/// value.
+///
+/// It has room for some more entries, whatever they are: `reserve` makes it, and a `push` uses it up without taking memory.
+#[derive(Drop)]
+pub struct History {
+    entries: Vec<ShortEntry>,
+    tids: Vec<Tid>,
+    values: Vec<i64>,
+    // For how many more entries there is room in each list.
+    room: usize,
+}
+
+impl Model for History {
+    ghost use Rattle.std.specs.Prelude.{◌+◌, ◌*◌, ◌≤◌, length, map};
+    ghost use Rattle.std.specs.Vec.{vec_len, vec_capacity};
+    ghost use Rattle.sgt_log.specs.HistoryView.{HistoryView};
+    ghost use Rattle.sgt_log.specs.ShortEntries.{AreEntries, entry_of};
+
+    ghost Value = { HistoryView };
+
+    ghost view = { λ h. record {
+      entries = map (entry_of h.tids.items h.values.items) h.entries.items;
+      room = h.room;
+      capacities = record { entries = vec_capacity h.entries; tids = vec_capacity h.tids; values = vec_capacity h.values };
+    } };
+
+    ghost invariant = { λ h.
+        AreEntries (length h.tids.items) (length h.values.items) h.entries.items
+        × (vec_len h.entries + h.room ≤ vec_capacity h.entries)
+        × (vec_len h.tids + h.room * 64 ≤ vec_capacity h.tids)
+        × (vec_len h.values + h.room * 12 ≤ vec_capacity h.values) };
+}
+
+impl History {
+    /// No entries, and no room. This takes no memory.
+    pub fn new(alloc: Global) -> Self
+        ensures entries { result.entries ≡ [] }
+        ensures room { result.room ≡ 0 }
+    {
+        History {
+            entries: Vec::new(alloc),
+            tids: Vec::new(alloc),
+            values: Vec::new(alloc),
+            room: 0,
+        }
+    }
+
+    /// How many entries there are.
+    pub fn len(&self) -> usize
+        ensures { result ≡ length self.now.entries }
+    {
+        self.entries.len()
+    }
+
+    /// Whether there are no entries.
+    pub fn is_empty(&self) -> bool
+        ensures { IsTrue result ↔ (self.now.entries ≡ []) }
+    {
+        self.entries.is_empty()
+    }
+
+    /// For how many more entries there is room, whatever they are.
+    pub fn room(&self) -> usize
+        ensures { result ≡ self.now.room }
+    {
+        self.room
+    }
+
+    /// Makes room for so many more entries, whatever they are. It is not lessened where there was more. Entries stay.
+    ///
+    /// `NoMemory` where a growth was refused, or the room can't be counted; the room stays then.
+    #[inline]
+    pub fn reserve(&mut self, count: usize) -> Result<(), NoMemory>
+        ensures entries { self.new.entries ≡ self.old.entries }
+        ensures room { OnOk result (count ≤ self.new.room) }
+        ensures no_less { self.old.room ≤ self.new.room }
+        ensures enough { count ≤ self.old.room → self.new ≡ self.old }
+        ensures succeeds { count ≤ self.old.room → IsOk result }
+        ensures refused { OnErr result (self.new.room ≡ self.old.room) }
+    {
+        if count <= self.room {
+            return Ok(());
+        }
+        self.grow(count)
+    }
+
+    // Makes more room than there is.
+    #[cold]
+    #[inline(never)]
+    fn grow(&mut self, count: usize) -> Result<(), NoMemory>
+        requires { self.old.room < count }
+        ensures entries { self.new.entries ≡ self.old.entries }
+        ensures room { OnOk result (count ≤ self.new.room) }
+        ensures no_less { self.old.room ≤ self.new.room }
+        ensures refused { OnErr result (self.new.room ≡ self.old.room) }
+    {
+        if count > MOST_ROOM {
+            return Err(NoMemory);
+        }
+        let room = count + AHEAD;
+        reserve_lists(&mut self.entries, &mut self.tids, &mut self.values, room)?;
+        self.room = room;
+        Ok(())
+    }
+
+    /// Takes memory for so many more entries, but for what their lists will hold: then those that are there need not be moved
+    /// until then. Nothing else changes.
+    ///
+    /// `NoMemory` where the growth was refused.
+    pub fn reserve_entries(&mut self, count: usize) -> Result<(), NoMemory>
+        ensures entries { self.new.entries ≡ self.old.entries }
+        ensures room { self.new.room ≡ self.old.room }
+    {
+        self.entries.reserve(count)?;
+        Ok(())
+    }
+
+    /// Touches the memory of the next entries, of so many at most, but for that of their lists, and tells up to which place it did.
+    pub fn touch(&mut self, most: usize) -> usize
+        ensures same { self.new ≡ self.old }
+        ensures touched { result ≡ min self.old.capacities.entries (length self.old.entries + most) }
+    {
+        let filler = ShortEntry {
+            event: ShortEvent::Quit(Tid(0)),
+            reply: ShortReply::Ended,
+        };
+        touch_ahead(&mut self.entries, most, filler)
+    }
+
+    /// Adds an entry, for which there is room. This takes no memory.
+    #[inline]
+    pub fn push(&mut self, event: &Event, reply: &Reply)
+        requires { 0 < self.old.room }
+        ensures entries { self.new.entries ≡ self.old.entries ++ record { event = event.now; reply = reply.now } ∷ [] }
+        ensures room { self.new.room + 1 ≡ self.old.room }
+        ensures capacities { self.new.capacities ≡ self.old.capacities }
+    {
+        // The frequent kinds are written straight to their place.
+        match (event, reply) {
+            (Event::Step(t), Reply::Looked { key, value }) => self.push_plain(
+                ShortEvent::Step(*t),
+                ShortReply::Looked {
+                    key: *key,
+                    value: *value,
+                },
+            ),
+            (Event::Step(t), Reply::Wrote { key, value }) => self.push_plain(
+                ShortEvent::Step(*t),
+                ShortReply::Wrote {
+                    key: *key,
+                    value: *value,
+                },
+            ),
+            (Event::Step(t), Reply::Ended) => {
+                self.push_plain(ShortEvent::Step(*t), ShortReply::Ended)
+            }
+            (Event::Start { procedure, args }, Reply::Started(t)) => {
+                let _count = args.len();
+                self.push_start(*procedure, args.as_slice(), *t)
+            }
+            (Event::Commit(t), Reply::Committed(answers)) => {
+                let _count = answers.len();
+                self.push_commit(*t, answers.as_slice())
+            }
+            _ => self.push_any(event, reply),
+        }
+    }
+
+    // Adds an entry of whatever kind.
+    #[inline(never)]
+    fn push_any(&mut self, event: &Event, reply: &Reply)
+        requires { 0 < self.old.room }
+        ensures entries { self.new.entries ≡ self.old.entries ++ record { event = event.now; reply = reply.now } ∷ [] }
+        ensures room { self.new.room + 1 ≡ self.old.room }
+        ensures capacities { self.new.capacities ≡ self.old.capacities }
+    {
+        let ShortEntry { event, reply } = ShortEntry::of(
+            event,
+            reply,
+            &mut self.tids,
+            &mut self.values,
+        );
+        self.entries.push_reserved(ShortEntry { event, reply });
+        self.room -= 1;
+    }
+
+    // Adds the start of a transaction.
+    #[inline(never)]
+    fn push_start(&mut self, procedure: u16, args: &[i64], t: Tid)
+        requires room { 0 < self.old.room }
+        requires few { length args.now ≤ 4 }
+        ensures entries { self.new.entries
+            ≡ self.old.entries ++ record { event = Start procedure args.now; reply = Started t } ∷ [] }
+        ensures room { self.new.room + 1 ≡ self.old.room }
+        ensures capacities { self.new.capacities ≡ self.old.capacities }
+    {
+        let args = Span::append(&mut self.values, args);
+        let event = ShortEvent::Start { procedure, args };
+        let reply = ShortReply::Started(t);
+        self.entries.push_reserved(ShortEntry { event, reply });
+        self.room -= 1;
+    }
+
+    // Adds a commit with its answers.
+    #[inline(never)]
+    fn push_commit(&mut self, t: Tid, answers: &[i64])
+        requires room { 0 < self.old.room }
+        requires few { length answers.now ≤ 8 }
+        ensures entries { self.new.entries
+            ≡ self.old.entries ++ record { event = Commit t; reply = Committed answers.now } ∷ [] }
+        ensures room { self.new.room + 1 ≡ self.old.room }
+        ensures capacities { self.new.capacities ≡ self.old.capacities }
+    {
+        let answers = Span::append(&mut self.values, answers);
+        let event = ShortEvent::Commit(t);
+        let reply = ShortReply::Committed(answers);
+        self.entries.push_reserved(ShortEntry { event, reply });
+        self.room -= 1;
+    }
+
+    // Adds an entry of a kind that has no lists.
+    #[inline(always)]
+    fn push_plain(&mut self, event: ShortEvent, reply: ShortReply)
+        requires room { 0 < self.old.room }
+        requires plain { is_plain (record { event = event; reply = reply }) ≡ true }
+        ensures entries { (tids : List ℕ) (values : List ℤ) →
+            self.new.entries ≡ self.old.entries ++ entry_of tids values (record { event = event; reply = reply }) ∷ [] }
+        ensures room { self.new.room + 1 ≡ self.old.room }
+        ensures capacities { self.new.capacities ≡ self.old.capacities }
+    {
+        self.entries.push_reserved(ShortEntry { event, reply });
+        self.room -= 1;
+    }
+
+    /// Adds an entry that another history holds, for which there is room here. This takes no memory.
+    #[inline]
+    pub fn push_entry(&mut self, entry: &EntryRef<'_>)
+        requires { 0 < self.old.room }
+        ensures entries { self.new.entries ≡ self.old.entries ++ entry.now ∷ [] }
+        ensures room { self.new.room + 1 ≡ self.old.room }
+        ensures capacities { self.new.capacities ≡ self.old.capacities }
+    {
+        // Most entries have no lists.
+        if entry.short.is_plain() {
+            self.push_plain(entry.short.event, entry.short.reply);
+        } else {
+            self.push_lists(entry);
+        }
+    }
+
+    // Adds an entry that another history holds, with its lists.
+    fn push_lists(&mut self, entry: &EntryRef<'_>)
+        requires { 0 < self.old.room }
+        ensures entries { self.new.entries ≡ self.old.entries ++ entry.now ∷ [] }
+        ensures room { self.new.room + 1 ≡ self.old.room }
+        ensures capacities { self.new.capacities ≡ self.old.capacities }
+    {
+        match (&entry.short.event, &entry.short.reply) {
+            (ShortEvent::Start { procedure, args }, ShortReply::Started(t)) => {
+                self.push_start(*procedure, args.items(entry.values), *t)
+            }
+            (ShortEvent::Commit(t), ShortReply::Committed(answers)) => {
+                self.push_commit(*t, answers.items(entry.values))
+            }
+            _ => self.push_moved(entry),
+        }
+    }
+
+    // The same, of whatever kind.
+    #[inline(never)]
+    fn push_moved(&mut self, entry: &EntryRef<'_>)
+        requires { 0 < self.old.room }
+        ensures entries { self.new.entries ≡ self.old.entries ++ entry.now ∷ [] }
+        ensures room { self.new.room + 1 ≡ self.old.room }
+        ensures capacities { self.new.capacities ≡ self.old.capacities }
+    {
+        let ShortEntry { event, reply } = entry
+            .short
+            .moved(entry.tids, entry.values, &mut self.tids, &mut self.values);
+        self.entries.push_reserved(ShortEntry { event, reply });
+        self.room -= 1;
+    }
+
+    /// The entry at a place, read where it stands.
+    pub fn entry(&self, place: usize) -> EntryRef<'_>
+        requires { place < length self.now.entries }
+        ensures entry { slice_get self.now.entries place ≡ Some result }
+        ensures next { take (place + 1) self.now.entries ≡ take place self.now.entries ++ result ∷ [] }
+    {
+        EntryRef {
+            short: &self.entries[place],
+            tids: self.tids.as_slice(),
+            values: self.values.as_slice(),
+        }
+    }
+
+    /// The entry at a place, if there is one, read where it stands.
+    pub fn get_entry(&self, place: usize) -> Option<EntryRef<'_>>
+        ensures { result ≡ slice_get self.now.entries place }
+    {
+        if place < self.entries.len() {
+            Some(self.entry(place))
+        } else {
+            None
+        }
+    }
+
+    /// The newest entry, if there is one, read where it stands.
+    pub fn last_entry(&self) -> Option<EntryRef<'_>>
+        ensures { result ≡ slice_get (reverse self.now.entries) 0 }
+    {
+        if self.is_empty() {
+            None
+        } else {
+            Some(self.entry(self.len() - 1))
+        }
+    }
+
+    /// The entry at a place.
+    pub fn at(&self, place: usize) -> Entry
+        requires { place < length self.now.entries }
+        ensures entry { slice_get self.now.entries place ≡ Some result }
+        ensures next { take (place + 1) self.now.entries ≡ take place self.now.entries ++ result ∷ [] }
+    {
+        self.entry(place).in_full()
+    }
+
+    /// The entry at a place, if there is one.
+    pub fn get(&self, place: usize) -> Option<Entry>
+        ensures { result ≡ slice_get self.now.entries place }
+    {
+        match self.get_entry(place) {
+            Some(entry) => Some(entry.in_full()),
+            None => None,
+        }
+    }
+
+    /// The newest entry, if there is one.
+    pub fn last(&self) -> Option<Entry>
+        ensures { result ≡ slice_get (reverse self.now.entries) 0 }
+    {
+        match self.last_entry() {
+            Some(entry) => Some(entry.in_full()),
+            None => None,
+        }
+    }
+
+    /// The reply of the entry at a place.
+    pub fn reply_at(&self, place: usize) -> Reply
+        requires { place < length self.now.entries }
+        ensures { option_map (λ (e : E). e.reply) (slice_get self.now.entries place) ≡ Some result }
+    {
+        self.entry(place).reply()
+    }
+
+    /// The reply of the newest entry, if there is one.
+    pub fn last_reply(&self) -> Option<Reply>
+        ensures { result ≡ option_map (λ (e : E). e.reply) (slice_get (reverse self.now.entries) 0) }
+    {
+        match self.last_entry() {
+            Some(entry) => Some(entry.reply()),
+            None => None,
+        }
+    }
+}
+
+// Makes room in the three lists for so many more entries. What they hold stays, and no list has less room afterwards.
+fn reserve_lists(
+    entries: &mut Vec<ShortEntry>,
+    tids: &mut Vec<Tid>,
+    values: &mut Vec<i64>,
+    room: usize,
+) -> Result<(), NoMemory>
+    requires { room * 64 < 2 ^ 64 }
+    ensures entries { (entries.new.items ≡ entries.old.items) × (vec_len entries.new ≡ vec_len entries.old) }
+    ensures tids { (tids.new.items ≡ tids.old.items) × (vec_len tids.new ≡ vec_len tids.old) }
+    ensures values { (values.new.items ≡ values.old.items) × (vec_len values.new ≡ vec_len values.old) }
+    ensures entries_room { vec_capacity entries.old ≤ vec_capacity entries.new }
+    ensures tids_room { vec_capacity tids.old ≤ vec_capacity tids.new }
+    ensures values_room { vec_capacity values.old ≤ vec_capacity values.new }
+    ensures enough { OnOk result ((vec_len entries.new + room ≤ vec_capacity entries.new)
+        × (vec_len tids.new + room * 64 ≤ vec_capacity tids.new)
+        × (vec_len values.new + room * 12 ≤ vec_capacity values.new)) }
+{
+    entries.reserve(room)?;
+    tids.reserve(room * MOST_TIDS)?;
+    values.reserve(room * MOST_VALUES)?;
+    Ok(())
+}

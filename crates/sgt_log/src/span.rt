@@ -1,0 +1,70 @@
+ghost use Rattle.std.specs.Prelude.{◌≡◌, ◌+◌, ◌≤◌, ◌++◌, length, vec_len, vec_capacity};
+ghost use Rattle.sgt_log.specs.Spans.{part_of, IsWithin};
+
+use sgt_model::{Bounded, Tid, Tids};
+
+/// A part of a list: where it begins, and how many items it has.
+#[derive(Clone, Copy)]
+pub struct Span {
+    pub from: usize,
+    pub count: u8,
+}
+
+impl Span {
+    /// Adds the items at the end of a list that has room for them, and tells where they stand. This takes no memory.
+    ///
+    /// Most entries have no lists, and pay nothing for this where it stands apart.
+    #[inline(never)]
+    pub fn append<T: Copy>(list: &mut Vec<T>, items: &[T]) -> Self
+        requires room { vec_len list.old + length items.now ≤ vec_capacity list.old }
+        requires few { length items.now ≤ 32 }
+        ensures items { list.new.items ≡ list.old.items ++ items.now }
+        ensures part { part_of list.new.items result ≡ items.now }
+        ensures within { IsWithin (length list.new.items) result }
+        ensures count { result.count ≡ length items.now }
+        ensures len { vec_len list.new ≡ vec_len list.old + length items.now }
+        ensures capacity { vec_capacity list.new ≡ vec_capacity list.old }
+    {
+        let from = list.len();
+        for item in items {
+            list.push_reserved(*item);
+        }
+        Span {
+            from,
+            count: items.len() as u8,
+        }
+    }
+
+    /// The items that stand there.
+    pub fn items<T>(self, list: &[T]) -> &[T]
+        requires { IsWithin (length list.now) self }
+        ensures items { result.now ≡ part_of list.now self }
+        ensures count { length result.now ≡ self.count }
+        ensures few { length result.now ≤ 32 }
+    {
+        &list[self.from..self.from + self.count as usize]
+    }
+
+    /// The transactions that stand there.
+    pub fn tids(self, list: &[Tid]) -> Tids
+        requires { IsWithin (length list.now) self }
+        ensures { result ≡ part_of list.now self }
+    {
+        match Tids::from_slice(self.items(list)) {
+            Some(tids) => tids,
+            None => unreachable!(),
+        }
+    }
+
+    /// The values that stand there.
+    pub fn values<const N: usize>(self, list: &[i64]) -> Bounded<i64, N>
+        requires within { IsWithin (length list.now) self }
+        requires few { self.count ≤ N }
+        ensures { result ≡ part_of list.now self }
+    {
+        match Bounded::from_slice(self.items(list)) {
+            Some(values) => values,
+            None => unreachable!(),
+        }
+    }
+}
