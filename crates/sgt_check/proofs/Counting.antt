@@ -3,7 +3,7 @@ use Rattle.std.proofs.Common.{◌≡◌, ◌+◌, ◌<◌, ◌≤◌, ◌==◌, 
 use Rattle.std.specs.Prelude.{count_by}
 use Rattle.std.proofs.lemmas.List.{append-nil, take_more}
 use Rattle.std.proofs.lemmas.List.Sums.{count_by_more_no, count_by_more_yes}
-use Rattle.sgt_history.specs.declared.operation.Operation.{Operation}
+use Rattle.sgt_classes.specs.declared.operation.Operation.{Operation}
 use Rattle.sgt_check.specs.Reports.{acts, count_firsts}
 
 -- one operation more

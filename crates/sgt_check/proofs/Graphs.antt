@@ -4,9 +4,9 @@ use Rattle.std.specs.Ordering.{nat_cmp, ordering_reverse, is_eq}
 use Rattle.std.proofs.lemmas.Cmp.{nat_cmp_total}
 use Rattle.std.proofs.lemmas.Bool.{cases_eq, eqb-true, eqb-false}
 use Rattle.std.proofs.lemmas.List.{take_more}
-use Rattle.sgt_history.specs.declared.graph.Edge.{Edge}
-use Rattle.sgt_history.specs.FirstAccesses.{pair_cmp}
-use Rattle.sgt_history.proofs.FirstAccesses.{pairs_apart}
+use Rattle.sgt_classes.specs.declared.graph.Edge.{Edge}
+use Rattle.sgt_classes.specs.FirstAccesses.{pair_cmp}
+use Rattle.sgt_classes.proofs.FirstAccesses.{pairs_apart}
 use Rattle.sgt_check.specs.GraphText.{leads}
 
 nat_cmp-same : (a : ℕ) → nat_cmp a a ≡ Equal

@@ -2,11 +2,11 @@
 use Rattle.std.proofs.Common.{◌≡◌, ◌↔◌, ℕ, Bool, true, false, not, List, refl, sym}
 use Rattle.std.specs.Prelude.{Option, Some, None, is_some}
 use Rattle.std.proofs.lemmas.Bool.{true≢false}
-use Rattle.sgt_history.specs.declared.operation.Operation.{Operation}
-use Rattle.sgt_history.specs.declared.operation.Violation.{Violation}
-use Rattle.sgt_history.specs.Classes.{IsRecoverable, IsFirstViolation}
-use Rattle.sgt_history.specs.Serializability.{IsSerializable}
-use Rattle.sgt_history.specs.SerialOrders.{IsSerial}
+use Rattle.sgt_classes.specs.declared.operation.Operation.{Operation}
+use Rattle.sgt_classes.specs.declared.operation.Violation.{Violation}
+use Rattle.sgt_classes.specs.Classes.{IsRecoverable, IsFirstViolation}
+use Rattle.sgt_classes.specs.Serializability.{IsSerializable}
+use Rattle.sgt_classes.specs.SerialOrders.{IsSerial}
 use Rattle.sgt_check.specs.declared.report.Report.{Report}
 use Rattle.sgt_check.specs.Reports.{IsReport}
 

@@ -2,10 +2,10 @@
 use Rattle.std.specs.Prelude.{ℕ, Bool, true, false, ◌==◌, ◌&&◌, ◌||◌, if◌then◌else◌, List, [], ◌∷◌, ◌++◌, codes}
 use Rattle.std.specs.List.{flat_map}
 use Rattle.std.specs.Fmt.{decimal}
-use Rattle.sgt_history.specs.declared.operation.Operation.{Operation}
-use Rattle.sgt_history.specs.declared.graph.Edge.{Edge}
-use Rattle.sgt_history.specs.declared.serial.Serializability.{Serializability}
-use Rattle.sgt_history.specs.declared.serial.Serializability.TheVariants.{Serial, Cycle}
+use Rattle.sgt_classes.specs.declared.operation.Operation.{Operation}
+use Rattle.sgt_classes.specs.declared.graph.Edge.{Edge}
+use Rattle.sgt_classes.specs.declared.serial.Serializability.{Serializability}
+use Rattle.sgt_classes.specs.declared.serial.Serializability.TheVariants.{Serial, Cycle}
 use Rattle.sgt_notation.specs.declared.history.History.{History}
 use Rattle.sgt_check.specs.Reports.{commits}
 use Rattle.sgt_check.specs.ReportText.{placed}

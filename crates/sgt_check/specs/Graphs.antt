@@ -1,9 +1,9 @@
 -- What is written where the serialization graph of a text is asked for.
 use Rattle.std.specs.Prelude.{◌≡◌, ◌↔◌, ℕ, Bool, true, List}
-use Rattle.sgt_history.specs.declared.graph.Edge.{Edge}
-use Rattle.sgt_history.specs.Classes.{IsRecoverable}
-use Rattle.sgt_history.specs.Serializability.{IsSerializable}
-use Rattle.sgt_history.specs.FirstConflicts.{AreFirstConflicts}
+use Rattle.sgt_classes.specs.declared.graph.Edge.{Edge}
+use Rattle.sgt_classes.specs.Classes.{IsRecoverable}
+use Rattle.sgt_classes.specs.Serializability.{IsSerializable}
+use Rattle.sgt_classes.specs.FirstConflicts.{AreFirstConflicts}
 use Rattle.sgt_notation.specs.declared.history.History.{History}
 use Rattle.sgt_notation.specs.Words.{words_of}
 use Rattle.sgt_notation.specs.Readings.{AreRead, texts}

@@ -3,10 +3,10 @@ use Rattle.std.specs.Prelude.{ℕ, ◌+◌, ◌-◌, List, [], ◌∷◌, ◌++�
 use Rattle.std.specs.Option.{option_map_or}
 use Rattle.std.specs.List.{flat_map}
 use Rattle.std.specs.Fmt.{decimal}
-use Rattle.sgt_history.specs.declared.operation.Violation.{Violation}
-use Rattle.sgt_history.specs.declared.graph.Edge.{Edge}
-use Rattle.sgt_history.specs.declared.serial.Serializability.{Serializability}
-use Rattle.sgt_history.specs.declared.serial.Serializability.TheVariants.{Serial, Cycle}
+use Rattle.sgt_classes.specs.declared.operation.Violation.{Violation}
+use Rattle.sgt_classes.specs.declared.graph.Edge.{Edge}
+use Rattle.sgt_classes.specs.declared.serial.Serializability.{Serializability}
+use Rattle.sgt_classes.specs.declared.serial.Serializability.TheVariants.{Serial, Cycle}
 use Rattle.sgt_notation.specs.declared.history.History.{History}
 use Rattle.sgt_notation.specs.Spellings.{spelling}
 use Rattle.sgt_notation.specs.Readings.{texts}

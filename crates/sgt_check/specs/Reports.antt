@@ -1,13 +1,13 @@
 -- What a report says of a history.
 use Rattle.std.specs.Prelude.{◌≡◌, ◌+◌, ◌↔◌, ℕ, Bool, true, false, ◌==◌, ◌||◌, if◌then◌else◌, List, [], ◌∷◌, ◌++◌, Option, Some, None, count_by}
-use Rattle.sgt_history.specs.declared.operation.Operation.{Operation}
-use Rattle.sgt_history.specs.declared.operation.Violation.{Violation}
-use Rattle.sgt_history.specs.declared.operation.Action.{Action}
-use Rattle.sgt_history.specs.declared.operation.Action.TheVariants.{Read, Write, Commit, Abort}
-use Rattle.sgt_history.specs.Histories.{Does}
-use Rattle.sgt_history.specs.Classes.{ReadsFrom, BreaksStrictness, BreaksAvoidance, BreaksRecoverability, BreaksRigorousness, IsFirstViolation}
-use Rattle.sgt_history.specs.Serializability.{BreaksCommitOrder, IsSerializable}
-use Rattle.sgt_history.specs.SerialOrders.{IsShown, IsSerial}
+use Rattle.sgt_classes.specs.declared.operation.Operation.{Operation}
+use Rattle.sgt_classes.specs.declared.operation.Violation.{Violation}
+use Rattle.sgt_classes.specs.declared.operation.Action.{Action}
+use Rattle.sgt_classes.specs.declared.operation.Action.TheVariants.{Read, Write, Commit, Abort}
+use Rattle.sgt_classes.specs.Histories.{Does}
+use Rattle.sgt_classes.specs.Classes.{ReadsFrom, BreaksStrictness, BreaksAvoidance, BreaksRecoverability, BreaksRigorousness, IsFirstViolation}
+use Rattle.sgt_classes.specs.Serializability.{BreaksCommitOrder, IsSerializable}
+use Rattle.sgt_classes.specs.SerialOrders.{IsShown, IsSerial}
 use Rattle.sgt_check.specs.declared.report.Counts.{Counts}
 use Rattle.sgt_check.specs.declared.report.Report.{Report}
 

@@ -9,7 +9,7 @@ use crate::graph_text::append_graph;
 use crate::input::read_input;
 use crate::report::check_history;
 use crate::run::{Told, is_sound};
-use sgt_history::first_conflicts;
+use sgt_classes::first_conflicts;
 use sgt_notation::read_history;
 use sgt_stream::{Sink, Source, write_all};
 use std::alloc::Global;

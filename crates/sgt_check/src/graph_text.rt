@@ -2,13 +2,13 @@
 ghost use Rattle.std.specs.Prelude.{◌≡◌, ◌==◌, ◌&&◌, ◌||◌, ◌++◌, ℕ, List, IfOk, OnOk};
 ghost use Rattle.std.specs.List.{flat_map};
 ghost use Rattle.std.specs.BTreeSet.{contains};
-ghost use Rattle.sgt_history.specs.declared.graph.Edge.{Edge};
-ghost use Rattle.sgt_history.specs.FirstAccesses.{pair_cmp};
+ghost use Rattle.sgt_classes.specs.declared.graph.Edge.{Edge};
+ghost use Rattle.sgt_classes.specs.FirstAccesses.{pair_cmp};
 ghost use Rattle.sgt_check.specs.GraphText.{node_text, leads, cycle_of, colour_text, arrow_text, graph_text};
 
 use crate::piece::{Piece, append_pieces};
 use sgt_format::append_numbered;
-use sgt_history::{Action, Edge, Operation, Serializability};
+use sgt_classes::{Action, Edge, Operation, Serializability};
 use sgt_model::NoMemory;
 use sgt_notation::History;
 use std::alloc::Global;

@@ -1,8 +1,8 @@
 //! The check of a history that is given as text: is it serializable, recoverable, and of which other classes?
 //!
-//! [`check_history`] puts the checkers of `sgt_history` together into a [`Report`], [`append_report`] writes it as seven lines,
+//! [`check_history`] puts the checkers of `sgt_classes` together into a [`Report`], [`append_report`] writes it as seven lines,
 //! and [`run_check`] does so for what a reader gives. [`append_graph`] writes the serialization graph in DOT, and [`run_graph`]
-//! that of what a reader gives. The classes are defined in `sgt_history`, the notation in `sgt_notation`, the lines of a report
+//! that of what a reader gives. The classes are defined in `sgt_classes`, the notation in `sgt_notation`, the lines of a report
 //! in `specs/ReportText.antt`, and those of a graph in `specs/GraphText.antt`.
 //!
 //! ```

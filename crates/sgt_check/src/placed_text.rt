@@ -6,7 +6,7 @@ ghost use Rattle.sgt_notation.specs.Readings.{texts};
 ghost use Rattle.sgt_check.specs.ReportText.{placed, transaction_at, transaction_of};
 
 use sgt_format::{append_number, append_numbered};
-use sgt_history::{Action, Operation};
+use sgt_classes::{Action, Operation};
 use sgt_model::NoMemory;
 use sgt_notation::History;
 

@@ -1,12 +1,12 @@
 //! What a check finds.
 ghost use Rattle.std.specs.Prelude.{◌↔◌, ◌≡◌, ◌<◌, ◌+◌, ◌-◌, ◌^◌, ◌==◌, ◌||◌, not, if◌then◌else◌, ℕ, is_some, IfOk, OnOk};
-ghost use Rattle.sgt_history.specs.Tables.{entry_of};
-ghost use Rattle.sgt_history.specs.Classes.{BreaksRecoverability, BreaksAvoidance, BreaksStrictness, BreaksRigorousness, IsFirstViolation};
-ghost use Rattle.sgt_history.specs.Serializability.{BreaksCommitOrder, IsSerializable};
-ghost use Rattle.sgt_history.specs.SerialOrders.{IsShown, IsSerial};
+ghost use Rattle.sgt_classes.specs.Tables.{entry_of};
+ghost use Rattle.sgt_classes.specs.Classes.{BreaksRecoverability, BreaksAvoidance, BreaksStrictness, BreaksRigorousness, IsFirstViolation};
+ghost use Rattle.sgt_classes.specs.Serializability.{BreaksCommitOrder, IsSerializable};
+ghost use Rattle.sgt_classes.specs.SerialOrders.{IsShown, IsSerial};
 ghost use Rattle.sgt_check.specs.Reports.{IsReport, AreCounts, IsWriteOf, commits, aborts};
 
-use sgt_history::{
+use sgt_classes::{
     Action, Operation, Serializability, Table, Violation, avoidance_violation,
     avoiding_are_recoverable, commit_order_violation, commit_ordered_are_serializable, read_source,
     recoverable_violation, rigorous_are_strict, rigorous_violation, serial_commit_order,
@@ -55,7 +55,7 @@ pub struct Report {
 
 /// Checks a history for all classes.
 ///
-/// It costs what the checkers of `sgt_history` cost, one after another. Of rigorousness, strictness, the avoidance of cascading
+/// It costs what the checkers of `sgt_classes` cost, one after another. Of rigorousness, strictness, the avoidance of cascading
 /// aborts and recoverability each is implied by the one before it: where a history is of one of these classes, those behind it
 /// cost nothing. Where it is commit ordered, the commit order is the serial order, and no graph is made.
 ///

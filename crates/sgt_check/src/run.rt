@@ -1,9 +1,9 @@
 //! The check of what a reader gives.
 ghost use Rattle.std.specs.Prelude.{◌≡◌, ◌≢◌, ◌↔◌, ◌^◌, ◌+◌, ◌<◌, ◌≤◌, ℕ, Bool, List, length, IfOk, IfErr, IfSome, Err, true, take};
 ghost use Rattle.std.specs.Io.KnownBytes.{Appends, Keeps};
-ghost use Rattle.sgt_history.specs.declared.operation.Operation.{Operation};
-ghost use Rattle.sgt_history.specs.Classes.{IsRecoverable};
-ghost use Rattle.sgt_history.specs.Serializability.{IsSerializable};
+ghost use Rattle.sgt_classes.specs.declared.operation.Operation.{Operation};
+ghost use Rattle.sgt_classes.specs.Classes.{IsRecoverable};
+ghost use Rattle.sgt_classes.specs.Serializability.{IsSerializable};
 ghost use Rattle.sgt_check.specs.Reports.{IsReport};
 ghost use Rattle.sgt_check.specs.Checks.{IsChecked, IsFaultOf};
 
@@ -11,7 +11,7 @@ use crate::fault::CheckFault;
 use crate::input::read_input;
 use crate::report::{Report, check_history};
 use crate::report_text::append_report;
-use sgt_history::Serializability;
+use sgt_classes::Serializability;
 use sgt_model::NoMemory;
 use sgt_notation::read_history;
 use sgt_stream::{Sink, Source, write_all};

@@ -1,11 +1,11 @@
 -- What is kept while a text is read: the numbers of its items, and who has ended.
 use Rattle.std.specs.Prelude.{◌≡◌, ◌↔◌, ℕ, Bool, true, false, List, [], ◌∷◌, ◌++◌, Option, Some, IsSome, map, length, slice_get, bytes_eq}
 use Rattle.std.specs.HashMap.{get_by}
-use Rattle.sgt_history.specs.declared.operation.Operation.{Operation}
-use Rattle.sgt_history.specs.declared.operation.Action.{Action}
-use Rattle.sgt_history.specs.declared.operation.Action.TheVariants.{Read, Write, Commit, Abort}
-use Rattle.sgt_history.specs.Histories.{EndedBefore}
-use Rattle.sgt_history.specs.Tables.{entry_of}
+use Rattle.sgt_classes.specs.declared.operation.Operation.{Operation}
+use Rattle.sgt_classes.specs.declared.operation.Action.{Action}
+use Rattle.sgt_classes.specs.declared.operation.Action.TheVariants.{Read, Write, Commit, Abort}
+use Rattle.sgt_classes.specs.Histories.{EndedBefore}
+use Rattle.sgt_classes.specs.Tables.{entry_of}
 use Rattle.sgt_notation.specs.Spellings.{IsSpelled}
 use Rattle.sgt_notation.specs.declared.items.Items.{Items}
 use Rattle.sgt_notation.specs.declared.reader.HistoryReader.{HistoryReader}

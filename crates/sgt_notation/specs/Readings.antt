@@ -1,9 +1,9 @@
 -- The history that a text spells, and the first fault of a text that spells none.
 use Rattle.std.specs.Prelude.{◌≡◌, ℕ, ⊤, List, length, map, take, Some, slice_get, if◌then◌else◌}
 use Rattle.std.specs.List.{AllZip}
-use Rattle.sgt_history.specs.Histories.{Does, EndedBefore}
-use Rattle.sgt_history.specs.declared.operation.Operation.{Operation}
-use Rattle.sgt_history.specs.declared.operation.Action.{Action}
+use Rattle.sgt_classes.specs.Histories.{Does, EndedBefore}
+use Rattle.sgt_classes.specs.declared.operation.Operation.{Operation}
+use Rattle.sgt_classes.specs.declared.operation.Action.{Action}
 use Rattle.sgt_notation.specs.Words.{Word}
 use Rattle.sgt_notation.specs.Spellings.{is_within, IsSpelled, IsOperation}
 use Rattle.sgt_notation.specs.declared.fault.NotationFault.{NotationFault}

@@ -2,10 +2,10 @@
 use Rattle.std.specs.Prelude.{◌≡◌, ◌<◌, ◌≤◌, ◌^◌, ◌==◌, ◌||◌, ◌&&◌, ℕ, Bool, nat_le, true, List, [], ◌∷◌, ◌++◌, length, Some, slice_get, codes}
 use Rattle.std.specs.Option.{option_map_or}
 use Rattle.std.specs.Fmt.{decimal}
-use Rattle.sgt_history.specs.Histories.{item_of}
-use Rattle.sgt_history.specs.declared.operation.Operation.{Operation}
-use Rattle.sgt_history.specs.declared.operation.Action.{Action}
-use Rattle.sgt_history.specs.declared.operation.Action.TheVariants.{Read, Write, Commit, Abort}
+use Rattle.sgt_classes.specs.Histories.{item_of}
+use Rattle.sgt_classes.specs.declared.operation.Operation.{Operation}
+use Rattle.sgt_classes.specs.declared.operation.Action.{Action}
+use Rattle.sgt_classes.specs.declared.operation.Action.TheVariants.{Read, Write, Commit, Abort}
 
 -- whether the byte is between these
 abbrev pub is_within : ℕ → ℕ → ℕ → Bool

@@ -1,4 +1,4 @@
-use sgt_history::Operation;
+use sgt_classes::Operation;
 
 /// The history that a text spells.
 #[derive(Debug, Drop, PartialEq, Eq)]

@@ -2,7 +2,7 @@
 //!
 //! [`read_history`] turns the bytes of a text into the operations that it spells, with the texts of their items, or tells the
 //! first fault. What a word is stands in `specs/Words.antt`, what it spells in `specs/Spellings.antt`, and what the history of a
-//! text is in `specs/Readings.antt`. The crate says nothing of what a history is worth: that is `sgt_history`.
+//! text is in `specs/Readings.antt`. The crate says nothing of what a history is worth: that is `sgt_classes`.
 //!
 //! ```
 //! let history = read_history(alloc, b"r1[x] w2[x] # 2 overwrites\nc1 a2")?;

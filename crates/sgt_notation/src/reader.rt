@@ -1,8 +1,8 @@
 //! A text as a history.
 ghost use Rattle.std.specs.Prelude.{◌≡◌, ◌<◌, ◌≤◌, ◌+◌, ◌^◌, ◌∷◌, ◌++◌, [], ℕ, List, length, IfOk, IfErr, OnOk};
-ghost use Rattle.sgt_history.specs.declared.operation.Operation.{Operation};
-ghost use Rattle.sgt_history.specs.Histories.{EndedBefore};
-ghost use Rattle.sgt_history.specs.Tables.{entry_of};
+ghost use Rattle.sgt_classes.specs.declared.operation.Operation.{Operation};
+ghost use Rattle.sgt_classes.specs.Histories.{EndedBefore};
+ghost use Rattle.sgt_classes.specs.Tables.{entry_of};
 ghost use Rattle.sgt_notation.specs.Words.{words_of};
 ghost use Rattle.sgt_notation.specs.Spellings.{IsSpelled};
 ghost use Rattle.sgt_notation.specs.Readings.{AreRead, IsFaultAt, IsFirstFault, texts};
@@ -13,7 +13,7 @@ use crate::history::History;
 use crate::items::Items;
 use crate::spelled::{Spelled, read_word};
 use crate::words::{Place, next_word, word_end};
-use sgt_history::{Action, Operation, Table};
+use sgt_classes::{Action, Operation, Table};
 use sgt_model::NoMemory;
 use std::alloc::Global;
 

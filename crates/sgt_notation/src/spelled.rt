@@ -4,7 +4,7 @@ ghost use Rattle.std.specs.Fmt.{decimal};
 ghost use Rattle.sgt_notation.specs.Spellings.{is_item_byte, are_item_bytes, IsItem, bracketed, IsSpelled, IsOperation};
 
 use memchr::memchr;
-use sgt_history::{Action, Operation};
+use sgt_classes::{Action, Operation};
 
 /// The most bytes that an item may have.
 const LONGEST_ITEM: usize = 64;

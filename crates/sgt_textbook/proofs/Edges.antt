@@ -11,8 +11,8 @@ use Rattle.sgt_model.specs.Fates.{committed}
 use Rattle.sgt_model.specs.Pairs.{one_stores, conflicts, has_conflicting, Precedes, Pair}
 use Rattle.sgt_model.proofs.Facts.{committed-stands, Conflicting, conflicts-access, follows-access}
 use Rattle.sgt_model.proofs.Stores.{key_eq-true}
-use Rattle.sgt_history.specs.Histories.{Does}
-use Rattle.sgt_history.specs.Serializability.{Conflict, IsEdge}
+use Rattle.sgt_classes.specs.Histories.{Does}
+use Rattle.sgt_classes.specs.Serializability.{Conflict, IsEdge}
 use Rattle.sgt_textbook.specs.Textbook.{operations_of, textbook}
 use Rattle.sgt_textbook.specs.Laws.{EdgesArePairs}
 use Rattle.sgt_textbook.proofs.Places.{in_first, in_second}

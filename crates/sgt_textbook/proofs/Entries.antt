@@ -18,9 +18,9 @@ use Rattle.sgt_model.specs.Walks.{Member}
 use Rattle.sgt_model.specs.Accesses.{Access, access_at, access_in}
 use Rattle.sgt_model.specs.Fates.{subject, concerns, undone_in, ending_in, has_aborted}
 use Rattle.sgt_model.proofs.Facts.{some_is, member_from}
-use Rattle.sgt_history.specs.declared.operation.Operation.{Operation}
-use Rattle.sgt_history.specs.declared.operation.Action.{Action}
-use Rattle.sgt_history.specs.declared.operation.Action.TheVariants as action
+use Rattle.sgt_classes.specs.declared.operation.Operation.{Operation}
+use Rattle.sgt_classes.specs.declared.operation.Action.{Action}
+use Rattle.sgt_classes.specs.declared.operation.Action.TheVariants as action
 use Rattle.sgt_textbook.specs.Textbook.{named, stepping, each_does, operations_in, committed_in}
 use Rattle.sgt_textbook.proofs.Places.{split_at, in_first, in_second}
 

@@ -12,10 +12,10 @@ use Rattle.sgt_model.proofs.ExampleSettings.{small_bank_tell, entry}
 use Rattle.sgt_model.proofs.ExamplesReads.{dirty_read_waits, quit_takes_reader, read_past_aborted}
 use Rattle.sgt_model.proofs.ExamplesReplay.{two_deposits}
 use Rattle.sgt_model.proofs.ExamplesRefusals.{refusal_takes_reader}
-use Rattle.sgt_history.specs.declared.operation.Operation.{Operation}
-use Rattle.sgt_history.specs.declared.operation.Action.{Action}
-use Rattle.sgt_history.specs.declared.operation.Action.TheVariants as action
-use Rattle.sgt_history.specs.Histories.{Does}
+use Rattle.sgt_classes.specs.declared.operation.Operation.{Operation}
+use Rattle.sgt_classes.specs.declared.operation.Action.{Action}
+use Rattle.sgt_classes.specs.declared.operation.Action.TheVariants as action
+use Rattle.sgt_classes.specs.Histories.{Does}
 use Rattle.sgt_textbook.specs.Textbook.{textbook, commit_order}
 use Rattle.sgt_textbook.specs.Laws.{SomeCascade}
 use Rattle.sgt_textbook.proofs.Entries.{does}

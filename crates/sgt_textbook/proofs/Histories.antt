@@ -21,9 +21,9 @@ use Rattle.sgt_model.specs.CommitOrder.{CommitsBefore}
 use Rattle.sgt_model.specs.Laws.{CommitsAlwaysInOrder, CommitsAlwaysInLine}
 use Rattle.sgt_model.proofs.Facts.{end-live, live-not_committed, committed-stays, committed-stands, commit-case, aborted-stays, abort-case}
 use Rattle.sgt_model.proofs.Stores.{key_eq-refl}
-use Rattle.sgt_history.specs.declared.operation.Action.TheVariants as action
-use Rattle.sgt_history.specs.Histories.{Does, Uses, CommittedBefore}
-use Rattle.sgt_history.specs.Serializability.{Conflict}
+use Rattle.sgt_classes.specs.declared.operation.Action.TheVariants as action
+use Rattle.sgt_classes.specs.Histories.{Does, Uses, CommittedBefore}
+use Rattle.sgt_classes.specs.Serializability.{Conflict}
 use Rattle.sgt_textbook.specs.Textbook.{IsNumbering, operations_of, textbook}
 use Rattle.sgt_textbook.specs.Laws.{AreCommitOrdered}
 use Rattle.sgt_textbook.proofs.Places.{InFirst, InSecond, split_at, in_first, in_second, still}

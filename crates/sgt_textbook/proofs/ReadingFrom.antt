@@ -15,11 +15,11 @@ use Rattle.sgt_model.specs.Settings.{Setting}
 use Rattle.sgt_model.specs.Legality.{Legal}
 use Rattle.sgt_model.specs.Laws.{CommitsAlwaysInOrder, CommitsAlwaysInLine}
 use Rattle.sgt_model.proofs.Stores.{key_eq-true, stores-some, Stored}
-use Rattle.sgt_history.specs.declared.operation.Operation.{Operation}
-use Rattle.sgt_history.specs.declared.operation.Action.{Action}
-use Rattle.sgt_history.specs.declared.operation.Action.TheVariants as action
-use Rattle.sgt_history.specs.Histories.{Does, AbortedBefore}
-use Rattle.sgt_history.specs.Classes.{ReadsFrom}
+use Rattle.sgt_classes.specs.declared.operation.Operation.{Operation}
+use Rattle.sgt_classes.specs.declared.operation.Action.{Action}
+use Rattle.sgt_classes.specs.declared.operation.Action.TheVariants as action
+use Rattle.sgt_classes.specs.Histories.{Does, AbortedBefore}
+use Rattle.sgt_classes.specs.Classes.{ReadsFrom}
 use Rattle.sgt_textbook.specs.Textbook.{IsNumbering, operations_of, textbook}
 use Rattle.sgt_textbook.specs.Laws.{ReadsSomewhere, ReadsAgree, AreRecoverable}
 use Rattle.sgt_textbook.proofs.Places.{split_at, in_first, in_second, still}

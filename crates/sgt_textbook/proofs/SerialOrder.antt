@@ -11,7 +11,7 @@ use Rattle.sgt_model.specs.Legality.{Legal}
 use Rattle.sgt_model.specs.CommitOrder.{CommitsBefore}
 use Rattle.sgt_model.specs.Laws.{CommitsAlwaysInOrder, CommitsAlwaysInLine}
 use Rattle.sgt_model.proofs.Facts.{end-live, live-not_committed, committed-stays, commit-case}
-use Rattle.sgt_history.specs.declared.operation.Action.TheVariants as action
+use Rattle.sgt_classes.specs.declared.operation.Action.TheVariants as action
 use Rattle.sgt_textbook.specs.Textbook.{committed_in, commit_order}
 use Rattle.sgt_textbook.specs.Laws.{CommitOrdersAreSerial}
 use Rattle.sgt_textbook.proofs.Places.{split_at, in_first, in_second}

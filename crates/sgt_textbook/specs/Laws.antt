@@ -8,9 +8,9 @@ use Rattle.sgt_model.specs.Pairs.{Pair}
 use Rattle.sgt_model.specs.Settings.{Setting}
 use Rattle.sgt_model.specs.Legality.{Legal}
 use Rattle.sgt_model.specs.Laws.{InEach}
-use Rattle.sgt_history.specs.declared.operation.Operation.{Operation}
-use Rattle.sgt_history.specs.Classes.{ReadsFrom, AvoidsCascadingAborts, IsRecoverable}
-use Rattle.sgt_history.specs.Serializability.{IsEdge, IsCommitOrdered, IsSerializable, IsSerialOrder}
+use Rattle.sgt_classes.specs.declared.operation.Operation.{Operation}
+use Rattle.sgt_classes.specs.Classes.{ReadsFrom, AvoidsCascadingAborts, IsRecoverable}
+use Rattle.sgt_classes.specs.Serializability.{IsEdge, IsCommitOrdered, IsSerializable, IsSerialOrder}
 use Rattle.sgt_textbook.specs.Textbook.{IsNumbering, textbook, commit_order}
 
 -- what holds of the textbook's history of every legal one, for each numbering of its keys

@@ -2,7 +2,7 @@
 //! its contract.
 ghost use Rattle.sgt_textbook.specs.Laws.{AreCommitOrdered, AreRecoverable, AreSerializable, CommitOrdersAreSerial, EdgesArePairs, KeysCanBeNumbered, ReadsAgree, SomeCascade};
 
-use sgt_history::commit_ordered_are_serializable;
+use sgt_classes::commit_ordered_are_serializable;
 use sgt_model::{commits_in_line, commits_in_order};
 
 /// The textbook's history of a legal one is commit ordered: where operations of two committed transactions conflict, the

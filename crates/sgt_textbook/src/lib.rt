@@ -1,10 +1,10 @@
 //! Every legal history in the textbook's notation, and what the textbook's own classes say of it: the bridge between the
-//! histories of `sgt_model` and those of `sgt_history`.
+//! histories of `sgt_model` and those of `sgt_classes`.
 //!
 //! A legal history is a list of entries, each an event with its reply. In the notation of Bernstein, Hadzilacos and Goodman
 //! (1987), chapter 2, it is a list of operations: reads, writes, commits and aborts, one abort for each that falls, as
 //! `specs/Textbook.antt` says. Keys are numbers there, given in any way that gives no two keys the same. By the definitions of
-//! `sgt_history` that list is commit ordered, serializable and recoverable, and its committed transactions in the order of
+//! `sgt_classes` that list is commit ordered, serializable and recoverable, and its committed transactions in the order of
 //! their commits are a serial order of it. The edges of its serialization graph are the conflict pairs of committed
 //! transactions, and who reads from whom in it is who has read from whom by `ReadFrom`. It need not avoid cascading aborts, and
 //! so need not be strict.

@@ -8,8 +8,8 @@ use Rattle.sgt_model.specs.declared.event.Event.{Event}
 use Rattle.sgt_model.specs.declared.reply.Reply.{Reply}
 use Rattle.sgt_model.specs.declared.reply.Reply.TheVariants as reply
 use Rattle.sgt_model.specs.Contents.{Key}
-use Rattle.sgt_history.specs.declared.operation.Operation.{Operation}
-use Rattle.sgt_history.specs.declared.operation.Action.TheVariants as action
+use Rattle.sgt_classes.specs.declared.operation.Operation.{Operation}
+use Rattle.sgt_classes.specs.declared.operation.Action.TheVariants as action
 use Rattle.sgt_notation.specs.Spellings.{bracketed, spelling, text_at}
 use Rattle.sgt_textbook.specs.Textbook.{each_does, named, operations_in, operations_of, stepping, textbook}
 use Rattle.sgt_format.specs.Decimals.{key_text}

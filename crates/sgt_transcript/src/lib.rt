@@ -5,7 +5,7 @@
 //! [`append_cut_comment`] a comment where a history is cut off. Which text these are stands in `specs/Transcripts.antt`; that it spells the operations of the textbook's
 //! history, as `sgt_textbook` has it, is the law [`transcripts_spell_textbooks`].
 //!
-//! It reads no history and judges none: `sgt_notation` reads such a text, and `sgt_history` says what it is worth.
+//! It reads no history and judges none: `sgt_notation` reads such a text, and `sgt_classes` says what it is worth.
 //!
 //! ```
 //! append_operations(&mut text, &Event::Step(Tid(1)), &Reply::Wrote { key, value: 50 })?; // adds "w1[2/101]\n"

@@ -1,8 +1,8 @@
 use Rattle.std.proofs.Common.{◌≡◌, ◌++◌, ℕ, List, take}
 use Rattle.std.specs.List.{flat_map}
 use Rattle.std.specs.BTreeSet.{contains}
-use Rattle.sgt_history.specs.declared.graph.Edge.{Edge}
-use Rattle.sgt_history.specs.FirstAccesses.{pair_cmp}
+use Rattle.sgt_classes.specs.declared.graph.Edge.{Edge}
+use Rattle.sgt_classes.specs.FirstAccesses.{pair_cmp}
 use Rattle.sgt_check.specs.GraphText.{leads, arrow_text}
 use Rattle.sgt_check.proofs.graph_text.append_arrows.Given as goal
 

@@ -1,6 +1,6 @@
 use Rattle.std.proofs.Common.{◌||◌, ◌&&◌, ◌==◌, ap, sym, ◌∙◌}
 use Rattle.std.specs.Prelude.{slice_index_or}
-use Rattle.sgt_history.specs.declared.graph.Edge.{Edge}
+use Rattle.sgt_classes.specs.declared.graph.Edge.{Edge}
 use Rattle.sgt_check.proofs.Graphs.{leads_one}
 use Rattle.sgt_check.proofs.graph_text.ends.Goals as goal
 

@@ -1,6 +1,6 @@
 use Rattle.std.proofs.Common.{◌≡◌, ℕ, take}
 use Rattle.std.specs.BTreeSet.{contains}
-use Rattle.sgt_history.specs.FirstAccesses.{pair_cmp}
+use Rattle.sgt_classes.specs.FirstAccesses.{pair_cmp}
 use Rattle.sgt_check.specs.GraphText.{leads}
 use Rattle.sgt_check.proofs.graph_text.ends.Given as goal
 

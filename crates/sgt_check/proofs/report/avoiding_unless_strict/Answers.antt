@@ -1,5 +1,5 @@
 use Rattle.std.proofs.Common.{subst}
-use Rattle.sgt_history.specs.Classes.{BreaksStrictness, IsFirstViolation}
+use Rattle.sgt_classes.specs.Classes.{BreaksStrictness, IsFirstViolation}
 use Rattle.sgt_check.proofs.report.avoiding_unless_strict.Goals as goal
 
 pub returns-in-None : goal.returns-in-None

@@ -1,7 +1,7 @@
 use Rattle.std.proofs.Common.{◌||◌, ◌==◌, ap, sym, ◌∙◌}
 use Rattle.std.specs.Prelude.{slice_index_or}
-use Rattle.sgt_history.specs.declared.operation.Operation.{Operation}
-use Rattle.sgt_history.specs.declared.operation.Action.TheVariants.{Read}
+use Rattle.sgt_classes.specs.declared.operation.Operation.{Operation}
+use Rattle.sgt_classes.specs.declared.operation.Action.TheVariants.{Read}
 use Rattle.sgt_check.specs.Reports.{commits, aborts}
 use Rattle.sgt_check.proofs.Counting.{seen_one, first_one, count_one, few_one}
 use Rattle.sgt_check.proofs.report.count.Goals as goal

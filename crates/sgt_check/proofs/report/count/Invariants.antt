@@ -1,5 +1,5 @@
 use Rattle.std.specs.Prelude.{◌≡◌, ◌≤◌, ℕ, [], take, is_some, count_by}
-use Rattle.sgt_history.specs.Tables.{entry_of}
+use Rattle.sgt_classes.specs.Tables.{entry_of}
 use Rattle.sgt_check.specs.Reports.{acts, count_firsts, commits, aborts}
 use Rattle.sgt_check.proofs.report.count.Given as goal
 

@@ -1,5 +1,5 @@
 use Rattle.std.proofs.Common.{subst}
-use Rattle.sgt_history.specs.Classes.{BreaksAvoidance, IsFirstViolation}
+use Rattle.sgt_classes.specs.Classes.{BreaksAvoidance, IsFirstViolation}
 use Rattle.sgt_check.proofs.report.recoverable_unless_avoiding.Goals as goal
 
 pub returns-in-None : goal.returns-in-None

@@ -1,5 +1,5 @@
 use Rattle.std.proofs.Common.{subst}
-use Rattle.sgt_history.specs.Classes.{BreaksRigorousness, IsFirstViolation}
+use Rattle.sgt_classes.specs.Classes.{BreaksRigorousness, IsFirstViolation}
 use Rattle.sgt_check.proofs.report.strict_unless_rigorous.Goals as goal
 
 pub returns-in-None : goal.returns-in-None

@@ -1,5 +1,5 @@
 use Rattle.std.proofs.Common.{rules, subst, sym}
-use Rattle.sgt_history.specs.SerialOrders.{IsSerial}
+use Rattle.sgt_classes.specs.SerialOrders.{IsSerial}
 use Rattle.sgt_check.proofs.Sound.{sound}
 use Rattle.sgt_check.proofs.run.is_sound.Goals as goal
 use Rattle.sgt_check.proofs.run.is_sound.Goals.{in-Serial, in_default}

@@ -1,5 +1,5 @@
 use Rattle.std.proofs.Common.{sym, subst}
-use Rattle.sgt_history.specs.Tables.{entry_of}
+use Rattle.sgt_classes.specs.Tables.{entry_of}
 use Rattle.sgt_notation.specs.Numbering.{KnowsEnds}
 use Rattle.sgt_notation.proofs.reader.HistoryReader.note.Goals as goal
 

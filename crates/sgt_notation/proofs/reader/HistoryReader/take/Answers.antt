@@ -1,6 +1,6 @@
 use Rattle.std.proofs.Common.{◌++◌, ◌∷◌, [], sym, ap, subst, ◌∙◌, arith}
 use Rattle.std.proofs.lemmas.Grind.{common_steps}
-use Rattle.sgt_history.specs.declared.operation.Operation.{Operation}
+use Rattle.sgt_classes.specs.declared.operation.Operation.{Operation}
 use Rattle.sgt_notation.specs.Spellings.{IsSpelled}
 use Rattle.sgt_notation.specs.Numbering.{texts_of}
 use Rattle.sgt_notation.proofs.reader.HistoryReader.take.Goals as goal

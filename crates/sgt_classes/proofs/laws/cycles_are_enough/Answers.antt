@@ -1,0 +1,5 @@
+use Rattle.sgt_classes.proofs.Witnesses.{cycle_enough}
+use Rattle.sgt_classes.proofs.laws.cycles_are_enough.Goals as goal
+
+pub returns : goal.returns
+returns c = cycle_enough

@@ -1,0 +1,28 @@
+-- Which serial order is told, and what shows whether a history is serializable.
+use Rattle.std.specs.Prelude.{◌≡◌, ◌<◌, ◌+◌, ℕ, List, Some, slice_get}
+use Rattle.sgt_classes.specs.declared.operation.Operation.{Operation}
+use Rattle.sgt_classes.specs.declared.operation.Action.TheVariants.{Commit}
+use Rattle.sgt_classes.specs.declared.serial.Serializability.{Serializability}
+use Rattle.sgt_classes.specs.declared.serial.Serializability.TheVariants.{Serial, Cycle}
+use Rattle.sgt_classes.specs.Histories.{Does, CommittedBefore}
+use Rattle.sgt_classes.specs.Serializability.{Commits, IsEdge, IsSerialOrder, IsCycle}
+
+-- at place i of the order u may come: it has not come before, and all that have an edge to it have
+pub record MayComeAt (h : List Operation) (order : List ℕ) (i u : ℕ) : Type 0 where
+  pub commits : Commits h u
+  pub not_before : (j : ℕ) → j < i → ¬ (slice_get order j ≡ Some u)
+  pub others_before : (t : ℕ) → IsEdge h t u → (j : ℕ) × (j < i) × (slice_get order j ≡ Some t)
+
+-- Of those that may come next it is always the one that committed first: when another of them commits, it has committed.
+abbrev pub TakesFirst : List Operation → List ℕ → Type 0
+TakesFirst h order = (i t u d : ℕ) → slice_get order i ≡ Some t → MayComeAt h order i u → Does h d u Commit → CommittedBefore h t (d + 1)
+
+-- a serial order that takes always the one that committed first, or a cycle
+abbrev pub IsShown : List Operation → Serializability → Type 0
+IsShown h (Serial order) = IsSerialOrder h order.items × TakesFirst h order.items
+IsShown h (Cycle edges) = IsCycle h edges.items
+
+-- it is a serial order that is shown
+abbrev pub IsSerial : Serializability → Type 0
+IsSerial (Serial order) = Unit {0}
+IsSerial (Cycle edges) = ⊥

@@ -1,0 +1,110 @@
+//! Edges by their ends.
+ghost use Rattle.std.specs.Prelude.{◌≡◌, ◌≢◌, ◌<◌, ◌+◌, ℕ, List, None, length, IfOk, OnOk, IfSome};
+ghost use Rattle.sgt_classes.specs.declared.graph.Edge.{Edge};
+ghost use Rattle.sgt_classes.specs.Links.{link_of};
+ghost use Rattle.sgt_classes.specs.Tables.{entry_of, table_len};
+ghost use Rattle.sgt_classes.specs.Sorting.{end_of, AreChains};
+
+use crate::avoiding::{put_on_top, set_top};
+use crate::graph::Edge;
+use crate::links::Links;
+use crate::table::Table;
+use sgt_model::NoMemory;
+use std::alloc::Global;
+
+/// An end of an edge.
+#[derive(Clone, Copy)]
+pub enum End {
+    /// The transaction that it leads from.
+    From,
+    /// The transaction that it leads to.
+    To,
+}
+
+impl End {
+    /// The transaction at this end of the edge.
+    fn of(&self, edge: Edge) -> u32
+        ensures { result ≡ end_of self.now edge }
+    {
+        match self {
+            End::From => edge.from,
+            End::To => edge.to,
+        }
+    }
+}
+
+/// Edges by the transaction at one of their ends, of each from the last to the first. An edge is its place in a list.
+#[derive(Drop)]
+pub struct Chains {
+    /// The edge that a transaction's begin with.
+    tops: Table,
+    /// For an edge the next earlier one at the same transaction.
+    below: Links,
+}
+
+impl Chains {
+    /// There is no edge. Those of the transactions below the bound are found at once.
+    pub fn new(alloc: Global, bound: usize) -> Self
+        ensures { (end : End) (edges : List Edge) → AreChains end edges 0 (entry_of result.tops) (link_of result.below) }
+    {
+        Chains {
+            tops: Table::new(alloc, bound),
+            below: Links::new(alloc),
+        }
+    }
+
+    /// All edges, by one of their ends. Those of the transactions below the bound are found at once.
+    pub fn by_end(alloc: Global, edges: &[Edge], end: End, bound: usize) -> Result<Self, NoMemory>
+        ensures { IfOk result (λ c. AreChains end edges.now (length edges.now) (entry_of c.tops) (link_of c.below)) }
+    {
+        let mut chains = Chains::new(alloc, bound);
+        for place in 0..edges.len() {
+            chains.add(edges, place, end)?;
+        }
+        Ok(chains)
+    }
+
+    /// Adds the edge at the place behind those before it.
+    pub fn add(&mut self, edges: &[Edge], place: usize, end: End) -> Result<(), NoMemory>
+        requires within { place < length edges.now }
+        requires before { AreChains end edges.now place (entry_of self.old.tops) (link_of self.old.below) }
+        ensures { OnOk result (AreChains end edges.now (place + 1) (entry_of self.new.tops) (link_of self.new.below)) }
+    {
+        let transaction = end.of(edges[place]);
+        put_on_top(&mut self.tops, &mut self.below, transaction, place)?;
+        Ok(())
+    }
+
+    /// The edge that the transaction's begin with.
+    pub fn last_edge(&self, transaction: u32) -> Option<usize>
+        ensures { result ≡ entry_of self.now.tops transaction }
+    {
+        self.tops.find(transaction)
+    }
+
+    /// The next earlier edge at the same transaction.
+    pub fn edge_before(&self, edge: usize) -> Option<usize>
+        ensures { result ≡ link_of self.now.below edge }
+    {
+        self.below.get(edge)
+    }
+
+    /// Lets the transaction's begin with the edge.
+    pub fn begin_with(&mut self, transaction: u32, edge: Option<usize>) -> Result<(), NoMemory>
+        ensures at { OnOk result (entry_of self.new.tops transaction ≡ edge) }
+        ensures others { OnOk result ((u : ℕ) → u ≢ transaction → entry_of self.new.tops u ≡ entry_of self.old.tops u) }
+        ensures below { OnOk result (self.new.below ≡ self.old.below) }
+    {
+        set_top(&mut self.tops, transaction, edge)
+    }
+
+    /// Takes out the transaction's edges, and tells with which they began.
+    pub fn take(&mut self, transaction: u32) -> Option<usize>
+        ensures edge { result ≡ entry_of self.old.tops transaction }
+        ensures at { entry_of self.new.tops transaction ≡ None }
+        ensures others { (u : ℕ) → u ≢ transaction → entry_of self.new.tops u ≡ entry_of self.old.tops u }
+        ensures fewer { IfSome result (λ _. table_len self.new.tops < table_len self.old.tops) }
+    {
+        self.tops.remove(transaction)
+    }
+}

@@ -1,0 +1,211 @@
+//! The commit order.
+ghost use Rattle.std.specs.Prelude.{◌≡◌, ◌≢◌, ◌<◌, ◌+◌, ℕ, Some, None, length, IfSome, IfOk, OnOk, IsNone};
+ghost use Rattle.sgt_classes.specs.Classes.{IsFirstViolation};
+ghost use Rattle.sgt_classes.specs.Tables.{entry_of};
+ghost use Rattle.sgt_classes.specs.SerialOrders.{TakesFirst};
+ghost use Rattle.sgt_classes.specs.Serializability.{BreaksCommitOrder, IsCommitOrdered, IsSerialOrder};
+ghost use Rattle.sgt_classes.specs.Seen.{AreFirstCommits, KnowsLatestUses, later_use, use_after, use_of};
+
+use crate::operation::{Action, Operation, Violation};
+use crate::table::Table;
+use sgt_model::NoMemory;
+use std::alloc::Global;
+
+/// The first operation of a committed transaction that conflicts with an earlier one of another that commits later, with that
+/// one. `None` where the history is commit ordered.
+///
+/// Bernstein, Hadzilacos and Goodman (1987), chapter 2: conflict. A transaction commits where it does so first.
+///
+/// An operation costs six look-ups in a table at most, of the items and of the committed transactions.
+pub fn commit_order_violation(
+    alloc: Global,
+    history: &[Operation],
+) -> Result<Option<Violation>, NoMemory>
+    ensures { IfOk result (IsFirstViolation (BreaksCommitOrder history.now)) }
+{
+    let mut seen = LatestUses {
+        commits: first_commits(alloc, history)?,
+        reads: ItemUses::new(alloc, history.len()),
+        writes: ItemUses::new(alloc, history.len()),
+    };
+    seen.violation(history)
+}
+
+/// The committed transactions in the order of their first commits. Where the history is commit ordered this is a serial order, of
+/// those that may come next always the one that committed first.
+///
+/// Bernstein, Hadzilacos and Goodman (1987), chapter 2: serializability theorem.
+///
+/// A commit costs five look-ups in a table at most, another operation none.
+pub fn serial_commit_order(alloc: Global, history: &[Operation]) -> Result<Vec<u32>, NoMemory>
+    requires { IsCommitOrdered history.now }
+    ensures serial { IfOk result (λ order. IsSerialOrder history.now order.items) }
+    ensures first { IfOk result (λ order. TakesFirst history.now order.items) }
+{
+    let mut left = first_commits(alloc, history)?;
+    let mut order = Vec::new(alloc);
+    for place in 0..history.len() {
+        let operation = history[place];
+        if operation.action == Action::Commit && left.contains_key(operation.transaction) {
+            left.remove(operation.transaction);
+            order.push(operation.transaction)?;
+        }
+    }
+    Ok(order)
+}
+
+/// Where each committed transaction commits first.
+pub fn first_commits(alloc: Global, history: &[Operation]) -> Result<Table, NoMemory>
+    ensures { IfOk result (λ commits. AreFirstCommits history.now (length history.now) (entry_of commits)) }
+{
+    let mut commits = Table::new(alloc, history.len());
+    for place in 0..history.len() {
+        let operation = history[place];
+        if operation.action == Action::Commit && !commits.contains_key(operation.transaction) {
+            commits.set_place(operation.transaction, place)?;
+        }
+    }
+    Ok(commits)
+}
+
+/// A read or a write of an item by a committed transaction.
+#[derive(Clone, Copy)]
+pub struct LatestUse {
+    /// Where its transaction commits.
+    pub commit: usize,
+    /// Its place.
+    pub place: usize,
+}
+
+/// For some items a use each.
+#[derive(Drop)]
+pub struct ItemUses {
+    /// Where the use's transaction commits.
+    commits: Table,
+    /// Its place.
+    places: Table,
+}
+
+impl ItemUses {
+    /// No item has one. Those whose numbers are below the bound are found at once.
+    fn new(alloc: Global, bound: usize) -> Self
+        ensures { (x : ℕ) → use_of result x ≡ None }
+    {
+        ItemUses {
+            commits: Table::new(alloc, bound),
+            places: Table::new(alloc, bound),
+        }
+    }
+
+    /// The use of the item.
+    fn find(&self, item: u32) -> Option<LatestUse>
+        ensures { result ≡ use_of self.now item }
+    {
+        let commit = self.commits.find(item)?;
+        let place = self.places.find(item)?;
+        Some(LatestUse { commit, place })
+    }
+
+    /// Sets the use of the item.
+    fn set_use(&mut self, item: u32, latest: LatestUse) -> Result<(), NoMemory>
+        ensures at { OnOk result (use_of self.new item ≡ Some latest) }
+        ensures others { OnOk result ((x : ℕ) → x ≢ item → use_of self.new x ≡ use_of self.old x) }
+    {
+        self.commits.set_place(item, latest.commit)?;
+        self.places.set_place(item, latest.place)?;
+        Ok(())
+    }
+}
+
+/// Of each item the uses before a place by those that commit last.
+#[derive(Drop)]
+struct LatestUses {
+    /// Where a transaction commits.
+    commits: Table,
+    /// Of the reads of an item the one whose transaction commits last.
+    reads: ItemUses,
+    /// Of the writes of an item the one whose transaction commits last.
+    writes: ItemUses,
+}
+
+impl LatestUses {
+    /// The first operation of the history that breaks the commit order, where none is noted yet.
+    fn violation(&mut self, history: &[Operation]) -> Result<Option<Violation>, NoMemory>
+        requires { KnowsLatestUses history.now 0 self.old }
+        ensures { IfOk result (IsFirstViolation (BreaksCommitOrder history.now)) }
+    {
+        for place in 0..history.len() {
+            if let Some(earlier) = self.inverted(history, place) {
+                return Ok(Some(Violation {
+                    earlier,
+                    later: place,
+                }));
+            }
+            self.note(history, place)?;
+        }
+        Ok(None)
+    }
+
+    /// The use by one that commits later that the operation conflicts with.
+    fn inverted(&self, history: &[Operation], place: usize) -> Option<usize>
+        requires within { place < length history.now }
+        requires uses { KnowsLatestUses history.now place self.now }
+        ensures some { IfSome result (λ i. BreaksCommitOrder history.now i place) }
+        ensures none { IsNone result → (i : ℕ) → ¬ BreaksCommitOrder history.now i place }
+    {
+        let operation = history[place];
+        let item = operation.action.item()?;
+        let commit = self.commits.find(operation.transaction)?;
+        let write = committing_after(&self.writes, item, commit);
+        if write.is_some() {
+            return write;
+        }
+        let Action::Write(_) = operation.action else {
+            return None;
+        };
+        committing_after(&self.reads, item, commit)
+    }
+
+    /// Notes the operation: its read or its write, if its transaction commits.
+    fn note(&mut self, history: &[Operation], place: usize) -> Result<(), NoMemory>
+        requires within { place < length history.now }
+        requires uses { KnowsLatestUses history.now place self.old }
+        ensures { OnOk result (KnowsLatestUses history.now (place + 1) self.new) }
+    {
+        let operation = history[place];
+        let Some(commit) = self.commits.find(operation.transaction) else {
+            return Ok(());
+        };
+        let latest = LatestUse { commit, place };
+        match operation.action {
+            Action::Read(item) => keep_later(&mut self.reads, item, latest)?,
+            Action::Write(item) => keep_later(&mut self.writes, item, latest)?,
+            Action::Commit | Action::Abort => (),
+        }
+        Ok(())
+    }
+}
+
+/// Keeps the use of the item if its transaction commits after that of the one that is kept.
+fn keep_later(uses: &mut ItemUses, item: u32, latest: LatestUse) -> Result<(), NoMemory>
+    ensures at { OnOk result (use_of uses.new item ≡ Some (later_use (use_of uses.old item) latest)) }
+    ensures others { OnOk result ((x : ℕ) → x ≢ item → use_of uses.new x ≡ use_of uses.old x) }
+{
+    if let Some(known) = uses.find(item) {
+        if known.commit >= latest.commit {
+            return Ok(());
+        }
+    }
+    uses.set_use(item, latest)
+}
+
+/// The place of the use of the item that is kept, if its transaction commits after the given place.
+fn committing_after(uses: &ItemUses, item: u32, commit: usize) -> Option<usize>
+    ensures { result ≡ use_after (use_of uses.now item) commit }
+{
+    let known = uses.find(item)?;
+    if commit < known.commit {
+        return Some(known.place);
+    }
+    None
+}

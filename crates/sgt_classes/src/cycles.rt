@@ -1,0 +1,70 @@
+//! A cycle of the serialization graph.
+ghost use Rattle.std.specs.Prelude.{◌≡◌, ℕ, List, Some, slice_get, IsSome, IfOk};
+ghost use Rattle.sgt_classes.specs.declared.operation.Operation.{Operation};
+ghost use Rattle.sgt_classes.specs.declared.graph.Edge.{Edge};
+ghost use Rattle.sgt_classes.specs.Serializability.{IsCycle, IsEdgeBy};
+ghost use Rattle.sgt_classes.specs.Tables.{entry_of};
+ghost use Rattle.sgt_classes.specs.Sorting.{LeadBack, IsWalkBack, Passes, AreAmong, IsCycleOf};
+
+use crate::chains::Chains;
+use crate::graph::Edge;
+use sgt_model::NoMemory;
+use std::alloc::Global;
+
+/// A cycle of edges, where each transaction that one of the chosen edges leads from has a chosen edge that leads to it. It is
+/// looked for back from the given one.
+///
+/// Each edge is passed twice at most.
+pub fn cycle_back(
+    alloc: Global,
+    edges: &[Edge],
+    incoming: &mut Chains,
+    start: u32,
+) -> Result<Vec<Edge>, NoMemory>
+    requires back { LeadBack edges.now (entry_of incoming.old.tops) }
+    requires start { IsSome (entry_of incoming.old.tops start) }
+    ensures { IfOk result (λ cycle. IsCycleOf edges.now cycle.items) }
+{
+    let (walk, met) = walk_back(alloc, edges, incoming, start)?;
+    closed_walk(alloc, walk.as_slice(), met)
+}
+
+/// The edges that are passed back from the transaction until one is met again, and that one.
+fn walk_back(
+    alloc: Global,
+    edges: &[Edge],
+    incoming: &mut Chains,
+    start: u32,
+) -> Result<(Vec<Edge>, u32), NoMemory>
+    requires back { LeadBack edges.now (entry_of incoming.old.tops) }
+    requires start { IsSome (entry_of incoming.old.tops start) }
+    ensures among { IfOk result (λ r. AreAmong r.0.items edges.now) }
+    ensures walk { IfOk result (λ r. IsWalkBack r.0.items r.1) }
+    ensures met { IfOk result (λ r. Passes r.0.items r.1) }
+{
+    let mut walk = Vec::new(alloc);
+    let mut transaction = start;
+    while let Some(place) = incoming.take(transaction) {
+        let edge = edges[place];
+        walk.push(edge)?;
+        transaction = edge.from;
+    }
+    Ok((walk, transaction))
+}
+
+/// The edges of the walk from its end until the transaction that it has met again.
+fn closed_walk(alloc: Global, walk: &[Edge], met: u32) -> Result<Vec<Edge>, NoMemory>
+    requires walk { IsWalkBack walk.now met }
+    requires met { Passes walk.now met }
+    ensures { IfOk result (λ cycle. IsCycleOf walk.now cycle.items) }
+{
+    let mut cycle = Vec::new(alloc);
+    for passed in 0..walk.len() {
+        let edge = walk[walk.len() - 1 - passed];
+        cycle.push(edge)?;
+        if edge.to == met {
+            return Ok(cycle);
+        }
+    }
+    unreachable!()
+}

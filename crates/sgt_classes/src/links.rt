@@ -1,0 +1,77 @@
+//! For places of a list earlier ones.
+ghost use Rattle.std.specs.Prelude.{◌≡◌, ◌≢◌, ◌<◌, ◌+◌, ◌^◌, ℕ, Some, None, length, IfSome, OnOk};
+ghost use Rattle.sgt_classes.specs.Links.{link_of, links_len};
+
+use sgt_model::NoMemory;
+use std::alloc::Global;
+
+/// For some places of a list an earlier one each.
+///
+/// It takes sixteen bytes for each place up to the last that has one.
+#[derive(Drop)]
+pub struct Links {
+    /// By place, the earlier one. The places behind have none.
+    earlier: Vec<Option<usize>>,
+}
+
+impl Links {
+    /// No place has one.
+    #[tactic(auto, unfolding(crate::specs::Links::link_of))]
+    pub fn new(alloc: Global) -> Self
+        ensures { (i : ℕ) → link_of result i ≡ None }
+    {
+        Links {
+            earlier: Vec::new(alloc),
+        }
+    }
+
+    /// The earlier place.
+    #[tactic(auto, unfolding(crate::specs::Links::link_of))]
+    pub fn get(&self, place: usize) -> Option<usize>
+        ensures { result ≡ link_of self.now place }
+    {
+        match self.earlier.get(place) {
+            Some(earlier) => *earlier,
+            None => None,
+        }
+    }
+
+    /// Sets the earlier place.
+    #[tactic(auto, unfolding(crate::specs::Links::link_of))]
+    pub fn set(&mut self, place: usize, earlier: usize) -> Result<(), NoMemory>
+        ensures at { OnOk result (link_of self.new place ≡ Some earlier) }
+        ensures others { OnOk result ((i : ℕ) → i ≢ place → link_of self.new i ≡ link_of self.old i) }
+    {
+        self.make_room(place)?;
+        self.earlier[place] = Some(earlier);
+        Ok(())
+    }
+
+    /// Takes out the earlier place.
+    #[tactic(auto, unfolding(crate::specs::Links::link_of, crate::specs::Links::links_len))]
+    pub fn remove(&mut self, place: usize) -> Option<usize>
+        ensures earlier { result ≡ link_of self.old place }
+        ensures at { link_of self.new place ≡ None }
+        ensures others { (i : ℕ) → i ≢ place → link_of self.new i ≡ link_of self.old i }
+        ensures fewer { IfSome result (λ _. links_len self.new < links_len self.old) }
+    {
+        if place >= self.earlier.len() {
+            return None;
+        }
+        let earlier = self.earlier[place];
+        self.earlier[place] = None;
+        earlier
+    }
+
+    /// Makes room for that of the place.
+    #[tactic(auto, unfolding(crate::specs::Links::link_of))]
+    fn make_room(&mut self, place: usize) -> Result<(), NoMemory>
+        ensures room { OnOk result (place < length self.new.earlier.items) }
+        ensures same { OnOk result ((i : ℕ) → link_of self.new i ≡ link_of self.old i) }
+    {
+        while self.earlier.len() <= place {
+            self.earlier.push(None)?;
+        }
+        Ok(())
+    }
+}

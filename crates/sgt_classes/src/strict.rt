@@ -1,0 +1,105 @@
+//! Strictness.
+ghost use Rattle.std.specs.Prelude.{◌≡◌, ◌≢◌, ◌<◌, ◌+◌, ℕ, List, Some, length, is_some, IfSome, IfOk, OnOk, IsNone};
+ghost use Rattle.sgt_classes.specs.declared.operation.Operation.{Operation};
+ghost use Rattle.sgt_classes.specs.Classes.{BreaksStrictness, IsFirstViolation};
+ghost use Rattle.sgt_classes.specs.Tables.{entry_of};
+ghost use Rattle.sgt_classes.specs.Seen.{AreLastWrites, AreEnded, IsStrictBefore};
+
+use crate::operation::{Action, Operation, Violation};
+use crate::table::Table;
+use sgt_model::NoMemory;
+use std::alloc::Global;
+
+/// The first operation that breaks strictness, with a write that it breaks it by: it reads or writes an item that another
+/// transaction has written that has not ended. `None` where the history is strict.
+///
+/// Bernstein, Hadzilacos and Goodman (1987), chapter 2: strict.
+///
+/// An operation costs two look-ups in a table, of the items and of the transactions seen.
+pub fn strict_violation(alloc: Global, history: &[Operation]) -> Result<Option<Violation>, NoMemory>
+    ensures { IfOk result (IsFirstViolation (BreaksStrictness history.now)) }
+{
+    let mut seen = Writes::new(alloc, history.len());
+    for place in 0..history.len() {
+        if let Some(earlier) = seen.unended(history, place) {
+            return Ok(Some(Violation {
+                earlier,
+                later: place,
+            }));
+        }
+        seen.note(history, place)?;
+    }
+    Ok(None)
+}
+
+/// The last write of each item and who has ended, before a place.
+#[derive(Drop)]
+pub struct Writes {
+    /// The place of an item's last write.
+    writers: Table,
+    /// Where a transaction has ended.
+    ended: Table,
+}
+
+impl Writes {
+    /// What is kept before the first operation. The numbers of items and transactions below the bound are found at once.
+    pub fn new(alloc: Global, bound: usize) -> Self
+        ensures last { (h : List Operation) → AreLastWrites h 0 (entry_of result.writers) }
+        ensures ends { (h : List Operation) → AreEnded h 0 (entry_of result.ended) }
+    {
+        Writes {
+            writers: Table::new(alloc, bound),
+            ended: Table::new(alloc, bound),
+        }
+    }
+
+    /// Whether the transaction has ended.
+    pub fn has_ended(&self, transaction: u32) -> bool
+        ensures { result ≡ is_some (entry_of self.now.ended transaction) }
+    {
+        self.ended.contains_key(transaction)
+    }
+
+    /// The last write of the item.
+    pub fn last_write(&self, item: u32) -> Option<usize>
+        ensures { result ≡ entry_of self.now.writers item }
+    {
+        self.writers.find(item)
+    }
+
+    /// The last write of the item that the operation reads or writes, where another transaction wrote it that has not ended.
+    pub fn unended(&self, history: &[Operation], place: usize) -> Option<usize>
+        requires within { place < length history.now }
+        requires last { AreLastWrites history.now place (entry_of self.now.writers) }
+        requires ends { AreEnded history.now place (entry_of self.now.ended) }
+        requires strict { IsStrictBefore history.now place }
+        ensures some { IfSome result (λ i. BreaksStrictness history.now i place) }
+        ensures none { IsNone result → IsStrictBefore history.now (place + 1) }
+    {
+        let operation = history[place];
+        let item = operation.action.item()?;
+        let earlier = self.writers.find(item)?;
+        let writer = history[earlier].transaction;
+        if writer == operation.transaction || self.has_ended(writer) {
+            return None;
+        }
+        Some(earlier)
+    }
+
+    /// Notes the operation: its write, or that its transaction has ended.
+    pub fn note(&mut self, history: &[Operation], place: usize) -> Result<(), NoMemory>
+        requires within { place < length history.now }
+        requires last { AreLastWrites history.now place (entry_of self.old.writers) }
+        requires ends { AreEnded history.now place (entry_of self.old.ended) }
+        ensures last { OnOk result (AreLastWrites history.now (place + 1) (entry_of self.new.writers)) }
+        ensures ends { OnOk result (AreEnded history.now (place + 1) (entry_of self.new.ended)) }
+    {
+        let operation = history[place];
+        match operation.action {
+            Action::Read(_) => (),
+            Action::Write(item) => self.writers.set_place(item, place)?,
+            Action::Commit | Action::Abort => self.ended.set_place(operation.transaction, place)?,
+        }
+        Ok(())
+    }
+}

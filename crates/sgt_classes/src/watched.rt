@@ -1,0 +1,58 @@
+//! The edges by which transactions wait.
+ghost use Rattle.std.specs.Prelude.{◌≡◌, ◌++◌, ◌∷◌, [], OnOk};
+ghost use Rattle.sgt_classes.specs.Links.{link_of};
+ghost use Rattle.sgt_classes.specs.Tables.{entry_of};
+ghost use Rattle.sgt_classes.specs.Sorting.{KnowsWatched};
+
+use crate::chains::{Chains, End};
+use crate::graph::Edge;
+use sgt_model::NoMemory;
+use std::alloc::Global;
+
+/// The edges by which a transaction waits or has waited, as they were found, and they by the transaction that they lead from.
+#[derive(Drop)]
+pub struct Watched {
+    /// They.
+    pub edges: Vec<Edge>,
+    /// They by the transaction that they lead from.
+    outgoing: Chains,
+}
+
+impl Watched {
+    /// There is none. Those from the transactions below the bound are found at once.
+    pub fn new(alloc: Global, bound: usize) -> Self
+        ensures knows { KnowsWatched result }
+        ensures none { result.edges.items ≡ [] }
+    {
+        Watched {
+            edges: Vec::new(alloc),
+            outgoing: Chains::new(alloc, bound),
+        }
+    }
+
+    /// The last one from the transaction.
+    pub fn last_edge(&self, transaction: u32) -> Option<usize>
+        ensures { result ≡ entry_of self.now.outgoing.tops transaction }
+    {
+        self.outgoing.last_edge(transaction)
+    }
+
+    /// The next earlier one from the same transaction.
+    pub fn edge_before(&self, edge: usize) -> Option<usize>
+        ensures { result ≡ link_of self.now.outgoing.below edge }
+    {
+        self.outgoing.edge_before(edge)
+    }
+
+    /// Adds one.
+    pub fn add(&mut self, edge: Edge) -> Result<(), NoMemory>
+        requires { KnowsWatched self.old }
+        ensures knows { OnOk result (KnowsWatched self.new) }
+        ensures edges { OnOk result (self.new.edges.items ≡ self.old.edges.items ++ edge ∷ []) }
+    {
+        let place = self.edges.len();
+        self.edges.push(edge)?;
+        self.outgoing.add(self.edges.as_slice(), place, End::From)?;
+        Ok(())
+    }
+}

@@ -1,5 +1,0 @@
-use Rattle.sgt_history.specs.Seen.{KnowsSources}
-use Rattle.sgt_history.proofs.avoiding.Sources.note_until.Given as goal
-
-abbrev pub invariant-loop-earlier : goal.invariant-loop-earlier
-invariant-loop-earlier l = KnowsSources l.history l.earlier l.self

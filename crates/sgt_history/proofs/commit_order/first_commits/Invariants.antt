@@ -1,6 +1,0 @@
-use Rattle.sgt_history.specs.Tables.{entry_of}
-use Rattle.sgt_history.specs.Seen.{AreFirstCommits}
-use Rattle.sgt_history.proofs.commit_order.first_commits.Given as goal
-
-abbrev pub invariant-loop-place : goal.invariant-loop-place
-invariant-loop-place l = AreFirstCommits l.history l.place (entry_of l.commits)

@@ -1,5 +1,0 @@
-use Rattle.sgt_history.proofs.Inclusions.{avoiding_recoverable}
-use Rattle.sgt_history.proofs.laws.avoiding_are_recoverable.Goals as goal
-
-pub returns : goal.returns
-returns c = avoiding_recoverable

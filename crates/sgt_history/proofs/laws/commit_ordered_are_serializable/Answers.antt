@@ -1,5 +1,0 @@
-use Rattle.sgt_history.proofs.CommitOrder.{commit_ordered_serializable}
-use Rattle.sgt_history.proofs.laws.commit_ordered_are_serializable.Goals as goal
-
-pub returns : goal.returns
-returns c = commit_ordered_serializable

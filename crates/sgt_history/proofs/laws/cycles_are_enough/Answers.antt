@@ -1,5 +1,0 @@
-use Rattle.sgt_history.proofs.Witnesses.{cycle_enough}
-use Rattle.sgt_history.proofs.laws.cycles_are_enough.Goals as goal
-
-pub returns : goal.returns
-returns c = cycle_enough

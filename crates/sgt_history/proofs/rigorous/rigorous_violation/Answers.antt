@@ -1,4 +1,0 @@
-use Rattle.sgt_history.proofs.rigorous.rigorous_violation.Goals as goal
-
-pub violation-requires : goal.violation-requires
-violation-requires c = c.new-seen.ensures _

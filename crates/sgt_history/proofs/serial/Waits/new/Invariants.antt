@@ -1,5 +1,0 @@
-use Rattle.sgt_history.proofs.FirstWaits.{AreLookedAt}
-use Rattle.sgt_history.proofs.serial.Waits.new.Given as goal
-
-abbrev pub invariant-loop-place : goal.invariant-loop-place
-invariant-loop-place l = AreLookedAt l.fn.edges l.fn.commits l.place l.waits
