@@ -20,7 +20,7 @@ use sgt_bank::{MOST_TRIES, MOST_WORKERS, run_jobs};
 use sgt_check::{CheckFault, run_check, run_graph};
 use sgt_diagnosis::{Remembering, explain};
 use sgt_script::run_script;
-use sgt_stream::{Fault, Reader, Source, Writer};
+use sgt_input::{Fault, Reader, Source, Writer};
 use std::alloc::{AllocError, Global};
 use std::env;
 use std::fmt::Display;

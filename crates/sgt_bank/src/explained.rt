@@ -8,7 +8,7 @@ use crate::run::report_run;
 use crate::tries::append_tries;
 use crate::watch::{Seen, Watch};
 use sgt_model::NoMemory;
-use sgt_stream::{Fault, Sink, Source, write_all};
+use sgt_input::{Fault, Sink, Source, write_all};
 use sgt_workers::Report;
 use std::alloc::Global;
 use std::convert::Infallible;

@@ -9,7 +9,7 @@ use crate::gate::OpenGate;
 use crate::run::{run_input, write_text};
 use sgt_format::append_records;
 use sgt_model::{Database, NoMemory};
-use sgt_stream::{Fault, Sink, Source};
+use sgt_input::{Fault, Sink, Source};
 use std::alloc::Global;
 use std::sync::Wait;
 use std::thread::Threads;

@@ -10,7 +10,7 @@ use sgt_graph::{BitGraph, Graph};
 use sgt_model::{Event, Tid};
 use sgt_program::all_procedures;
 use sgt_records::{Records, SlabRecords};
-use sgt_stream::Reader;
+use sgt_input::Reader;
 use sgt_workers::{Bank, PoolError, Report, run};
 use std::alloc::{AllocError, Global};
 use std::io;

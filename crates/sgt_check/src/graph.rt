@@ -11,7 +11,7 @@ use crate::report::check_history;
 use crate::run::{Told, is_sound};
 use sgt_classes::first_conflicts;
 use sgt_notation::read_history;
-use sgt_stream::{Sink, Source, write_all};
+use sgt_input::{Sink, Source, write_all};
 use std::alloc::Global;
 
 /// Checks the history that the source's bytes spell, writes its serialization graph with the cycle of the report, and tells

@@ -6,7 +6,7 @@ ghost use Rattle.sgt_notation.specs.declared.fault.NotationFault.{NotationFault}
 
 use crate::fault::CheckFault;
 use sgt_model::NoMemory;
-use sgt_stream::Source;
+use sgt_input::Source;
 use std::alloc::{AllocError, Global};
 
 /// The most bytes that an input may have.

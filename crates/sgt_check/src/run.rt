@@ -14,7 +14,7 @@ use crate::report_text::append_report;
 use sgt_classes::Serializability;
 use sgt_model::NoMemory;
 use sgt_notation::read_history;
-use sgt_stream::{Sink, Source, write_all};
+use sgt_input::{Sink, Source, write_all};
 use std::alloc::Global;
 
 /// Checks the history that the source's bytes spell, writes the report, and tells whether the history is serializable and

@@ -1,7 +1,7 @@
 -- Which line a fault is of.
 use Rattle.std.specs.Prelude.{ℕ, Option, None, Some}
-use Rattle.sgt_stream.specs.declared.fault.Fault.{Fault}
-use Rattle.sgt_stream.specs.declared.fault.Fault.TheVariants as fault
+use Rattle.sgt_input.specs.declared.fault.Fault.{Fault}
+use Rattle.sgt_input.specs.declared.fault.Fault.TheVariants as fault
 
 -- the number of the line that a fault is of, from 1, or none: then the fault's own line tells all
 abbrev pub line_of : Fault → Option ℕ

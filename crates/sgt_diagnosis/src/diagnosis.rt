@@ -15,7 +15,7 @@ use crate::tree::{items, tree_of};
 use serde_json::Value;
 use sgt_model::NoMemory;
 use sgt_smallbank::PROCEDURES;
-use sgt_stream::Fault;
+use sgt_input::Fault;
 use std::alloc::Global;
 
 /// What tells more of a fault than its own line does, in one line without its end: where the fault is in the line of the input that

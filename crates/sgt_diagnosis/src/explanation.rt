@@ -4,7 +4,7 @@ ghost use Rattle.sgt_diagnosis.specs.FaultyLines.{line_of};
 use crate::command::Command;
 use crate::diagnosis::diagnose;
 use crate::remembering::Remembering;
-use sgt_stream::{Fault, Source};
+use sgt_input::{Fault, Source};
 use std::alloc::Global;
 
 /// What tells more of the fault of a run that read from this source, as one line without its end. There is none where the fault's

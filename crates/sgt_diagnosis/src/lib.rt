@@ -1,6 +1,6 @@
 //! What is wrong with a line of the input, in words: for a person who has the fault of a run before him, and asks for more.
 //!
-//! A [`Fault`](sgt_stream::Fault) names a line and a kind. [`diagnose`] looks at that line once more, after the run has ended, and
+//! A [`Fault`](sgt_input::Fault) names a line and a kind. [`diagnose`] looks at that line once more, after the run has ended, and
 //! tells in one line where in it the fault is and what was expected there. A [`Remembering`] source gives a run the bytes of
 //! another source and keeps them, so that the line is there to be looked at; [`explain`] puts both together. No run knows of
 //! this: what it writes and how it ends is the same, and where there is no memory for an explanation, there is none.

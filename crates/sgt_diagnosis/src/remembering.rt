@@ -1,9 +1,9 @@
 ghost use Rattle.std.specs.Prelude.{◌≡◌, IfOk, OnOk, OnErr, IfSome, false, min, ◌+◌, ◌-◌, ◌^◌, ◌<◌, ◌≤◌, length};
 ghost use Rattle.std.specs.Io.KnownBytes.{ReadConsumes};
-ghost use Rattle.sgt_stream.specs.Lines.{has_break};
+ghost use Rattle.sgt_input.specs.Lines.{has_break};
 
 use memchr::memchr;
-use sgt_stream::{Failed, Source};
+use sgt_input::{Failed, Source};
 use std::alloc::Global;
 
 /// The most bytes that are kept: as many as an input may have.

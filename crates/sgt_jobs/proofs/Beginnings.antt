@@ -6,13 +6,13 @@ use Rattle.sgt_format.specs.declared.opening.Opening.{Opening}
 use Rattle.sgt_format.specs.declared.errors.OpeningError.{OpeningError}
 use Rattle.sgt_format.specs.declared.errors.OpeningError.TheVariants as opening_error
 use Rattle.sgt_dispatch.specs.declared.job.Job.{Job}
-use Rattle.sgt_stream.specs.declared.fault.Fault.{Fault}
-use Rattle.sgt_stream.specs.declared.fault.Fault.TheVariants as fault
-use Rattle.sgt_stream.specs.Lines.{Ending, AtLongLine, AtLimit, Cut, cut}
-use Rattle.sgt_stream.specs.Intake.{Intake, before_input, cut_left, Gives, EndsAs, Explains}
-use Rattle.sgt_stream.specs.Ends.{IsOfInput, no_opening, fault_of_opening}
-use Rattle.sgt_stream.specs.Spelled.{spelled, end_of}
-use Rattle.sgt_stream.proofs.Begun.{Begun, HasBadRecord}
+use Rattle.sgt_input.specs.declared.fault.Fault.{Fault}
+use Rattle.sgt_input.specs.declared.fault.Fault.TheVariants as fault
+use Rattle.sgt_input.specs.Lines.{Ending, AtLongLine, AtLimit, Cut, cut}
+use Rattle.sgt_input.specs.Intake.{Intake, before_input, cut_left, Gives, EndsAs, Explains}
+use Rattle.sgt_input.specs.Ends.{IsOfInput, no_opening, fault_of_opening}
+use Rattle.sgt_input.specs.Spelled.{spelled, end_of}
+use Rattle.sgt_input.proofs.Begun.{Begun, HasBadRecord}
 use Rattle.sgt_jobs.specs.Jobs.{job_at, numbered}
 use Rattle.sgt_jobs.specs.Taking.{EndsWith}
 use Rattle.sgt_jobs.specs.Inputs.{InputAsks, InputFails, LinesAsk, LinesFail}

@@ -4,12 +4,12 @@ use Rattle.std.specs.Prelude.{Option, None, Some, Result, Ok, Err, IfErr}
 use Rattle.sgt_format.specs.declared.errors.LineError.{LineError}
 use Rattle.sgt_format.specs.declared.errors.LineError.TheVariants as line_error
 use Rattle.sgt_format.specs.JobLines.{job_of}
-use Rattle.sgt_stream.specs.declared.fault.Fault.{Fault}
-use Rattle.sgt_stream.specs.declared.fault.Fault.TheVariants as fault
-use Rattle.sgt_stream.specs.Lines.{AtLongLine, AtLimit, Cut, Ending}
-use Rattle.sgt_stream.specs.Intake.{EndsAs, Explains, Gives}
-use Rattle.sgt_stream.specs.Ends.{IsOfInput, end_at}
-use Rattle.sgt_stream.specs.Spelled.{at_line, or_later, end_of}
+use Rattle.sgt_input.specs.declared.fault.Fault.{Fault}
+use Rattle.sgt_input.specs.declared.fault.Fault.TheVariants as fault
+use Rattle.sgt_input.specs.Lines.{AtLongLine, AtLimit, Cut, Ending}
+use Rattle.sgt_input.specs.Intake.{EndsAs, Explains, Gives}
+use Rattle.sgt_input.specs.Ends.{IsOfInput, end_at}
+use Rattle.sgt_input.specs.Spelled.{at_line, or_later, end_of}
 use Rattle.sgt_jobs.specs.Jobs.{job_at, unless_too_many}
 use Rattle.sgt_jobs.specs.Taking.{EndsWith}
 

@@ -5,10 +5,10 @@ use Rattle.std.proofs.lemmas.Bool.{le-ltb, lt-ltb}
 use Rattle.std.proofs.lemmas.Option.{none-some, same_Some}
 use Rattle.sgt_format.specs.declared.call.JobCall.{JobCall}
 use Rattle.sgt_dispatch.specs.declared.job.Job.{Job}
-use Rattle.sgt_stream.specs.declared.fault.Fault.TheVariants as fault
-use Rattle.sgt_stream.specs.Lines.{Cut}
-use Rattle.sgt_stream.specs.Ends.{End}
-use Rattle.sgt_stream.specs.Spelled.{at_line, and_later, spelled, or_later, end_of}
+use Rattle.sgt_input.specs.declared.fault.Fault.TheVariants as fault
+use Rattle.sgt_input.specs.Lines.{Cut}
+use Rattle.sgt_input.specs.Ends.{End}
+use Rattle.sgt_input.specs.Spelled.{at_line, and_later, spelled, or_later, end_of}
 use Rattle.sgt_jobs.specs.Jobs.{unless_too_many, job_at, numbered}
 use Rattle.sgt_jobs.specs.Taking.{Asks, Asked, EndsWith}
 

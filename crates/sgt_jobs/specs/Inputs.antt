@@ -6,11 +6,11 @@ use Rattle.sgt_format.specs.declared.opening.Opening.{Opening}
 use Rattle.sgt_format.specs.declared.errors.OpeningError.{OpeningError}
 use Rattle.sgt_format.specs.declared.errors.OpeningError.TheVariants as opening_error
 use Rattle.sgt_dispatch.specs.declared.job.Job.{Job}
-use Rattle.sgt_stream.specs.declared.fault.Fault.{Fault}
-use Rattle.sgt_stream.specs.declared.fault.Fault.TheVariants as fault
-use Rattle.sgt_stream.specs.Lines.{Ending, cut}
-use Rattle.sgt_stream.specs.Ends.{IsOfInput, fault_of_opening, no_opening}
-use Rattle.sgt_stream.specs.Spelled.{spelled, end_of}
+use Rattle.sgt_input.specs.declared.fault.Fault.{Fault}
+use Rattle.sgt_input.specs.declared.fault.Fault.TheVariants as fault
+use Rattle.sgt_input.specs.Lines.{Ending, cut}
+use Rattle.sgt_input.specs.Ends.{IsOfInput, fault_of_opening, no_opening}
+use Rattle.sgt_input.specs.Spelled.{spelled, end_of}
 use Rattle.sgt_jobs.specs.Jobs.{job_at, numbered}
 
 -- line 1 and the record lines behind it open, with room for each worker, and each line behind those asks for a job

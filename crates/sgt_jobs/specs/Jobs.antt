@@ -3,9 +3,9 @@ use Rattle.std.specs.Prelude.{ℕ, ◌+◌, nat_lt, if◌then◌else◌, List, [
 use Rattle.sgt_format.specs.JobLines.{job_of}
 use Rattle.sgt_format.specs.declared.call.JobCall.{JobCall}
 use Rattle.sgt_dispatch.specs.declared.job.Job.{Job}
-use Rattle.sgt_stream.specs.declared.fault.Fault.{Fault}
-use Rattle.sgt_stream.specs.declared.fault.Fault.TheVariants as fault
-use Rattle.sgt_stream.specs.Spelled.{at_line}
+use Rattle.sgt_input.specs.declared.fault.Fault.{Fault}
+use Rattle.sgt_input.specs.declared.fault.Fault.TheVariants as fault
+use Rattle.sgt_input.specs.Spelled.{at_line}
 
 -- what line n asks for, where it is not one more than 1,000,000, the first of which a line asks for by its number
 abbrev pub unless_too_many : ℕ → ℕ → Result JobCall Fault → Result JobCall Fault

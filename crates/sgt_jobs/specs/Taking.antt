@@ -2,9 +2,9 @@
 use Rattle.std.specs.Prelude.{◌≡◌, ℕ, ◌+◌, ⊤, List, ◌∷◌, ◌++◌, length, Option, None, Some, IfSome, Ok}
 use Rattle.sgt_format.specs.JobLines.{job_of}
 use Rattle.sgt_format.specs.declared.call.JobCall.{JobCall}
-use Rattle.sgt_stream.specs.Lines.{Cut}
-use Rattle.sgt_stream.specs.Ends.{End}
-use Rattle.sgt_stream.specs.Spelled.{spelled, end_of}
+use Rattle.sgt_input.specs.Lines.{Cut}
+use Rattle.sgt_input.specs.Ends.{End}
+use Rattle.sgt_input.specs.Spelled.{spelled, end_of}
 use Rattle.sgt_jobs.specs.Jobs.{job_at}
 
 -- known lines begin with one that asks for this call, and then come these

@@ -1,12 +1,12 @@
 ghost use Rattle.std.specs.Prelude.{◌≡◌, ◌≢◌, IfOk, IfErr, IfSome, Err, ◌+◌, ◌^◌, ◌<◌, ◌≤◌};
 ghost use Rattle.sgt_workers.specs.Banks.{AreLimitsFor, AreJobs};
 ghost use Rattle.sgt_jobs.specs.Inputs.{InputAsks, InputFails};
-ghost use Rattle.sgt_stream.specs.Ends.{IsOfInput};
+ghost use Rattle.sgt_input.specs.Ends.{IsOfInput};
 
 use crate::jobs::read_jobs;
 use sgt_dispatch::Job;
 use sgt_format::Opening;
-use sgt_stream::{Fault, Lines, Source, opening_of, read_records};
+use sgt_input::{Fault, Lines, Source, opening_of, read_records};
 use std::alloc::Global;
 
 /// What an input asks for: its opening, which lets as many be live as there are workers, with the records behind it, and its jobs.

@@ -1,16 +1,16 @@
 ghost use Rattle.std.specs.Prelude.{◌≡◌, ◌≢◌, ℕ, List, IfOk, IfErr, IfSome, IsNone, Err, Ok, [], ◌+◌, ◌^◌, ◌<◌, ◌≤◌};
-ghost use Rattle.sgt_stream.specs.Lines.{AtEnd};
-ghost use Rattle.sgt_stream.specs.Intake.{EndsAs, come, cut_left};
-ghost use Rattle.sgt_stream.specs.Ends.{IsOfInput};
+ghost use Rattle.sgt_input.specs.Lines.{AtEnd};
+ghost use Rattle.sgt_input.specs.Intake.{EndsAs, come, cut_left};
+ghost use Rattle.sgt_input.specs.Ends.{IsOfInput};
 ghost use Rattle.sgt_workers.specs.Banks.{AreJobs};
-ghost use Rattle.sgt_stream.specs.Spelled.{spelled, end_of};
+ghost use Rattle.sgt_input.specs.Spelled.{spelled, end_of};
 ghost use Rattle.sgt_jobs.specs.Jobs.{job_at, numbered};
 ghost use Rattle.sgt_jobs.specs.Taking.{Asks, EndsWith};
 
 use json::Scratch;
 use sgt_dispatch::Job;
 use sgt_format::{JobCall, read_job};
-use sgt_stream::{Fault, Lines, Source, at_line};
+use sgt_input::{Fault, Lines, Source, at_line};
 use sgt_workers::MOST_JOBS;
 use std::alloc::Global;
 

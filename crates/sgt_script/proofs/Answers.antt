@@ -3,13 +3,13 @@ use Rattle.std.proofs.Common.{◌≡◌, ℕ, ◌+◌, List, [], ◌∷◌, ◌+
 use Rattle.std.proofs.lemmas.List.{map-append}
 use Rattle.std.proofs.lemmas.Grind.{reverse_onto}
 use Rattle.std.specs.Prelude.{map, reverse, Option, None, Some, IfSome, IfErr, OnOk, Ok, Err}
-use Rattle.sgt_stream.specs.declared.fault.Fault.{Fault}
+use Rattle.sgt_input.specs.declared.fault.Fault.{Fault}
 use Rattle.sgt_model.specs.Settings.{Setting}
-use Rattle.sgt_stream.specs.declared.fault.Fault.TheVariants as fault
+use Rattle.sgt_input.specs.declared.fault.Fault.TheVariants as fault
 use Rattle.std.specs.Io.KnownBytes.{Appends}
-use Rattle.sgt_stream.specs.Lines.{Cut}
-use Rattle.sgt_stream.specs.Ends.{End, IsExact, IsOfInput}
-use Rattle.sgt_stream.specs.Spelled.{spelled, end_of}
+use Rattle.sgt_input.specs.Lines.{Cut}
+use Rattle.sgt_input.specs.Ends.{End, IsExact, IsOfInput}
+use Rattle.sgt_input.specs.Spelled.{spelled, end_of}
 use Rattle.sgt_script.specs.declared.telling.Telling.{Telling}
 use Rattle.sgt_script.specs.Parts.{Answer, LegalRun, Part, asked, left_by, lines_of, part_of, answers_text}
 use Rattle.sgt_script.specs.Scripts.{Execution, RunOutput, script_line_at, Closing, Last}

@@ -16,15 +16,15 @@ use Rattle.sgt_format.specs.RecordText.{record_lines}
 use Rattle.sgt_format.specs.declared.opening.Opening.{Opening}
 use Rattle.sgt_format.specs.declared.script_line.ScriptLine.{ScriptLine}
 use Rattle.sgt_program.specs.Openings.{opened_setting}
-use Rattle.sgt_stream.specs.declared.fault.Fault.{Fault}
-use Rattle.sgt_stream.specs.declared.fault.Fault.TheVariants as fault
-use Rattle.sgt_stream.specs.Lines.{Cut, cut, has_break}
-use Rattle.sgt_stream.specs.Intake.{Intake, bytes_left, cut_left, taken}
+use Rattle.sgt_input.specs.declared.fault.Fault.{Fault}
+use Rattle.sgt_input.specs.declared.fault.Fault.TheVariants as fault
+use Rattle.sgt_input.specs.Lines.{Cut, cut, has_break}
+use Rattle.sgt_input.specs.Intake.{Intake, bytes_left, cut_left, taken}
 use Rattle.sgt_script.specs.Opened.{HasOpened}
-use Rattle.sgt_stream.specs.Records.{Passes, ReadsRecords}
-use Rattle.sgt_stream.proofs.Begun.{Begun, HaveBegun}
-use Rattle.sgt_stream.specs.Ends.{End, IsOfInput}
-use Rattle.sgt_stream.specs.Spelled.{spelled, end_of}
+use Rattle.sgt_input.specs.Records.{Passes, ReadsRecords}
+use Rattle.sgt_input.proofs.Begun.{Begun, HaveBegun}
+use Rattle.sgt_input.specs.Ends.{End, IsOfInput}
+use Rattle.sgt_input.specs.Spelled.{spelled, end_of}
 use Rattle.sgt_script.specs.declared.telling.Telling.{Telling}
 use Rattle.sgt_script.specs.declared.telling.Telling.TheVariants.{Replies, Operations, Records}
 use Rattle.sgt_script.specs.Parts.{Answer, LegalAnswer, LegalRun, Part, answer_text, left_by, lines_of, part_behind, part_of, answers_text}

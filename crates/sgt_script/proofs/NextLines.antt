@@ -2,14 +2,14 @@
 use Rattle.std.proofs.Common.{◌≡◌, ◌≢◌, ℕ, ◌+◌, List, [], ◌∷◌, refl, ap, sym, ◌∙◌, subst}
 use Rattle.std.specs.Prelude.{Option, None, Some, Result, Ok, Err, IfOk, IfErr}
 use Rattle.sgt_format.specs.declared.script_line.ScriptLine.{ScriptLine}
-use Rattle.sgt_stream.specs.declared.fault.Fault.{Fault}
+use Rattle.sgt_input.specs.declared.fault.Fault.{Fault}
 use Rattle.sgt_format.specs.declared.errors.LineError.{LineError}
 use Rattle.sgt_format.specs.declared.errors.LineError.TheVariants as line_error
-use Rattle.sgt_stream.specs.declared.fault.Fault.TheVariants as fault
-use Rattle.sgt_stream.specs.Lines.{AtLongLine, AtLimit, Cut, Ending}
-use Rattle.sgt_stream.specs.Intake.{EndsAs, Explains, Gives}
-use Rattle.sgt_stream.specs.Ends.{End, IsOfInput, end_at}
-use Rattle.sgt_stream.specs.Spelled.{and_later, at_line, or_later, spelled, end_of}
+use Rattle.sgt_input.specs.declared.fault.Fault.TheVariants as fault
+use Rattle.sgt_input.specs.Lines.{AtLongLine, AtLimit, Cut, Ending}
+use Rattle.sgt_input.specs.Intake.{EndsAs, Explains, Gives}
+use Rattle.sgt_input.specs.Ends.{End, IsOfInput, end_at}
+use Rattle.sgt_input.specs.Spelled.{and_later, at_line, or_later, spelled, end_of}
 use Rattle.sgt_script.specs.Scripts.{script_line_at}
 use Rattle.sgt_script.specs.Answering.{BeginWith, NoLine}
 

@@ -6,13 +6,13 @@ use Rattle.sgt_format.specs.Openings.{Opens, Refuses}
 use Rattle.sgt_format.specs.declared.opening.Opening.{Opening}
 use Rattle.sgt_format.specs.declared.errors.OpeningError.{OpeningError}
 use Rattle.sgt_format.specs.declared.errors.OpeningError.TheVariants as opening_error
-use Rattle.sgt_stream.specs.declared.fault.Fault.{Fault}
-use Rattle.sgt_stream.specs.Lines.{Ending, AtEnd, AtLongLine, AtLimit, Cut, cut, has_break, whole_lines}
-use Rattle.sgt_stream.specs.Intake.{Intake, before_input, bytes_left, cut_left, taken, Gives, EndsAs, Explains}
-use Rattle.sgt_stream.specs.Ends.{IsOfInput, end_at, no_opening, fault_of_opening}
+use Rattle.sgt_input.specs.declared.fault.Fault.{Fault}
+use Rattle.sgt_input.specs.Lines.{Ending, AtEnd, AtLongLine, AtLimit, Cut, cut, has_break, whole_lines}
+use Rattle.sgt_input.specs.Intake.{Intake, before_input, bytes_left, cut_left, taken, Gives, EndsAs, Explains}
+use Rattle.sgt_input.specs.Ends.{IsOfInput, end_at, no_opening, fault_of_opening}
 use Rattle.sgt_model.specs.Databases.{contents_of}
-use Rattle.sgt_stream.specs.Records.{IsBadRecord, Leaves}
-use Rattle.sgt_stream.proofs.Begun.{Begun, HasBadRecord, begun, bad-record}
+use Rattle.sgt_input.specs.Records.{IsBadRecord, Leaves}
+use Rattle.sgt_input.proofs.Begun.{Begun, HasBadRecord, begun, bad-record}
 use Rattle.sgt_script.specs.Opened.{HasOpened, IsRefused, LinesRefused, ReadsNoLine}
 use Rattle.sgt_script.proofs.NextLines.{explained-end}
 

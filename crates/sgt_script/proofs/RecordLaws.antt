@@ -6,8 +6,8 @@ use Rattle.sgt_model.specs.StoredValues.{CommittedAreValues}
 use Rattle.sgt_model.specs.Laws.{HeadlineHolds}
 use Rattle.sgt_smallbank.specs.Replays.{ReplayIsBank}
 use Rattle.sgt_program.specs.Openings.{OpenedHoldValues}
-use Rattle.sgt_stream.specs.Lines.{Ending, cut}
-use Rattle.sgt_stream.specs.Ends.{End}
+use Rattle.sgt_input.specs.Lines.{Ending, cut}
+use Rattle.sgt_input.specs.Ends.{End}
 use Rattle.sgt_script.specs.declared.telling.Telling.TheVariants.{Records}
 use Rattle.sgt_script.specs.Parts.{Answer, answers_text}
 use Rattle.sgt_script.specs.Scripts.{Execution, Closing, Script, ScriptOf}

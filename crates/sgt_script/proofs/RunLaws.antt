@@ -19,8 +19,8 @@ use Rattle.sgt_smallbank.specs.Texts.{procedures}
 use Rattle.sgt_program.specs.Openings.{OpenedHoldValues}
 use Rattle.sgt_format.specs.FilledOpenings.{behind_records, leading_records, number_behind}
 use Rattle.sgt_format.specs.ReplyText.{text}
-use Rattle.sgt_stream.specs.Lines.{Ending, cut}
-use Rattle.sgt_stream.specs.Ends.{End}
+use Rattle.sgt_input.specs.Lines.{Ending, cut}
+use Rattle.sgt_input.specs.Ends.{End}
 use Rattle.sgt_textbook.specs.Laws.{AreCommitOrdered, AreSerializable, AreRecoverable, TextbookLaws}
 use Rattle.sgt_transcript.specs.Transcripts.{TranscriptsSpellTextbooks, cut_comment, operations_text, transcript}
 use Rattle.sgt_script.specs.declared.telling.Telling.{Telling}

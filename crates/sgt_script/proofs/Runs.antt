@@ -4,15 +4,15 @@ use Rattle.std.specs.Prelude.{Option, None, Some, IfSome, Err}
 use Rattle.std.specs.Io.KnownBytes.{Appends}
 use Rattle.sgt_model.specs.Settings.{Setting}
 use Rattle.sgt_format.specs.declared.opening.Opening.{Opening}
-use Rattle.sgt_stream.specs.Lines.{Cut, Ending, cut}
-use Rattle.sgt_stream.specs.Ends.{End}
+use Rattle.sgt_input.specs.Lines.{Cut, Ending, cut}
+use Rattle.sgt_input.specs.Ends.{End}
 use Rattle.sgt_script.specs.Opened.{IsRefused, LinesRefused}
 use Rattle.sgt_script.specs.declared.telling.Telling.{Telling}
 use Rattle.sgt_script.specs.Scripts.{Execution, Script, ScriptOf, RunOutput}
 use Rattle.sgt_program.specs.Openings.{opened_setting}
-use Rattle.sgt_stream.proofs.Begun.{Begun, HasBadRecord}
+use Rattle.sgt_input.proofs.Begun.{Begun, HasBadRecord}
 use Rattle.sgt_script.proofs.Answers.{Output}
-use Rattle.sgt_stream.specs.declared.fault.Fault.{Fault}
+use Rattle.sgt_input.specs.declared.fault.Fault.{Fault}
 
 -- what a run wrote over bytes that are known
 abbrev pub Wrote : Telling → Option (List ℕ) → Option (List ℕ) → Option (List ℕ) → End → Type 0

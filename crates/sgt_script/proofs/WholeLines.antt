@@ -3,15 +3,15 @@ use Rattle.std.proofs.Common.{◌≡◌, ℕ, ◌+◌, false, List, [], ◌∷�
 use Rattle.std.proofs.lemmas.List.{length-append}
 use Rattle.std.specs.Prelude.{Result, Option, None, Some, ⊤, Ok, Err}
 use Rattle.std.specs.Io.KnownBytes.{Consumes, Keeps, prepend_known}
-use Rattle.sgt_stream.specs.declared.fault.Fault.{Fault}
-use Rattle.sgt_stream.specs.Lines.{AtEnd, has_break, whole_lines}
+use Rattle.sgt_input.specs.declared.fault.Fault.{Fault}
+use Rattle.sgt_input.specs.Lines.{AtEnd, has_break, whole_lines}
 use Rattle.sgt_format.specs.declared.opening.Opening.{Opening}
-use Rattle.sgt_stream.specs.Intake.{Intake, NoLineCame, bytes_left, taken}
+use Rattle.sgt_input.specs.Intake.{Intake, NoLineCame, bytes_left, taken}
 use Rattle.sgt_script.specs.Opened.{HasOpened, ReadsNoLine}
-use Rattle.sgt_stream.specs.Records.{Passes, ReadsRecords}
-use Rattle.sgt_stream.specs.Ends.{End}
-use Rattle.sgt_stream.specs.Spelled.{and_later, or_later, spelled, end_of}
-use Rattle.sgt_stream.proofs.Cuts.{whole_lines-first}
+use Rattle.sgt_input.specs.Records.{Passes, ReadsRecords}
+use Rattle.sgt_input.specs.Ends.{End}
+use Rattle.sgt_input.specs.Spelled.{and_later, or_later, spelled, end_of}
+use Rattle.sgt_input.proofs.Cuts.{whole_lines-first}
 use Rattle.sgt_script.specs.Parts.{Answer, asked}
 use Rattle.sgt_script.specs.Scripts.{script_line_at}
 use Rattle.sgt_script.specs.Answering.{AreAnswered, AnswersRead, AreBehindRecords, AreLaterAnswered, AnswersScriptRead}

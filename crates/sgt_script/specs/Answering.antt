@@ -4,9 +4,9 @@ use Rattle.std.specs.Io.KnownBytes.{Appends, Consumes}
 use Rattle.sgt_model.specs.Settings.{Setting}
 use Rattle.sgt_format.specs.FilledOpenings.{AreRecordLines}
 use Rattle.sgt_format.specs.declared.script_line.ScriptLine.{ScriptLine}
-use Rattle.sgt_stream.specs.Lines.{Cut, AtEnd, whole_lines}
-use Rattle.sgt_stream.specs.Ends.{End}
-use Rattle.sgt_stream.specs.Spelled.{spelled, end_of}
+use Rattle.sgt_input.specs.Lines.{Cut, AtEnd, whole_lines}
+use Rattle.sgt_input.specs.Ends.{End}
+use Rattle.sgt_input.specs.Spelled.{spelled, end_of}
 use Rattle.sgt_script.specs.declared.telling.Telling.{Telling}
 use Rattle.sgt_script.specs.Parts.{Answer, LegalAnswer, LegalRun, Part, answer_text, asked, lines_of, part_behind, answers_text}
 use Rattle.sgt_script.specs.Scripts.{script_line_at}

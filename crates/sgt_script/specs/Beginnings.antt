@@ -2,10 +2,10 @@
 use Rattle.std.specs.Prelude.{◌≡◌, ℕ, ⊤, List, ◌++◌, Option, Some, Err, ◌⊎◌}
 use Rattle.std.specs.Io.KnownBytes.{Appends}
 use Rattle.sgt_model.specs.Settings.{Setting}
-use Rattle.sgt_stream.specs.declared.fault.Fault.{Fault}
-use Rattle.sgt_stream.specs.declared.fault.Fault.TheVariants as fault
-use Rattle.sgt_stream.specs.Lines.{Cut}
-use Rattle.sgt_stream.specs.Ends.{End}
+use Rattle.sgt_input.specs.declared.fault.Fault.{Fault}
+use Rattle.sgt_input.specs.declared.fault.Fault.TheVariants as fault
+use Rattle.sgt_input.specs.Lines.{Cut}
+use Rattle.sgt_input.specs.Ends.{End}
 use Rattle.sgt_script.specs.declared.telling.Telling.{Telling}
 use Rattle.sgt_script.specs.Parts.{Answer}
 use Rattle.sgt_script.specs.Scripts.{Execution, RunOutput, Script}

@@ -5,10 +5,10 @@ use Rattle.sgt_format.specs.Openings.{Opens, Refuses}
 use Rattle.sgt_format.specs.declared.opening.Opening.{Opening}
 use Rattle.sgt_format.specs.declared.errors.OpeningError.{OpeningError}
 use Rattle.sgt_format.specs.declared.errors.OpeningError.TheVariants as opening_error
-use Rattle.sgt_stream.specs.declared.fault.Fault.{Fault}
-use Rattle.sgt_stream.specs.Lines.{Ending, cut, has_break, whole_lines}
-use Rattle.sgt_stream.specs.Intake.{Intake, Gives, before_input, bytes_left, cut_left, taken}
-use Rattle.sgt_stream.specs.Ends.{fault_of_opening, no_opening}
+use Rattle.sgt_input.specs.declared.fault.Fault.{Fault}
+use Rattle.sgt_input.specs.Lines.{Ending, cut, has_break, whole_lines}
+use Rattle.sgt_input.specs.Intake.{Intake, Gives, before_input, bytes_left, cut_left, taken}
+use Rattle.sgt_input.specs.Ends.{fault_of_opening, no_opening}
 
 -- of an input line 1 was given, which spells this opening
 pub record HasOpened (least : ℕ) (input : Option (List ℕ)) (i : Intake) (rest : Option (List ℕ)) (o : Opening) : Type 0 where

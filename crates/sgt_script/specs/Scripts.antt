@@ -13,11 +13,11 @@ use Rattle.sgt_format.specs.declared.opening.Opening.{Opening}
 use Rattle.sgt_format.specs.declared.errors.OpeningError.{OpeningError}
 use Rattle.sgt_format.specs.declared.errors.OpeningError.TheVariants as opening_error
 use Rattle.sgt_program.specs.Openings.{opened_setting}
-use Rattle.sgt_stream.specs.declared.fault.Fault.{Fault}
-use Rattle.sgt_stream.specs.declared.fault.Fault.TheVariants as fault
-use Rattle.sgt_stream.specs.Lines.{Ending, cut}
-use Rattle.sgt_stream.specs.Ends.{End, fault_of_opening, no_opening}
-use Rattle.sgt_stream.specs.Spelled.{at_line, spelled, end_of}
+use Rattle.sgt_input.specs.declared.fault.Fault.{Fault}
+use Rattle.sgt_input.specs.declared.fault.Fault.TheVariants as fault
+use Rattle.sgt_input.specs.Lines.{Ending, cut}
+use Rattle.sgt_input.specs.Ends.{End, fault_of_opening, no_opening}
+use Rattle.sgt_input.specs.Spelled.{at_line, spelled, end_of}
 use Rattle.sgt_script.specs.declared.telling.Telling.{Telling}
 use Rattle.sgt_script.specs.declared.telling.Telling.TheVariants.{Replies, Operations, Records}
 use Rattle.sgt_script.specs.Parts.{Answer, LegalRun, left_by, lines_of, part_of, answers_text}

@@ -1,5 +1,5 @@
 use sgt_program::SgtEngine;
-use sgt_stream::Lines;
+use sgt_input::Lines;
 
 /// What is told of a run beside what it writes. It changes nothing of the run, and no fault comes of it.
 pub(crate) trait Explains: Drop {

@@ -9,7 +9,7 @@ use sgt_format::Opening;
 use sgt_model::NoMemory;
 use sgt_proc::Checked;
 use sgt_program::{SgtEngine, all_procedures};
-use sgt_stream::{Lines, Sink, opening_of, write_all};
+use sgt_input::{Lines, Sink, opening_of, write_all};
 use std::alloc::Global;
 use std::marker::Model;
 

@@ -1,5 +1,5 @@
 //! The whole of `sgt script` over a source and a sink: bytes in, lines, events, replies, text out. `specs/Scripts.antt` says
-//! what a script's run writes and how it ends, over what `sgt_stream` says of lines and `sgt_format` of texts.
+//! what a script's run writes and how it ends, over what `sgt_input` says of lines and `sgt_format` of texts.
 //!
 //! [`run_script`] writes the replies and the database, [`run_history`] the operations of the same run, [`run_records`] what it leaves;
 //! and [`run_explained`] tells beside the replies, on a sink of its own, why transactions are aborted.

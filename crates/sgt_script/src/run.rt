@@ -1,6 +1,6 @@
 ghost use Rattle.std.specs.Prelude.{◌≡◌, ◌≢◌, ℕ, List, Option, IfSome, Err, ◌⊎◌, [], ◌+◌, ◌^◌, ◌<◌, ◌≤◌};
 ghost use Rattle.std.specs.Io.KnownBytes.{Appends};
-ghost use Rattle.sgt_stream.specs.Ends.{IsExact};
+ghost use Rattle.sgt_input.specs.Ends.{IsExact};
 ghost use Rattle.sgt_script.specs.declared.telling.Telling.TheVariants.{Replies, Operations};
 ghost use Rattle.sgt_script.specs.RunLaws.{HistoryLaws, RunLaws};
 ghost use Rattle.sgt_script.specs.Beginnings.{Begins, IsStop, ScriptRuns};
@@ -14,7 +14,7 @@ use crate::telling::Telling;
 use sgt_model::{headline_holds, replays_hold_values};
 use sgt_program::opened_hold_values;
 use sgt_smallbank::replay_is_bank;
-use sgt_stream::{Fault, Sink, Source};
+use sgt_input::{Fault, Sink, Source};
 use sgt_textbook::{legal_are_commit_ordered, legal_are_recoverable, legal_are_serializable};
 use sgt_transcript::transcripts_spell_textbooks;
 use std::alloc::Global;

@@ -3,9 +3,9 @@ ghost use Rattle.std.specs.Io.KnownBytes.{Appends, Consumes};
 ghost use Rattle.sgt_model.specs.declared.entry.Entry.{Entry as Filed};
 ghost use Rattle.sgt_model.specs.Legality.{Legal};
 ghost use Rattle.sgt_engine.specs.EngineView.{setting_of};
-ghost use Rattle.sgt_stream.specs.Lines.{has_break};
-ghost use Rattle.sgt_stream.specs.Intake.{NoLineCame, bytes_left, come, cut_left, has_whole_line, taken};
-ghost use Rattle.sgt_stream.specs.Ends.{IsOfInput, IsExact};
+ghost use Rattle.sgt_input.specs.Lines.{has_break};
+ghost use Rattle.sgt_input.specs.Intake.{NoLineCame, bytes_left, come, cut_left, has_whole_line, taken};
+ghost use Rattle.sgt_input.specs.Ends.{IsOfInput, IsExact};
 ghost use Rattle.sgt_script.specs.Parts.{Answer, Replied, StillLive, WasCut, answer_text, answers_text, left_by, part_at, part_of};
 ghost use Rattle.sgt_script.specs.Scripts.{Execution, Last, RunOutput, Script, script_line_at};
 ghost use Rattle.sgt_script.specs.Answering.{AnswersAll, AnswersLine, AnswersRead, AnswersScriptRead, AnswersSome, BeginWith, NoLine};
@@ -22,7 +22,7 @@ use sgt_format::{
 };
 use sgt_model::{Entry, Event, NoMemory, histories_go_on, some_reply_is_legal};
 use sgt_program::{SgtEngine, open_engine};
-use sgt_stream::{Fault, Lines, Sink, Source, at_line, opening_of, read_records, write_all};
+use sgt_input::{Fault, Lines, Sink, Source, at_line, opening_of, read_records, write_all};
 use sgt_transcript::{append_cut_comment, append_operations};
 use std::alloc::Global;
 

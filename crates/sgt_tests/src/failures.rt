@@ -1,6 +1,6 @@
 //! A reader counts a call that failed, a writer also one that took nothing of something, and neither counts another.
 
-use sgt_stream::{Reader, Sink, Source, Writer};
+use sgt_input::{Reader, Sink, Source, Writer};
 use std::io;
 use std::io::{ErrorKind, Read, Write};
 

@@ -1,10 +1,10 @@
 use Rattle.std.proofs.Common.{rules, ◌≡◌, ◌+◌, Err, refl, subst, sym}
 use Rattle.std.specs.Prelude.{IfErr}
-use Rattle.sgt_stream.specs.Lines.{AtEnd}
-use Rattle.sgt_stream.specs.Intake.{cut_left}
-use Rattle.sgt_stream.specs.Ends.{IsOfInput}
+use Rattle.sgt_input.specs.Lines.{AtEnd}
+use Rattle.sgt_input.specs.Intake.{cut_left}
+use Rattle.sgt_input.specs.Ends.{IsOfInput}
 use Rattle.sgt_jobs.proofs.Beginnings.{Fails, fails-empty, fails-refused, fails-record, fails-behind, fails-long, asks-all}
-use Rattle.sgt_stream.proofs.Begun.{begun, bad-record}
+use Rattle.sgt_input.proofs.Begun.{begun, bad-record}
 use Rattle.sgt_jobs.proofs.input.read_input.Goals as goal
 
 pub returns-in_err-next_line-clause-fault : goal.returns-in_err-next_line-clause-fault

@@ -1,8 +1,8 @@
 use Rattle.std.proofs.Common.{rules, ◌≡◌, ℕ, ◌+◌, Err, subst, sym}
 use Rattle.std.specs.Prelude.{IfErr}
 use Rattle.sgt_format.specs.JobLines.{job_of}
-use Rattle.sgt_stream.specs.Intake.{cut_left}
-use Rattle.sgt_stream.specs.Ends.{IsOfInput}
+use Rattle.sgt_input.specs.Intake.{cut_left}
+use Rattle.sgt_input.specs.Ends.{IsOfInput}
 use Rattle.sgt_jobs.specs.Taking.{EndsWith}
 use Rattle.sgt_jobs.proofs.NextCalls.{call-fails, no-call-fits, spells-none}
 use Rattle.sgt_jobs.proofs.jobs.next_call.Goals as goal

@@ -1,7 +1,7 @@
 use Rattle.std.proofs.Common.{rules, ◌≡◌, ◌≤◌, ◌<◌, ◌+◌, ◌++◌, ◌∷◌, [], arith, length, sym, ◌∙◌, ap, subst, Err, Some, slice_get}
 use Rattle.std.specs.Prelude.{IfErr, vec_len}
-use Rattle.sgt_stream.specs.Intake.{cut_left}
-use Rattle.sgt_stream.specs.Ends.{IsOfInput}
+use Rattle.sgt_input.specs.Intake.{cut_left}
+use Rattle.sgt_input.specs.Ends.{IsOfInput}
 use Rattle.sgt_jobs.specs.Taking.{Asks, EndsWith}
 use Rattle.sgt_jobs.proofs.Takings.{asked-none, asked-next, asked-many, asked-fault, numbered-snoc, length-snoc, length-numbered, numbered-at}
 use Rattle.sgt_jobs.proofs.jobs.read_jobs.Goals as goal

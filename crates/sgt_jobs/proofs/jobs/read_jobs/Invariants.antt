@@ -1,6 +1,6 @@
 use Rattle.std.proofs.Common.{◌≡◌, List, ◌+◌, ◌≤◌, length}
 use Rattle.sgt_format.specs.declared.call.JobCall.{JobCall}
-use Rattle.sgt_stream.specs.Intake.{come, cut_left}
+use Rattle.sgt_input.specs.Intake.{come, cut_left}
 use Rattle.sgt_jobs.specs.Jobs.{numbered}
 use Rattle.sgt_jobs.specs.Taking.{Asked}
 use Rattle.sgt_jobs.proofs.jobs.read_jobs.Given as goal

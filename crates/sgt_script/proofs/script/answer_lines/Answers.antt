@@ -1,5 +1,5 @@
 use Rattle.std.proofs.Common.{rules, ◌+◌, refl}
-use Rattle.sgt_stream.specs.Intake.{bytes_left, cut_left}
+use Rattle.sgt_input.specs.Intake.{bytes_left, cut_left}
 use Rattle.sgt_engine.specs.EngineView.{setting_of}
 use Rattle.sgt_script.specs.Parts.{part_at}
 use Rattle.sgt_script.proofs.Beginnings.{all-so, answered-flushed, answered-next, answered-none, fault-stop, some-failed, some-refused, some-stop, some-written}

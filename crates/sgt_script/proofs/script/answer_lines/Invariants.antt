@@ -1,5 +1,5 @@
 use Rattle.std.proofs.Common.{◌≡◌, ◌≤◌, ◌+◌, false}
-use Rattle.sgt_stream.specs.Intake.{bytes_left, come, cut_left}
+use Rattle.sgt_input.specs.Intake.{bytes_left, come, cut_left}
 use Rattle.sgt_engine.specs.EngineView.{setting_of}
 use Rattle.sgt_script.specs.Parts.{part_at}
 use Rattle.sgt_script.proofs.Beginnings.{IsAnsweredSo}

@@ -1,9 +1,9 @@
 use Rattle.std.proofs.Common.{rules, ◌≡◌, ◌+◌, Err, refl, subst, sym}
 use Rattle.std.specs.Prelude.{IfErr}
 use Rattle.sgt_format.specs.ScriptLines.{script_line_of}
-use Rattle.sgt_stream.specs.Lines.{AtEnd}
-use Rattle.sgt_stream.specs.Intake.{cut_left}
-use Rattle.sgt_stream.specs.Ends.{IsOfInput}
+use Rattle.sgt_input.specs.Lines.{AtEnd}
+use Rattle.sgt_input.specs.Intake.{cut_left}
+use Rattle.sgt_input.specs.Ends.{IsOfInput}
 use Rattle.sgt_script.specs.Answering.{NoLine}
 use Rattle.sgt_script.proofs.NextLines.{line-asks, line-fails, no-line-ends, no-line-fits, spells, spells-none}
 use Rattle.sgt_script.proofs.script.next_script_line.Goals as goal

@@ -1,10 +1,10 @@
 use Rattle.std.proofs.Common.{rules, ◌≡◌, Err, refl, subst, sym}
 use Rattle.std.specs.Prelude.{IfErr}
-use Rattle.sgt_stream.specs.Lines.{AtEnd}
-use Rattle.sgt_stream.specs.Intake.{cut_left}
-use Rattle.sgt_stream.specs.Ends.{IsOfInput}
+use Rattle.sgt_input.specs.Lines.{AtEnd}
+use Rattle.sgt_input.specs.Intake.{cut_left}
+use Rattle.sgt_input.specs.Ends.{IsOfInput}
 use Rattle.sgt_script.specs.Opened.{IsRefused}
-use Rattle.sgt_stream.specs.declared.fault.Fault.TheVariants as fault
+use Rattle.sgt_input.specs.declared.fault.Fault.TheVariants as fault
 use Rattle.sgt_script.proofs.Opened.{has-opened, reads-no-line, refused-empty, refused-line, refused-long}
 use Rattle.sgt_script.proofs.script.open_input.Goals as goal
 

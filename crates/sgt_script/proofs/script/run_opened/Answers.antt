@@ -1,6 +1,6 @@
 use Rattle.std.proofs.Common.{rules, ◌≡◌, ◌≢◌, ◌+◌, refl, sym, ◌∙◌, Err}
-use Rattle.sgt_stream.specs.Intake.{bytes_left, cut_left}
-use Rattle.sgt_stream.specs.declared.fault.Fault.TheVariants as fault
+use Rattle.sgt_input.specs.Intake.{bytes_left, cut_left}
+use Rattle.sgt_input.specs.declared.fault.Fault.TheVariants as fault
 use Rattle.sgt_engine.specs.EngineView.{setting_of}
 use Rattle.sgt_script.specs.Parts.{part_at}
 use Rattle.sgt_script.proofs.Answers.{output-fault, output-well, exact-flush}

@@ -1,12 +1,12 @@
 use Rattle.std.proofs.Common.{rules, ◌≡◌, Err, ◌+◌, sym, ◌∙◌, subst}
-use Rattle.sgt_stream.specs.Intake.{cut_left}
-use Rattle.sgt_stream.specs.Ends.{IsExact}
+use Rattle.sgt_input.specs.Intake.{cut_left}
+use Rattle.sgt_input.specs.Ends.{IsExact}
 use Rattle.sgt_engine.specs.EngineView.{setting_of}
 use Rattle.sgt_script.proofs.Runs.{wrote-bad-record, wrote-refused, wrote-opened}
 use Rattle.sgt_script.proofs.Beginnings.{stops-nothing, stops-records, stops-opened, fails-opened}
 use Rattle.sgt_script.proofs.Opened.{begun-behind, bad-behind}
 use Rattle.sgt_script.proofs.WholeLines.{read-nothing}
-use Rattle.sgt_stream.specs.declared.fault.Fault.TheVariants as fault
+use Rattle.sgt_input.specs.declared.fault.Fault.TheVariants as fault
 use Rattle.sgt_script.proofs.script.run_with.Goals as goal
 
 pub returns-in_err-lines-clause-script : goal.returns-in_err-lines-clause-script

@@ -1,0 +1,82 @@
+-- Laws of bytes 10.
+use Rattle.std.proofs.Common.{◌≡◌, ◌≢◌, ℕ, zero, suc, ◌+◌, ◌<◌, ◌≤◌, true, false, List, [], ◌∷◌, ◌++◌, length, take, get_or, refl, ap, sym, ◌∙◌, arith, suc-le-suc, subst, ◌-◌, drop}
+use Rattle.std.proofs.lemmas.Grind.{common_steps}
+use Rattle.std.proofs.lemmas.Bool.Decides.{nat_tests}
+use Rattle.std.proofs.Math.Seq.{take-add, take-append-add}
+use Rattle.std.proofs.lemmas.List.{get_or-append-add, length-append}
+use Rattle.std.specs.Prelude.{Option, None, Some, is_some, min}
+use Rattle.std.proofs.lemmas.Bool.{true≢false, eqb-true, eq-eqb}
+use Rattle.std.specs.Option.{option_map}
+use Rattle.memchr.specs.Find.{IsFirstByte, is_byte}
+use Rattle.sgt_input.specs.Lines.{has_break, IsBreak}
+
+-- no byte 10 among these and those
+pub no_break-append : (xs ys : List ℕ) → has_break xs ≡ false → has_break ys ≡ false → has_break (xs ++ ys) ≡ false
+no_break-append [] ys first second = second
+no_break-append (x ∷ xs) ys first second = grind (arith, nat_tests, no_break-append xs ys)
+
+-- a byte 10 among the first n, or at place n
+pub has_break-at : (bytes : List ℕ) (n : ℕ) → n < length bytes → get_or bytes n 0 ≡ 10 → has_break bytes ≡ true
+has_break-at [] n inside ten = absurd (omega arith)
+has_break-at (x ∷ xs) zero inside ten = grind (arith, nat_tests)
+has_break-at (x ∷ xs) (suc n) inside ten = grind (arith, nat_tests, has_break-at xs n)
+
+-- a place is known exactly where there is one
+pub found-is : (bytes : List ℕ) (found : Option ℕ) → IsBreak bytes found → is_some found ≡ has_break bytes
+found-is bytes None at = sym at
+found-is bytes (Some n) at = sym (has_break-at bytes n at.0 at.1)
+
+-- no place is known where there is none
+pub found-none : (bytes : List ℕ) (found : Option ℕ) → IsBreak bytes found → has_break bytes ≡ false → found ≡ None
+found-none bytes None at none = refl
+found-none bytes (Some n) at none = absurd (true≢false (sym (has_break-at bytes n at.0 at.1) ∙ none))
+
+-- no byte 10 among fewer
+pub no_break-fewer : (m n : ℕ) (bytes : List ℕ) → m ≤ n → has_break (take n bytes) ≡ false → has_break (take m bytes) ≡ false
+no_break-fewer zero n bytes fewer none = refl
+no_break-fewer (suc m) zero bytes fewer none = absurd (omega arith)
+no_break-fewer (suc m) (suc n) [] fewer none = refl
+no_break-fewer (suc m) (suc n) (x ∷ xs) fewer none = grind (arith, nat_tests, no_break-fewer m n xs)
+
+-- where no line of the longest kind ends, the bytes begin with a line that is too long
+pub long-none : (within : ℕ) (held : List ℕ) → has_break (take within held) ≡ false → 65536 < length held → 65536 < within
+    → has_break (take 65537 held) ≡ false
+long-none within held none long inside = no_break-fewer 65537 within held (omega arith) none
+
+-- and so where the first one ends behind it
+pub long-found : (within n : ℕ) (held : List ℕ) → IsBreak (take within held) (Some n) → 65536 < n
+    → (has_break (take 65537 held) ≡ false) × (65536 < length held) × (65536 < within)
+long-found within n held at long =
+    let inside : n < within = grind (arith, common_steps, at.0) in
+    let few : n < length held = grind (arith, common_steps, at.0) in
+    let same : take n (take within held) ≡ take n held = grind (arith, common_steps, inside) in
+    (no_break-fewer 65537 n held long (ap has_break (sym same) ∙ at.2), omega arith, omega arith)
+
+-- no byte 10 among bytes of which none is 10
+no_break-each : (bytes : List ℕ) → ((k : ℕ) → k < length bytes → get_or bytes k 0 ≢ 10) → has_break bytes ≡ false
+no_break-each [] other = refl
+no_break-each (x ∷ xs) other = grind (arith, nat_tests, other 0, no_break-each xs (λ k inside. other (suc k) (suc-le-suc inside)))
+
+-- the first byte 10 behind bytes of which none is 10
+pub break-behind : (front bytes : List ℕ) (found : Option ℕ) → has_break front ≡ false → IsFirstByte (is_byte 10) bytes found
+    → IsBreak (front ++ bytes) (option_map (λ n. length front + n) found)
+break-behind front bytes None none first =
+    no_break-append front bytes none (no_break-each bytes (λ k inside ten. first k (omega arith) inside (eq-eqb _ 10 ten)))
+break-behind front bytes (Some n) none first = (
+  omega (arith, length-append front bytes, first.0.high),
+  get_or-append-add front bytes n 0 ∙ eqb-true _ 10 first.1,
+  ap has_break (take-append-add front bytes n) ∙ no_break-append front (take n bytes) none
+      (no_break-each (take n bytes) (λ k inside ten. grind (arith, common_steps, first.0.before k, eq-eqb (get_or bytes k 0) 10))),
+)
+
+-- the same in a part of the bytes
+pub break-within : (bytes : List ℕ) (from within stop : ℕ) (found : Option ℕ) → stop ≡ min within (length bytes) → from ≤ within
+    → from ≤ length bytes → has_break (take from bytes) ≡ false → IsFirstByte (is_byte 10)
+    (take (stop - from) (drop from bytes)) found → IsBreak (take within bytes) (option_map (λ n. from + n) found)
+break-within bytes from within stop found is inside fits none first =
+    let size : length (take from bytes) ≡ from = grind (arith, common_steps) in
+    let whole : take from bytes ++ take (stop - from) (drop from bytes) ≡ take within bytes =
+    sym (take-add from (stop - from) bytes) ∙ grind (arith, common_steps) in
+    subst (λ n. IsBreak (take within bytes) (option_map (λ k. n + k) found)) size
+    (subst (λ xs. IsBreak xs (option_map (λ k. length (take from bytes) + k) found)) whole
+    (break-behind (take from bytes) (take (stop - from) (drop from bytes)) found none first))

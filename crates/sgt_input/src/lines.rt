@@ -1,0 +1,269 @@
+ghost use Rattle.std.specs.Prelude.{◌≡◌, ◌≢◌, ℕ, if◌then◌else◌, IsTrue, IsFalse, true, false, IfOk, IfErr, OnOk, OnErr, OnSome, None, Some, min, [], ◌++◌, ◌+◌, ◌-◌, ◌^◌, ◌<◌, ◌≤◌, ◌↔◌, ◌⊎◌, IfSome, IsNone, length, take, drop};
+ghost use Rattle.std.specs.Io.KnownBytes.{Consumes, Keeps};
+ghost use Rattle.sgt_input.specs.Lines.{has_break, whole_lines, IsBreak, AtEnd};
+ghost use Rattle.sgt_input.specs.Intake.{Intake, before_input, has_whole_line, bytes_left, work, IsReady, IsGiven, IsLong, cut_left, Gives, EndsAs, Explains, taken, come};
+
+use crate::buffer::Buffer;
+use crate::fault::Fault;
+use crate::source::{Failed, Source};
+use memchr::memchr;
+use sgt_model::NoMemory;
+use std::alloc::Global;
+use std::marker::Model;
+
+/// The most bytes that a line may have, without its byte 10.
+const LONGEST_LINE: usize = 65_536;
+
+/// The most bytes that an input may have.
+const LONGEST_INPUT: usize = 16_777_216;
+
+/// Where the first byte 10 stands among the first `within` bytes, where none is among the first `from`.
+fn find_break(bytes: &[u8], from: usize, within: usize) -> Option<usize>
+    requires known { has_break (take from bytes.now) ≡ false }
+    requires within { from ≤ within }
+    requires bounds { from ≤ length bytes.now }
+    ensures { IsBreak (take within bytes.now) result }
+{
+    let stop = within.min(bytes.len());
+    match memchr(b'\n', &bytes[from..stop]) {
+        Some(n) => Some(from + n),
+        None => None,
+    }
+}
+
+/// Cuts the bytes of a source into lines, within the limits. It keeps a piece of fixed size, however long the input is.
+#[derive(Drop)]
+pub struct Lines {
+    buffer: Buffer,
+    /// Where the first byte 10 stands among the bytes held that are within the limit.
+    found: Option<usize>,
+    /// How many of the bytes not given are within the limit.
+    within: usize,
+    /// How many lines were given.
+    number: u64,
+    /// Whether the source has ended.
+    ended: bool,
+}
+
+impl Model for Lines {
+    ghost use Rattle.std.specs.Prelude.{◌≡◌, ◌≤◌, ◌+◌, take, length, IsTrue, None};
+    ghost use Rattle.sgt_input.specs.Lines.{IsBreak};
+    ghost use Rattle.sgt_input.specs.Intake.{Intake, AtRest};
+
+    ghost Value = { Intake };
+
+    ghost view = { λ l. record {
+      line = l.buffer.line;
+      number = l.number;
+      held = l.buffer.held;
+      within = l.within;
+      ended = l.ended;
+    } };
+
+    ghost invariant = { λ l. AtRest l.number l.within l.ended l.buffer.held l.found };
+}
+
+impl Lines {
+    /// No byte has come.
+    ///
+    /// # Errors
+    ///
+    /// `NoMemory` where there is none for the piece that it keeps.
+    pub fn new(alloc: Global) -> Result<Self, NoMemory>
+        ensures { IfOk result (λ l. l ≡ before_input) }
+    {
+        Ok(Lines {
+            buffer: Buffer::new(alloc)?,
+            found: None,
+            within: LONGEST_INPUT,
+            number: 0,
+            ended: false,
+        })
+    }
+
+    /// The line given last, without its byte 10.
+    pub fn line(&self) -> &[u8]
+        ensures { result.now ≡ self.now.line }
+    {
+        self.buffer.line()
+    }
+
+    /// How many lines were given: the number of the last one, from 1.
+    pub fn number(&self) -> u64
+        ensures { result ≡ self.now.number }
+    {
+        self.number
+    }
+
+    /// Whether the whole of the next line has come already, so that `next_line` does not read.
+    pub fn has_line(&self) -> bool
+        ensures { result ≡ has_whole_line self.now }
+    {
+        self.found.is_some()
+    }
+
+    /// Gives the next line, which is `line` then, and tells whether there is one. It reads only where that line has not come.
+    ///
+    /// # Errors
+    ///
+    /// `LongLine` where the next line is too long, `TooLong` where the input is and no whole line is left within its limit,
+    /// and `Reading` where a read failed.
+    pub fn next_line<S: Source>(&mut self, source: &mut S) -> Result<bool, Fault>
+        requires { S.failures source.old + 1 < 2 ^ 64 }
+        ensures line { IfOk result (λ more. IsTrue more → Gives
+            (cut_left self.old (S.rest source.old)) self.new.line
+            (cut_left self.new (S.rest source.new))) }
+        ensures end { IfOk result (λ more. IsFalse more →
+            EndsAs AtEnd (cut_left self.old (S.rest source.old))) }
+        ensures fault { IfErr result (λ f.
+            Explains f self.old.number (cut_left self.old (S.rest source.old))) }
+        ensures number { IfOk result (λ more.
+            self.new.number ≡ (if more then self.old.number + 1 else self.old.number)) }
+        ensures taken { IfOk result (λ more. IsTrue more → Consumes
+            (bytes_left self.old (S.rest source.old)) (bytes_left self.new (S.rest source.new))
+            (taken self.new)) }
+        ensures nearer { IfOk result (λ more. IsTrue more → self.new.within < self.old.within) }
+        ensures unbroken { IfOk result (λ more. IsTrue more → has_break self.new.line ≡ false) }
+        ensures short { IfOk result (λ more. IsTrue more → length self.new.line ≤ 65536) }
+        ensures kept { result ≡ Err Fault.Reading →
+            Keeps (bytes_left self.old (S.rest source.old)) (bytes_left self.new (S.rest source.new)) }
+        ensures no_line { result ≡ Err Fault.Reading → whole_lines self.new.held ≡ [] }
+        ensures going { result ≡ Err Fault.Reading → self.new.ended ≡ false }
+        ensures ended { self.new.ended ≡ false → self.old.ended ≡ false }
+        ensures come { S.given source.new + come self.old ≤ S.given source.old + come self.new }
+        ensures few { come self.new ≤ 16777217 }
+        ensures untouched { IsReady self.old → source.new ≡ source.old }
+        ensures well { result ≢ Err Fault.Reading →
+            S.failures source.new ≡ S.failures source.old }
+        ensures failed { result ≡ Err Fault.Reading →
+            S.failures source.new ≡ S.failures source.old + 1 }
+    {
+        self.fill(source)?;
+        self.give()
+    }
+
+    /// Reads once, where the next line has not come.
+    fn read<S: Source>(&mut self, source: &mut S) -> Result<(), Failed>
+        requires countable { S.failures source.old + 1 < 2 ^ 64 }
+        requires no_line { has_whole_line self.old ≡ false }
+        requires going { self.old.ended ≡ false }
+        requires short { length self.old.held ≤ 65536 }
+        requires within { length self.old.held ≤ self.old.within }
+        ensures number { self.new.number ≡ self.old.number }
+        ensures same { self.new.within ≡ self.old.within }
+        ensures bytes { Keeps
+            (bytes_left self.old (S.rest source.old)) (bytes_left self.new (S.rest source.new)) }
+        ensures come { S.given source.new + come self.old ≤ S.given source.old + come self.new }
+        ensures few { come self.new ≤ 16777217 }
+        ensures nearer { OnOk result (work self.new < work self.old) }
+        ensures no_line { OnErr result (whole_lines self.new.held ≡ []) }
+        ensures going { OnErr result (self.new.ended ≡ false) }
+        ensures well { OnOk result (S.failures source.new ≡ S.failures source.old) }
+        ensures failed { OnErr result (S.failures source.new ≡ S.failures source.old + 1) }
+    {
+        let held = self.buffer.held().len();
+        let n = self.buffer.read(source, self.within + 1 - held)?;
+        if n == 0 {
+            self.ended = true;
+        } else {
+            self.found = find_break(self.buffer.held(), held, self.within);
+        }
+        Ok(())
+    }
+
+    /// Reads until the whole of the next line has come, or the source has ended. It gives no line.
+    ///
+    /// # Errors
+    ///
+    /// `LongLine`, `TooLong` and `Reading`, as `next_line` does.
+    pub fn fill<S: Source>(&mut self, source: &mut S) -> Result<(), Fault>
+        requires { S.failures source.old + 1 < 2 ^ 64 }
+        ensures number { self.new.number ≡ self.old.number }
+        ensures within { self.new.within ≡ self.old.within }
+        ensures bytes { Keeps
+            (bytes_left self.old (S.rest source.old)) (bytes_left self.new (S.rest source.new)) }
+        ensures come { S.given source.new + come self.old ≤ S.given source.old + come self.new }
+        ensures ready { OnOk result (IsReady self.new) }
+        ensures fault { IfErr result (λ f.
+            Explains f self.old.number (cut_left self.old (S.rest source.old))) }
+        ensures no_line { result ≡ Err Fault.Reading → whole_lines self.new.held ≡ [] }
+        ensures going { result ≡ Err Fault.Reading → self.new.ended ≡ false }
+        ensures ended { self.new.ended ≡ false → self.old.ended ≡ false }
+        ensures few { come self.new ≤ 16777217 }
+        ensures untouched { IsReady self.old → source.new ≡ source.old }
+        ensures well { result ≢ Err Fault.Reading →
+            S.failures source.new ≡ S.failures source.old }
+        ensures failed { result ≡ Err Fault.Reading →
+            S.failures source.new ≡ S.failures source.old + 1 }
+    {
+        while self.found.is_none() && !self.ended {
+            let held = self.buffer.held().len();
+            if held.min(self.within) > LONGEST_LINE {
+                return Err(Fault::LongLine(self.number + 1));
+            }
+            if held > self.within {
+                return Err(Fault::TooLong);
+            }
+            if self.read(source).is_err() {
+                return Err(Fault::Reading);
+            }
+        }
+        Ok(())
+    }
+
+    /// The next line, which has come, without its byte 10: `next_line` gives it. None where it is too long, or there is none.
+    pub fn ahead(&self) -> Option<&[u8]>
+        requires { IsReady self.now }
+        ensures line { IfSome result (λ line.
+            (k : Intake) × IsGiven self.now k × (k.line ≡ line.now)) }
+        ensures none { IsNone result → IsLong self.now
+            ⊎ ((self.now.held ≡ []) × (self.now.ended ≡ true)) }
+    {
+        let held = self.buffer.held();
+        match self.found {
+            Some(len) => {
+                if len > LONGEST_LINE {
+                    return None;
+                }
+                Some(&held[..len])
+            }
+            None => {
+                if held.is_empty() {
+                    return None;
+                }
+                Some(held)
+            }
+        }
+    }
+
+    /// Gives the next line, which has come, or none.
+    fn give(&mut self) -> Result<bool, Fault>
+        requires { IsReady self.old }
+        ensures given { IfOk result (λ more. IsTrue more → IsGiven self.old self.new) }
+        ensures end { IfOk result (λ more. IsFalse more →
+            (self.new ≡ self.old) × (self.old.held ≡ []) × (self.old.ended ≡ true)) }
+        ensures fault { IfErr result (λ f.
+            (f ≡ Fault.LongLine (self.old.number + 1)) × IsLong self.old) }
+        ensures err { OnErr result (self.new ≡ self.old) }
+        ensures nearer { IfOk result (λ more. IsTrue more → self.new.within < self.old.within) }
+        ensures ended { self.new.ended ≡ self.old.ended }
+        ensures limit { self.old.within ≤ 16777216 }
+        ensures few { length self.new.held ≤ self.new.within + 1 }
+    {
+        let (len, dropped) = match self.found {
+            Some(len) => (len, 1),
+            None => (self.buffer.held().len(), 0),
+        };
+        if len > LONGEST_LINE {
+            return Err(Fault::LongLine(self.number + 1));
+        }
+        if len + dropped == 0 {
+            return Ok(false);
+        }
+        self.buffer.take(len, dropped);
+        self.within -= len + dropped;
+        self.number += 1;
+        self.found = find_break(self.buffer.held(), 0, self.within);
+        Ok(true)
+    }
+}

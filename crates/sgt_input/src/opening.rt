@@ -1,0 +1,32 @@
+ghost use Rattle.std.specs.Prelude.{◌≡◌, ◌≢◌, IfOk, IfErr, Err};
+ghost use Rattle.sgt_format.specs.Openings.{Opens, Refuses};
+ghost use Rattle.sgt_format.specs.declared.errors.OpeningError.{OpeningError};
+ghost use Rattle.sgt_input.specs.Ends.{IsOfInput, fault_of_opening};
+
+use crate::fault::Fault;
+use crate::lines::Lines;
+use crate::misfit::Misfit;
+use sgt_format::{Opening, OpeningError, read_opening};
+use std::alloc::Global;
+
+/// The opening that the line given last spells, as line 1. At least so many transactions have to be allowed to be live.
+pub fn opening_of(alloc: Global, least: u32, lines: &Lines) -> Result<Opening, Fault>
+    ensures opening { IfOk result (Opens least lines.now.line) }
+    ensures fault { IfErr result (λ f. IsOfInput f → (e : OpeningError)
+        × Refuses least lines.now.line e × (e ≢ OpeningError.NoMemory) × (f ≡ fault_of_opening e)) }
+    ensures own { (result ≢ Err Fault.Reading) × (result ≢ Err Fault.Writing) }
+{
+    match read_opening(alloc, least, lines.line()) {
+        Ok(opening) => Ok(opening),
+        Err(OpeningError::NotJson) => Err(Fault::NotJson(1)),
+        Err(OpeningError::BadLine) => Err(Fault::BadLine(1)),
+        Err(OpeningError::BadLimits) => Err(Fault::BadLimits),
+        Err(OpeningError::BadOpening(kind)) => Err(Fault::BadOpening(kind.number())),
+        Err(OpeningError::ProcShape(number, place)) => match Misfit::at(alloc, place) {
+            Ok(misfit) => Err(Fault::ProcShape(number, misfit)),
+            Err(_) => Err(Fault::NoMemory),
+        },
+        Err(OpeningError::ProcFlaw(number, flaw)) => Err(Fault::ProcFlaw(number, flaw.number())),
+        Err(OpeningError::NoMemory) => Err(Fault::NoMemory),
+    }
+}
