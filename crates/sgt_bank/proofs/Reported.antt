@@ -17,7 +17,7 @@ use Rattle.sgt_format.specs.declared.record_line.RecordLine.{RecordLine}
 use Rattle.sgt_dispatch.specs.declared.job.Job.{Job}
 use Rattle.sgt_input.specs.Lines.{Ending, cut}
 use Rattle.sgt_jobs.specs.Inputs.{InputAsks, LinesAsk}
-use Rattle.sgt_program.specs.Openings.{opened_setting, OpenedIsBank}
+use Rattle.sgt_assembly.specs.Openings.{opened_setting, OpenedIsBank}
 use Rattle.sgt_bank.specs.Banks.{HasRun, AreRun, IsHistory, IsRecords, IsReport, IsRun}
 use Rattle.sgt_textbook.specs.Laws.{AreCommitOrdered, AreSerializable, AreRecoverable}
 use Rattle.sgt_transcript.specs.Transcripts.{TranscriptsSpellTextbooks, transcript}

@@ -1,6 +1,6 @@
 ghost use Rattle.std.specs.Prelude.{◌≡◌, ◌≢◌, ℕ, List, IfOk, IfErr, OnOk, OnErr, IfSome, Err, Ok, length, reverse, take, ◌+◌, ◌^◌, ◌<◌, ◌≤◌};
 ghost use Rattle.std.specs.Io.KnownBytes.{Appends};
-ghost use Rattle.sgt_program.specs.Openings.{opened_setting};
+ghost use Rattle.sgt_assembly.specs.Openings.{opened_setting};
 ghost use Rattle.sgt_input.specs.Ends.{IsOfInput};
 ghost use Rattle.sgt_workers.specs.Banks.{engine_setting, AreWorkers, AreTries, AreLimitsFor, AreJobs};
 ghost use Rattle.sgt_jobs.specs.Inputs.{InputFails, IsOfText};
@@ -14,7 +14,7 @@ use sgt_log::History;
 use sgt_format::Opening;
 use sgt_jobs::read_input;
 use sgt_model::NoMemory;
-use sgt_program::{SgtAccesses, SgtGraph, SgtRecords, all_procedures, opened_is_bank};
+use sgt_assembly::{SgtAccesses, SgtGraph, SgtRecords, all_procedures, opened_is_bank};
 use sgt_input::{Fault, Sink, Source, write_all};
 use sgt_textbook::{legal_are_commit_ordered, legal_are_recoverable, legal_are_serializable};
 use sgt_transcript::{append_transcript, transcripts_spell_textbooks};

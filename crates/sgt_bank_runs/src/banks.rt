@@ -8,7 +8,7 @@ use sgt_log::History;
 use sgt_format::{Opening, append_numbered, append_reply};
 use sgt_graph::{BitGraph, Graph};
 use sgt_model::{Event, Tid};
-use sgt_program::all_procedures;
+use sgt_assembly::all_procedures;
 use sgt_records::{Records, SlabRecords};
 use sgt_input::Reader;
 use sgt_workers::{Bank, PoolError, Report, run};

@@ -6,7 +6,7 @@ use Rattle.sgt_engine.specs.EngineView.{EngineView, setting_of}
 use Rattle.sgt_format.specs.declared.errors.OpeningError.{OpeningError}
 use Rattle.sgt_format.specs.declared.opening.Opening.{Opening}
 use Rattle.sgt_format.specs.Openings.{Opens, Refuses}
-use Rattle.sgt_program.specs.Openings.{opened_setting}
+use Rattle.sgt_assembly.specs.Openings.{opened_setting}
 use Rattle.sgt_told.specs.declared.fault.Fault.{Fault}
 use Rattle.sgt_c.specs.declared.rows.Row.{Row as CRow}
 use Rattle.sgt_told.specs.Faults.{IsFaultTold}

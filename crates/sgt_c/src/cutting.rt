@@ -5,7 +5,7 @@ ghost use Rattle.sgt_engine.specs.Cuts.{NobodyLive};
 ghost use Rattle.sgt_c.specs.Cuts.{Cut, IsCut, IsSomeoneLive, IsTooEarly, TellsLive};
 
 use sgt_handle::{Handle, Held};
-use sgt_program::SgtEngine;
+use sgt_assembly::SgtEngine;
 use sgt_told::status;
 use std::alloc::Global;
 

@@ -5,7 +5,7 @@ ghost use Rattle.sgt_c.specs.Openings.{OpenedAs, RefusedAs};
 
 use sgt_format::{OpeningError, read_opening};
 use sgt_handle::{Handle, Held};
-use sgt_program::open_engine;
+use sgt_assembly::open_engine;
 use sgt_told::{Fault, status, tell_fault};
 use std::alloc::Global;
 

@@ -8,7 +8,7 @@ ghost use Rattle.sgt_c.specs.Rows.{IsRow};
 use crate::rows::{Row, are_rows, put_rows};
 use sgt_format::{OpeningError, read_opening};
 use sgt_handle::{Handle, Held};
-use sgt_program::open_engine;
+use sgt_assembly::open_engine;
 use sgt_told::{Fault, status, tell_fault};
 use std::alloc::Global;
 

@@ -8,7 +8,7 @@ ghost use Rattle.sgt_c.specs.Runs.{Ran, GaveUp, Runs, GivesUp, RunsOn, StepsOn, 
 
 use sgt_handle::Handle;
 use sgt_model::{Args, Event, NoMemory, Reply, Tid};
-use sgt_program::SgtEngine;
+use sgt_assembly::SgtEngine;
 use sgt_told::{Told, status, tell};
 use std::alloc::Global;
 

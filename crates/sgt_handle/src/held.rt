@@ -1,7 +1,7 @@
 ghost use Rattle.std.specs.Prelude.{◌≡◌, IfOk};
 
 use sgt_model::NoMemory;
-use sgt_program::SgtEngine;
+use sgt_assembly::SgtEngine;
 use std::alloc::Global;
 
 /// What an open handle holds.

@@ -15,7 +15,7 @@ use Rattle.sgt_format.specs.DatabaseText.{database_text}
 use Rattle.sgt_format.specs.RecordText.{record_lines}
 use Rattle.sgt_format.specs.declared.opening.Opening.{Opening}
 use Rattle.sgt_format.specs.declared.script_line.ScriptLine.{ScriptLine}
-use Rattle.sgt_program.specs.Openings.{opened_setting}
+use Rattle.sgt_assembly.specs.Openings.{opened_setting}
 use Rattle.sgt_input.specs.declared.fault.Fault.{Fault}
 use Rattle.sgt_input.specs.declared.fault.Fault.TheVariants as fault
 use Rattle.sgt_input.specs.Lines.{Cut, cut, has_break}

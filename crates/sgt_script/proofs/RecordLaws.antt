@@ -5,7 +5,7 @@ use Rattle.std.specs.Io.KnownBytes.{Appends}
 use Rattle.sgt_model.specs.StoredValues.{CommittedAreValues}
 use Rattle.sgt_model.specs.Laws.{HeadlineHolds}
 use Rattle.sgt_smallbank.specs.Replays.{ReplayIsBank}
-use Rattle.sgt_program.specs.Openings.{OpenedHoldValues}
+use Rattle.sgt_assembly.specs.Openings.{OpenedHoldValues}
 use Rattle.sgt_input.specs.Lines.{Ending, cut}
 use Rattle.sgt_input.specs.Ends.{End}
 use Rattle.sgt_script.specs.declared.telling.Telling.TheVariants.{Records}

@@ -16,7 +16,7 @@ use Rattle.sgt_model.specs.Legality.{Legal}
 use Rattle.sgt_model.specs.Replay.{RunResult, folded, told_in, told}
 use Rattle.sgt_smallbank.specs.Replays.{CommitsAreBank, ReplayIsBank}
 use Rattle.sgt_smallbank.specs.Texts.{procedures}
-use Rattle.sgt_program.specs.Openings.{OpenedHoldValues}
+use Rattle.sgt_assembly.specs.Openings.{OpenedHoldValues}
 use Rattle.sgt_format.specs.FilledOpenings.{behind_records, leading_records, number_behind}
 use Rattle.sgt_format.specs.ReplyText.{text}
 use Rattle.sgt_input.specs.Lines.{Ending, cut}

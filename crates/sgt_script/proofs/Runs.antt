@@ -9,7 +9,7 @@ use Rattle.sgt_input.specs.Ends.{End}
 use Rattle.sgt_script.specs.Opened.{IsRefused, LinesRefused}
 use Rattle.sgt_script.specs.declared.telling.Telling.{Telling}
 use Rattle.sgt_script.specs.Scripts.{Execution, Script, ScriptOf, RunOutput}
-use Rattle.sgt_program.specs.Openings.{opened_setting}
+use Rattle.sgt_assembly.specs.Openings.{opened_setting}
 use Rattle.sgt_input.proofs.Begun.{Begun, HasBadRecord}
 use Rattle.sgt_script.proofs.Answers.{Output}
 use Rattle.sgt_input.specs.declared.fault.Fault.{Fault}

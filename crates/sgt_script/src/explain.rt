@@ -1,4 +1,4 @@
-use sgt_program::SgtEngine;
+use sgt_assembly::SgtEngine;
 use sgt_input::Lines;
 
 /// What is told of a run beside what it writes. It changes nothing of the run, and no fault comes of it.

@@ -8,7 +8,7 @@ use sgt_explain::append_explanation;
 use sgt_format::Opening;
 use sgt_model::NoMemory;
 use sgt_proc::Checked;
-use sgt_program::{SgtEngine, all_procedures};
+use sgt_assembly::{SgtEngine, all_procedures};
 use sgt_input::{Lines, Sink, opening_of, write_all};
 use std::alloc::Global;
 use std::marker::Model;

@@ -4,7 +4,7 @@
 //! [`run_script`] writes the replies and the database, [`run_history`] the operations of the same run, [`run_records`] what it leaves;
 //! and [`run_explained`] tells beside the replies, on a sink of its own, why transactions are aborted.
 //!
-//! It is no program: it opens no file and knows no command line. Events are answered by the engine of `sgt_program`.
+//! It is no program: it opens no file and knows no command line. Events are answered by the engine of `sgt_assembly`.
 //!
 //! ```
 //! let mut reader = Reader::new(rt.reader());

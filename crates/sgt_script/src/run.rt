@@ -12,7 +12,7 @@ use crate::explain::Silent;
 use crate::script::run_with;
 use crate::telling::Telling;
 use sgt_model::{headline_holds, replays_hold_values};
-use sgt_program::opened_hold_values;
+use sgt_assembly::opened_hold_values;
 use sgt_smallbank::replay_is_bank;
 use sgt_input::{Fault, Sink, Source};
 use sgt_textbook::{legal_are_commit_ordered, legal_are_recoverable, legal_are_serializable};

@@ -2,7 +2,7 @@
 
 use sgt_format::read_opening;
 use sgt_model::{Args, Event, Key, Reply, Tid};
-use sgt_program::{SgtEngine, open_engine};
+use sgt_assembly::{SgtEngine, open_engine};
 use std::alloc::Global;
 use std::test::Fail;
 

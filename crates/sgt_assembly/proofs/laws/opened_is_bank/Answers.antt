@@ -1,5 +1,5 @@
 use Rattle.sgt_model.specs.Databases.{contents_of}
-use Rattle.sgt_program.proofs.laws.opened_is_bank.Goals as goal
+use Rattle.sgt_assembly.proofs.laws.opened_is_bank.Goals as goal
 
 pub returns : goal.returns
 returns c = λ least line records opening past opens legal.

@@ -1,5 +1,5 @@
 //! The laws of the program's engine. A body does nothing but name the law that its own rests on.
-ghost use Rattle.sgt_program.specs.Openings.{OpenedHoldValues, OpenedIsBank};
+ghost use Rattle.sgt_assembly.specs.Openings.{OpenedHoldValues, OpenedIsBank};
 
 use sgt_smallbank::replay_is_bank;
 

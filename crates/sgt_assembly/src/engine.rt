@@ -2,7 +2,7 @@ ghost use Rattle.std.specs.Prelude.{◌≡◌, ◌++◌, [], IfOk};
 ghost use Rattle.sgt_model.specs.Bounds.{AreInRange};
 ghost use Rattle.sgt_engine.specs.EngineView.{setting_of};
 ghost use Rattle.sgt_smallbank.specs.Texts.{procedures};
-ghost use Rattle.sgt_program.specs.Openings.{opened_setting};
+ghost use Rattle.sgt_assembly.specs.Openings.{opened_setting};
 
 use sgt_access::PerKey;
 use sgt_engine::Engine;

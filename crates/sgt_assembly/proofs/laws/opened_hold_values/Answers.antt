@@ -2,8 +2,8 @@ use Rattle.std.proofs.Common.{subst, sym}
 use Rattle.std.specs.Prelude.{IfSome}
 use Rattle.sgt_model.specs.Databases.{contents_of}
 use Rattle.sgt_model.specs.Numbers.{IsValue}
-use Rattle.sgt_program.proofs.Filled.{put-values}
-use Rattle.sgt_program.proofs.laws.opened_hold_values.Goals as goal
+use Rattle.sgt_assembly.proofs.Filled.{put-values}
+use Rattle.sgt_assembly.proofs.laws.opened_hold_values.Goals as goal
 
 pub returns : goal.returns
 returns c = λ least line records opening opens k.
