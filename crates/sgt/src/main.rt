@@ -5,7 +5,7 @@
 //! on standard error, with status 2, and the first two can tell there what is wrong with the line.
 //!
 //! It has the command line and nothing else: what a script's run writes is said and proved in `sgt_script`, what a bank's run
-//! writes in `sgt_bank`, and what a check writes in `sgt_check`; what is told of a fault beside its line stands in `sgt_diagnosis`.
+//! writes in `sgt_bank`, and what a check writes in `sgt_check`; what is told of a fault beside its line stands in `sgt_line_errors`.
 #![tactic(auto)]
 
 mod help;
@@ -18,7 +18,7 @@ use clap::{Arg, ArgAction, ArgMatches, Command};
 use help::{BANK_HELP, CHECK_HELP, HELP, SCRIPT_HELP};
 use sgt_bank::{MOST_TRIES, MOST_WORKERS, run_jobs};
 use sgt_check::{CheckFault, run_check, run_graph};
-use sgt_diagnosis::{Remembering, explain};
+use sgt_line_errors::{Remembering, explain};
 use sgt_script::run_script;
 use sgt_input::{Fault, Reader, Source, Writer};
 use std::alloc::{AllocError, Global};
@@ -258,7 +258,7 @@ fn unexplained(ran: Result<(), Fault>) -> Result<(), Failure> {
 /// A fault with what tells more of it, of a run that read from this source.
 fn explained<S: Source>(
     alloc: Global,
-    command: sgt_diagnosis::Command,
+    command: sgt_line_errors::Command,
     source: &Remembering<S>,
     ran: Result<(), Fault>,
 ) -> Result<(), Failure> {
@@ -310,7 +310,7 @@ fn explained_script<R: Print + Input>(
     let mut writer = Writer::new(io::writer(rt));
     let mut errors = Writer::new(stderr);
     let ran = sgt_script::run_explained(alloc, &mut source, &mut writer, &mut errors);
-    explained(alloc, sgt_diagnosis::Command::Script, &source, ran)
+    explained(alloc, sgt_line_errors::Command::Script, &source, ran)
 }
 
 /// Runs the jobs of a bank from standard input to standard output.
@@ -376,7 +376,7 @@ fn explained_bank<R: Print + Eprint + Input + Clock + Threads + Wait + Sync>(
     );
     explained(
         alloc,
-        sgt_diagnosis::Command::Bank { workers },
+        sgt_line_errors::Command::Bank { workers },
         &source,
         ran,
     )

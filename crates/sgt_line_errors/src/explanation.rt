@@ -1,5 +1,5 @@
 ghost use Rattle.std.specs.Prelude.{◌≡◌, None};
-ghost use Rattle.sgt_diagnosis.specs.FaultyLines.{line_of};
+ghost use Rattle.sgt_line_errors.specs.FaultyLines.{line_of};
 
 use crate::command::Command;
 use crate::diagnosis::diagnose;

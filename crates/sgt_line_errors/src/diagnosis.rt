@@ -1,5 +1,5 @@
 ghost use Rattle.std.specs.Prelude.{◌≡◌, None, IfOk};
-ghost use Rattle.sgt_diagnosis.specs.FaultyLines.{line_of};
+ghost use Rattle.sgt_line_errors.specs.FaultyLines.{line_of};
 
 use crate::account::account_fault;
 use crate::command::Command;
