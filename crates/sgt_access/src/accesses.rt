@@ -1,5 +1,5 @@
 ghost use Rattle.std.specs.Prelude.{◌≡◌, ◌≢◌, ℕ, true, List, [], ◌∷◌, ◌++◌, ◌↔◌, IsTrue, OnOk};
-ghost use Rattle.sgt_model.specs.Contents.{Key as K};
+ghost use Rattle.sgt_model.specs.Contents.{Key};
 ghost use Rattle.sgt_model.specs.AccessList.{ListedAccess, lists_conflicting, is_listed, forgotten};
 ghost use Rattle.sgt_model.specs.Walks.{Member, Rising, AtMost};
 

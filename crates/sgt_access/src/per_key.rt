@@ -44,12 +44,12 @@ impl Model for PerKey {
 
 impl PerKey {
     ghost use Rattle.std.specs.Prelude.{◌≡◌, ℕ, true};
-    ghost use Rattle.sgt_model.specs.declared.kind.Kind.{Kind as K};
+    ghost use Rattle.sgt_model.specs.declared.kind.Kind.{Kind};
     ghost use Rattle.sgt_model.specs.AccessList.{lists_conflicting, is_listed};
 
     // The accesses of a key, or all where they are few: they conflict with an access of the key as all accesses do.
     fn of_key(&self, key: Key) -> &[Access]
-        ensures conflicting { (u : ℕ) (kind : K) → lists_conflicting result.now u key kind
+        ensures conflicting { (u : ℕ) (kind : Kind) → lists_conflicting result.now u key kind
             ≡ lists_conflicting self.now.0 u key kind }
         ensures listed { (u : ℕ) → is_listed result.now u ≡ true → is_listed self.now.0 u ≡ true }
     {

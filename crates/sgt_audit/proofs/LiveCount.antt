@@ -10,7 +10,7 @@ use Rattle.sgt_model.specs.declared.reply.Fate.{Fate}
 use Rattle.sgt_model.specs.declared.reply.Fate.TheVariants as fate
 use Rattle.sgt_model.specs.declared.entry.Entry.{Entry}
 use Rattle.sgt_model.specs.Walks.{Member, Distinct}
-use Rattle.sgt_model.specs.Fates.{is_start, starts, ending_in, fate_of, live, begun, live_ones}
+use Rattle.sgt_model.specs.Fates.{is_start, start_count, ending_in, fate_of, live, started_ones, live_ones}
 use Rattle.sgt_model.specs.Settings.{Setting}
 use Rattle.sgt_model.specs.Legality.{Legal}
 use Rattle.sgt_model.proofs.Effects.{EndsNone, ends_none-no_end, Effect, idle, begins, accesses, commits, undoes, refuses, Undoing, effect}
@@ -40,7 +40,7 @@ module _ (past : List Entry) (e : Entry) where
   gone t = is_some (ending_in e.event e.reply t)
 
   still_live : is_start e.reply ≡ false → (t : ℕ) → live (e ∷ past) t ≡ (live past t && not (gone t))
-  still_live none t = rw none (go (nat_lt t (starts past)) (ending_in e.event e.reply t))
+  still_live none t = rw none (go (nat_lt t (start_count past)) (ending_in e.event e.reply t))
     where
       go : (b : Bool) (o : Option Fate) → (b && is_none (option_or o (fate_of past t))) ≡ ((b && is_none (fate_of past t)) && not
           (is_some o))
@@ -57,12 +57,12 @@ module _ (past : List Entry) (e : Entry) where
           stays false = refl
 
   left_live : is_start e.reply ≡ false → live_ones (e ∷ past) ≡ filter (λ t. not (gone t)) (live_ones past)
-  left_live none = ap (λ b. filter (live (e ∷ past)) (cond b (begun past ++ starts past ∷ []) (begun past))) none
-      ∙ (filter-same (live (e ∷ past)) (λ t. live past t && not (gone t)) (begun past) (still_live none)
-      ∙ sym (filter-both (λ t. not (gone t)) (live past) (begun past)))
+  left_live none = ap (λ b. filter (live (e ∷ past)) (cond b (started_ones past ++ start_count past ∷ []) (started_ones past))) none
+      ∙ (filter-same (live (e ∷ past)) (λ t. live past t && not (gone t)) (started_ones past) (still_live none)
+      ∙ sym (filter-both (λ t. not (gone t)) (live past) (started_ones past)))
 
   member_live : (t : ℕ) → live past t ≡ true → Member t (live_ones past)
-  member_live t alive = kept_member (live past) t (begun past) alive (begun_has past t (live-started past t alive))
+  member_live t alive = kept_member (live past) t (started_ones past) alive (begun_has past t (live-started past t alive))
 
   -- those of a list end
   lost : (those : List ℕ) → is_start e.reply ≡ false → ((t : ℕ) → gone t ≡ is_among those t) → Distinct those
@@ -83,36 +83,36 @@ module _ (past : List Entry) (e : Entry) where
       let zero : length {A = ℕ} [] ≡ 0 = refl in
       omega arith
 
-  one_started : (s : Setting) → Legal s past → e.reply ≡ reply.Started (starts past)
+  one_started : (s : Setting) → Legal s past → e.reply ≡ reply.Started (start_count past)
       → length (live_ones (e ∷ past)) + count_ended e.reply ≡ length (live_ones past) + count_started e.reply
   one_started s legal is =
-      let ones : live_ones (e ∷ past) ≡ filter (live (e ∷ past)) (begun past ++ starts past ∷ []) =
-      ap (λ b. filter (live (e ∷ past)) (cond b (begun past ++ starts past ∷ []) (begun past))) (ap is_start is) in
-      let both = filter-append (live (e ∷ past)) (begun past) (starts past ∷ []) in
-      let old = filter_listed (live (e ∷ past)) (live past) (begun past) (λ t m. as_before t (begun_below past t m)) in
-      let new : filter (live (e ∷ past)) (starts past ∷ []) ≡ starts past ∷ [] = ap (λ b. cond b (starts past ∷ []) []) (now_live) in
-      let count = ap length (ones ∙ (both ∙ ap₂ (λ a b. a ++ b) old new)) ∙ length-append (live_ones past) (starts past ∷ []) in
+      let ones : live_ones (e ∷ past) ≡ filter (live (e ∷ past)) (started_ones past ++ start_count past ∷ []) =
+      ap (λ b. filter (live (e ∷ past)) (cond b (started_ones past ++ start_count past ∷ []) (started_ones past))) (ap is_start is) in
+      let both = filter-append (live (e ∷ past)) (started_ones past) (start_count past ∷ []) in
+      let old = filter_listed (live (e ∷ past)) (live past) (started_ones past) (λ t m. as_before t (begun_below past t m)) in
+      let new : filter (live (e ∷ past)) (start_count past ∷ []) ≡ start_count past ∷ [] = ap (λ b. cond b (start_count past ∷ []) []) (now_live) in
+      let count = ap length (ones ∙ (both ∙ ap₂ (λ a b. a ++ b) old new)) ∙ length-append (live_ones past) (start_count past ∷ []) in
       let a : count_started e.reply ≡ 1 = ap count_started is in
       let b : count_ended e.reply ≡ 0 = ap count_ended is in
-      let one : length {A = ℕ} (starts past ∷ []) ≡ 1 = refl in
+      let one : length {A = ℕ} (start_count past ∷ []) ≡ 1 = refl in
       omega arith
     where
       no_end : (t : ℕ) → ending_in e.event e.reply t ≡ None
       no_end t = ap (λ r. ending_in e.event r t) is
 
-      more : starts (e ∷ past) ≡ starts past + 1
-      more = ap (λ b. cond b (starts past + 1) (starts past)) (ap is_start is)
+      more : start_count (e ∷ past) ≡ start_count past + 1
+      more = ap (λ b. cond b (start_count past + 1) (start_count past)) (ap is_start is)
 
-      live_is : (t : ℕ) → live (e ∷ past) t ≡ (nat_lt t (starts past + 1) && is_none (fate_of past t))
+      live_is : (t : ℕ) → live (e ∷ past) t ≡ (nat_lt t (start_count past + 1) && is_none (fate_of past t))
       live_is t = ap₂ (λ n o. nat_lt t n && is_none (option_or o (fate_of past t))) more (no_end t)
 
-      as_before : (t : ℕ) → t < starts past → live (e ∷ past) t ≡ live past t
-      as_before t less = live_is t ∙ ap (λ a. a && is_none (fate_of past t)) (lt-ltb t (starts past + 1) (omega arith)
-          ∙ sym (lt-ltb t (starts past) less))
+      as_before : (t : ℕ) → t < start_count past → live (e ∷ past) t ≡ live past t
+      as_before t less = live_is t ∙ ap (λ a. a && is_none (fate_of past t)) (lt-ltb t (start_count past + 1) (omega arith)
+          ∙ sym (lt-ltb t (start_count past) less))
 
-      now_live : live (e ∷ past) (starts past) ≡ true
-      now_live = live_is (starts past) ∙ ap₂ (λ a o. a && is_none o) (lt-ltb (starts past) (starts past + 1) (omega arith))
-          (unstarted-no_fate s past legal (starts past) (omega arith))
+      now_live : live (e ∷ past) (start_count past) ≡ true
+      now_live = live_is (start_count past) ∙ ap₂ (λ a o. a && is_none o) (lt-ltb (start_count past) (start_count past + 1) (omega arith))
+          (unstarted-no_fate s past legal (start_count past) (omega arith))
 
   -- one that is undone ends with those that fall
   one_undone : is_start e.reply ≡ false → (u : Undoing past e.event e.reply) → count_ended e.reply ≡ length u.fell + 1
@@ -182,7 +182,7 @@ kept_none p none (t ∷ ts) = ap (λ b. length (cond b (t ∷ filter p ts) (filt
 
 -- none is counted among the live ones where nobody is live, and only there
 pub none_counted : (past : List Entry) → (length (live_ones past) ≡ 0) ↔ ((t : ℕ) → live past t ≡ false)
-none_counted past = (λ no_one t. not_live no_one t (live past t) refl, λ none. kept_none (live past) none (begun past))
+none_counted past = (λ no_one t. not_live no_one t (live past t) refl, λ none. kept_none (live past) none (started_ones past))
   where
     empty : (ts : List ℕ) (t : ℕ) → length ts ≡ 0 → Member t ts → ⊥
     empty [] t no_one m = m
@@ -190,7 +190,7 @@ none_counted past = (λ no_one t. not_live no_one t (live past t) refl, λ none.
 
     not_live : length (live_ones past) ≡ 0 → (t : ℕ) (b : Bool) → live past t ≡ b → live past t ≡ false
     not_live no_one t true is =
-        absurd (empty (live_ones past) t no_one (kept_member (live past) t (begun past) is (begun_has past t (live-started past t is))))
+        absurd (empty (live_ones past) t no_one (kept_member (live past) t (started_ones past) is (begun_has past t (live-started past t is))))
     not_live no_one t false is = is
 
 take_whole : (n : ℕ) (h : List Entry) → length h ≤ n → take n h ≡ h

@@ -6,7 +6,7 @@ use Rattle.std.proofs.lemmas.List.Elements.{All-nil, All-cons, All-append, All-w
 use Rattle.std.proofs.lemmas.Option.{slice_get_within}
 use Rattle.sgt_model.specs.declared.reply.Reply.{Reply}
 use Rattle.sgt_model.specs.declared.entry.Entry.{Entry}
-use Rattle.sgt_model.specs.Fates.{starts}
+use Rattle.sgt_model.specs.Fates.{start_count}
 use Rattle.sgt_dispatch.specs.declared.job.Job.{Job}
 use Rattle.sgt_audit.specs.declared.outcome.Outcome.{Outcome}
 use Rattle.sgt_audit.specs.declared.outcome.Outcome.TheVariants as outcome
@@ -16,7 +16,7 @@ use Rattle.sgt_audit.specs.AllOutcomes.{entries_of, transaction_at, transactions
 
 module _ (history : List Entry) (tries : ℕ) where
   abbrev is_started : ℕ → Type 0
-  is_started t = t < starts (reverse history)
+  is_started t = t < start_count (reverse history)
 
   abbrev is_entry : ℕ → Type 0
   is_entry n = n < length history

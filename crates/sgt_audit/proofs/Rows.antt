@@ -10,7 +10,7 @@ use Rattle.sgt_model.specs.declared.reply.Reply.{Reply}
 use Rattle.sgt_model.specs.declared.reply.Reply.TheVariants as reply
 use Rattle.sgt_model.specs.declared.reply.Fate.{Fate}
 use Rattle.sgt_model.specs.declared.entry.Entry.{Entry}
-use Rattle.sgt_model.specs.Fates.{is_start, starts, ending_in, fate_of}
+use Rattle.sgt_model.specs.Fates.{is_start, start_count, ending_in, fate_of}
 use Rattle.sgt_model.specs.Progress.{call_in, call_of}
 use Rattle.sgt_model.specs.Settings.{Setting}
 use Rattle.sgt_model.specs.Legality.{Legal, LegalReply}
@@ -41,7 +41,7 @@ pub lives_ended : (s : Setting) (past : List Entry) (e : Entry) (lives after : L
     → ((t : ℕ) → slice_get after t ≡ option_map (life_after (length past) (ending_in e.event e.reply t)) (slice_get lives t))
     → length after ≡ length lives → AreLives (e ∷ past) after
 lives_ended s past e lives after legal none are rows count = record {
-  counted = count ∙ (are.counted ∙ sym (ap (λ b. cond b (starts past + 1) (starts past)) none));
+  counted = count ∙ (are.counted ∙ sym (ap (λ b. cond b (start_count past + 1) (start_count past)) none));
   each = λ t life at.
       let was = was_row (life_after (length past) (ending_in e.event e.reply t)) (slice_get lives t) life (sym (rows t) ∙ at) in
       subst (IsLife (e ∷ past) t) (sym was.2) (row t was.0 (are.each t was.0 was.1));
@@ -63,7 +63,7 @@ lives_ended s past e lives after legal none are rows count = record {
     not_ended t out None is = ap (λ o. cond (is_some o) (Some (length past)) (ended_at past t)) is
     not_ended t out (Some f) is = absurd (within t out (live-started past t (end-live s past e.event e.reply legal t f is)))
       where
-        within : (t : ℕ) → slice_get lives t ≡ None → t < starts past → ⊥
+        within : (t : ℕ) → slice_get lives t ≡ None → t < start_count past → ⊥
         within t out less = elim (slice_get_cases lives t).1 [
           | inl w ↦ none-some w.0 (sym out ∙ w.2)
           | inr w ↦ let n = are.counted in let m = w.0 in absurd (omega arith)
@@ -99,7 +99,7 @@ pushed (x ∷ lives) new (suc t) life at = elim (pushed lives new t life at) [
 
 -- an entry that starts one
 pub lives_started : (s : Setting) (past : List Entry) (e : Entry) (lives : List Life) → Legal s past → (p : ℕ) (args : List ℤ)
-    → e.event ≡ Start p args → e.reply ≡ reply.Started (starts past) → AreLives past lives → AreLives (e ∷ past)
+    → e.event ≡ Start p args → e.reply ≡ reply.Started (start_count past) → AreLives past lives → AreLives (e ∷ past)
     (lives ++ record { procedure = p; args = args; started = length past; ended = None; failed = false } ∷ [])
 lives_started s past e lives legal p args event_is reply_is are = record {
   counted = length-append lives (new ∷ []) ∙ (ap (λ n. n + 1) are.counted ∙ sym more);
@@ -116,8 +116,8 @@ lives_started s past e lives legal p args event_is reply_is are = record {
     new : Life
     new = record { procedure = p; args = args; started = length past; ended = None; failed = false }
 
-    more : starts (e ∷ past) ≡ starts past + 1
-    more = ap (λ b. cond b (starts past + 1) (starts past)) (ap is_start reply_is)
+    more : start_count (e ∷ past) ≡ start_count past + 1
+    more = ap (λ b. cond b (start_count past + 1) (start_count past)) (ap is_start reply_is)
 
     beyond : (t : ℕ) → slice_get (lives ++ new ∷ []) t ≡ None → length lives + 1 ≤ t
     beyond t at = elim (slice_get_cases (lives ++ new ∷ []) t).1 [
@@ -134,32 +134,32 @@ lives_started s past e lives legal p args event_is reply_is are = record {
     same_fate : (t : ℕ) → fate_of (e ∷ past) t ≡ fate_of past t
     same_fate t = ap (λ o. option_or o (fate_of past t)) (no_end t)
 
-    not_started : (t : ℕ) → starts past ≢ t → started_at (e ∷ past) t ≡ started_at past t
+    not_started : (t : ℕ) → start_count past ≢ t → started_at (e ∷ past) t ≡ started_at past t
     not_started t other = ap (λ r. cond (starts_as r t) (Some (length past)) (started_at past t)) reply_is
-        ∙ ap (λ b. cond b (Some (length past)) (started_at past t)) (ne_eqb (starts past) t other)
+        ∙ ap (λ b. cond b (Some (length past)) (started_at past t)) (ne_eqb (start_count past) t other)
 
     call_is : (t : ℕ) → call_of (e ∷ past) t ≡ unwrap_or
-        (cond (nat_eq (starts past) t) (Some (record { procedure = p; args = args })) None) (call_of past t)
+        (cond (nat_eq (start_count past) t) (Some (record { procedure = p; args = args })) None) (call_of past t)
     call_is t = ap₂ (λ v r. unwrap_or (call_in v r t) (call_of past t)) event_is reply_is
 
-    earlier : (t : ℕ) (life : Life) → IsLife past t life → t < starts past → IsLife (e ∷ past) t life
+    earlier : (t : ℕ) (life : Life) → IsLife past t life → t < start_count past → IsLife (e ∷ past) t life
     earlier t life is less = record {
       call = call_is t ∙ (ap (λ b. unwrap_or (cond b (Some (record { procedure = p; args = args })) None) (call_of past t))
-          (ne_eqb (starts past) t (λ same. absurd (omega arith))) ∙ is.call);
+          (ne_eqb (start_count past) t (λ same. absurd (omega arith))) ∙ is.call);
       started = not_started t (λ same. absurd (omega arith)) ∙ is.started;
       ended = not_ended t ∙ is.ended;
       failed = ap has_failed (same_fate t) ∙ is.failed;
     }
 
-    own : IsLife (e ∷ past) (starts past) new
+    own : IsLife (e ∷ past) (start_count past) new
     own = record {
-      call = call_is (starts past) ∙ ap (λ b. unwrap_or (cond b (Some (record { procedure = p; args = args })) None)
-          (call_of past (starts past))) (eq-eqb (starts past) (starts past) refl);
-      started = ap (λ r. cond (starts_as r (starts past)) (Some (length past)) (started_at past (starts past))) reply_is
-          ∙ ap (λ b. cond b (Some (length past)) (started_at past (starts past))) (eq-eqb (starts past) (starts past) refl);
-      ended = not_ended (starts past)
-          ∙ (are.none (starts past) (slice_get_past lives (starts past) (let n = are.counted in omega arith))).ended;
-      failed = ap has_failed (same_fate (starts past) ∙ unstarted-no_fate s past legal (starts past) (omega arith));
+      call = call_is (start_count past) ∙ ap (λ b. unwrap_or (cond b (Some (record { procedure = p; args = args })) None)
+          (call_of past (start_count past))) (eq-eqb (start_count past) (start_count past) refl);
+      started = ap (λ r. cond (starts_as r (start_count past)) (Some (length past)) (started_at past (start_count past))) reply_is
+          ∙ ap (λ b. cond b (Some (length past)) (started_at past (start_count past))) (eq-eqb (start_count past) (start_count past) refl);
+      ended = not_ended (start_count past)
+          ∙ (are.none (start_count past) (slice_get_past lives (start_count past) (let n = are.counted in omega arith))).ended;
+      failed = ap has_failed (same_fate (start_count past) ∙ unstarted-no_fate s past legal (start_count past) (omega arith));
     }
 
 -- an entry that is answered Started

@@ -4,7 +4,7 @@ use Rattle.sgt_model.specs.declared.event.Event.{Event}
 use Rattle.sgt_model.specs.declared.event.Event.TheVariants.{Start, Step, Commit, Quit}
 use Rattle.sgt_model.specs.declared.entry.Entry.{Entry}
 use Rattle.sgt_model.specs.declared.reply.Fate.{Fate}
-use Rattle.sgt_model.specs.Fates.{starts, fate_of}
+use Rattle.sgt_model.specs.Fates.{start_count, fate_of}
 use Rattle.sgt_model.specs.Progress.{call_of}
 use Rattle.sgt_audit.specs.declared.lives.Life.{Life}
 use Rattle.sgt_audit.specs.Spans.{started_at, ended_at}
@@ -24,7 +24,7 @@ pub record NoLife (past : List Entry) (t : ℕ) : Type 0 where
 
 -- a row for each transaction that was started
 pub record AreLives (past : List Entry) (lives : List Life) : Type 0 where
-  pub counted : length lives ≡ starts past
+  pub counted : length lives ≡ start_count past
   pub each : (t : ℕ) (life : Life) → slice_get lives t ≡ Some life → IsLife past t life
   pub none : (t : ℕ) → slice_get lives t ≡ None → NoLife past t
 

@@ -7,7 +7,7 @@ use Rattle.sgt_model.specs.declared.reply.Cause.TheVariants as cause
 use Rattle.sgt_model.specs.declared.reply.Fate.{Fate}
 use Rattle.sgt_model.specs.declared.reply.Fate.TheVariants as fate
 use Rattle.sgt_model.specs.declared.entry.Entry.{Entry}
-use Rattle.sgt_model.specs.Fates.{starts, fate_of}
+use Rattle.sgt_model.specs.Fates.{start_count, fate_of}
 use Rattle.sgt_model.specs.Progress.{Call, call_at, call_of}
 use Rattle.sgt_model.specs.Questions.{named_by, refuses_start, is_commit, is_ask}
 use Rattle.sgt_dispatch.specs.declared.job.Job.{Job}
@@ -23,7 +23,7 @@ call_for job = record { procedure = job.procedure; args = job.args }
 
 -- t is a transaction of the job: it was started with the job's procedure and arguments
 pub record IsOf (past : List Entry) (job : Job) (t : ℕ) : Type 0 where
-  pub started : t < starts past
+  pub started : t < start_count past
   pub call : call_of past t ≡ call_for job
 
 -- fates

@@ -1,7 +1,7 @@
 //! Which transactions are a job's, and what became of those that failed.
 ghost use Rattle.std.specs.Prelude.{◌≡◌, ◌↔◌, ℕ, ◌+◌, ◌<◌, true, IsTrue, List, length, slice_index};
 ghost use Rattle.std.specs.List.{All};
-ghost use Rattle.sgt_model.specs.declared.entry.Entry.{Entry as E};
+ghost use Rattle.sgt_model.specs.declared.entry.Entry.{Entry};
 ghost use Rattle.sgt_audit.specs.Lives.{AreLives};
 ghost use Rattle.sgt_audit.specs.Spans.{EndsBefore};
 ghost use Rattle.sgt_audit.specs.Outcomes.{call_for, IsOf, IsFailed, GaveUp};
@@ -19,7 +19,7 @@ pub fn is_call(procedure: u16, args: &Args, job: &Job) -> bool
 
 /// Whether the transaction is one of the job.
 pub fn is_of(lives: &[Life], job: &Job, t: Tid) -> bool
-    ensures { (past : List E) → AreLives past lives.now → (IsTrue result ↔ IsOf past job.now t) }
+    ensures { (past : List Entry) → AreLives past lives.now → (IsTrue result ↔ IsOf past job.now t) }
 {
     match lives.get(t.0 as usize) {
         Some(life) => is_call(life.procedure, &life.args, job),
@@ -29,7 +29,7 @@ pub fn is_of(lives: &[Life], job: &Job, t: Tid) -> bool
 
 /// Whether the attempts are all that the job may have, each failed, one after another.
 pub fn gave_up(lives: &[Life], tries: u32, job: &Job, attempts: &[Tid]) -> bool
-    ensures { (past : List E) → AreLives past lives.now
+    ensures { (past : List Entry) → AreLives past lives.now
         → (IsTrue result ↔ GaveUp past tries job.now attempts.now) }
 {
     attempts.len() == tries as usize
@@ -39,7 +39,7 @@ pub fn gave_up(lives: &[Life], tries: u32, job: &Job, attempts: &[Tid]) -> bool
 
 /// Whether each is a transaction of the job that was aborted by a cycle, or fell.
 fn all_failed(lives: &[Life], job: &Job, attempts: &[Tid]) -> bool
-    ensures { (past : List E) → AreLives past lives.now
+    ensures { (past : List Entry) → AreLives past lives.now
         → (IsTrue result ↔ All (IsFailed past job.now) attempts.now) }
 {
     for t in attempts {
@@ -52,7 +52,7 @@ fn all_failed(lives: &[Life], job: &Job, attempts: &[Tid]) -> bool
 
 /// Whether it is a transaction of the job that was aborted by a cycle, or fell.
 fn is_failed(lives: &[Life], job: &Job, t: Tid) -> bool
-    ensures { (past : List E) → AreLives past lives.now → (IsTrue result ↔ IsFailed past job.now t) }
+    ensures { (past : List Entry) → AreLives past lives.now → (IsTrue result ↔ IsFailed past job.now t) }
 {
     match lives.get(t.0 as usize) {
         Some(life) => life.failed && is_call(life.procedure, &life.args, job),
@@ -62,7 +62,7 @@ fn is_failed(lives: &[Life], job: &Job, t: Tid) -> bool
 
 /// Whether each but the first was started after the one before it had ended.
 fn are_in_turn(lives: &[Life], attempts: &[Tid]) -> bool
-    ensures { (past : List E) → AreLives past lives.now
+    ensures { (past : List Entry) → AreLives past lives.now
         → (IsTrue result ↔ ((k : ℕ) → k + 1 < length attempts.now
         → EndsBefore past (slice_index attempts.now k) (slice_index attempts.now (k + 1)))) }
 {
@@ -76,7 +76,7 @@ fn are_in_turn(lives: &[Life], attempts: &[Tid]) -> bool
 
 /// Whether the second was started after the first had ended.
 fn follows(lives: &[Life], first: Tid, second: Tid) -> bool
-    ensures { (past : List E) → AreLives past lives.now → (IsTrue result ↔ EndsBefore past first second) }
+    ensures { (past : List Entry) → AreLives past lives.now → (IsTrue result ↔ EndsBefore past first second) }
 {
     let Some(first) = lives.get(first.0 as usize) else {
         return false;

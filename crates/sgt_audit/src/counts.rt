@@ -1,7 +1,7 @@
 //! What outcomes are counted for.
 ghost use Rattle.std.specs.Prelude.{◌≡◌, ◌↔◌, IsTrue, [], ◌∷◌};
 ghost use Rattle.std.specs.List.{count_by};
-ghost use Rattle.sgt_model.specs.declared.entry.Entry.{Entry as E};
+ghost use Rattle.sgt_model.specs.declared.entry.Entry.{Entry};
 ghost use Rattle.sgt_model.specs.Questions.{is_commit, is_quit};
 ghost use Rattle.sgt_audit.specs.AllOutcomes.{is_done, is_left, is_untaken, is_no_memory, CountsAgree};
 
@@ -31,7 +31,7 @@ pub fn counts_agree<N>(history: &History, outcomes: &[Outcome<N>], workers: u32)
 
 /// How many entries commit.
 fn commits_in(history: &History) -> usize
-    ensures { result ≡ count_by (λ (e : E). is_commit e.reply) history.now.entries }
+    ensures { result ≡ count_by (λ (e : Entry). is_commit e.reply) history.now.entries }
 {
     let mut count = 0;
     for place in 0..history.len() {
@@ -44,7 +44,7 @@ fn commits_in(history: &History) -> usize
 
 /// How many entries abort because the caller quit.
 fn quits_in(history: &History) -> usize
-    ensures { result ≡ count_by (λ (e : E). is_quit e.reply) history.now.entries }
+    ensures { result ≡ count_by (λ (e : Entry). is_quit e.reply) history.now.entries }
 {
     let mut count = 0;
     for place in 0..history.len() {

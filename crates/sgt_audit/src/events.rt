@@ -1,6 +1,6 @@
 //! Of which job an event is.
 ghost use Rattle.std.specs.Prelude.{◌≡◌, ◌↔◌, ℕ, IsTrue, Some, List};
-ghost use Rattle.sgt_model.specs.declared.entry.Entry.{Entry as E};
+ghost use Rattle.sgt_model.specs.declared.entry.Entry.{Entry};
 ghost use Rattle.sgt_model.specs.Progress.{call_at};
 ghost use Rattle.sgt_model.specs.Questions.{named_by};
 ghost use Rattle.sgt_audit.specs.Lives.{AreLives};
@@ -24,7 +24,7 @@ pub fn asks_for(event: &Event, job: &Job) -> bool
 
 /// Whether the entry's event names a transaction of the job.
 pub fn names_one_of(entry: &EntryRef<'_>, lives: &[Life], job: &Job) -> bool
-    ensures { (past : List E) → AreLives past lives.now
+    ensures { (past : List Entry) → AreLives past lives.now
         → (IsTrue result ↔ ((t : ℕ) × (named_by entry.now.event ≡ Some t) × IsOf past job.now t)) }
 {
     match entry.named() {

@@ -2,7 +2,7 @@
 ghost use Rattle.std.specs.Prelude.{◌≡◌, ℕ, ◌<◌, Bool, true, cond, nat_eq, List, ◌∷◌, IfOk, OnOk, length, reverse, slice_get, vec_len};
 ghost use Rattle.std.specs.List.{list_any};
 ghost use Rattle.std.specs.Option.{option_map};
-ghost use Rattle.sgt_model.specs.declared.entry.Entry.{Entry as E};
+ghost use Rattle.sgt_model.specs.declared.entry.Entry.{Entry};
 ghost use Rattle.sgt_model.specs.Fates.{concerns, ending_in};
 ghost use Rattle.sgt_model.specs.Settings.{Setting};
 ghost use Rattle.sgt_model.specs.Legality.{Legal, LegalReply};
@@ -42,7 +42,7 @@ pub fn lives_of(alloc: Global, history: &History) -> Result<Vec<Life>, NoMemory>
 
 /// Adds what an entry says, whose number is this.
 fn add_entry(lives: &mut Vec<Life>, number: usize, entry: &EntryRef<'_>) -> Result<(), NoMemory>
-    ensures { (s : Setting) (past : List E) → LegalReply s past entry.now.event entry.now.reply
+    ensures { (s : Setting) (past : List Entry) → LegalReply s past entry.now.event entry.now.reply
         → Legal s past → length past ≡ number → AreLives past lives.old.items
         → OnOk result (AreLives (entry.now ∷ past) lives.new.items) }
 {

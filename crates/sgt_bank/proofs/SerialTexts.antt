@@ -12,7 +12,7 @@ use Rattle.sgt_model.specs.declared.reply.Reply.TheVariants as reply
 use Rattle.sgt_model.specs.declared.entry.Entry.{Entry}
 use Rattle.sgt_model.specs.Databases.{Row}
 use Rattle.sgt_model.specs.Settings.{Setting}
-use Rattle.sgt_model.specs.Replay.{RunResult, GaveAnswers, AskedCode, told_call_in, told_calls, told_in, told, IsSerializable}
+use Rattle.sgt_model.specs.Replay.{RunResult, GaveAnswers, AskedCode, told_call_in, told_calls, told_in, told, ReplayAgrees}
 use Rattle.sgt_format.specs.DatabaseText.{database_text}
 use Rattle.sgt_dispatch.specs.declared.job.Job.{Job}
 use Rattle.sgt_audit.specs.declared.outcome.Outcome.{Outcome}
@@ -82,7 +82,7 @@ told-at (x ∷ later) zero e result at is =
 told-at (x ∷ later) (suc n) e result at is =
     skip x.reply (in_order later) (in_order (take n later)) ∙ told-at later n e result at is
 
-module _ (s : Setting) (history : List Entry) (n : ℕ) (e : Entry) (replay : IsSerializable s (reverse history))
+module _ (s : Setting) (history : List Entry) (n : ℕ) (e : Entry) (replay : ReplayAgrees s (reverse history))
     (at : slice_get history n ≡ Some e) where
   -- the result that the serial run gives there is the one that was told
   result-is : (result : RunResult) → told_in e.reply ≡ result ∷ [] → result_at s history n ≡ result_words (Some result)
@@ -106,7 +106,7 @@ module _ (s : Setting) (history : List Entry) (n : ℕ) (e : Entry) (replay : Is
 
 -- the words of an outcome that stands in the history
 words-same : {N : Type 0} → (s : Setting) (history : List Entry) (tries : ℕ) (job : Job) (o : Outcome N)
-    → IsSerializable s (reverse history) → OutcomeStands history tries job o → serial_words s history o ≡ outcome_words history o
+    → ReplayAgrees s (reverse history) → OutcomeStands history tries job o → serial_words s history o ≡ outcome_words history o
 words-same s history tries job (outcome.Done n) replay stands =
     commit-words s history n stands.entry replay stands.there stands.entry.reply refl stands.reply_is ∙ ap (words_at commit_words)
     (sym stands.there)
@@ -116,7 +116,7 @@ words-same s history tries job (outcome.Asked n) replay stands =
 words-same s history tries job o replay stands = refl
 
 lines-same : {N : Type 0} → (s : Setting) (history : List Entry) (tries number : ℕ) (jobs : List Job) (os : List (Outcome N))
-    → IsSerializable s (reverse history) → AllZip (OutcomeStands history tries) jobs os
+    → ReplayAgrees s (reverse history) → AllZip (OutcomeStands history tries) jobs os
     → serial_lines number s history os ≡ outcome_lines number history os
 lines-same s history tries number [] [] replay stand = refl
 lines-same s history tries number [] (o ∷ os) replay stand = absurd stand
@@ -127,7 +127,7 @@ lines-same s history tries number (job ∷ jobs) (o ∷ os) replay stand =
 
 -- the text of a report whose outcomes stand in its history is what the serial run tells
 pub text-same : {N : Type 0} → (s : Setting) (history : List Entry) (tries : ℕ) (jobs : List Job) (os : List (Outcome N))
-    (rows : List Row) → IsSerializable s (reverse history) → AllZip (OutcomeStands history tries) jobs os
+    (rows : List Row) → ReplayAgrees s (reverse history) → AllZip (OutcomeStands history tries) jobs os
     → report_text history os rows ≡ serial_text s history os rows
 text-same s history tries jobs os rows replay stand = ap (λ lines. lines ++ database_text rows)
     (sym (lines-same s history tries 0 jobs os replay stand))

@@ -8,7 +8,7 @@ use Rattle.sgt_model.specs.Databases.{Row, IsByKey, contents_of}
 use Rattle.sgt_model.specs.Walks.{Acyclic}
 use Rattle.sgt_model.specs.Pairs.{Pair}
 use Rattle.sgt_model.specs.Legality.{Legal}
-use Rattle.sgt_model.specs.Replay.{folded, IsSerializable}
+use Rattle.sgt_model.specs.Replay.{folded, ReplayAgrees}
 use Rattle.sgt_model.specs.Aborts.{AbortsHaveCause}
 use Rattle.sgt_model.specs.CommitOrder.{CommitsInOrder}
 use Rattle.sgt_smallbank.specs.Replays.{CommitsAreBank}
@@ -42,7 +42,7 @@ pub record AreRun (opening : Opening) (jobs : List Job) (workers tries : ℕ) (h
   pub legal : Legal (opened_setting opening) (reverse history)
   pub stand : OutcomesStand history jobs outcomes workers tries
   pub each : All HasRun outcomes
-  pub replay : IsSerializable (opened_setting opening) (reverse history)
+  pub replay : ReplayAgrees (opened_setting opening) (reverse history)
   pub no_cycle : Acyclic (Pair (reverse history))
   pub causes : AbortsHaveCause (opened_setting opening) (reverse history)
   pub order : CommitsInOrder (reverse history)

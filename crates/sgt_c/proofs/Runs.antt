@@ -10,7 +10,7 @@ use Rattle.sgt_model.specs.declared.event.Event.TheVariants.{Start, Step, Quit}
 use Rattle.sgt_model.specs.declared.limits.Limits.{Limits}
 use Rattle.sgt_model.specs.declared.reply.Reply.{Reply}
 use Rattle.sgt_model.specs.declared.reply.Reply.TheVariants as reply
-use Rattle.sgt_model.specs.Fates.{fate_of, live, live_ones, starts}
+use Rattle.sgt_model.specs.Fates.{fate_of, live, live_ones, start_count}
 use Rattle.sgt_model.specs.Legality.{Legal, LegalReply}
 use Rattle.sgt_model.specs.Settings.{Setting, takes}
 use Rattle.sgt_model.specs.StartReply.{args_fit, room_reply, taken_reply}
@@ -43,11 +43,11 @@ pub started_live : (s : Setting) (past : List Entry) (p : ℕ) (args : List ℤ)
     → LegalReply s past (Start p args) (reply.Started t)
     → live (record { event = Start p args; reply = reply.Started t } ∷ past) t ≡ true
 started_live s past p args t legal told =
-    both_true (nat_lt t (starts past + 1)) (is_none (fate_of past t)) (lt-ltb t (starts past + 1) (omega (arith, n)))
+    both_true (nat_lt t (start_count past + 1)) (is_none (fate_of past t)) (lt-ltb t (start_count past + 1) (omega (arith, n)))
     (ap is_none (unstarted-no_fate s past legal t (omega (arith, n))))
   where
-    n : t ≡ starts past
-    n = taken_number s.rules.limits (starts past) (length (live_ones past)) t (takes s.rules p) args (sym told)
+    n : t ≡ start_count past
+    n = taken_number s.rules.limits (start_count past) (length (live_ones past)) t (takes s.rules p) args (sym told)
 
 -- a step that makes an access, or finds the procedure at its end, ends nobody
 module _ (past : List Entry) (t : ℕ) where

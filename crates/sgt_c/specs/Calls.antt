@@ -9,7 +9,7 @@ use Rattle.sgt_model.specs.Fates.{live}
 use Rattle.sgt_model.specs.Legality.{Legal, LegalReply}
 use Rattle.sgt_model.specs.Pairs.{Pair}
 use Rattle.sgt_model.specs.Questions.{is_ending}
-use Rattle.sgt_model.specs.Replay.{IsSerializable}
+use Rattle.sgt_model.specs.Replay.{ReplayAgrees}
 use Rattle.sgt_model.specs.Walks.{Acyclic}
 use Rattle.sgt_engine.specs.EngineView.{EngineView, setting_of, with_entry}
 use Rattle.sgt_handle.specs.declared.held.Held.{Held}
@@ -19,7 +19,7 @@ use Rattle.sgt_told.specs.Told.{IsTold}
 -- the history is legal, and each part of the headline holds of it
 abbrev pub Headline : EngineView → Type 0
 Headline e = Legal (setting_of e) e.past
-    × IsSerializable (setting_of e) e.past
+    × ReplayAgrees (setting_of e) e.past
     × Acyclic (Pair e.past)
     × AbortsHaveCause (setting_of e) e.past
     × CommitsInOrder e.past

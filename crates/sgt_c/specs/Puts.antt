@@ -2,7 +2,7 @@
 use Rattle.std.specs.Prelude.{◌≡◌, ◌≢◌, ◌≤◌, ◌<◌, ◌^◌, ℕ, List, [], length, map, take, Option, Some, None, slice_get}
 use Rattle.std.specs.List.{All}
 use Rattle.sgt_model.specs.Databases.{contents_of}
-use Rattle.sgt_model.specs.Syntax.{Program}
+use Rattle.sgt_model.specs.Syntax.{ProcedureText}
 use Rattle.sgt_engine.specs.EngineView.{EngineView}
 use Rattle.sgt_engine.specs.Puts.{PutsRows, IsTaken, with_procedure}
 use Rattle.sgt_format.specs.ProcedureLines.{SpellsProcedure, RefusesProcedure}
@@ -41,7 +41,7 @@ IsTakenIn (Some h) rows index = IsTaken (contents_of h.engine.opening) (map row_
 -- the engine, which has no history, has the procedure that the text spells behind its others, by this number, and is else as it was
 pub record IsAdded (h : Held) (text : List ℕ) (h' : Held) (n : ℕ) : Type 0 where
   pub none : h.engine.past ≡ []
-  pub procedure : Program
+  pub procedure : ProcedureText
   pub spelled : SpellsProcedure text procedure
   pub added : h'.engine ≡ with_procedure procedure h.engine
   pub number : n ≡ length h.engine.procedures

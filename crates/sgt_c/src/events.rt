@@ -1,7 +1,7 @@
 //! Events, and what they are answered.
 ghost use Rattle.std.specs.Prelude.{◌≡◌, ◌≢◌, ◌≤◌, ◌<◌, ◌↔◌, ℕ, true, Some, None, OnOk, OnErr, length};
 ghost use Rattle.std.specs.Result.{IsOk};
-ghost use Rattle.sgt_model.specs.declared.reply.Reply.{Reply as Answer};
+ghost use Rattle.sgt_model.specs.declared.reply.Reply.{Reply};
 ghost use Rattle.sgt_model.specs.Fates.{live};
 ghost use Rattle.sgt_model.specs.Legality.{LegalReply};
 ghost use Rattle.sgt_model.specs.Questions.{is_ending};
@@ -110,7 +110,7 @@ fn ask(alloc: Global, engine: &mut Handle, event: Event, told: &mut Told) -> u32
 fn answer(held: &mut Held, event: Event, told: &mut Told) -> Result<(), NoMemory>
     ensures ok { OnOk result (Answered event (Some held.old) (Some held.new) told.new) }
     ensures unchanged { OnErr result ((held.new ≡ held.old) × (told.new ≡ told.old)) }
-    ensures ends { (r : Answer) → LegalReply (setting_of held.old.engine) held.old.engine.past event r
+    ensures ends { (r : Reply) → LegalReply (setting_of held.old.engine) held.old.engine.past event r
         → is_ending r ≡ true
         → IsOk result }
     ensures quits { (t : ℕ) → event ≡ Quit t → live held.old.engine.past t ≡ true → IsOk result }

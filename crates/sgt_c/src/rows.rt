@@ -1,7 +1,7 @@
 //! The committed database, row by row.
 ghost use Rattle.std.specs.Prelude.{◌≡◌, ◌≢◌, ◌≤◌, ◌↔◌, IsTrue, None, OnOk, length, drop};
 ghost use Rattle.std.specs.List.{All};
-ghost use Rattle.sgt_model.specs.Contents.{Key as K, put_in};
+ghost use Rattle.sgt_model.specs.Contents.{Key, put_in};
 ghost use Rattle.sgt_model.specs.Databases.{contents_of};
 ghost use Rattle.sgt_model.specs.Numbers.{IsValue};
 ghost use Rattle.sgt_c.specs.Rows.{AreRowsTold, IsRow, TellsRows, row_of, rows_from, with_rows};
@@ -111,7 +111,7 @@ pub fn are_rows(rows: &[Row]) -> bool
 /// `NoMemory` where a growth was refused.
 pub fn put_rows(database: &mut Database, rows: &[Row]) -> Result<(), NoMemory>
     requires { All IsRow rows.now }
-    ensures { OnOk result ((k : K) → contents_of database.new k ≡ with_rows (contents_of database.old) rows.now k) }
+    ensures { OnOk result ((k : Key) → contents_of database.new k ≡ with_rows (contents_of database.old) rows.now k) }
 {
     for row in rows {
         put_row(database, row)?;
@@ -121,7 +121,7 @@ pub fn put_rows(database: &mut Database, rows: &[Row]) -> Result<(), NoMemory>
 
 fn put_row(database: &mut Database, row: &Row) -> Result<(), NoMemory>
     requires { IsRow row.now }
-    ensures { OnOk result ((k : K) →
+    ensures { OnOk result ((k : Key) →
         contents_of database.new k ≡ put_in (contents_of database.old) (row_of row.now).0 row.now.value k) }
 {
     let Some(key) = Key::new(row.table as u8, row.number) else {

@@ -1,7 +1,7 @@
 //! A transaction that is run from its start to its end by one call.
 ghost use Rattle.std.specs.Prelude.{◌≡◌, ◌≢◌, ◌≤◌, ◌<◌, ◌↔◌, ℕ, true, None, Option, IfOk, OnErr, length};
 ghost use Rattle.sgt_model.specs.declared.event.Event.TheVariants.{Start, Quit};
-ghost use Rattle.sgt_model.specs.declared.reply.Reply.{Reply as Answer};
+ghost use Rattle.sgt_model.specs.declared.reply.Reply.{Reply};
 ghost use Rattle.sgt_model.specs.Fates.{live};
 ghost use Rattle.sgt_engine.specs.EngineView.{with_entry};
 ghost use Rattle.sgt_c.specs.Runs.{Ran, GaveUp, Runs, GivesUp, RunsOn, StepsOn, StopsLive, is_access, is_end};
@@ -123,7 +123,7 @@ fn step_on(engine: &mut SgtEngine, t: Tid) -> Result<Reply, NoMemory>
 /// Quits a live transaction, which takes no memory.
 fn quit(engine: &mut SgtEngine, t: Tid)
     requires { live engine.old.past t ≡ true }
-    ensures { (r : Answer) × (engine.new ≡ with_entry (Quit t) r engine.old) }
+    ensures { (r : Reply) × (engine.new ≡ with_entry (Quit t) r engine.old) }
 {
     match engine.answer(Event::Quit(t)) {
         Ok(()) => (),

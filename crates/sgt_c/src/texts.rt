@@ -1,8 +1,8 @@
 //! Replies and faults as text.
 ghost use Rattle.std.specs.Prelude.{◌≡◌, ◌≢◌, ◌≤◌, ◌↔◌};
-ghost use Rattle.sgt_model.specs.declared.reply.Reply.{Reply as Answer};
+ghost use Rattle.sgt_model.specs.declared.reply.Reply.{Reply};
 ghost use Rattle.sgt_format.specs.ReplyText.{reply_text};
-ghost use Rattle.sgt_format.specs.declared.errors.OpeningError.{OpeningError as Error};
+ghost use Rattle.sgt_format.specs.declared.errors.OpeningError.{OpeningError};
 ghost use Rattle.sgt_told.specs.Faults.{IsFaultTold};
 ghost use Rattle.sgt_told.specs.Texts.{IsFaultKind, IsWritten, fault_text};
 ghost use Rattle.sgt_told.specs.ToldReplies.{Tells};
@@ -21,8 +21,8 @@ pub extern "C" fn sgt_reply_text(
     text: &mut [u8],
     length: &mut u64,
 ) -> u32
-    ensures text { (r : Answer) → Tells told.now r → result ≡ 0 → IsWritten (reply_text r) text.old text.new length.new }
-    ensures bad_call { (result ≡ 5) ↔ ((r : Answer) → ¬ Tells told.now r) }
+    ensures text { (r : Reply) → Tells told.now r → result ≡ 0 → IsWritten (reply_text r) text.old text.new length.new }
+    ensures bad_call { (result ≡ 5) ↔ ((r : Reply) → ¬ Tells told.now r) }
     ensures statuses { result ≢ 5 → result ≤ 1 }
     ensures unwritten { result ≢ 0 → (text.new ≡ text.old) × (length.new ≡ length.old) }
 {
@@ -40,7 +40,7 @@ pub extern "C" fn sgt_fault_text(
     text: &mut [u8],
     length: &mut u64,
 ) -> u32
-    ensures text { (e : Error) → IsFaultTold fault.now e → result ≡ 0 → IsWritten (fault_text e) text.old text.new length.new }
+    ensures text { (e : OpeningError) → IsFaultTold fault.now e → result ≡ 0 → IsWritten (fault_text e) text.old text.new length.new }
     ensures bad_call { (result ≡ 5) ↔ (¬ IsFaultKind fault.now.kind) }
     ensures statuses { result ≢ 5 → result ≤ 1 }
     ensures unwritten { result ≢ 0 → (text.new ≡ text.old) × (length.new ≡ length.old) }

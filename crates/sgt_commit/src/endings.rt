@@ -1,6 +1,6 @@
 ghost use Rattle.std.specs.Prelude.{◌≡◌, ℕ, false, not, ◌&&◌, nat_eq, IfSome, IsNone};
 ghost use Rattle.std.specs.Option.{option_or};
-ghost use Rattle.sgt_model.specs.Contents.{Key as K};
+ghost use Rattle.sgt_model.specs.Contents.{Key};
 ghost use Rattle.sgt_model.specs.AccessList.{forgotten};
 ghost use Rattle.sgt_model.specs.Chains.{chain_without, value_in};
 ghost use Rattle.sgt_model.specs.ChainOrder.{IsFirstIn};
@@ -29,9 +29,9 @@ pub fn finish<R: Records, A: Accesses, G: Graph>(
     graph: &mut G,
     t: Tid,
 )
-    requires first { (k : K) → IsFirstIn t (R.chain records.old k) }
-    ensures chain { (k : K) → R.chain records.new k ≡ chain_without t (R.chain records.old k) }
-    ensures settled { (k : K) → R.settled records.new k
+    requires first { (k : Key) → IsFirstIn t (R.chain records.old k) }
+    ensures chain { (k : Key) → R.chain records.new k ≡ chain_without t (R.chain records.old k) }
+    ensures settled { (k : Key) → R.settled records.new k
         ≡ option_or (value_in t (R.chain records.old k)) (R.settled records.old k) }
     ensures accesses { A.list accesses.new ≡ forgotten t (A.list accesses.old) }
     ensures nodes { (u : ℕ) → G.nodes graph.new u ≡ (G.nodes graph.old u && not (nat_eq t u)) }
@@ -53,8 +53,8 @@ pub fn unwind<R: Records, A: Accesses, G: Graph>(
     graph: &mut G,
     t: Tid,
 )
-    ensures chain { (k : K) → R.chain records.new k ≡ chain_without t (R.chain records.old k) }
-    ensures settled { (k : K) → R.settled records.new k ≡ R.settled records.old k }
+    ensures chain { (k : Key) → R.chain records.new k ≡ chain_without t (R.chain records.old k) }
+    ensures settled { (k : Key) → R.settled records.new k ≡ R.settled records.old k }
     ensures accesses { A.list accesses.new ≡ forgotten t (A.list accesses.old) }
     ensures nodes { (u : ℕ) → G.nodes graph.new u ≡ (G.nodes graph.old u && not (nat_eq t u)) }
     ensures pairs { (u v : ℕ) → G.pairs graph.new u v

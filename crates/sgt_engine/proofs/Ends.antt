@@ -3,7 +3,7 @@ use Rattle.std.proofs.Common.{◌≡◌, ℕ, ◌+◌, ◌≤◌, arith, Bool, t
 use Rattle.std.proofs.lemmas.Bool.{true≢false, and_parts}
 use Rattle.std.specs.Option.{is_none}
 use Rattle.sgt_model.specs.declared.limits.Asks.TheVariants.{AtStep, AtCommit}
-use Rattle.sgt_model.specs.declared.limits.Asks.{Asks as When}
+use Rattle.sgt_model.specs.declared.limits.Asks.{Asks}
 use Rattle.sgt_model.specs.declared.entry.Entry.{Entry}
 use Rattle.sgt_model.specs.declared.event.Event.{Event}
 use Rattle.sgt_model.specs.declared.event.Event.TheVariants.{Start, Step, Commit, Quit}
@@ -12,12 +12,12 @@ use Rattle.sgt_model.specs.declared.limits.Limits.{Limits}
 use Rattle.sgt_model.specs.declared.reply.Fate.{Fate}
 use Rattle.sgt_model.specs.declared.reply.Reply.{Reply}
 use Rattle.sgt_model.specs.declared.reply.Reply.TheVariants as reply
-use Rattle.sgt_model.specs.Traces.{Next, Looks, Puts, Ends, Asks}
-use Rattle.sgt_model.specs.Fates.{starts, fate_of, live, live_ones}
+use Rattle.sgt_model.specs.Traces.{Next, Looks, Puts, Ends, Raises}
+use Rattle.sgt_model.specs.Fates.{start_count, fate_of, live, live_ones}
 use Rattle.sgt_model.specs.Settings.{Setting, takes}
 use Rattle.sgt_model.specs.Progress.{next_of}
 use Rattle.sgt_model.specs.Left.{next_left}
-use Rattle.sgt_model.specs.Legality.{Legal, LegalReply, StepReply, CommitReply, OfStarted, AskedStep, AskedCommit, NoneLive}
+use Rattle.sgt_model.specs.Legality.{Legal, LegalReply, StepReply, CommitReply, OfStarted, RaisedStep, RaisedCommit, HasNoLivePredecessor}
 use Rattle.sgt_model.specs.StartReply.{args_fit, room_reply, taken_reply}
 use Rattle.sgt_model.specs.State.{State}
 use Rattle.sgt_model.specs.StateAfter.{IsStateAfter}
@@ -38,18 +38,18 @@ pub record StateLaws : Type 0 where
   pub counts : CallsCount
 
 -- who is live
-live_from : (past : List Entry) (t : ℕ) → nat_lt t (starts past) ≡ true → fate_of past t ≡ None → live past t ≡ true
+live_from : (past : List Entry) (t : ℕ) → nat_lt t (start_count past) ≡ true → fate_of past t ≡ None → live past t ≡ true
 live_from past t started unended = ap₂ (λ a b. a && is_none b) started unended
 
-live-started : (past : List Entry) (t : ℕ) → live past t ≡ true → nat_lt t (starts past) ≡ true
-live-started past t alive = (and_parts (nat_lt t (starts past)) (is_none (fate_of past t)) alive).0
+live-started : (past : List Entry) (t : ℕ) → live past t ≡ true → nat_lt t (start_count past) ≡ true
+live-started past t alive = (and_parts (nat_lt t (start_count past)) (is_none (fate_of past t)) alive).0
 
 no_fate : (fate : Option Fate) → is_none fate ≡ true → fate ≡ None
 no_fate None none = refl
 no_fate (Some fate) none = absurd (cc)
 
 live-no_fate : (past : List Entry) (t : ℕ) → live past t ≡ true → fate_of past t ≡ None
-live-no_fate past t alive = no_fate (fate_of past t) (and_parts (nat_lt t (starts past)) (is_none (fate_of past t)) alive).1
+live-no_fate past t alive = no_fate (fate_of past t) (and_parts (nat_lt t (start_count past)) (is_none (fate_of past t)) alive).1
 
 -- a start ends nothing
 start_quiet : (limits : Limits) (begun living : ℕ) (taken : Option ℕ) (args : List ℤ)
@@ -72,12 +72,12 @@ module _ (laws : StateLaws) (s : Setting) (past : List Entry) (legal : Legal s p
   -- who was started and has not ended is listed as live
   pub unended_listed : (t : ℕ) → IsUnended c t → Member t c.live
   unended_listed t u = ((laws.sound s past legal c i).listed t).0
-      (i.nodes t ∙ live_from past t (ap (nat_lt t) (sym i.starts) ∙ u.begun) (sym (i.fates t) ∙ u.unended))
+      (i.nodes t ∙ live_from past t (ap (nat_lt t) (sym i.start_count) ∙ u.begun) (sym (i.fates t) ∙ u.unended))
 
   -- who is live was started, and has not ended
   pub live_unended : (t : ℕ) → live past t ≡ true → IsUnended c t
   live_unended t alive = record {
-    begun = ap (nat_lt t) i.starts ∙ live-started past t alive;
+    begun = ap (nat_lt t) i.start_count ∙ live-started past t alive;
     unended = i.fates t
         ∙ live-no_fate past t alive;
   }
@@ -103,7 +103,7 @@ module _ (laws : StateLaws) (s : Setting) (past : List Entry) (legal : Legal s p
   opened r X true (Some f) x e = absurd (quiet r _ x refl e)
   opened r X true None x e = (refl, refl, x)
 
-  asked_step_ends : (asks : When) (t code : ℕ) (r : Reply) → AskedStep asks past t code r → is_ending r ≡ true → AtItsStep asks
+  asked_step_ends : (asks : Asks) (t code : ℕ) (r : Reply) → RaisedStep asks past t code r → is_ending r ≡ true → AtItsStep asks
   asked_step_ends AtStep t code r x e = tt
   asked_step_ends AtCommit t code r x e = absurd (quiet r _ x refl e)
 
@@ -114,13 +114,13 @@ module _ (laws : StateLaws) (s : Setting) (past : List Entry) (legal : Legal s p
   step_ends t (Puts k v) r l (inl x) e = (x.rest, (laws.verdicts s past legal c i t k Store x.rest l).1 x.closes)
   step_ends t (Puts k v) r l (inr x) e = absurd (quiet r _ x.is refl e)
   step_ends t (Ends answers) r l x e = absurd (quiet r _ x refl e)
-  step_ends t (Asks code) r l x e = asked_step_ends s.rules.limits.asks t code r x e
+  step_ends t (Raises code) r l x e = asked_step_ends s.rules.limits.asks t code r x e
 
   -- who has no live predecessor has none in the graph
-  first_in : (t : ℕ) → NoneLive past t → IsFirst t c
+  first_in : (t : ℕ) → HasNoLivePredecessor past t → IsFirst t c
   first_in t none u p = let pair = (i.pairs u t).0 p in none u (record { is_live = pair.first_live; pair = pair.pair })
 
-  asked_commit_ends : (asks : When) (t code : ℕ) (r : Reply) → AskedCommit asks past t code r → is_ending r ≡ true
+  asked_commit_ends : (asks : Asks) (t code : ℕ) (r : Reply) → RaisedCommit asks past t code r → is_ending r ≡ true
       → AtItsCommit asks × IsFirst t c
   asked_commit_ends AtStep t code r x e = absurd (quiet r _ x refl e)
   asked_commit_ends AtCommit t code r (inl x) e = absurd (quiet r _ x.is refl e)
@@ -131,7 +131,7 @@ module _ (laws : StateLaws) (s : Setting) (past : List Entry) (legal : Legal s p
   commit_ends t (Ends answers) r (inr x) e = first_in t x.none_live
   commit_ends t (Looks k) r x e = absurd (quiet r _ x refl e)
   commit_ends t (Puts k v) r x e = absurd (quiet r _ x refl e)
-  commit_ends t (Asks code) r x e = asked_commit_ends s.rules.limits.asks t code r x e
+  commit_ends t (Raises code) r x e = asked_commit_ends s.rules.limits.asks t code r x e
 
   next_same : (t : ℕ) → live past t ≡ true → next_of s past t ≡ next_left (c.left t)
   next_same t l = sym (laws.nexts s past legal c i t l)
@@ -139,17 +139,17 @@ module _ (laws : StateLaws) (s : Setting) (past : List Entry) (legal : Legal s p
   pub legal_ends : (event : Event) (r : Reply) → LegalReply s past event r → is_ending r ≡ true
       → EndsOne s.rules.limits.asks event c
   legal_ends (Start p args) r x e =
-      absurd (quiet r _ x (start_quiet s.rules.limits (starts past) (length (live_ones past)) (takes s.rules p) args) e)
+      absurd (quiet r _ x (start_quiet s.rules.limits (start_count past) (length (live_ones past)) (takes s.rules p) args) e)
   legal_ends (Step t) r x e =
-      let o = opened r _ (nat_lt t (starts past)) (fate_of past t) x e in
+      let o = opened r _ (nat_lt t (start_count past)) (fate_of past t) x e in
       let l = live_from past t o.0 o.1 in
       (live_unended t l, subst (λ n. StepEnds s.rules.limits.asks t n c) (next_same t l) (step_ends t (next_of s past t) r l o.2 e))
   legal_ends (Commit t) r x e =
-      let o = opened r _ (nat_lt t (starts past)) (fate_of past t) x e in
+      let o = opened r _ (nat_lt t (start_count past)) (fate_of past t) x e in
       let l = live_from past t o.0 o.1 in
       (live_unended t l, subst (λ n. CommitEnds s.rules.limits.asks t n c) (next_same t l) (commit_ends t (next_of s past t) r o.2 e))
   legal_ends (Quit t) r x e =
-      let o = opened r _ (nat_lt t (starts past)) (fate_of past t) x e in
+      let o = opened r _ (nat_lt t (start_count past)) (fate_of past t) x e in
       live_unended t (live_from past t o.0 o.1)
 
 -- the same, as callers see an engine

@@ -9,7 +9,7 @@ use Rattle.sgt_model.specs.declared.limits.Limits.{Limits}
 use Rattle.sgt_model.specs.declared.reply.Reply.{Reply}
 use Rattle.sgt_model.specs.Contents.{Contents}
 use Rattle.sgt_model.specs.Databases.{Row}
-use Rattle.sgt_model.specs.Syntax.{Program}
+use Rattle.sgt_model.specs.Syntax.{ProcedureText}
 use Rattle.sgt_model.specs.Settings.{Setting, setting}
 use Rattle.sgt_model.specs.Legality.{Legal, LegalReply}
 use Rattle.sgt_model.specs.State.{State}
@@ -28,7 +28,7 @@ pub longer : (items new : List Entry) (e : Entry) → new ≡ items ++ e ∷ [] 
 longer items new e is = ap reverse is ∙ reverse-append items (e ∷ [])
 
 -- a setting is the same where its parts are
-pub same_setting : (opening : Contents) (procedures procedures' : List Program) (limits limits' : Limits) → procedures' ≡ procedures
+pub same_setting : (opening : Contents) (procedures procedures' : List ProcedureText) (limits limits' : Limits) → procedures' ≡ procedures
     → limits' ≡ limits → setting opening procedures limits ≡ setting opening procedures' limits'
 same_setting opening procedures procedures' limits limits' p l = ap₂ (setting opening) (sym p) (sym l)
 
@@ -49,7 +49,7 @@ kept_entry calls_simulate s s' items new before after event r same is kept done 
     ((kept.0, continues.0), continues.1)
 
 -- the engine has this entry more
-pub entry_added : (opening : List Row) (procedures procedures' : List Program) (limits limits' : Limits) (items new : List Entry)
+pub entry_added : (opening : List Row) (procedures procedures' : List ProcedureText) (limits limits' : Limits) (items new : List Entry)
     (event : Event) (r : Reply) (now : EngineView) → procedures' ≡ procedures → limits' ≡ limits
     → new ≡ items ++ record { event = event; reply = r } ∷ []
     → record { opening = opening; procedures = procedures; limits = limits; past = reverse items } ≡ now
@@ -87,7 +87,7 @@ legal_reply calls_simulate s s' past past' before after event r same seen kept d
     (calls_simulate s past kept.0 before kept.1 event r after done).0
 
 -- the history of a new engine is legal
-pub legal_new : (e : EngineView) (opening : List Row) (procedures : List Program) (limits : Limits)
+pub legal_new : (e : EngineView) (opening : List Row) (procedures : List ProcedureText) (limits : Limits)
     → e ≡ made_of opening procedures limits → Legal (setting_of e) e.past
 legal_new e opening procedures limits is = subst (λ (x : EngineView). Legal (setting_of x) x.past) (sym is) tt
 

@@ -6,13 +6,13 @@ use Rattle.sgt_model.specs.declared.event.Event.{Event}
 use Rattle.sgt_model.specs.declared.reply.Reply.{Reply}
 use Rattle.sgt_model.specs.declared.limits.Limits.{Limits}
 use Rattle.sgt_model.specs.Databases.{Row, contents_of}
-use Rattle.sgt_model.specs.Syntax.{Program}
+use Rattle.sgt_model.specs.Syntax.{ProcedureText}
 use Rattle.sgt_model.specs.Settings.{Setting, setting}
 
 -- the opening database, the procedures, the limits, and the history, newest entry first
 pub record EngineView : Type 0 where
   pub opening : List Row
-  pub procedures : List Program
+  pub procedures : List ProcedureText
   pub limits : Limits
   pub past : List Entry
 
@@ -21,7 +21,7 @@ abbrev pub setting_of : EngineView → Setting
 setting_of e = setting (contents_of e.opening) e.procedures e.limits
 
 -- a new engine
-abbrev pub made_of : List Row → List Program → Limits → EngineView
+abbrev pub made_of : List Row → List ProcedureText → Limits → EngineView
 made_of opening procedures limits = record { opening = opening; procedures = procedures; limits = limits; past = [] }
 
 -- the engine with one entry more

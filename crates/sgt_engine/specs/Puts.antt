@@ -2,7 +2,7 @@
 use Rattle.std.specs.Prelude.{◌≡◌, ◌≢◌, ⊤, ℕ, List, [], ◌∷◌, ◌++◌, take, Some, None, IsSome, slice_get}
 use Rattle.sgt_model.specs.Contents.{Key, Contents, put_in}
 use Rattle.sgt_model.specs.Databases.{Row, contents_of}
-use Rattle.sgt_model.specs.Syntax.{Program}
+use Rattle.sgt_model.specs.Syntax.{ProcedureText}
 use Rattle.sgt_engine.specs.EngineView.{EngineView}
 use Rattle.sgt_engine.specs.declared.engine.put.PutError.{PutError}
 use Rattle.sgt_engine.specs.declared.engine.put.PutError.TheVariants.{Begun, Taken, NoMemory}
@@ -45,7 +45,7 @@ pub record PutsRows (before : EngineView) (rows : List Row) (after : EngineView)
   pub past : after.past ≡ before.past
 
 -- the engine with one procedure more
-abbrev pub with_procedure : Program → EngineView → EngineView
+abbrev pub with_procedure : ProcedureText → EngineView → EngineView
 with_procedure procedure e = record {
   opening = e.opening;
   procedures = e.procedures ++ procedure ∷ [];

@@ -2,16 +2,16 @@ ghost use Rattle.std.specs.Prelude.{◌≡◌, ℕ, true, [], Result, Ok, Err, I
 ghost use Rattle.std.specs.Option.{option_copied};
 ghost use Rattle.std.specs.Result.{IsOk};
 ghost use Rattle.sgt_model.specs.declared.event.Event.TheVariants.{Quit};
-ghost use Rattle.sgt_model.specs.declared.reply.Reply.{Reply as Answer};
+ghost use Rattle.sgt_model.specs.declared.reply.Reply.{Reply};
 ghost use Rattle.sgt_model.specs.Aborts.{AbortsHaveCause};
 ghost use Rattle.sgt_model.specs.Bounds.{AreInRange};
 ghost use Rattle.sgt_model.specs.CommitOrder.{CommitsInOrder};
-ghost use Rattle.sgt_model.specs.Contents.{Key as K};
+ghost use Rattle.sgt_model.specs.Contents.{Key};
 ghost use Rattle.sgt_model.specs.Databases.{contents_of, IsByKey};
 ghost use Rattle.sgt_model.specs.Fates.{live};
 ghost use Rattle.sgt_model.specs.Legality.{Legal, LegalReply};
 ghost use Rattle.sgt_model.specs.Pairs.{Pair};
-ghost use Rattle.sgt_model.specs.Replay.{folded, IsSerializable};
+ghost use Rattle.sgt_model.specs.Replay.{folded, ReplayAgrees};
 ghost use Rattle.sgt_model.specs.StateAfter.{IsStateAfter};
 ghost use Rattle.sgt_model.specs.Values.{settled};
 ghost use Rattle.sgt_model.specs.Walks.{Acyclic};
@@ -65,7 +65,7 @@ pub struct Engine<R: Records, A: Accesses, G: Graph> {
 impl<R: Records, A: Accesses, G: Graph> Model for Engine<R, A, G> {
     ghost use Rattle.std.specs.Coded.{codes};
     ghost use Rattle.std.specs.Prelude.{◌≡◌, ◌≤◌, IfSome, length, reverse};
-    ghost use Rattle.sgt_model.specs.Codes.{coded_program};
+    ghost use Rattle.sgt_model.specs.Codes.{coded_procedure};
     ghost use Rattle.sgt_model.specs.Databases.{contents_of};
     ghost use Rattle.sgt_model.specs.Legality.{Legal};
     ghost use Rattle.sgt_model.specs.Settings.{setting};
@@ -76,7 +76,7 @@ impl<R: Records, A: Accesses, G: Graph> Model for Engine<R, A, G> {
 
     ghost Value = { EngineView };
 
-    ghost coded = { Prim.hlevel (codes, coded_program) };
+    ghost coded = { Prim.hlevel (codes, coded_procedure) };
 
     ghost view = { λ e. record {
       opening = e.opening;
@@ -142,12 +142,12 @@ impl<R: Records, A: Accesses, G: Graph> Engine<R, A, G> {
         ensures adds { IfOk result (λ r. self.new ≡ with_entry event r self.old) }
         ensures reply { IfOk result (LegalReply (setting_of self.old) self.old.past event) }
         ensures legal { Legal (setting_of self.new) self.new.past }
-        ensures replay { IsSerializable (setting_of self.new) self.new.past }
+        ensures replay { ReplayAgrees (setting_of self.new) self.new.past }
         ensures no_cycle { Acyclic (Pair self.new.past) }
         ensures causes { AbortsHaveCause (setting_of self.new) self.new.past }
         ensures order { CommitsInOrder self.new.past }
         ensures unchanged { OnErr result (self.new ≡ self.old) }
-        ensures no_memory { (r : Answer) → LegalReply (setting_of self.old) self.old.past event r
+        ensures no_memory { (r : Reply) → LegalReply (setting_of self.old) self.old.past event r
             → is_ending r ≡ true
             → IsOk result }
         ensures quits { (t : ℕ) → event ≡ Quit t → live self.old.past t ≡ true → IsOk result }
@@ -161,15 +161,15 @@ impl<R: Records, A: Accesses, G: Graph> Engine<R, A, G> {
 
     /// The same, where the reply is not handed out: [`Engine::last_reply`] lends it until the next event.
     pub fn answer(&mut self, event: Event) -> Result<(), NoMemory>
-        ensures adds { OnOk result ((r : Answer) × (self.new ≡ with_entry event r self.old)
+        ensures adds { OnOk result ((r : Reply) × (self.new ≡ with_entry event r self.old)
             × LegalReply (setting_of self.old) self.old.past event r) }
         ensures legal { Legal (setting_of self.new) self.new.past }
-        ensures replay { IsSerializable (setting_of self.new) self.new.past }
+        ensures replay { ReplayAgrees (setting_of self.new) self.new.past }
         ensures no_cycle { Acyclic (Pair self.new.past) }
         ensures causes { AbortsHaveCause (setting_of self.new) self.new.past }
         ensures order { CommitsInOrder self.new.past }
         ensures unchanged { OnErr result (self.new ≡ self.old) }
-        ensures no_memory { (r : Answer) → LegalReply (setting_of self.old) self.old.past event r
+        ensures no_memory { (r : Reply) → LegalReply (setting_of self.old) self.old.past event r
             → is_ending r ≡ true
             → IsOk result }
         ensures quits { (t : ℕ) → event ≡ Quit t → live self.old.past t ≡ true → IsOk result }
@@ -222,7 +222,7 @@ impl<R: Records, A: Accesses, G: Graph> Engine<R, A, G> {
     pub fn history(&self) -> &History
         ensures entries { reverse result.now.entries ≡ self.now.past }
         ensures legal { Legal (setting_of self.now) self.now.past }
-        ensures replay { IsSerializable (setting_of self.now) self.now.past }
+        ensures replay { ReplayAgrees (setting_of self.now) self.now.past }
         ensures no_cycle { Acyclic (Pair self.now.past) }
         ensures causes { AbortsHaveCause (setting_of self.now) self.now.past }
         ensures order { CommitsInOrder self.now.past }
@@ -245,9 +245,9 @@ impl<R: Records, A: Accesses, G: Graph> Engine<R, A, G> {
     ///
     /// `NoMemory` where a growth was refused.
     pub fn database(&self, alloc: Global) -> Result<Database, NoMemory>
-        ensures values { IfOk result (λ d. (k : K) →
+        ensures values { IfOk result (λ d. (k : Key) →
             contents_of d k ≡ settled (contents_of self.now.opening) self.now.past k) }
-        ensures replayed { IfOk result (λ d. (k : K) →
+        ensures replayed { IfOk result (λ d. (k : Key) →
             contents_of d k ≡ (folded (setting_of self.now) self.now.past).last k) }
         ensures by_key { IfOk result IsByKey }
     {
@@ -260,7 +260,7 @@ impl<R: Records, A: Accesses, G: Graph> Engine<R, A, G> {
         ensures opening { result.opening ≡ self.opening }
         ensures entries { reverse result.history.entries ≡ self.past }
         ensures legal { Legal (setting_of self) self.past }
-        ensures replay { IsSerializable (setting_of self) self.past }
+        ensures replay { ReplayAgrees (setting_of self) self.past }
         ensures no_cycle { Acyclic (Pair self.past) }
         ensures causes { AbortsHaveCause (setting_of self) self.past }
         ensures order { CommitsInOrder self.past }

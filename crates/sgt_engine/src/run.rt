@@ -4,7 +4,7 @@ ghost use Rattle.sgt_model.specs.Bounds.{AreInRange};
 ghost use Rattle.sgt_model.specs.CommitOrder.{CommitsInOrder};
 ghost use Rattle.sgt_model.specs.Legality.{Legal};
 ghost use Rattle.sgt_model.specs.Pairs.{Pair};
-ghost use Rattle.sgt_model.specs.Replay.{IsSerializable};
+ghost use Rattle.sgt_model.specs.Replay.{ReplayAgrees};
 ghost use Rattle.sgt_model.specs.Walks.{Acyclic};
 ghost use Rattle.sgt_model.specs.Databases.{contents_of};
 ghost use Rattle.sgt_model.specs.Settings.{setting};
@@ -45,7 +45,7 @@ pub fn run_list<R: Records, A: Accesses, G: Graph>(
     ensures done { IfOk result (λ ran. ran.done ≤ length events.now) }
     ensures stops { IfOk result (λ ran. StopsAtNoEnd ran.engine ran.done events.now) }
     ensures legal { IfOk result (λ ran. Legal (setting_of ran.engine) ran.engine.past) }
-    ensures replay { IfOk result (λ ran. IsSerializable (setting_of ran.engine) ran.engine.past) }
+    ensures replay { IfOk result (λ ran. ReplayAgrees (setting_of ran.engine) ran.engine.past) }
     ensures no_cycle { IfOk result (λ ran. Acyclic (Pair ran.engine.past)) }
     ensures causes { IfOk result (λ ran. AbortsHaveCause (setting_of ran.engine) ran.engine.past) }
     ensures order { IfOk result (λ ran. CommitsInOrder ran.engine.past) }

@@ -10,7 +10,7 @@ use Rattle.sgt_model.specs.Pairs.{one_stores, conflicts, has_conflicting, Follow
 use Rattle.sgt_model.specs.Aborts.{IsAccessBy}
 use Rattle.sgt_model.proofs.Stores.{key_eq-true, key_eq-refl}
 use Rattle.sgt_explain.specs.Firsts.{NoneBelow, FirstOrNone}
-use Rattle.sgt_explain.specs.Places.{before, placed_access}
+use Rattle.sgt_explain.specs.Places.{entries_before, placed_access}
 use Rattle.sgt_explain.specs.Edges.{ConflictsAt, FollowsAt}
 use Rattle.sgt_explain.proofs.Prefixes.{LooksBack, found_at, finds_at}
 
@@ -41,7 +41,7 @@ conflicts_back t k kind = record {
 
 none_earlier : (entries : List Entry) (end t : ℕ) (k : Key) (kind : Kind) → end ≤ length entries
     → NoneBelow (ConflictsAt entries t k Look kind) end → NoneBelow (ConflictsAt entries t k Store kind) end
-    → has_conflicting (before entries end) t k kind ≡ true → ⊥
+    → has_conflicting (entries_before entries end) t k kind ≡ true → ⊥
 none_earlier entries end t k kind within looks stores h =
     let (n, below, at) = found_at (λ past. has_conflicting past t k kind ≡ true) (λ past o. conflicts o t k kind ≡ true)
     (conflicts_back t k kind) entries end within h in
@@ -54,7 +54,7 @@ none_earlier entries end t k kind within looks stores h =
 
 -- one that is told is there
 pub first_there : (entries : List Entry) (end t : ℕ) (k : Key) (earlier kind : Kind) → end ≤ length entries → (o : Option ℕ)
-    → FirstOrNone (ConflictsAt entries t k earlier kind) end o → is_none o ≡ false → has_conflicting (before entries end) t k kind ≡ true
+    → FirstOrNone (ConflictsAt entries t k earlier kind) end o → is_none o ≡ false → has_conflicting (entries_before entries end) t k kind ≡ true
 first_there entries end t k earlier kind within None first one = absurd (cc)
 first_there entries end t k earlier kind within (Some n) first one =
     finds_at (λ past. has_conflicting past t k kind ≡ true) (λ past o. conflicts o t k kind ≡ true) (conflicts_back t k kind)
@@ -67,7 +67,7 @@ first_none P end (Some n) first none = absurd (cc)
 -- and where none is told, none is there
 pub none_there : (entries : List Entry) (end t : ℕ) (k : Key) (kind : Kind) → end ≤ length entries → (looked stored : Option ℕ)
     → FirstOrNone (ConflictsAt entries t k Look kind) end looked → FirstOrNone (ConflictsAt entries t k Store kind) end stored
-    → is_none looked ≡ true → is_none stored ≡ true → has_conflicting (before entries end) t k kind ≡ true → ⊥
+    → is_none looked ≡ true → is_none stored ≡ true → has_conflicting (entries_before entries end) t k kind ≡ true → ⊥
 none_there entries end t k kind within looked stored looks stores no_look no_store =
     none_earlier entries end t k kind within (first_none _ end looked looks no_look) (first_none _ end stored stores no_store)
 
@@ -79,12 +79,12 @@ precedes_back : (t u : ℕ) → LooksBack (λ past. Precedes past t u) (λ past 
 precedes_back t u = record { nowhere = λ h. h; here_or_before = λ e past h. h; here = λ e past h. inl h; more = λ e past h. inr h }
 
 pub none_follows : (entries : List Entry) (end t u : ℕ) → end ≤ length entries → NoneBelow (FollowsAt entries t u) end
-    → Precedes (before entries end) t u → ⊥
+    → Precedes (entries_before entries end) t u → ⊥
 none_follows entries end t u within none h =
     let (n, below, at) = found_at (λ past. Precedes past t u) (λ past o. FollowsIn past o t u) (precedes_back t u) entries end within h in
     none n below at
 
 pub follows_precede : (entries : List Entry) (end t u n : ℕ) → end ≤ length entries → n < end → FollowsAt entries t u n
-    → Precedes (before entries end) t u
+    → Precedes (entries_before entries end) t u
 follows_precede entries end t u n within below h =
     finds_at (λ past. Precedes past t u) (λ past o. FollowsIn past o t u) (precedes_back t u) entries end n within below h

@@ -14,14 +14,14 @@ use Rattle.sgt_model.specs.Falls.{Feeds, Falls}
 use Rattle.sgt_model.specs.Questions.{named_by, is_ending}
 use Rattle.sgt_model.specs.Settings.{Setting}
 use Rattle.sgt_model.specs.Legality.{Legal}
-use Rattle.sgt_model.specs.Aborts.{AbortHasCause}
+use Rattle.sgt_model.specs.Aborts.{ReplyIsJustified}
 use Rattle.sgt_model.proofs.Aborts.{aborts_have_cause}
 use Rattle.sgt_model.proofs.Facts.{some_is, live-stands, live-not_committed, status, precedes-started}
 use Rattle.sgt_model.proofs.Sources.{read-precedes, reaches-step, source_of_standing_stands, source_commits_before}
 use Rattle.sgt_model.proofs.Questions.{endings_end_one}
 use Rattle.sgt_log.specs.EntryParts.{fell_in}
 use Rattle.sgt_explain.specs.Firsts.{NoneBelow}
-use Rattle.sgt_explain.specs.Places.{before, listed_by, placed_falls}
+use Rattle.sgt_explain.specs.Places.{entries_before, listed_by, placed_falls}
 use Rattle.sgt_explain.specs.Sources.{IsUndoneAt, ReadsUndoneAt}
 use Rattle.sgt_explain.proofs.Prefixes.{LooksBack, found_at, entry_there, legal_there}
 
@@ -69,7 +69,7 @@ module _ (s : Setting) (past : List Entry) (legal : Legal s past) (t : ℕ) (fel
 
 -- at a place
 
-falls_by : (s : Setting) (past : List Entry) (event : Event) (r : Reply) → AbortHasCause s past event r → (n t : ℕ)
+falls_by : (s : Setting) (past : List Entry) (event : Event) (r : Reply) → ReplyIsJustified s past event r → (n t : ℕ)
     → slice_get (fell_in r) n ≡ Some t → Falls past (subject event) (fell_in r) × (is_ending r ≡ true)
 falls_by s past event (reply.Aborted why fell) h n t is = (h.1, refl)
 falls_by s past event (reply.Refused code fell) h n t is = (h.1, refl)
@@ -95,10 +95,10 @@ pub source_there : (s : Setting) (entries : List Entry) (place n u : ℕ) → pl
 source_there s entries place n u within legal at none =
     let (e, is) = entry_there entries place within in
     let legal_here = legal_there s entries place e is legal in
-    let past = before entries place in
+    let past = entries_before entries place in
     let falls_is : placed_falls entries place ≡ fell_in e.reply = ap (listed_by (λ (x : Entry). fell_in x.reply)) is in
     let at_here : slice_get (fell_in e.reply) n ≡ Some u = ap (λ l. slice_get l n) (sym falls_is) ∙ at in
-    let by = falls_by s past e.event e.reply (aborts_have_cause s (e ∷ before entries place) legal_here).1 n u at_here in
+    let by = falls_by s past e.event e.reply (aborts_have_cause s (e ∷ entries_before entries place) legal_here).1 n u at_here in
     let ended = endings_end_one s past e legal_here by.1 in
     let t : ℕ = ended.0 in
     let named : named_by e.event ≡ Some t = ended.1 in

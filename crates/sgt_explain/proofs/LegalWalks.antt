@@ -10,7 +10,7 @@ use Rattle.sgt_model.specs.declared.reply.Cause.TheVariants as cause
 use Rattle.sgt_model.specs.declared.entry.Entry.{Entry}
 use Rattle.sgt_model.specs.declared.kind.Kind.{Kind}
 use Rattle.sgt_model.specs.Contents.{Key}
-use Rattle.sgt_model.specs.Traces.{Next, Looks, Puts, Ends, Asks}
+use Rattle.sgt_model.specs.Traces.{Next, Looks, Puts, Ends, Raises}
 use Rattle.sgt_model.specs.Walks.{PathOf, last_of, Member}
 use Rattle.sgt_model.specs.Fates.{aborted}
 use Rattle.sgt_model.specs.Questions.{named_by}
@@ -19,13 +19,13 @@ use Rattle.sgt_model.specs.Closes.{Closes}
 use Rattle.sgt_model.specs.Settings.{Setting}
 use Rattle.sgt_model.specs.Progress.{next_of}
 use Rattle.sgt_model.specs.Legality.{Legal}
-use Rattle.sgt_model.specs.Aborts.{Wants, ClosesCycle, AbortHasCause}
+use Rattle.sgt_model.specs.Aborts.{Wants, ClosesCycle, ReplyIsJustified}
 use Rattle.sgt_model.proofs.Aborts.{aborts_have_cause}
 use Rattle.sgt_model.proofs.Facts.{some_is}
 use Rattle.sgt_model.proofs.NoOrder.{pair_made}
 use Rattle.sgt_model.proofs.Paths.{last_is_member}
 use Rattle.sgt_explain.specs.declared.edge.Edge.{Edge}
-use Rattle.sgt_explain.specs.Places.{before, cycle_in, listed_by, placed_cycle}
+use Rattle.sgt_explain.specs.Places.{entries_before, cycle_in, listed_by, placed_cycle}
 use Rattle.sgt_explain.specs.WalkEdges.{TellsFrom, TellsEdge, HasEdgeFrom, HasEdge, WasAbout, IsPairAt}
 use Rattle.sgt_explain.proofs.Prefixes.{entry_there, legal_there}
 
@@ -76,13 +76,13 @@ along_closed past t k kind rest h n below = let one : n + 1 ≡ suc n = omega ar
 -- what comes of it
 
 edge_from : (entries : List Entry) (end t : ℕ) (k : Key) (kind : Kind) (one next : Option ℕ)
-    → Along (Pair (before entries end)) (Closing (before entries end) t k kind) one next → HasEdgeFrom entries end k kind one next
+    → Along (Pair (entries_before entries end)) (Closing (entries_before entries end) t k kind) one next → HasEdgeFrom entries end k kind one next
 edge_from entries end t k kind None next h = h
 edge_from entries end t k kind (Some a) (Some b) h = h.precedes
 edge_from entries end t k kind (Some a) None h = h.conflict
 
 pair_from : (entries : List Entry) (end t : ℕ) (k : Key) (kind : Kind) (edge : Edge) (one next first : Option ℕ) → first ≡ Some t
-    → Along (Pair (before entries end)) (Closing (before entries end) t k kind) one next → TellsFrom entries end k kind edge one next first
+    → Along (Pair (entries_before entries end)) (Closing (entries_before entries end) t k kind) one next → TellsFrom entries end k kind edge one next first
     → IsPairAt entries end edge
 pair_from entries end t k kind edge None next first is along told = absurd along
 pair_from entries end t k kind edge (Some a) (Some b) first is along told =
@@ -92,7 +92,7 @@ pair_from entries end t k kind edge (Some a) None None is along told = absurd to
 pair_from entries end t k kind edge (Some a) None (Some u) is along told =
     let first : u ≡ t = some_is u t is in
     rw (told.place_is, told.from, told.to, told.key_is, told.kind_is, first) (λ e by.
-    pair_made e (before entries end) t k kind by a along.apart along.last_stands along.first_stands along.conflict)
+    pair_made e (entries_before entries end) t k kind by a along.apart along.last_stands along.first_stands along.conflict)
 
 -- the walk of a legal abort
 
@@ -102,7 +102,7 @@ record ByCycle (s : Setting) (past : List Entry) (event : Event) (walk : List �
   named : named_by event ≡ Some t
   closes : ClosesCycle s past t walk
 
-by_cycle : (s : Setting) (past : List Entry) (event : Event) (r : Reply) → AbortHasCause s past event r → (n : ℕ) → n < length (cycle_in r)
+by_cycle : (s : Setting) (past : List Entry) (event : Event) (r : Reply) → ReplyIsJustified s past event r → (n : ℕ) → n < length (cycle_in r)
     → ByCycle s past event (cycle_in r)
 by_cycle s past (Step t) (reply.Aborted (cause.Cycle walk) fell) h n below = record { t = t; named = refl; closes = h.0 }
 by_cycle s past (Start p args) (reply.Aborted (cause.Cycle walk) fell) h n below = absurd h.0
@@ -116,14 +116,14 @@ wanted : (next : Next) (k j : Key) (kind other : Kind) → Wants next k kind →
 wanted (Looks i) k j kind other (key, is) (same, so) = (key ∙ sym same, is ∙ sym so)
 wanted (Puts i v) k j kind other (key, is) (same, so) = (key ∙ sym same, is ∙ sym so)
 wanted (Ends answers) k j kind other h g = absurd h
-wanted (Asks code) k j kind other h g = absurd h
+wanted (Raises code) k j kind other h g = absurd h
 
 -- the walk at a place of a legal history, by the access that its transaction was about to make
 record WalkAt (entries : List Entry) (place : ℕ) (k : Key) (kind : Kind) : Type 0 where
   t : ℕ
   rest : List ℕ
   walk : placed_cycle entries place ≡ t ∷ rest
-  closes : Closes (before entries place) t k kind rest
+  closes : Closes (entries_before entries place) t k kind rest
 
 walk_at : (s : Setting) (entries : List Entry) (place n : ℕ) (k : Key) (kind : Kind) → place < length entries → Legal s (reverse entries)
     → WasAbout s entries place k kind → n < length (placed_cycle entries place) → WalkAt entries place k kind
@@ -131,11 +131,11 @@ walk_at s entries place n k kind within legal about below =
     let (e, is) = entry_there entries place within in
     let legal_here = legal_there s entries place e is legal in
     let walk_is : placed_cycle entries place ≡ cycle_in e.reply = ap (listed_by (λ (x : Entry). cycle_in x.reply)) is in
-    let why = by_cycle s (before entries place) e.event e.reply
-    (aborts_have_cause s (e ∷ before entries place) legal_here).1 n (rw (sym walk_is) below) in
+    let why = by_cycle s (entries_before entries place) e.event e.reply
+    (aborts_have_cause s (e ∷ entries_before entries place) legal_here).1 n (rw (sym walk_is) below) in
     let named : about.by ≡ why.t = some_is _ _ (sym about.named ∙ ap (option_and_then (λ (x : Entry). named_by x.event)) is ∙ why.named) in
-    let wants : Wants (next_of s (before entries place) why.t) k kind =
-    subst (λ u. Wants (next_of s (before entries place) u) k kind) named about.wants in
+    let wants : Wants (next_of s (entries_before entries place) why.t) k kind =
+    subst (λ u. Wants (next_of s (entries_before entries place) u) k kind) named about.wants in
     let same = wanted _ _ _ _ _ wants why.closes.wants in
     record { t = why.t; rest = why.closes.rest; walk = walk_is ∙ why.closes.is; closes = rw (same.0, same.1) why.closes.closes }
 
@@ -147,7 +147,7 @@ edges_are_there s entries place n k kind within legal about below =
     let w = walk_at s entries place n k kind within legal about below in
     let short : n < length (w.t ∷ w.rest) = subst (λ l. n < length l) w.walk below in
     subst (λ l. HasEdge entries place k kind l n) (sym w.walk)
-    (edge_from entries place w.t k kind _ _ (along_closed (before entries place) w.t k kind w.rest w.closes n short))
+    (edge_from entries place w.t k kind _ _ (along_closed (entries_before entries place) w.t k kind w.rest w.closes n short))
 
 -- and what is told of it is a pair
 told_is_pair : (s : Setting) (entries : List Entry) (place n : ℕ) (k : Key) (kind : Kind) (edge : Edge) → place < length entries
@@ -157,7 +157,7 @@ told_is_pair s entries place n k kind edge within legal about below told =
     let w = walk_at s entries place n k kind within legal about below in
     let short : n < length (w.t ∷ w.rest) = subst (λ l. n < length l) w.walk below in
     let told_here = subst (λ l. TellsEdge entries place k kind l n edge) w.walk told in
-    pair_from entries place w.t k kind edge _ _ _ refl (along_closed (before entries place) w.t k kind w.rest w.closes n short) told_here
+    pair_from entries place w.t k kind edge _ _ _ refl (along_closed (entries_before entries place) w.t k kind w.rest w.closes n short) told_here
 
 one_there : (entries : List Entry) (end : ℕ) (k : Key) (kind : Kind) (one next : Option ℕ) → HasEdgeFrom entries end k kind one next
     → (t : ℕ) × (one ≡ Some t)

@@ -10,7 +10,7 @@ use Rattle.sgt_model.specs.Values.{stores, newest_store}
 use Rattle.sgt_model.specs.ReadFrom.{IsBy, LooksFrom}
 use Rattle.sgt_model.specs.Aborts.{IsAccessBy}
 use Rattle.sgt_model.proofs.Facts.{some_is}
-use Rattle.sgt_explain.specs.Places.{before, placed_access}
+use Rattle.sgt_explain.specs.Places.{entries_before, placed_access}
 use Rattle.sgt_explain.proofs.Prefixes.{entry_there, before_next, access_there}
 
 -- whose the access is
@@ -21,7 +21,7 @@ by_of o = option_map (λ (a : Access). a.by) o
 pub record OneBack (entries : List Entry) (place : ℕ) : Type 0 where
   pub entry : Entry
   pub at : slice_get entries (place - 1) ≡ Some entry
-  pub before_is : before entries place ≡ entry ∷ before entries (place - 1)
+  pub before_is : entries_before entries place ≡ entry ∷ entries_before entries (place - 1)
   pub access : placed_access entries (place - 1) ≡ access_of entry
 
 pub one_back : (entries : List Entry) (place : ℕ) → 0 < place → place ≤ length entries → OneBack entries place
@@ -31,7 +31,7 @@ one_back entries place some within =
     record {
       entry = e;
       at = at;
-      before_is = ap (before entries) next ∙ before_next entries (place - 1) e at;
+      before_is = ap (entries_before entries) next ∙ before_next entries (place - 1) e at;
       access = access_there entries (place - 1) e at;
     }
 
@@ -75,29 +75,29 @@ by_first w (Some a) rest h = h
 
 pub writer_found : (entries : List Entry) (place : ℕ) (k : Key) (counts : ℕ → Bool) (w : ℕ) → 0 < place → place ≤ length entries
     → Some w ≡ by_of (stores (λ v. true) k (placed_access entries (place - 1))) → counts w ≡ true
-    → Some w ≡ by_of (newest_store counts k (before entries place))
+    → Some w ≡ by_of (newest_store counts k (entries_before entries place))
 writer_found entries place k counts w some within h c =
     let back = one_back entries place some within in
-    rw back.before_is (by_first w _ (newest_store counts k (before entries (place - 1)))
+    rw back.before_is (by_first w _ (newest_store counts k (entries_before entries (place - 1)))
     (stores_counted (access_of back.entry) k counts w (h ∙ ap (λ o. by_of (stores (λ v. true) k o)) back.access) c))
 
 skipped : (entries : List Entry) (place : ℕ) (k : Key) (counts : ℕ → Bool) → 0 < place → place ≤ length entries
     → stores counts k (placed_access entries (place - 1)) ≡ None
-    → newest_store counts k (before entries place) ≡ newest_store counts k (before entries (place - 1))
+    → newest_store counts k (entries_before entries place) ≡ newest_store counts k (entries_before entries (place - 1))
 skipped entries place k counts some within none =
     let back = one_back entries place some within in
     ap (newest_store counts k) back.before_is
-    ∙ ap (λ o. option_or o (newest_store counts k (before entries (place - 1)))) (ap (stores counts k) (sym back.access) ∙ none)
+    ∙ ap (λ o. option_or o (newest_store counts k (entries_before entries (place - 1)))) (ap (stores counts k) (sym back.access) ∙ none)
 
 pub writer_skipped : (entries : List Entry) (place : ℕ) (k : Key) (counts : ℕ → Bool) (w : ℕ) → 0 < place → place ≤ length entries
     → Some w ≡ by_of (stores (λ v. true) k (placed_access entries (place - 1))) → counts w ≡ false
-    → newest_store counts k (before entries place) ≡ newest_store counts k (before entries (place - 1))
+    → newest_store counts k (entries_before entries place) ≡ newest_store counts k (entries_before entries (place - 1))
 writer_skipped entries place k counts w some within h c =
     skipped entries place k counts some within (stores_uncounted (placed_access entries (place - 1)) k counts w h c)
 
 pub no_writer : (entries : List Entry) (place : ℕ) (k : Key) (counts : ℕ → Bool) → 0 < place → place ≤ length entries
     → None ≡ by_of (stores (λ v. true) k (placed_access entries (place - 1)))
-    → newest_store counts k (before entries place) ≡ newest_store counts k (before entries (place - 1))
+    → newest_store counts k (entries_before entries place) ≡ newest_store counts k (entries_before entries (place - 1))
 no_writer entries place k counts some within h =
     skipped entries place k counts some within (stores_none (placed_access entries (place - 1)) k counts h)
 

@@ -6,7 +6,7 @@ use Rattle.std.proofs.lemmas.List.{take_min, append-nil}
 use Rattle.sgt_model.specs.declared.entry.Entry.{Entry}
 use Rattle.sgt_model.specs.Accesses.{Access, access_of, act_in, acts}
 use Rattle.sgt_model.specs.Progress.{call_in, call_of, values_read, reads, made}
-use Rattle.sgt_explain.specs.Places.{before, placed_access}
+use Rattle.sgt_explain.specs.Places.{entries_before, placed_access}
 use Rattle.sgt_explain.specs.Calls.{placed_call}
 use Rattle.sgt_explain.proofs.Prefixes.{entry_there, before_next, access_there}
 
@@ -38,23 +38,23 @@ one_at_most (Some a) t = by_test (nat_eq a.by t)
     by_test false = omega arith
 
 pub reads_next : (entries : List Entry) (at t : ℕ) → at < length entries
-    → reads (before entries (at + 1)) t ≡ reads (before entries at) t ++ values_read (act_in (placed_access entries at) t [])
+    → reads (entries_before entries (at + 1)) t ≡ reads (entries_before entries at) t ++ values_read (act_in (placed_access entries at) t [])
 reads_next entries at t within = let (e, is) = entry_there entries at within in
-    rw (before_next entries at e is, access_there entries at e is) (values-more (access_of e) t (acts (before entries at) t))
+    rw (before_next entries at e is, access_there entries at e is) (values-more (access_of e) t (acts (entries_before entries at) t))
 
 pub made_next : (entries : List Entry) (at t : ℕ) → at < length entries
-    → made (before entries (at + 1)) t ≡ made (before entries at) t + length (act_in (placed_access entries at) t [])
+    → made (entries_before entries (at + 1)) t ≡ made (entries_before entries at) t + length (act_in (placed_access entries at) t [])
 made_next entries at t within = let (e, is) = entry_there entries at within in
-    rw (before_next entries at e is, access_there entries at e is) (length-more (access_of e) t (acts (before entries at) t))
+    rw (before_next entries at e is, access_there entries at e is) (length-more (access_of e) t (acts (entries_before entries at) t))
 
 -- an entry that does not start t
 pub no_call_here : (entries : List Entry) (at t : ℕ) (e : Entry) → 0 < at → slice_get entries (at - 1) ≡ Some e
-    → call_in e.event e.reply t ≡ None → call_of (before entries at) t ≡ call_of (before entries (at - 1)) t
+    → call_in e.event e.reply t ≡ None → call_of (entries_before entries at) t ≡ call_of (entries_before entries (at - 1)) t
 no_call_here entries at t e some is none =
     let next : at ≡ (at - 1) + 1 = omega (arith, some) in
-    ap (λ n. call_of (before entries n) t) next
+    ap (λ n. call_of (entries_before entries n) t) next
     ∙ ap (λ past. call_of past t) (before_next entries (at - 1) e is)
-    ∙ ap (λ o. unwrap_or o (call_of (before entries (at - 1)) t)) none
+    ∙ ap (λ o. unwrap_or o (call_of (entries_before entries (at - 1)) t)) none
 
 pub no_call_more : (entries : List Entry) (place at t : ℕ) (e : Entry) → 0 < at → slice_get entries (at - 1) ≡ Some e
     → call_in e.event e.reply t ≡ None → ((n : ℕ) → at ≤ n → n < place → placed_call entries t n ≡ None)

@@ -10,7 +10,7 @@ use Rattle.sgt_model.specs.Aborts.{IsAccessBy}
 use Rattle.sgt_explain.specs.declared.edge.Earlier.{Earlier as Told}
 use Rattle.sgt_explain.specs.declared.edge.Edge.{Edge}
 use Rattle.sgt_explain.specs.Firsts.{IsFirst, FirstOrNone}
-use Rattle.sgt_explain.specs.Places.{before, placed_access}
+use Rattle.sgt_explain.specs.Places.{entries_before, placed_access}
 
 -- at this place t has an access of the key, of the kind `earlier`, which conflicts with one of the kind `later`
 abbrev pub ConflictsAt : List Entry → ℕ → Key → (earlier later : Kind) → ℕ → Type 0
@@ -24,7 +24,7 @@ pub record TellsEarlier (entries : List Entry) (end t : ℕ) (key : Key) (kind :
 
 -- at this place u has an access that an earlier one of t's conflicts with
 abbrev pub FollowsAt : List Entry → (t u place : ℕ) → Type 0
-FollowsAt entries t u place = FollowsIn (before entries place) (placed_access entries place) t u
+FollowsAt entries t u place = FollowsIn (entries_before entries place) (placed_access entries place) t u
 
 -- told are u's access at this place, and t's that come before it and conflict with it
 pub record TellsAccess (entries : List Entry) (t u place : ℕ) (edge : Edge) : Type 0 where

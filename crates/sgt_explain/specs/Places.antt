@@ -9,8 +9,8 @@ use Rattle.sgt_model.specs.Questions.{named_by}
 use Rattle.sgt_log.specs.EntryParts.{walk_of, fell_in}
 
 -- the history that an entry at this place comes after, newest entry first
-abbrev pub before : List Entry → ℕ → List Entry
-before entries place = reverse (take place entries)
+abbrev pub entries_before : List Entry → ℕ → List Entry
+entries_before entries place = reverse (take place entries)
 
 -- the access at this place, if an entry is there that is one
 abbrev pub placed_access : List Entry → ℕ → Option Access

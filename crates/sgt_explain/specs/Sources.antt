@@ -7,7 +7,7 @@ use Rattle.sgt_model.specs.ReadFrom.{LooksFrom}
 use Rattle.sgt_model.specs.Aborts.{IsAccessBy}
 use Rattle.sgt_explain.specs.declared.source.Source.{Source}
 use Rattle.sgt_explain.specs.Firsts.{IsFirst}
-use Rattle.sgt_explain.specs.Places.{before, placed_access, placed_named, placed_falls}
+use Rattle.sgt_explain.specs.Places.{entries_before, placed_access, placed_named, placed_falls}
 
 -- the entry at this place aborts v, or v falls there
 abbrev pub IsUndoneAt : List Entry → (end v : ℕ) → Type 0
@@ -15,7 +15,7 @@ IsUndoneAt entries end v = (placed_named entries end ≡ Some v) ⊎ Member v (p
 
 -- at this place t reads from another transaction v
 abbrev pub ReadsAt : List Entry → (t v place : ℕ) → Type 0
-ReadsAt entries t v place = (t ≢ v) × LooksFrom (before entries place) (placed_access entries place) t v
+ReadsAt entries t v place = (t ≢ v) × LooksFrom (entries_before entries place) (placed_access entries place) t v
 
 -- at this place t reads from one that is undone at the end
 abbrev pub ReadsUndoneAt : List Entry → (end t place : ℕ) → Type 0

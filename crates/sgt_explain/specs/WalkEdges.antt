@@ -9,7 +9,7 @@ use Rattle.sgt_model.specs.Aborts.{Wants, IsAccessBy}
 use Rattle.sgt_model.specs.Settings.{Setting}
 use Rattle.sgt_model.specs.Progress.{next_of}
 use Rattle.sgt_explain.specs.declared.edge.Edge.{Edge}
-use Rattle.sgt_explain.specs.Places.{before, placed_named}
+use Rattle.sgt_explain.specs.Places.{entries_before, placed_named}
 use Rattle.sgt_explain.specs.Edges.{TellsPair, TellsPending}
 
 -- an edge of a walk leads from one to the next; from the last, which has no next, to the first. That last edge is made by an
@@ -28,8 +28,8 @@ TellsEdge entries end key kind walk n edge =
 -- one comes before the next; and the last, which has no next, would come before one that made that access
 abbrev pub HasEdgeFrom : List Entry → (end : ℕ) → Key → Kind → (one next : Option ℕ) → Type 0
 HasEdgeFrom entries end key kind None next = ⊥
-HasEdgeFrom entries end key kind (Some t) (Some u) = Precedes (before entries end) t u
-HasEdgeFrom entries end key kind (Some t) None = has_conflicting (before entries end) t key kind ≡ true
+HasEdgeFrom entries end key kind (Some t) (Some u) = Precedes (entries_before entries end) t u
+HasEdgeFrom entries end key kind (Some t) None = has_conflicting (entries_before entries end) t key kind ≡ true
 
 -- the walk has an edge number n, from 0, and accesses make it
 abbrev pub HasEdge : List Entry → (end : ℕ) → Key → Kind → List ℕ → (n : ℕ) → Type 0
@@ -39,7 +39,7 @@ HasEdge entries end key kind walk n = HasEdgeFrom entries end key kind (slice_ge
 pub record WasAbout (s : Setting) (entries : List Entry) (place : ℕ) (key : Key) (kind : Kind) : Type 0 where
   pub by : ℕ
   pub named : placed_named entries place ≡ Some by
-  pub wants : Wants (next_of s (before entries place) by) key kind
+  pub wants : Wants (next_of s (entries_before entries place) by) key kind
 
 -- the two of an edge are a conflict pair of a history; where its later access was about to be made, they would be one with that
 -- access added as an entry
@@ -49,4 +49,4 @@ IsPairIn past edge None = (e : Entry) → IsAccessBy (access_of e) edge.to edge.
 
 -- so it is of the history before a place
 abbrev pub IsPairAt : List Entry → (place : ℕ) → Edge → Type 0
-IsPairAt entries place edge = IsPairIn (before entries place) edge edge.place
+IsPairAt entries place edge = IsPairIn (entries_before entries place) edge edge.place

@@ -2,7 +2,7 @@ ghost use Rattle.std.specs.Prelude.{◌≡◌, ◌≤◌, ◌<◌, ◌+◌, ◌�
 ghost use Rattle.sgt_model.specs.Settings.{Setting};
 ghost use Rattle.sgt_model.specs.Legality.{Legal};
 ghost use Rattle.sgt_model.specs.Pairs.{has_conflicting, Precedes};
-ghost use Rattle.sgt_explain.specs.Places.{before, placed_cycle};
+ghost use Rattle.sgt_explain.specs.Places.{entries_before, placed_cycle};
 ghost use Rattle.sgt_explain.specs.Edges.{FollowsAt, TellsAccess, TellsPair, TellsPending};
 ghost use Rattle.sgt_explain.specs.WalkEdges.{TellsEdge, HasEdge, WasAbout, IsPairAt};
 
@@ -115,7 +115,7 @@ fn pending_edge(
 ) -> Option<Edge>
     requires { end ≤ length history.now.entries }
     ensures told { IfSome result (TellsPending history.now.entries end from to key kind) }
-    ensures some { IsSome result ↔ (has_conflicting (before history.now.entries end) from key kind ≡ true) }
+    ensures some { IsSome result ↔ (has_conflicting (entries_before history.now.entries end) from key kind ≡ true) }
 {
     match earlier(history, end, from, key, kind) {
         Some(earlier) => Some(Edge {
@@ -134,7 +134,7 @@ fn pending_edge(
 fn pair_edge(history: &History, end: usize, from: Tid, to: Tid) -> Option<Edge>
     requires { end ≤ length history.now.entries }
     ensures told { IfSome result (TellsPair history.now.entries end from to) }
-    ensures some { IsSome result ↔ Precedes (before history.now.entries end) from to }
+    ensures some { IsSome result ↔ Precedes (entries_before history.now.entries end) from to }
 {
     for place in 0..end {
         if let Some(edge) = access_edge(history, place, from, to) {

@@ -2,7 +2,7 @@ ghost use Rattle.std.specs.Prelude.{◌≡◌, ◌+◌, ◌^◌, ◌<◌, ◌++�
 ghost use Rattle.std.specs.Option.{option_map};
 ghost use Rattle.sgt_model.specs.Accesses.{act_in};
 ghost use Rattle.sgt_model.specs.Progress.{call_in, call_of, reads, made, values_read};
-ghost use Rattle.sgt_explain.specs.Places.{before};
+ghost use Rattle.sgt_explain.specs.Places.{entries_before};
 ghost use Rattle.sgt_explain.specs.Calls.{called, placed_call};
 
 use crate::made::{Made, made_at};
@@ -31,7 +31,7 @@ pub struct Progress {
 /// What a transaction was started with in the entries before a place; none where none of them starts it. With how far it has
 /// come, this tells what its procedure does next.
 pub fn call_before(history: &History, place: usize, t: Tid) -> Option<Call>
-    ensures call { IfSome result (λ call. call_of (before history.now.entries place) t ≡ called call) }
+    ensures call { IfSome result (λ call. call_of (entries_before history.now.entries place) t ≡ called call) }
     ensures none { IfNone result
         ((n : ℕ) → n < place → placed_call history.now.entries t n ≡ None) }
 {
@@ -67,8 +67,8 @@ pub fn progress_before(
     place: usize,
     t: Tid,
 ) -> Result<Progress, NoMemory>
-    ensures read { IfOk result (λ p. p.read.items ≡ reads (before history.now.entries place) t) }
-    ensures made { IfOk result (λ p. p.made ≡ made (before history.now.entries place) t) }
+    ensures read { IfOk result (λ p. p.read.items ≡ reads (entries_before history.now.entries place) t) }
+    ensures made { IfOk result (λ p. p.made ≡ made (entries_before history.now.entries place) t) }
 {
     let mut progress = Progress {
         read: Vec::new(alloc),

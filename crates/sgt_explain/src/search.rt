@@ -2,7 +2,7 @@ ghost use Rattle.std.specs.Prelude.{◌≡◌, ◌≤◌, ◌<◌, ◌↔◌, tr
 ghost use Rattle.sgt_model.specs.Aborts.{IsAccessBy};
 ghost use Rattle.sgt_model.specs.Pairs.{one_stores, has_conflicting};
 ghost use Rattle.sgt_explain.specs.Firsts.{FirstOrNone};
-ghost use Rattle.sgt_explain.specs.Places.{before, placed_access};
+ghost use Rattle.sgt_explain.specs.Places.{entries_before, placed_access};
 ghost use Rattle.sgt_explain.specs.Edges.{ConflictsAt, TellsEarlier};
 
 use crate::edge::Earlier;
@@ -21,7 +21,7 @@ pub(crate) fn earlier(
 ) -> Option<Earlier>
     requires { end ≤ length history.now.entries }
     ensures told { IfSome result (TellsEarlier history.now.entries end by key kind) }
-    ensures some { IsSome result ↔ (has_conflicting (before history.now.entries end) by key kind ≡ true) }
+    ensures some { IsSome result ↔ (has_conflicting (entries_before history.now.entries end) by key kind ≡ true) }
 {
     let looked = first_conflict(history, end, by, key, Kind::Look, kind);
     let stored = first_conflict(history, end, by, key, Kind::Store, kind);

@@ -1,11 +1,11 @@
 ghost use Rattle.std.specs.Prelude.{◌≡◌, ◌≤◌, ◌<◌, ◌↔◌, Some, true, length, not, IsTrue};
 ghost use Rattle.std.specs.Option.{option_map};
-ghost use Rattle.sgt_model.specs.declared.reply.Fate.{Fate as F};
+ghost use Rattle.sgt_model.specs.declared.reply.Fate.{Fate};
 ghost use Rattle.sgt_model.specs.Accesses.{Access};
 ghost use Rattle.sgt_model.specs.Fates.{aborted, ending_in, has_aborted};
 ghost use Rattle.sgt_model.specs.Values.{stores, newest_store};
 ghost use Rattle.sgt_model.specs.Walks.{Member};
-ghost use Rattle.sgt_explain.specs.Places.{before, placed_access};
+ghost use Rattle.sgt_explain.specs.Places.{entries_before, placed_access};
 
 use crate::made::made_at;
 use sgt_log::{EntryRef, History};
@@ -15,7 +15,7 @@ use sgt_model::{Key, Kind, Tid};
 pub(crate) fn newest_writer(history: &History, end: usize, key: Key) -> Option<Tid>
     requires { end ≤ length history.now.entries }
     ensures { result ≡ option_map (λ (a : Access). a.by)
-        (newest_store (λ v. not (aborted (before history.now.entries end) v)) key (before history.now.entries end)) }
+        (newest_store (λ v. not (aborted (entries_before history.now.entries end) v)) key (entries_before history.now.entries end)) }
 {
     let mut place = end;
     while 0 < place {
@@ -45,7 +45,7 @@ fn writer_at(history: &History, place: usize, key: Key) -> Option<Tid>
 // Whether the transaction was aborted, or fell, before the end.
 fn is_aborted(history: &History, end: usize, t: Tid) -> bool
     requires { end ≤ length history.now.entries }
-    ensures { result ≡ aborted (before history.now.entries end) t }
+    ensures { result ≡ aborted (entries_before history.now.entries end) t }
 {
     let mut place = end;
     while 0 < place {
@@ -59,7 +59,7 @@ fn is_aborted(history: &History, end: usize, t: Tid) -> bool
 
 // Where the entry ends the transaction, whether that is by an abort, its own or another's.
 fn ending_at(entry: &EntryRef<'_>, t: Tid) -> Option<bool>
-    ensures { result ≡ option_map (λ (f : F). has_aborted (Some f)) (ending_in entry.now.event entry.now.reply t) }
+    ensures { result ≡ option_map (λ (f : Fate). has_aborted (Some f)) (ending_in entry.now.event entry.now.reply t) }
 {
     if !entry.is_ending() {
         return None;

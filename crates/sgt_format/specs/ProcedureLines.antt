@@ -1,7 +1,7 @@
 -- Which procedure a line spells, and why it spells none.
 use Rattle.std.specs.Prelude.{◌≡◌, ⊤, ℕ, List, Some, None}
 use Rattle.serde_json.specs.Data.{Data}
-use Rattle.sgt_model.specs.Syntax.{Program}
+use Rattle.sgt_model.specs.Syntax.{ProcedureText}
 use Rattle.sgt_format.specs.Openings.{IsRefusedAs}
 use Rattle.sgt_format.specs.Procedures.{IsProcedure}
 use Rattle.sgt_format.specs.Trees.{tree_of}
@@ -9,7 +9,7 @@ use Rattle.sgt_format.specs.declared.errors.OpeningError.{OpeningError}
 use Rattle.sgt_format.specs.declared.errors.OpeningError.TheVariants.{NotJson, NoMemory}
 
 -- the line spells the procedure, which has no flaw
-abbrev pub SpellsProcedure : List ℕ → Program → Type 0
+abbrev pub SpellsProcedure : List ℕ → ProcedureText → Type 0
 SpellsProcedure line p = (tree : Data) × (tree_of line ≡ Some tree) × IsProcedure tree p
 
 -- why the line spells none, where it is to be the procedure of this number: it is no JSON, or its tree is refused. To read it

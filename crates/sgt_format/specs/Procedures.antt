@@ -1,17 +1,17 @@
 -- Which procedures trees spell, one after another, and what is wrong with the first that spells none.
 use Rattle.std.specs.Prelude.{◌≡◌, ℕ, zero, suc, List, [], ◌∷◌, Ok, Err, ⊤}
 use Rattle.serde_json.specs.Data.{Data}
-use Rattle.sgt_model.specs.Syntax.{Program}
+use Rattle.sgt_model.specs.Syntax.{ProcedureText}
 use Rattle.sgt_proc.specs.declared.flaw.Flaw.{Flaw}
 use Rattle.sgt_proc.specs.Flaws.{IsFlawless, IsLeastFlaw}
 use Rattle.sgt_proc_json.specs.Readings.{reading}
 
 -- a tree spells a procedure without a flaw
-abbrev pub IsProcedure : Data → Program → Type 0
+abbrev pub IsProcedure : Data → ProcedureText → Type 0
 IsProcedure tree p = (reading tree ≡ Ok p) × IsFlawless p
 
 -- each tree spells its procedure
-abbrev pub AreProcedures : List Data → List Program → Type 0
+abbrev pub AreProcedures : List Data → List ProcedureText → Type 0
 AreProcedures [] [] = ⊤
 AreProcedures [] (p ∷ programs) = ⊥
 AreProcedures (tree ∷ trees) [] = ⊥
@@ -23,10 +23,10 @@ HasMisfit place tree = reading tree ≡ Err place
 
 -- a tree spells a procedure whose least flaw is this one
 abbrev pub HasLeastFlaw : Flaw → Data → Type 0
-HasLeastFlaw flaw tree = (p : Program) × (reading tree ≡ Ok p) × IsLeastFlaw flaw p
+HasLeastFlaw flaw tree = (p : ProcedureText) × (reading tree ≡ Ok p) × IsLeastFlaw flaw p
 
 -- so many trees spell procedures without a flaw, and the next is so
 abbrev pub NextIs : (Data → Type 0) → ℕ → List Data → Type 0
 NextIs so n [] = ⊥
 NextIs so zero (tree ∷ trees) = so tree
-NextIs so (suc n) (tree ∷ trees) = ((p : Program) × IsProcedure tree p) × NextIs so n trees
+NextIs so (suc n) (tree ∷ trees) = ((p : ProcedureText) × IsProcedure tree p) × NextIs so n trees

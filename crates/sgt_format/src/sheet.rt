@@ -1,9 +1,9 @@
 ghost use Rattle.std.specs.Prelude.{◌≡◌, IfOk, IfSome, IsNone, codes, map, option_and_then, option_map};
 ghost use Rattle.serde_json.specs.Find.{get};
 ghost use Rattle.serde_json.specs.View.{view};
-ghost use Rattle.sgt_model.specs.declared.limits.Limits.{Limits as L};
+ghost use Rattle.sgt_model.specs.declared.limits.Limits.{Limits};
 ghost use Rattle.sgt_format.specs.Trees.{each};
-ghost use Rattle.sgt_model.specs.declared.limits.Asks.{Asks as When};
+ghost use Rattle.sgt_model.specs.declared.limits.Asks.{Asks};
 ghost use Rattle.sgt_format.specs.Openings.{limits_from, limit_numbers, list_at, account_from, account_in, parts_in, AreAsks, AreLimits};
 
 use crate::event_line::arguments;
@@ -122,7 +122,7 @@ fn account_from(numbers: &[i64]) -> Option<Account>
 /// Limits of these numbers, or none where one is out of its range, or fewer may be live than are wanted at least.
 pub(crate) fn limits(least: u32, numbers: LimitNumbers) -> Option<Limits>
     ensures some { IfSome result (AreLimits least numbers) }
-    ensures none { IsNone result → (limits : L) → ¬ AreLimits least numbers limits }
+    ensures none { IsNone result → (limits : Limits) → ¬ AreLimits least numbers limits }
 {
     let limits = Limits {
         live: u32::try_from(numbers.live).ok()?,
@@ -138,7 +138,7 @@ pub(crate) fn limits(least: u32, numbers: LimitNumbers) -> Option<Limits>
 
 fn asks(number: i64) -> Option<Asks>
     ensures some { IfSome result (AreAsks number) }
-    ensures none { IsNone result → (asks : When) → ¬ AreAsks number asks }
+    ensures none { IsNone result → (asks : Asks) → ¬ AreAsks number asks }
 {
     match number {
         0 => Some(Asks::AtStep),

@@ -1,6 +1,6 @@
 ghost use Rattle.std.specs.Prelude.{◌≡◌, ◌≢◌, ℕ, List, Bool, true, false, not, ◌||◌, ◌&&◌, ◌⊎◌, ◌↔◌, nat_eq, IfSome, IsNone};
 ghost use Rattle.sgt_model.specs.Walks.{AtMost, Member};
-ghost use Rattle.sgt_graph.specs.declared.verdict.Link.{Link as L};
+ghost use Rattle.sgt_graph.specs.declared.verdict.Link.{Link};
 ghost use Rattle.sgt_graph.specs.Graphs.{NoCycle, OfNodes, IsLeastPred};
 ghost use Rattle.sgt_graph.specs.Verdicts.{IsVerdict, IsPlan, Inserts, NoWalk};
 

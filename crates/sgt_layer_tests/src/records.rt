@@ -1,6 +1,6 @@
 //! What is found at a key after writes that are undone or settled.
 ghost use Rattle.std.specs.Prelude.{◌≡◌, [], IfOk};
-ghost use Rattle.sgt_model.specs.Contents.{Key as K};
+ghost use Rattle.sgt_model.specs.Contents.{Key};
 
 use crate::values::filled;
 use sgt_model::{Key, NoMemory, Tid};
@@ -26,7 +26,7 @@ fn answers<R: Records>(alloc: Global) -> Result<bool, NoMemory> {
 
 /// Records over an opening of these rows.
 fn opened<R: Records>(alloc: Global, rows: &[(Key, i64)]) -> Result<R, NoMemory>
-    ensures { IfOk result (λ records. (k : K) → R.chain records k ≡ []) }
+    ensures { IfOk result (λ records. (k : Key) → R.chain records k ≡ []) }
 {
     let opening = filled(alloc, rows)?;
     R::build(alloc, &opening)
@@ -34,7 +34,7 @@ fn opened<R: Records>(alloc: Global, rows: &[(Key, i64)]) -> Result<R, NoMemory>
 
 /// Two write over a committed 1. The first is undone, and the second settled.
 fn undone_beneath<R: Records>(alloc: Global, records: &mut R, key: Key) -> Result<bool, NoMemory>
-    requires { (k : K) → R.chain records.old k ≡ [] }
+    requires { (k : Key) → R.chain records.old k ≡ [] }
 {
     records.reserve(key)?;
     records.write(Tid(0), key, 5);
@@ -52,7 +52,7 @@ fn undone_beneath<R: Records>(alloc: Global, records: &mut R, key: Key) -> Resul
 
 /// One writes twice where there is nothing, and is undone.
 fn written_twice<R: Records>(records: &mut R, key: Key) -> Result<bool, NoMemory>
-    requires { (k : K) → R.chain records.old k ≡ [] }
+    requires { (k : Key) → R.chain records.old k ≡ [] }
 {
     records.reserve(key)?;
     records.write(Tid(0), key, 5);

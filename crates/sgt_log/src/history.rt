@@ -2,7 +2,7 @@ ghost use Rattle.std.specs.Prelude.{◌≡◌, ℕ, ℤ, true, List, ◌+◌, �
 ghost use Rattle.std.specs.Prelude.{IsTrue, Some, OnOk, OnErr, ◌*◌, ◌^◌, vec_len, vec_capacity};
 ghost use Rattle.std.specs.Result.{IsOk};
 ghost use Rattle.std.specs.Option.{option_map};
-ghost use Rattle.sgt_model.specs.declared.entry.Entry.{Entry as E};
+ghost use Rattle.sgt_model.specs.declared.entry.Entry.{Entry};
 ghost use Rattle.sgt_model.specs.declared.event.Event.TheVariants.{Start, Commit};
 ghost use Rattle.sgt_model.specs.declared.reply.Reply.TheVariants.{Started, Committed};
 ghost use Rattle.sgt_log.specs.ShortEntries.{entry_of};
@@ -381,14 +381,14 @@ impl History {
     /// The reply of the entry at a place.
     pub fn reply_at(&self, place: usize) -> Reply
         requires { place < length self.now.entries }
-        ensures { option_map (λ (e : E). e.reply) (slice_get self.now.entries place) ≡ Some result }
+        ensures { option_map (λ (e : Entry). e.reply) (slice_get self.now.entries place) ≡ Some result }
     {
         self.entry(place).reply()
     }
 
     /// The reply of the newest entry, if there is one.
     pub fn last_reply(&self) -> Option<Reply>
-        ensures { result ≡ option_map (λ (e : E). e.reply) (slice_get (reverse self.now.entries) 0) }
+        ensures { result ≡ option_map (λ (e : Entry). e.reply) (slice_get (reverse self.now.entries) 0) }
     {
         match self.last_entry() {
             Some(entry) => Some(entry.reply()),

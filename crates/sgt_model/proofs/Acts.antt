@@ -3,7 +3,7 @@ use Rattle.std.specs.Prelude.{◌≡◌, ℕ, ℤ, ◌&&◌, cond, List, [], ◌
 use Rattle.sgt_model.specs.declared.kind.Kind.TheVariants.{Look}
 use Rattle.sgt_model.specs.Contents.{Key, key_eq, Contents}
 use Rattle.sgt_model.specs.Runs.{Run, Outcome, Done, Asked, serial}
-use Rattle.sgt_model.specs.Traces.{trace, Next, Ends, Asks, next_at}
+use Rattle.sgt_model.specs.Traces.{trace, Next, Ends, Raises, next_at}
 use Rattle.sgt_model.specs.Accesses.{Access, is_store}
 use Rattle.sgt_model.specs.Progress.{values_read, made}
 use Rattle.sgt_model.proofs.Effects.{Fits}
@@ -39,4 +39,4 @@ pub record ActsLaw (r : Run) : Type 0 where
   pub done : (m : Contents) (all : List Access) (answers : List ℤ) → AsAsked (asks_of r) all → FindsIn m all
       → asks_of r (values_read all) (length all) ≡ Ends answers → DoneWith (serial r m) answers (over m all)
   pub asked : (m : Contents) (all : List Access) (code : ℕ) → AsAsked (asks_of r) all → FindsIn m all → asks_of r (values_read all)
-      (length all) ≡ Asks code → serial r m ≡ Asked code
+      (length all) ≡ Raises code → serial r m ≡ Asked code

@@ -9,7 +9,7 @@ use Rattle.sgt_model.specs.declared.event.Event.{Event}
 use Rattle.sgt_model.specs.declared.reply.Reply.{Reply}
 use Rattle.sgt_model.specs.declared.entry.Entry.{Entry}
 use Rattle.sgt_model.specs.Numbers.{IsValue, is_value}
-use Rattle.sgt_model.specs.Fates.{is_start, starts, subject}
+use Rattle.sgt_model.specs.Fates.{is_start, start_count, subject}
 use Rattle.sgt_model.specs.Settings.{Setting}
 use Rattle.sgt_model.specs.Progress.{Call, call_at, call_in, call_of}
 use Rattle.sgt_model.specs.Legality.{Legal}
@@ -26,30 +26,30 @@ values_fit (a ∷ args) e = let parts = and_parts (is_value a) (list_all is_valu
     All-cons IsValue a args (is_value-fact a parts.0) (values_fit args parts.1)
 
 at_start : (s : Setting) (past : List Entry) (event : Event) (r : Reply) → Begins s past event r → (before : Call)
-    → IsAdmitted s (unwrap_or (call_in event r (starts past)) before)
+    → IsAdmitted s (unwrap_or (call_in event r (start_count past)) before)
 at_start s past event r b before =
     let parts = and_parts (nat_eq (length b.args) b.count) (list_all is_value b.args) b.fit in
     let call : Call = record { procedure = b.procedure; args = b.args } in
-    let is : call_in event r (starts past) ≡ Some call = ap (λ x. call_in event x (starts past)) b.reply_is
-    ∙ ap (λ x. cond x (call_at event) None) (eq-eqb (starts past) (starts past) refl) ∙ ap call_at b.event_is in
+    let is : call_in event r (start_count past) ≡ Some call = ap (λ x. call_in event x (start_count past)) b.reply_is
+    ∙ ap (λ x. cond x (call_at event) None) (eq-eqb (start_count past) (start_count past) refl) ∙ ap call_at b.event_is in
     subst (λ o. IsAdmitted s (unwrap_or o before)) (sym is)
     (record { known = b.known ∙ ap Some (sym (eqb-true (length b.args) b.count parts.0)); values = values_fit b.args parts.1 })
 
-started_admitted : (s : Setting) (past : List Entry) (t : ℕ) → Legal s past → t < starts past → IsAdmitted s (call_of past t)
+started_admitted : (s : Setting) (past : List Entry) (t : ℕ) → Legal s past → t < start_count past → IsAdmitted s (call_of past t)
 started_admitted s [] t h started = absurd (omega arith)
-started_admitted s (e ∷ past) t h started = by_age (started_admitted s past t h.0) (cases_lt t (starts past))
+started_admitted s (e ∷ past) t h started = by_age (started_admitted s past t h.0) (cases_lt t (start_count past))
   where
-    by_start : starts past ≤ t → Begins s past e.event e.reply ⊎ (is_start e.reply ≡ false) → IsAdmitted s (call_of (e ∷ past) t)
+    by_start : start_count past ≤ t → Begins s past e.event e.reply ⊎ (is_start e.reply ≡ false) → IsAdmitted s (call_of (e ∷ past) t)
     by_start new (inl b) =
-        let count : starts (e ∷ past) ≡ starts past + 1 = ap (λ r. cond (is_start r) (starts past + 1) (starts past)) b.reply_is in
-        let is : starts past ≡ t = omega arith in
+        let count : start_count (e ∷ past) ≡ start_count past + 1 = ap (λ r. cond (is_start r) (start_count past + 1) (start_count past)) b.reply_is in
+        let is : start_count past ≡ t = omega arith in
         subst (λ u. IsAdmitted s (unwrap_or (call_in e.event e.reply u) (call_of past u))) is
-        (at_start s past e.event e.reply b (call_of past (starts past)))
+        (at_start s past e.event e.reply b (call_of past (start_count past)))
     by_start new (inr none) =
-        let count : starts (e ∷ past) ≡ starts past = ap (λ b. cond b (starts past + 1) (starts past)) none in
+        let count : start_count (e ∷ past) ≡ start_count past = ap (λ b. cond b (start_count past + 1) (start_count past)) none in
         absurd (omega arith)
 
-    by_age : (t < starts past → IsAdmitted s (call_of past t)) → (t < starts past) ⊎ (starts past ≤ t) → IsAdmitted s (call_of (e ∷ past) t)
+    by_age : (t < start_count past → IsAdmitted s (call_of past t)) → (t < start_count past) ⊎ (start_count past ≤ t) → IsAdmitted s (call_of (e ∷ past) t)
     by_age before (inl earlier) = subst (IsAdmitted s) (sym (call-kept s past e t h.1 earlier)) (before earlier)
     by_age before (inr new) = by_start new (starts_or_not (effect s past e.event e.reply h.1))
 

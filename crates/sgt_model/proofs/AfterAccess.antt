@@ -127,7 +127,7 @@ module _ (s : Setting) (past : List Entry) (h : Legal s past) (before after : St
     settled = λ j. l.notes.settled j ∙ i.settled j;
     read_from = λ u v. (to u v, from u v);
     fates = λ u. l.notes.fates u ∙ i.fates u;
-    starts = l.notes.starts ∙ i.starts;
+    start_count = l.notes.start_count ∙ i.start_count;
     left = λ u u_live. elim (cases_eq u t) [ inl e ↦ own u e u_live | inr n ↦ other u n u_live ];
   }
     where
@@ -196,7 +196,7 @@ module _ (s : Setting) (past : List Entry) (h : Legal s past) (before after : St
         (record { by = t; key = k; kind = Store; value = Some w }) (newest_store (committed past) j past))));
     read_from = λ u v. (to u v, from u v);
     fates = λ u. l.notes.fates u ∙ i.fates u;
-    starts = l.notes.starts ∙ i.starts;
+    start_count = l.notes.start_count ∙ i.start_count;
     left = λ u u_live. elim (cases_eq u t) [ inl e ↦ own u e u_live | inr n ↦ other u n u_live ];
   }
     where

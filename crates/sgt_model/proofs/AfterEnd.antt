@@ -16,7 +16,7 @@ use Rattle.sgt_model.specs.declared.reply.Fate.TheVariants as fate
 use Rattle.sgt_model.specs.declared.entry.Entry.{Entry}
 use Rattle.sgt_model.specs.Contents.{Key}
 use Rattle.sgt_model.specs.Accesses.{Access, access_of, acts, access_in}
-use Rattle.sgt_model.specs.Fates.{aborted, begun, committed, concerns, ending_in, fate_of, has_aborted, has_committed, is_start, live, live_ones, starts, subject}
+use Rattle.sgt_model.specs.Fates.{aborted, started_ones, committed, concerns, ending_in, fate_of, has_aborted, has_committed, is_start, live, live_ones, start_count, subject}
 use Rattle.sgt_model.specs.Values.{newest_store, settled, stores, value_or}
 use Rattle.sgt_model.specs.ReadFrom.{ReadFrom}
 use Rattle.sgt_model.specs.Pairs.{Precedes}
@@ -49,8 +49,8 @@ module _ (s : Setting) (past : List Entry) (gone : ℕ → Bool) (e : Entry) (x 
   fate_stays : (u : ℕ) → gone u ≡ false → fate_of (e ∷ past) u ≡ fate_of past u
   fate_stays u g = ap (λ o. option_or o (fate_of past u)) (x.stays u g)
 
-  starts_same : starts (e ∷ past) ≡ starts past
-  starts_same = ap (λ b. cond b (starts past + 1) (starts past)) x.no_start
+  starts_same : start_count (e ∷ past) ≡ start_count past
+  starts_same = ap (λ b. cond b (start_count past + 1) (start_count past)) x.no_start
 
   pub live_after : (u : ℕ) → live (e ∷ past) u ≡ (live past u && not (gone u))
   live_after u = ap (λ n. nat_lt u n && is_none (fate_of (e ∷ past) u)) starts_same ∙ go (gone u) refl
@@ -64,10 +64,10 @@ module _ (s : Setting) (past : List Entry) (gone : ℕ → Bool) (e : Entry) (x 
       and_false true false = refl
       and_false false b = refl
 
-      go : (b : Bool) → gone u ≡ b → (nat_lt u (starts past) && is_none (fate_of (e ∷ past) u)) ≡ (live past u && not b)
-      go false g = ap (λ o. nat_lt u (starts past) && is_none o) (fate_stays u g) ∙ and_true (live past u)
-      go true g = let f = x.ends u g in ap (λ o. nat_lt u (starts past) && is_none (option_or o (fate_of past u))) f.1
-          ∙ and_false (nat_lt u (starts past)) (is_none (fate_of past u))
+      go : (b : Bool) → gone u ≡ b → (nat_lt u (start_count past) && is_none (fate_of (e ∷ past) u)) ≡ (live past u && not b)
+      go false g = ap (λ o. nat_lt u (start_count past) && is_none o) (fate_stays u g) ∙ and_true (live past u)
+      go true g = let f = x.ends u g in ap (λ o. nat_lt u (start_count past) && is_none (option_or o (fate_of past u))) f.1
+          ∙ and_false (nat_lt u (start_count past)) (is_none (fate_of past u))
 
   live_was : (u : ℕ) → live (e ∷ past) u ≡ true → (live past u ≡ true) × (gone u ≡ false)
   live_was u q = let p = and_parts (live past u) (not (gone u)) (sym (live_after u) ∙ q) in (p.0, not-true (gone u) p.1)
@@ -118,14 +118,14 @@ module _ (s : Setting) (past : List Entry) (gone : ℕ → Bool) (e : Entry) (x 
     settled = same_settled;
     read_from = λ u v. (read_to u v, read_from u v);
     fates = same_fates;
-    starts = r.starts ∙ (i.starts ∙ sym starts_same);
+    start_count = r.start_count ∙ (i.start_count ∙ sym starts_same);
     left = λ u q. let w = live_was u q in r.left u w.1 ∙ (i.left u w.0 ∙ left_same u);
   }
     where
       live_ones_after : filter (λ u. not (gone u)) (live_ones past) ≡ live_ones (e ∷ past)
-      live_ones_after = filter-both (λ u. not (gone u)) (live past) (begun past)
-          ∙ (filter-same _ _ (begun past) (λ u. sym (live_after u)) ∙ ap (filter (live (e ∷ past)))
-          (sym (ap (λ b. cond b (begun past ++ starts past ∷ []) (begun past)) x.no_start)))
+      live_ones_after = filter-both (λ u. not (gone u)) (live past) (started_ones past)
+          ∙ (filter-same _ _ (started_ones past) (λ u. sym (live_after u)) ∙ ap (filter (live (e ∷ past)))
+          (sym (ap (λ b. cond b (started_ones past ++ start_count past ∷ []) (started_ones past)) x.no_start)))
 
       live_is : (λ u. live past u && not (gone u)) ≡ live (e ∷ past)
       live_is = fun_ext (λ u. sym (live_after u))
@@ -199,7 +199,7 @@ removes_none c = record {
   accesses = filter_all c.accesses;
   chain = λ k. filter_all (c.chain k);
   read_from = λ u v. ((λ q. (q, refl, refl)), (λ q. q.0));
-  starts = refl;
+  start_count = refl;
   left = λ u g. refl;
 }
 

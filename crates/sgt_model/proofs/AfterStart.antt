@@ -8,7 +8,7 @@ use Rattle.sgt_model.specs.declared.event.Event.TheVariants.{Start}
 use Rattle.sgt_model.specs.declared.reply.Reply.TheVariants as reply
 use Rattle.sgt_model.specs.declared.entry.Entry.{Entry}
 use Rattle.sgt_model.specs.Accesses.{acts}
-use Rattle.sgt_model.specs.Fates.{begun, fate_of, live, live_ones, starts}
+use Rattle.sgt_model.specs.Fates.{started_ones, fate_of, live, live_ones, start_count}
 use Rattle.sgt_model.specs.ReadFrom.{ReadFrom}
 use Rattle.sgt_model.specs.Pairs.{Precedes}
 use Rattle.sgt_model.specs.Settings.{Setting}
@@ -41,74 +41,74 @@ above : (a b d x : Bool) → a ≡ false → b ≡ false → d ≡ false → (a 
 above a b d x p q r = rw (p, q, r) refl
 
 module _ (s : Setting) (past : List Entry) (h : Legal s past) (p : ℕ) (args : List ℤ) where
-  live_is : (u : ℕ) → live (start_entry p args (starts past) ∷ past) u ≡ (live past u || nat_eq u (starts past))
-  live_is u = go (cases_lt u (starts past)) (cases_eq u (starts past))
+  live_is : (u : ℕ) → live (start_entry p args (start_count past) ∷ past) u ≡ (live past u || nat_eq u (start_count past))
+  live_is u = go (cases_lt u (start_count past)) (cases_eq u (start_count past))
     where
       n : ℕ
-      n = starts past
+      n = start_count past
 
-      go : (u < starts past) ⊎ (starts past ≤ u) → (u ≡ starts past) ⊎ (u ≢ starts past)
-          → live (start_entry p args (starts past) ∷ past) u ≡ (live past u || nat_eq u (starts past))
-      go (inl lt) z = lower (nat_lt u (starts past + 1)) (nat_lt u (starts past)) (nat_eq u (starts past))
-          (is_none (fate_of past u)) (lt-ltb u (starts past + 1) (omega arith)) (lt-ltb u (starts past) lt)
-          (ne_eqb u (starts past) (λ e. absurd (omega (arith, e))))
-      go (inr le) (inl e) = same (nat_lt u (starts past + 1)) (nat_lt u (starts past)) (nat_eq u (starts past))
-          (is_none (fate_of past u)) (lt-ltb u (starts past + 1) (omega arith)) (le-ltb u (starts past) le)
-          (eq-eqb u (starts past) e) (ap is_none (unstarted-no_fate s past h u le))
-      go (inr le) (inr n) = above (nat_lt u (starts past + 1)) (nat_lt u (starts past)) (nat_eq u (starts past))
-          (is_none (fate_of past u)) (le-ltb u (starts past + 1) (omega arith)) (le-ltb u (starts past) le) (ne_eqb u (starts past) n)
+      go : (u < start_count past) ⊎ (start_count past ≤ u) → (u ≡ start_count past) ⊎ (u ≢ start_count past)
+          → live (start_entry p args (start_count past) ∷ past) u ≡ (live past u || nat_eq u (start_count past))
+      go (inl lt) z = lower (nat_lt u (start_count past + 1)) (nat_lt u (start_count past)) (nat_eq u (start_count past))
+          (is_none (fate_of past u)) (lt-ltb u (start_count past + 1) (omega arith)) (lt-ltb u (start_count past) lt)
+          (ne_eqb u (start_count past) (λ e. absurd (omega (arith, e))))
+      go (inr le) (inl e) = same (nat_lt u (start_count past + 1)) (nat_lt u (start_count past)) (nat_eq u (start_count past))
+          (is_none (fate_of past u)) (lt-ltb u (start_count past + 1) (omega arith)) (le-ltb u (start_count past) le)
+          (eq-eqb u (start_count past) e) (ap is_none (unstarted-no_fate s past h u le))
+      go (inr le) (inr n) = above (nat_lt u (start_count past + 1)) (nat_lt u (start_count past)) (nat_eq u (start_count past))
+          (is_none (fate_of past u)) (le-ltb u (start_count past + 1) (omega arith)) (le-ltb u (start_count past) le) (ne_eqb u (start_count past) n)
 
-  started_same : (u : ℕ) → u < starts past → live (start_entry p args (starts past) ∷ past) u ≡ live past u
-  started_same u lt = live_is u ∙ (ap (λ b. live past u || b) (ne_eqb u (starts past) (λ e. absurd (omega (arith, e))))
+  started_same : (u : ℕ) → u < start_count past → live (start_entry p args (start_count past) ∷ past) u ≡ live past u
+  started_same u lt = live_is u ∙ (ap (λ b. live past u || b) (ne_eqb u (start_count past) (λ e. absurd (omega (arith, e))))
       ∙ or_false (live past u))
     where
       or_false : (b : Bool) → (b || false) ≡ b
       or_false true = refl
       or_false false = refl
 
-  agree : AgreeOn (live past) (live (start_entry p args (starts past) ∷ past)) past
+  agree : AgreeOn (live past) (live (start_entry p args (start_count past) ∷ past)) past
   agree = legal-agree s past h _ _ (λ u lt. sym (started_same u lt))
 
-  lives_on : (u : ℕ) → live past u ≡ true → live (start_entry p args (starts past) ∷ past) u ≡ true
+  lives_on : (u : ℕ) → live past u ≡ true → live (start_entry p args (start_count past) ∷ past) u ≡ true
   lives_on u l = started_same u (live-started past u l) ∙ l
 
-  was_live : (u : ℕ) → u < starts past → live (start_entry p args (starts past) ∷ past) u ≡ true → live past u ≡ true
+  was_live : (u : ℕ) → u < start_count past → live (start_entry p args (start_count past) ∷ past) u ≡ true → live past u ≡ true
   was_live u lt l = sym (started_same u lt) ∙ l
 
   pub after_start : (before after : State) → IsStateAfter s past before
       → Starts (left_of_call s.rules (record { procedure = p; args = args })) before after
-      → IsStateAfter s (start_entry p args (starts past) ∷ past) after
+      → IsStateAfter s (start_entry p args (start_count past) ∷ past) after
   after_start before after i x = record {
-    lives = x.live ∙ (ap₂ (λ l n. l ++ n ∷ []) i.lives i.starts ∙ live_ones_after);
-    nodes = λ u. x.nodes u ∙ (ap₂ (λ b n. b || nat_eq u n) (i.nodes u) i.starts ∙ sym (live_is u));
+    lives = x.live ∙ (ap₂ (λ l n. l ++ n ∷ []) i.lives i.start_count ∙ live_ones_after);
+    nodes = λ u. x.nodes u ∙ (ap₂ (λ b n. b || nat_eq u n) (i.nodes u) i.start_count ∙ sym (live_is u));
     pairs = λ u v. (
       (λ q. pairs_to u v ((i.pairs u v).0 (sym (x.pairs u v) ∙ q))),
       (λ q. x.pairs u v ∙ (i.pairs u v).1 (pairs_from u v q q.pair.precedes)),
     );
-    accesses = x.accesses ∙ (i.accesses ∙ (access_list-agree (live past) (live (start_entry p args (starts past) ∷ past)) past agree
-        ∙ sym (append-nil (access_list (live (start_entry p args (starts past) ∷ past)) past))));
-    chain = λ k. x.chain k ∙ (i.chain k ∙ chain-agree (live past) (live (start_entry p args (starts past) ∷ past)) k past agree);
+    accesses = x.accesses ∙ (i.accesses ∙ (access_list-agree (live past) (live (start_entry p args (start_count past) ∷ past)) past agree
+        ∙ sym (append-nil (access_list (live (start_entry p args (start_count past) ∷ past)) past))));
+    chain = λ k. x.chain k ∙ (i.chain k ∙ chain-agree (live past) (live (start_entry p args (start_count past) ∷ past)) k past agree);
     settled = λ k. x.settled k ∙ i.settled k;
     read_from = λ u v. (
       (λ q. read_to u v ((i.read_from u v).0 ((x.read_from u v).0 q))),
       (λ q. (x.read_from u v).1 ((i.read_from u v).1 (read_back u v q q.read))),
     );
     fates = λ u. x.fates u ∙ i.fates u;
-    starts = x.starts ∙ ap (λ n. n + 1) i.starts;
-    left = λ u l. still_left u l (cases_lt u (starts past));
+    start_count = x.start_count ∙ ap (λ n. n + 1) i.start_count;
+    left = λ u l. still_left u l (cases_lt u (start_count past));
   }
     where
       or_true : (b : Bool) → (b || true) ≡ true
       or_true true = refl
       or_true false = refl
 
-      live_ones_after : live_ones past ++ starts past ∷ [] ≡ live_ones (start_entry p args (starts past) ∷ past)
-      live_ones_after = sym (filter-append (live (start_entry p args (starts past) ∷ past)) (begun past) (starts past ∷ [])
-          ∙ ap₂ (λ l b. l ++ cond b (starts past ∷ []) []) (filter_listed (live (start_entry p args (starts past) ∷ past))
-          (live past) (begun past) (λ u m. started_same u (begun_below past u m))) (live_is (starts past)
-          ∙ (ap (λ b. live past (starts past) || b) (eq-eqb (starts past) (starts past) refl) ∙ or_true (live past (starts past)))))
+      live_ones_after : live_ones past ++ start_count past ∷ [] ≡ live_ones (start_entry p args (start_count past) ∷ past)
+      live_ones_after = sym (filter-append (live (start_entry p args (start_count past) ∷ past)) (started_ones past) (start_count past ∷ [])
+          ∙ ap₂ (λ l b. l ++ cond b (start_count past ∷ []) []) (filter_listed (live (start_entry p args (start_count past) ∷ past))
+          (live past) (started_ones past) (λ u m. started_same u (begun_below past u m))) (live_is (start_count past)
+          ∙ (ap (λ b. live past (start_count past) || b) (eq-eqb (start_count past) (start_count past) refl) ∙ or_true (live past (start_count past)))))
 
-      pairs_to : (u v : ℕ) → LivePair past u v → LivePair (start_entry p args (starts past) ∷ past) u v
+      pairs_to : (u v : ℕ) → LivePair past u v → LivePair (start_entry p args (start_count past) ∷ past) u v
       pairs_to u v q = record {
         first_live = lives_on u q.first_live;
         second_live = lives_on v q.second_live;
@@ -120,8 +120,8 @@ module _ (s : Setting) (past : List Entry) (h : Legal s past) (p : ℕ) (args : 
         };
       }
 
-      pairs_from : (u v : ℕ) → LivePair (start_entry p args (starts past) ∷ past) u v
-          → Precedes (start_entry p args (starts past) ∷ past) u v → LivePair past u v
+      pairs_from : (u v : ℕ) → LivePair (start_entry p args (start_count past) ∷ past) u v
+          → Precedes (start_entry p args (start_count past) ∷ past) u v → LivePair past u v
       pairs_from u v q (inl now) = absurd now
       pairs_from u v q (inr old) = let w = precedes-started s past h u v old in
           record {
@@ -135,11 +135,11 @@ module _ (s : Setting) (past : List Entry) (h : Legal s past) (p : ℕ) (args : 
             };
           }
 
-      read_to : (u v : ℕ) → LiveRead past v u → LiveRead (start_entry p args (starts past) ∷ past) v u
+      read_to : (u v : ℕ) → LiveRead past v u → LiveRead (start_entry p args (start_count past) ∷ past) v u
       read_to u v q = record { reader_live = lives_on v q.reader_live; source_live = lives_on u q.source_live; read = inr q.read }
 
-      read_back : (u v : ℕ) → LiveRead (start_entry p args (starts past) ∷ past) v u
-          → ReadFrom (start_entry p args (starts past) ∷ past) v u → LiveRead past v u
+      read_back : (u v : ℕ) → LiveRead (start_entry p args (start_count past) ∷ past) v u
+          → ReadFrom (start_entry p args (start_count past) ∷ past) v u → LiveRead past v u
       read_back u v q (inl now) = absurd now.1
       read_back u v q (inr old) = let w = precedes-started s past h u v (read-precedes past v u old) in
           record { reader_live = was_live v w.1 q.reader_live; source_live = was_live u w.0 q.source_live; read = old }
@@ -152,22 +152,22 @@ module _ (s : Setting) (past : List Entry) (h : Legal s past) (p : ℕ) (args : 
       own_call true c d z = refl
       own_call false c d z = absurd (cc)
 
-      still_left : (u : ℕ) → live (start_entry p args (starts past) ∷ past) u ≡ true → (u < starts past) ⊎ (starts past ≤ u)
-          → after.left u ≡ left_of s.rules (start_entry p args (starts past) ∷ past) u
+      still_left : (u : ℕ) → live (start_entry p args (start_count past) ∷ past) u ≡ true → (u < start_count past) ⊎ (start_count past ≤ u)
+          → after.left u ≡ left_of s.rules (start_entry p args (start_count past) ∷ past) u
       still_left u l (inl lt) =
-          let call : call_of (start_entry p args (starts past) ∷ past) u ≡ call_of past u =
-          other_call (nat_eq (starts past) u) (record { procedure = p; args = args }) (call_of past u)
-          (ne_eqb (starts past) u (λ e. absurd (omega (arith, e)))) in
-          x.left u (λ e. absurd (omega (arith, e, i.starts))) ∙ (i.left u (was_live u lt l) ∙ ap (λ c. left_by s c (acts past u))
+          let call : call_of (start_entry p args (start_count past) ∷ past) u ≡ call_of past u =
+          other_call (nat_eq (start_count past) u) (record { procedure = p; args = args }) (call_of past u)
+          (ne_eqb (start_count past) u (λ e. absurd (omega (arith, e)))) in
+          x.left u (λ e. absurd (omega (arith, e, i.start_count))) ∙ (i.left u (was_live u lt l) ∙ ap (λ c. left_by s c (acts past u))
           (sym call))
       still_left u l (inr le) =
-          let is : u ≡ starts past = at_end (live-started (start_entry p args (starts past) ∷ past) u l) le in
-          let call : call_of (start_entry p args (starts past) ∷ past) u ≡ record { procedure = p; args = args } =
-          own_call (nat_eq (starts past) u) (record { procedure = p; args = args }) (call_of past u)
-          (eq-eqb (starts past) u (sym is)) in
+          let is : u ≡ start_count past = at_end (live-started (start_entry p args (start_count past) ∷ past) u l) le in
+          let call : call_of (start_entry p args (start_count past) ∷ past) u ≡ record { procedure = p; args = args } =
+          own_call (nat_eq (start_count past) u) (record { procedure = p; args = args }) (call_of past u)
+          (eq-eqb (start_count past) u (sym is)) in
           let unused = acts_unstarted s past u h le in
-          ap after.left (is ∙ sym i.starts) ∙ (x.own_left ∙ (ap (left_by s (record { procedure = p; args = args })) (sym unused)
+          ap after.left (is ∙ sym i.start_count) ∙ (x.own_left ∙ (ap (left_by s (record { procedure = p; args = args })) (sym unused)
           ∙ ap (λ c. left_by s c (acts past u)) (sym call)))
         where
-          at_end : u < starts past + 1 → starts past ≤ u → u ≡ starts past
+          at_end : u < start_count past + 1 → start_count past ≤ u → u ≡ start_count past
           at_end lt le = omega arith

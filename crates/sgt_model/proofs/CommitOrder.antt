@@ -6,7 +6,7 @@ use Rattle.sgt_model.specs.declared.entry.Entry.{Entry}
 use Rattle.sgt_model.specs.Fates.{ending_in, fate_of, has_committed, committed}
 use Rattle.sgt_model.specs.Settings.{Setting}
 use Rattle.sgt_model.specs.Legality.{Legal}
-use Rattle.sgt_model.specs.CommitOrder.{CommitsBefore, CommitsInLine}
+use Rattle.sgt_model.specs.CommitOrder.{CommitsBefore, CommitOrderIsTotal}
 use Rattle.sgt_model.proofs.Facts.{end-live, commit-no_end, committed-stays, live-not_committed, commit-case}
 
 -- what commits at an entry had not committed before
@@ -50,8 +50,8 @@ before-total s (e ∷ past) h t u apart ct cu = go (before-total s past h.0 t u 
     go rest (inr t_before) (inl u_now) = inl (inl (u_now, t_before.1))
     go rest (inr t_before) (inr u_before) = elim (rest t_before.1 u_before.1) [ inl b ↦ inl (inr b) | inr b ↦ inr (inr b) ]
 
-pub commits_in_line : (s : Setting) (past : List Entry) → Legal s past → CommitsInLine past
-commits_in_line s past h = record {
+pub commit_order_is_total : (s : Setting) (past : List Entry) → Legal s past → CommitOrderIsTotal past
+commit_order_is_total s past h = record {
   of_committed = before-committed s past h;
   irreflexive = before-irrefl s past h;
   transitive = before_trans s past h;

@@ -21,7 +21,7 @@ use Rattle.sgt_model.specs.ReadFrom.{IsBy, LooksFrom, ReadFrom}
 use Rattle.sgt_model.specs.Falls.{Feeds, Falls}
 use Rattle.sgt_model.specs.Pairs.{has_conflicting, FollowsIn, Precedes, Pair}
 use Rattle.sgt_model.specs.Closes.{Closes}
-use Rattle.sgt_model.specs.Legality.{Aborts, AbortsByCycle, Makes, NoneLive, MustWait, MayCommit, MayRefuse}
+use Rattle.sgt_model.specs.Legality.{AbortReply, CycleAbortReply, Makes, HasNoLivePredecessor, MustWait, MayCommit, MayRefuse}
 use Rattle.sgt_model.proofs.Paths.{last_is_member}
 use Rattle.sgt_model.proofs.Facts.{some_is, member_from, member_to, conflicts-access, follows-access}
 use Rattle.sgt_model.proofs.Sources.{read-precedes}
@@ -338,13 +338,13 @@ falls-so past t fell paths set r e a = record {
 
 -- t is aborted with those that fall
 pub aborts_by : {past : List Entry} {t : ℕ} {why : Cause} (fell : List ℕ) (paths : List (List ℕ)) (set : List ℕ)
-    → rising fell ≡ true → each_test past t fell paths ≡ true → all_test past t fell set ≡ true → Aborts past t why (reply.Aborted why fell)
+    → rising fell ≡ true → each_test past t fell paths ≡ true → all_test past t fell set ≡ true → AbortReply past t why (reply.Aborted why fell)
 aborts_by {past} {t} {why} fell paths set r e a = record { fell = fell; falls = falls-so past t fell paths set r e a; is = refl }
 
 -- an access is rejected, with a walk that it would close
 pub refused_by : {past : List Entry} {t : ℕ} {k : Key} {kind : Kind} (rest fell : List ℕ) (paths : List (List ℕ)) (set : List ℕ)
     → closes_test past t k kind rest ≡ true → rising fell ≡ true → each_test past t fell paths ≡ true
-    → all_test past t fell set ≡ true → AbortsByCycle past t k kind (reply.Aborted (cause.Cycle (t ∷ rest)) fell)
+    → all_test past t fell set ≡ true → CycleAbortReply past t k kind (reply.Aborted (cause.Cycle (t ∷ rest)) fell)
 refused_by {past} {t} {k} {kind} rest fell paths set c r e a = record {
   rest = rest;
   closes = closes-so past t k kind rest c;
@@ -357,7 +357,7 @@ refused_by {past} {t} {k} {kind} rest fell paths set c r e a = record {
 abbrev pub none_live_test : List Entry → ℕ → Bool
 none_live_test past t = list_all (λ v. not (live past v && pair past v t)) (actors past)
 
-pub none_live-so : (past : List Entry) (t : ℕ) → none_live_test past t ≡ true → NoneLive past t
+pub none_live-so : (past : List Entry) (t : ℕ) → none_live_test past t ≡ true → HasNoLivePredecessor past t
 none_live-so past t h v p = both_ways _ (not-true _ (all-at _ (actors past) v h (precedes-actors past v t p.pair.precedes).0))
     (and_from _ _ p.is_live (so-pair past v t p.pair))
 
@@ -394,7 +394,7 @@ waits_by {past} {t} {u} h =
     let p = and_parts _ _ h in
     let q = and_parts _ _ p.0 in
     record {
-      before = u;
+      predecessor = u;
       least = record {
         pair = record { is_live = q.0; pair = pair-so past u t q.1 };
         least = λ v x. not_below u v (implies-at _ _ (all-at _ (actors past) v p.1 (precedes-actors past v t x.pair.precedes).0)

@@ -27,8 +27,8 @@ module _ (most : ℕ) (c : State) (sound : Sound most c) where
   may_settle t none k = is_first (PairIn c) t (c.chain k) (sound.order k) (λ u n m p. none u p)
 
   -- of `add`: the next number is no node
-  pub next_no_node : c.nodes c.starts ≡ true → ⊥
-  next_no_node h = absurd (let lt = sound.begun c.starts h in omega arith)
+  pub next_no_node : c.nodes c.start_count ≡ true → ⊥
+  next_no_node h = absurd (let lt = sound.begun c.start_count h in omega arith)
 
 -- a number of a list is left out
 pub removed : (x : ℕ) (ys : List ℕ) → Member x ys → (zs : List ℕ) × (length ys ≡ suc (length zs)) × ((y : ℕ) → Member y ys → y ≢ x

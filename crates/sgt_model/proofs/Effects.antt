@@ -14,21 +14,21 @@ use Rattle.sgt_model.specs.declared.reply.Fate.TheVariants as fate
 use Rattle.sgt_model.specs.declared.entry.Entry.{Entry}
 use Rattle.sgt_model.specs.declared.kind.Kind.{Kind}
 use Rattle.sgt_model.specs.declared.kind.Kind.TheVariants.{Look, Store}
-use Rattle.sgt_model.specs.declared.limits.Asks.{Asks as When}
+use Rattle.sgt_model.specs.declared.limits.Asks.{Asks}
 use Rattle.sgt_model.specs.declared.limits.Asks.TheVariants.{AtStep, AtCommit}
 use Rattle.sgt_model.specs.Contents.{Key}
-use Rattle.sgt_model.specs.Traces.{Next, Looks, Puts, Ends, Asks}
+use Rattle.sgt_model.specs.Traces.{Next, Looks, Puts, Ends, Raises}
 use Rattle.sgt_model.specs.Accesses.{Access, access_in}
-use Rattle.sgt_model.specs.Fates.{is_start, starts, subject, ending_in, fate_of, live, live_ones}
+use Rattle.sgt_model.specs.Fates.{is_start, start_count, subject, ending_in, fate_of, live, live_ones}
 use Rattle.sgt_model.specs.Values.{visible}
 use Rattle.sgt_model.specs.Falls.{Falls}
 use Rattle.sgt_model.specs.Closes.{Closes}
 use Rattle.sgt_model.specs.Settings.{Setting, takes}
 use Rattle.sgt_model.specs.Progress.{call_in, next_of}
 use Rattle.sgt_model.specs.StartReply.{args_fit, taken_reply}
-use Rattle.sgt_model.specs.Legality.{Aborts, AbortsByCycle, AskedStep, AskedCommit, StepReply, NoneLive, CommitReply, OfStarted, OfLive, LegalReply}
+use Rattle.sgt_model.specs.Legality.{AbortReply, CycleAbortReply, RaisedStep, RaisedCommit, StepReply, HasNoLivePredecessor, CommitReply, OfStarted, OfLive, LegalReply}
 use Rattle.sgt_model.specs.Replay.{told_call_in, told_in}
-use Rattle.sgt_model.specs.Aborts.{Wants, HasCause, AbortHasCause}
+use Rattle.sgt_model.specs.Aborts.{Wants, CauseHolds, ReplyIsJustified}
 use Rattle.sgt_model.specs.Laws.{CommitAgrees}
 use Rattle.sgt_model.proofs.NoOrder.{refused_has_no_order}
 
@@ -59,7 +59,7 @@ ends_none-agrees s past event (reply.Committed answers) h = absurd h
 ends_none-agrees s past event (reply.Refused code fell) h = absurd h
 ends_none-agrees s past event _ h = tt
 
-pub ends_none-cause : (s : Setting) (past : List Entry) (event : Event) (r : Reply) → EndsNone r → AbortHasCause s past event r
+pub ends_none-cause : (s : Setting) (past : List Entry) (event : Event) (r : Reply) → EndsNone r → ReplyIsJustified s past event r
 ends_none-cause s past event (reply.Aborted why fell) h = absurd h
 ends_none-cause s past event (reply.Refused code fell) h = absurd h
 ends_none-cause s past event _ h = tt
@@ -81,10 +81,10 @@ pub record Begins (s : Setting) (past : List Entry) (event : Event) (r : Reply) 
   pub args : List ℤ
   pub count : ℕ
   pub event_is : event ≡ Start procedure args
-  pub reply_is : r ≡ reply.Started (starts past)
+  pub reply_is : r ≡ reply.Started (start_count past)
   pub known : takes s.rules procedure ≡ Some count
   pub fit : args_fit count args ≡ true
-  pub not_spent : nat_eq (starts past) s.rules.limits.begins ≡ false
+  pub not_spent : nat_eq (start_count past) s.rules.limits.begins ≡ false
   pub not_full : nat_eq (length (live_ones past)) s.rules.limits.live ≡ false
 
 -- this access is what comes next
@@ -92,7 +92,7 @@ abbrev pub Fits : Next → Access → Type 0
 Fits (Looks k) a = (a.key ≡ k) × (a.kind ≡ Look)
 Fits (Puts k v) a = (a.key ≡ k) × (a.kind ≡ Store) × (a.value ≡ Some v)
 Fits (Ends answers) a = ⊥
-Fits (Asks code) a = ⊥
+Fits (Raises code) a = ⊥
 
 -- a live transaction made its next access, which closes no cycle; a look found what was visible
 pub record Accesses (s : Setting) (past : List Entry) (event : Event) (r : Reply) : Type 0 where
@@ -113,7 +113,7 @@ pub record Commits (s : Setting) (past : List Entry) (event : Event) (r : Reply)
   pub event_is : event ≡ Commit t
   pub reply_is : r ≡ reply.Committed answers
   pub is_live : live past t ≡ true
-  pub none_live : NoneLive past t
+  pub none_live : HasNoLivePredecessor past t
   pub next : next_of s past t ≡ Ends answers
 
 -- a live transaction ended by an abort, with those that fell
@@ -131,7 +131,7 @@ pub record Undoes (s : Setting) (past : List Entry) (event : Event) (r : Reply) 
   pub undoing : Undoing past event r
   pub subject_is : subject event ≡ undoing.t
   pub reply_is : r ≡ reply.Aborted undoing.why undoing.fell
-  pub has_cause : HasCause s past event undoing.why
+  pub has_cause : CauseHolds s past event undoing.why
 
 -- or by a Refused reply at its commit, where it waits for nobody and asks the code
 pub record Refusal (s : Setting) (past : List Entry) (event : Event) (r : Reply) : Type 0 where
@@ -139,8 +139,8 @@ pub record Refusal (s : Setting) (past : List Entry) (event : Event) (r : Reply)
   pub code : ℕ
   pub event_is : event ≡ Commit undoing.t
   pub reply_is : r ≡ reply.Refused code undoing.fell
-  pub none_live : NoneLive past undoing.t
-  pub next : next_of s past undoing.t ≡ Asks code
+  pub none_live : HasNoLivePredecessor past undoing.t
+  pub next : next_of s past undoing.t ≡ Raises code
 
 pub data Effect (s : Setting) (past : List Entry) (event : Event) (r : Reply) : Type 0 where
   idle : Idle event r → Effect s past event r
@@ -156,9 +156,9 @@ idle_at {s} {past} {event} e i = subst (λ x. Effect s past event x) (sym e) (id
 -- a start
 
 begin_at : (s : Setting) (past : List Entry) (p : ℕ) (args : List ℤ) (count : ℕ) → takes s.rules p ≡ Some count
-    → (fit spent full : Bool) → args_fit count args ≡ fit → nat_eq (starts past) s.rules.limits.begins ≡ spent
+    → (fit spent full : Bool) → args_fit count args ≡ fit → nat_eq (start_count past) s.rules.limits.begins ≡ spent
     → nat_eq (length (live_ones past)) s.rules.limits.live ≡ full → Effect s past (Start p args)
-    (cond fit (cond spent reply.Spent (cond full reply.Full (reply.Started (starts past)))) reply.BadArgs)
+    (cond fit (cond spent reply.Spent (cond full reply.Full (reply.Started (start_count past)))) reply.BadArgs)
 begin_at s past p args count known false spent full f n l = idle (record { no_start = refl; no_access = refl; ends_none = tt })
 begin_at s past p args count known true true full f n l = idle (record { no_start = refl; no_access = refl; ends_none = tt })
 begin_at s past p args count known true false true f n l = idle (record { no_start = refl; no_access = refl; ends_none = tt })
@@ -176,10 +176,10 @@ begin_at s past p args count known true false false f n l =
     })
 
 start_at : (s : Setting) (past : List Entry) (p : ℕ) (args : List ℤ) (o : Option ℕ) → takes s.rules p ≡ o
-    → Effect s past (Start p args) (taken_reply s.rules.limits (starts past) (length (live_ones past)) o args)
+    → Effect s past (Start p args) (taken_reply s.rules.limits (start_count past) (length (live_ones past)) o args)
 start_at s past p args None known = idle (record { no_start = refl; no_access = refl; ends_none = tt })
 start_at s past p args (Some count) known = begin_at s past p args count known (args_fit count args)
-    (nat_eq (starts past) s.rules.limits.begins) (nat_eq (length (live_ones past)) s.rules.limits.live) refl refl refl
+    (nat_eq (start_count past) s.rules.limits.begins) (nat_eq (length (live_ones past)) s.rules.limits.live) refl refl refl
 
 -- what the events of a transaction share
 
@@ -188,7 +188,7 @@ none_from None e = refl
 none_from (Some x) e = absurd (cc)
 
 of_live-at : (s : Setting) (past : List Entry) (event : Event) (t : ℕ) (r : Reply) (P : Type 0) (b : Bool) (o : Option Fate)
-    → nat_lt t (starts past) ≡ b → fate_of past t ≡ o → (live past t ≡ true → P → Effect s past event r) → OfStarted b o r P
+    → nat_lt t (start_count past) ≡ b → fate_of past t ≡ o → (live past t ≡ true → P → Effect s past event r) → OfStarted b o r P
     → Effect s past event r
 of_live-at s past event t r P true None started ended rest h = rest (and_from _ _ started (ap is_none ended)) h
 of_live-at s past event t r P true (Some f) started ended rest h = idle_at h (record { no_start = refl; no_access = refl; ends_none = tt })
@@ -196,12 +196,12 @@ of_live-at s past event t r P false o started ended rest h = idle_at h (record {
 
 of_live : (s : Setting) (past : List Entry) (event : Event) (t : ℕ) (r : Reply) (P : Type 0)
     → (live past t ≡ true → P → Effect s past event r) → OfLive past t r P → Effect s past event r
-of_live s past event t r P rest h = of_live-at s past event t r P (nat_lt t (starts past)) (fate_of past t) refl refl rest h
+of_live s past event t r P rest h = of_live-at s past event t r P (nat_lt t (start_count past)) (fate_of past t) refl refl rest h
 
 -- an abort
 
-abort_at : (s : Setting) (past : List Entry) (t : ℕ) (why : Cause) (r : Reply) → live past t ≡ true → HasCause s past (Step t) why
-    → Aborts past t why r → Effect s past (Step t) r
+abort_at : (s : Setting) (past : List Entry) (t : ℕ) (why : Cause) (r : Reply) → live past t ≡ true → CauseHolds s past (Step t) why
+    → AbortReply past t why r → Effect s past (Step t) r
 abort_at s past t why r alive due a = subst (λ x. Effect s past (Step t) x) (sym a.is)
     (undoes (record {
       undoing = record { t = t; why = why; fell = a.fell; is_live = alive; falls = a.falls; ends = λ u. refl };
@@ -210,7 +210,7 @@ abort_at s past t why r alive due a = subst (λ x. Effect s past (Step t) x) (sy
       has_cause = due;
     }))
 
-quit_at : (s : Setting) (past : List Entry) (t : ℕ) (r : Reply) → live past t ≡ true → Aborts past t cause.Quit r → Effect s past (Quit t) r
+quit_at : (s : Setting) (past : List Entry) (t : ℕ) (r : Reply) → live past t ≡ true → AbortReply past t cause.Quit r → Effect s past (Quit t) r
 quit_at s past t r alive a = subst (λ x. Effect s past (Quit t) x) (sym a.is)
     (undoes (record {
       undoing = record {
@@ -227,7 +227,7 @@ quit_at s past t r alive a = subst (λ x. Effect s past (Quit t) x) (sym a.is)
     }))
 
 refuse_at : (s : Setting) (past : List Entry) (t : ℕ) (k : Key) (kind : Kind) (r : Reply) → live past t ≡ true
-    → Wants (next_of s past t) k kind → AbortsByCycle past t k kind r → Effect s past (Step t) r
+    → Wants (next_of s past t) k kind → CycleAbortReply past t k kind r → Effect s past (Step t) r
 refuse_at s past t k kind r alive wants h = abort_at s past t (cause.Cycle (t ∷ h.rest)) r alive
     (record {
       rest = h.rest;
@@ -241,13 +241,13 @@ refuse_at s past t k kind r alive wants h = abort_at s past t (cause.Cycle (t �
 
 -- an ask
 
-asked_step : (s : Setting) (past : List Entry) (t code : ℕ) (r : Reply) → next_of s past t ≡ Asks code → live past t ≡ true
-    → (asks : When) → AskedStep asks past t code r → Effect s past (Step t) r
+asked_step : (s : Setting) (past : List Entry) (t code : ℕ) (r : Reply) → next_of s past t ≡ Raises code → live past t ≡ true
+    → (asks : Asks) → RaisedStep asks past t code r → Effect s past (Step t) r
 asked_step s past t code r e alive AtStep h = abort_at s past t (cause.Asked code) r alive e h
 asked_step s past t code r e alive AtCommit h = idle_at h (record { no_start = refl; no_access = refl; ends_none = tt })
 
-asked_commit : (s : Setting) (past : List Entry) (t code : ℕ) (r : Reply) → next_of s past t ≡ Asks code → live past t ≡ true
-    → (asks : When) → AskedCommit asks past t code r → Effect s past (Commit t) r
+asked_commit : (s : Setting) (past : List Entry) (t code : ℕ) (r : Reply) → next_of s past t ≡ Raises code → live past t ≡ true
+    → (asks : Asks) → RaisedCommit asks past t code r → Effect s past (Commit t) r
 asked_commit s past t code r e alive AtStep h = idle_at h (record { no_start = refl; no_access = refl; ends_none = tt })
 asked_commit s past t code r e alive AtCommit (inl h) = idle_at h.is (record { no_start = refl; no_access = refl; ends_none = tt })
 asked_commit s past t code r e alive AtCommit (inr h) = subst (λ x. Effect s past (Commit t) x) (sym h.is)
@@ -301,7 +301,7 @@ step_at s past t r (Puts k v) e alive (inr h) = let access : Access = record { b
       found = λ (look : Store ≡ Look). absurd (cc);
     }))
 step_at s past t r (Ends answers) e alive h = idle_at h (record { no_start = refl; no_access = refl; ends_none = tt })
-step_at s past t r (Asks code) e alive h = asked_step s past t code r e alive s.rules.limits.asks h
+step_at s past t r (Raises code) e alive h = asked_step s past t code r e alive s.rules.limits.asks h
 
 -- a commit
 
@@ -312,7 +312,7 @@ commit_at s past t r (Ends answers) e alive (inr h) =
     commits (record { t = t; answers = answers; event_is = refl; reply_is = h.is; is_live = alive; none_live = h.none_live; next = e })
 commit_at s past t r (Looks k) e alive h = idle_at h (record { no_start = refl; no_access = refl; ends_none = tt })
 commit_at s past t r (Puts k v) e alive h = idle_at h (record { no_start = refl; no_access = refl; ends_none = tt })
-commit_at s past t r (Asks code) e alive h = asked_commit s past t code r e alive s.rules.limits.asks h
+commit_at s past t r (Raises code) e alive h = asked_commit s past t code r e alive s.rules.limits.asks h
 
 -- each legal reply has one of the effects
 pub effect : (s : Setting) (past : List Entry) (event : Event) (r : Reply) → LegalReply s past event r → Effect s past event r
@@ -321,4 +321,4 @@ effect s past (Step t) r h = of_live s past (Step t) t r (StepReply s past t (ne
     (step_at s past t r (next_of s past t) refl) h
 effect s past (Commit t) r h = of_live s past (Commit t) t r (CommitReply s past t (next_of s past t) r)
     (commit_at s past t r (next_of s past t) refl) h
-effect s past (Quit t) r h = of_live s past (Quit t) t r (Aborts past t cause.Quit r) (quit_at s past t r) h
+effect s past (Quit t) r h = of_live s past (Quit t) t r (AbortReply past t cause.Quit r) (quit_at s past t r) h

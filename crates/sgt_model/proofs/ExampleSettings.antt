@@ -5,7 +5,7 @@ use Rattle.sgt_model.specs.declared.reply.Reply.{Reply}
 use Rattle.sgt_model.specs.declared.entry.Entry.{Entry}
 use Rattle.sgt_model.specs.declared.limits.Asks.TheVariants.{AtStep}
 use Rattle.sgt_model.specs.Contents.{Key, key_eq, Contents}
-use Rattle.sgt_model.specs.Syntax.{Program, num, arg, reg, sum, diff, less, empty, look, put, save, choose, answer}
+use Rattle.sgt_model.specs.Syntax.{ProcedureText, num, arg, reg, sum, diff, less, empty, look, put, save, choose, answer}
 use Rattle.sgt_model.specs.Settings.{Setting, setting}
 
 -- what these records hold, and nothing elsewhere
@@ -16,7 +16,7 @@ found_in ((j, v) ∷ rest) k = cond (key_eq j k) (Some v) (found_in rest k)
 -- the five procedures
 
 -- the sum of both balances
-abbrev pub balance : Program
+abbrev pub balance : ProcedureText
 balance = record {
   args = 1;
   body =
@@ -28,7 +28,7 @@ balance = record {
 }
 
 -- an amount more in the checking
-abbrev pub deposit_checking : Program
+abbrev pub deposit_checking : ProcedureText
 deposit_checking = record {
   args = 2;
   body =
@@ -40,7 +40,7 @@ deposit_checking = record {
 }
 
 -- an amount more in the saving
-abbrev pub transact_saving : Program
+abbrev pub transact_saving : ProcedureText
 transact_saving = record {
   args = 2;
   body =
@@ -52,7 +52,7 @@ transact_saving = record {
 }
 
 -- all of the first into the checking of the second
-abbrev pub amalgamate : Program
+abbrev pub amalgamate : ProcedureText
 amalgamate = record {
   args = 2;
   body =
@@ -69,7 +69,7 @@ amalgamate = record {
 }
 
 -- an amount less in the checking, and 100 less still where both balances together are smaller than it
-abbrev pub write_check : Program
+abbrev pub write_check : ProcedureText
 write_check = record {
   args = 2;
   body =
@@ -86,27 +86,27 @@ write_check = record {
 -- what the other procedures of the examples do
 
 -- store the argument
-abbrev pub put_arg : Program
+abbrev pub put_arg : ProcedureText
 put_arg = record { args = 1; body = put 3 (num (pos 7)) (arg 0) empty }
 
 -- look at one checking and store what it found into another
-abbrev pub copy : Program
+abbrev pub copy : ProcedureText
 copy = record { args = 2; body = look 0 2 (arg 0) 5 (put 2 (arg 1) (reg 0) empty) }
 
 -- store twice
-abbrev pub put_twice : Program
+abbrev pub put_twice : ProcedureText
 put_twice = record { args = 0; body = put 3 (num (pos 7)) (num (pos 1)) (put 3 (num (pos 7)) (num (pos 2)) empty) }
 
 -- answer what is stored there
-abbrev pub tell : Program
+abbrev pub tell : ProcedureText
 tell = record { args = 0; body = look 0 3 (num (pos 7)) 6 (answer (reg 0) empty) }
 
 -- look twice
-abbrev pub look_twice : Program
+abbrev pub look_twice : ProcedureText
 look_twice = record { args = 0; body = look 0 2 (num (pos 101)) 5 (look 1 2 (num (pos 101)) 5 empty) }
 
 -- store, and answer what is found then
-abbrev pub put_and_tell : Program
+abbrev pub put_and_tell : ProcedureText
 put_and_tell = record { args = 0; body = put 3 (num (pos 7)) (num (pos 4)) (look 0 3 (num (pos 7)) 6 (answer (reg 0) empty)) }
 
 -- the opened database, with no third customer
@@ -120,7 +120,7 @@ opening_of_three = found_in (((0, pos 1), pos 101) ∷ ((0, pos 2), pos 102) ∷
     ∷ ((1, pos 102), pos 0) ∷ ((1, pos 103), pos 0) ∷ ((2, pos 101), pos 1000) ∷ ((2, pos 102), pos 200) ∷ ((2, pos 103), pos 300) ∷ [])
 
 -- the five by number
-abbrev pub five : List Program
+abbrev pub five : List ProcedureText
 five = balance ∷ deposit_checking ∷ transact_saving ∷ amalgamate ∷ write_check ∷ []
 
 -- the bank with these limits and no other procedures
@@ -128,7 +128,7 @@ abbrev pub small_bank : ℕ → ℕ → Setting
 small_bank most_live most_started = setting opening five (record { live = most_live; begins = most_started; asks = AtStep })
 
 -- the bank with others, from number 5 on
-abbrev pub small_bank_with : Contents → List Program → Setting
+abbrev pub small_bank_with : Contents → List ProcedureText → Setting
 small_bank_with m others = setting m (five ++ others) (record { live = 8; begins = 100; asks = AtStep })
 
 abbrev pub entry : Event → Reply → Entry

@@ -1,14 +1,14 @@
 -- Worked examples of what is left of a procedure.
 use Rattle.std.specs.Prelude.{◌≡◌, pos, [], ◌∷◌, Some, None, replicate, refl}
 use Rattle.sgt_model.specs.Syntax as text
-use Rattle.sgt_model.specs.Syntax.{Program, num, arg, reg, sum, diff, at_most}
+use Rattle.sgt_model.specs.Syntax.{ProcedureText, num, arg, reg, sum, diff, at_most}
 use Rattle.sgt_model.specs.Traces.{Puts, Ends}
 use Rattle.sgt_model.specs.Left.{ToRun, ToAsk, left, left_at_start, next_left}
 use Rattle.sgt_model.proofs.ExamplesTexts.{draw, count}
 
 -- tell what record 7 holds where the argument is at most 5, and store it into record 8 in every case: the If has statements
 -- behind its look, and more stand behind the If
-abbrev pub tell_and_store : Program
+abbrev pub tell_and_store : ProcedureText
 tell_and_store = record {
   args = 1;
   body =

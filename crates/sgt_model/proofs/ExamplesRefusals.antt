@@ -9,7 +9,7 @@ use Rattle.sgt_model.specs.declared.reply.Fate.TheVariants as fate
 use Rattle.sgt_model.specs.declared.entry.Entry.{Entry}
 use Rattle.sgt_model.specs.declared.limits.Asks.TheVariants.{AtCommit}
 use Rattle.sgt_model.specs.Syntax as text
-use Rattle.sgt_model.specs.Syntax.{Program, num, arg, reg, diff, less}
+use Rattle.sgt_model.specs.Syntax.{ProcedureText, num, arg, reg, diff, less}
 use Rattle.sgt_model.specs.Values.{settled}
 use Rattle.sgt_model.specs.Settings.{Setting, setting}
 use Rattle.sgt_model.specs.Legality.{Legal}
@@ -18,11 +18,11 @@ use Rattle.sgt_model.proofs.Computed.{made_by, aborts_by, commits_by, waits_by, 
 use Rattle.sgt_model.proofs.ExampleSettings.{opening, entry, tell}
 
 -- store, and ask
-abbrev pub put_and_ask : Program
+abbrev pub put_and_ask : ProcedureText
 put_and_ask = record { args = 0; body = text.put 3 (num (pos 7)) (num (pos 4)) (text.ask 9 text.empty) }
 
 -- spend an amount from one checking; ask where it has less
-abbrev pub spend : Program
+abbrev pub spend : ProcedureText
 spend = record {
   args = 1;
   body =

@@ -7,7 +7,7 @@ use Rattle.sgt_model.specs.declared.entry.Entry.{Entry}
 use Rattle.sgt_model.specs.declared.limits.Asks.TheVariants.{AtStep}
 use Rattle.sgt_model.specs.Contents.{put_in}
 use Rattle.sgt_model.specs.Syntax as text
-use Rattle.sgt_model.specs.Syntax.{Program, num, arg, reg, sum, diff, at_most}
+use Rattle.sgt_model.specs.Syntax.{ProcedureText, num, arg, reg, sum, diff, at_most}
 use Rattle.sgt_model.specs.Runs.{Done, Asked, serial}
 use Rattle.sgt_model.specs.Traces.{look, put, ended, trace}
 use Rattle.sgt_model.specs.Meaning.{run_with}
@@ -20,7 +20,7 @@ use Rattle.sgt_model.proofs.ExampleSettings.{opening, entry}
 
 -- draw the amount, the second argument, from the checking of a customer, the first: where it is at most what is there, and
 -- else nothing; answer what was drawn. The store and the answer stand behind the If
-abbrev pub draw : Program
+abbrev pub draw : ProcedureText
 draw = record {
   args = 2;
   body =
@@ -58,7 +58,7 @@ draws_nowhere-execution : execution draw (pos 103 ∷ pos 1 ∷ []) opening ≡ 
 draws_nowhere-execution = refl
 
 -- count: one more than what a record holds, or than the argument where it is not there, is stored and answered
-abbrev pub count : Program
+abbrev pub count : ProcedureText
 count = record {
   args = 1;
   body =
@@ -82,7 +82,7 @@ counts_on-execution : execution count (pos 40 ∷ []) (put_in opening (3, pos 7)
 counts_on-execution = refl
 
 -- a store is looked at by the procedure itself, before anyone else sees it
-abbrev pub put_and_look : Program
+abbrev pub put_and_look : ProcedureText
 put_and_look = record {
   args = 0;
   body = text.put 3 (num (pos 7)) (num (pos 4)) (text.look 0 3 (num (pos 7)) 6 (text.answer (reg 0) text.empty));

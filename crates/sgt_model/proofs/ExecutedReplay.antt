@@ -3,7 +3,7 @@ use Rattle.std.specs.Prelude.{◌≡◌, ℤ, List, [], ◌∷◌, Option, Some,
 use Rattle.std.proofs.Common.{refl, sym, ap, ◌∙◌}
 use Rattle.sgt_model.specs.declared.limits.Limits.{Limits}
 use Rattle.sgt_model.specs.Contents.{Contents}
-use Rattle.sgt_model.specs.Syntax.{Program}
+use Rattle.sgt_model.specs.Syntax.{ProcedureText}
 use Rattle.sgt_model.specs.Runs.{serial}
 use Rattle.sgt_model.specs.Settings.{run_if, setting}
 use Rattle.sgt_model.specs.Progress.{Call, run_of}
@@ -13,15 +13,15 @@ use Rattle.sgt_model.proofs.Executions.{serial_is}
 use Rattle.sgt_model.proofs.Replays.{is_serializable}
 
 -- the run of a call is its execution
-run_is : (p : Option Program) (args : List ℤ) (m : Contents) → serial (run_if p args) m ≡ execution_if p args m
+run_is : (p : Option ProcedureText) (args : List ℤ) (m : Contents) → serial (run_if p args) m ≡ execution_if p args m
 run_is None args m = refl
 run_is (Some p) args m = serial_is p args m
 
-call_is : (opening : Contents) (programs : List Program) (limits : Limits) (c : Call) (m : Contents)
+call_is : (opening : Contents) (programs : List ProcedureText) (limits : Limits) (c : Call) (m : Contents)
     → serial (run_of (setting opening programs limits).rules c) m ≡ execution_of programs c m
 call_is opening programs limits c m = run_is (slice_get programs c.procedure) c.args m
 
-replay_is : (opening : Contents) (programs : List Program) (limits : Limits) (calls : List Call)
+replay_is : (opening : Contents) (programs : List ProcedureText) (limits : Limits) (calls : List Call)
     → run_in_turn (setting opening programs limits) calls ≡ execute_in_turn opening programs calls
 replay_is opening programs limits [] = refl
 replay_is opening programs limits (c ∷ before) =

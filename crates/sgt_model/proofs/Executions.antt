@@ -4,11 +4,11 @@ use Rattle.std.specs.Ordering.{int_eq}
 use Rattle.std.proofs.Common.{refl, ◌∙◌}
 use Rattle.sgt_model.specs.Numbers.{is_value}
 use Rattle.sgt_model.specs.Contents.{Key, Contents}
-use Rattle.sgt_model.specs.Syntax.{Term, num, arg, reg, sum, diff, product, quotient, Test, less, at_most, equal, Block, empty, look, find, put, save, ask, choose, answer}
+use Rattle.sgt_model.specs.Syntax.{ExprText, num, arg, reg, sum, diff, product, quotient, CondText, less, at_most, equal, Block, empty, look, find, put, save, ask, choose, answer}
 use Rattle.sgt_model.specs.Runs.{Run, Outcome, Asked, serial}
 use Rattle.sgt_model.specs.Ways.{Way, onto}
 use Rattle.sgt_model.specs.Ways as way
-use Rattle.sgt_model.specs.Meaning.{Got, is, over, missing, got, bounded, divided, both, value_of, Truth, holds, too_far, unknown, compared, truth_of, wrong, with_value, with_test, is_key, if_found, run}
+use Rattle.sgt_model.specs.Meaning.{Got, is, over, missing, got, bounded, divided, both, value_of, Truth, holds, too_far, unknown, compared, truth_of, wrong, with_value, with_condition, is_key, if_found, run}
 use Rattle.sgt_model.specs.Executions.{OrCode, and_then, provided, Workspace, workspace_of, in_turn, value_or_overflow, quotient_or_overflow, evaluate, decide, look_at_record, find_record, put_record, let_register, give_answer, execute, outcome_of, SerialIsExecution}
 
 -- expressions
@@ -56,7 +56,7 @@ found_is : (o : Option ℤ) → ok_or o 0 ≡ got_or_code (got o)
 found_is None = refl
 found_is (Some v) = refl
 
-value_is : (t : Term) (args : List ℤ) (w : Workspace) → evaluate t args w ≡ got_or_code (value_of t args w.registers)
+value_is : (t : ExprText) (args : List ℤ) (w : Workspace) → evaluate t args w ≡ got_or_code (value_of t args w.registers)
 value_is (num n) args w = refl
 value_is (arg n) args w = found_is (slice_get args n)
 value_is (reg n) args w = found_is (slice_index_or w.registers n None)
@@ -69,7 +69,7 @@ value_is (product a b) args w = rw (value_is a args w, value_is b args w)
 value_is (quotient a b) args w = rw (value_is a args w, value_is b args w)
     (both_are _ _ divided_is (value_of a args w.registers) (value_of b args w.registers))
 
-test_is : (t : Test) (args : List ℤ) (w : Workspace) → decide t args w ≡ test_or_code (truth_of t args w.registers)
+test_is : (t : CondText) (args : List ℤ) (w : Workspace) → decide t args w ≡ test_or_code (truth_of t args w.registers)
 test_is (less a b) args w = rw (value_is a args w, value_is b args w) (compared_are int_lt (value_of a args w.registers)
     (value_of b args w.registers))
 test_is (at_most a b) args w = rw (value_is a args w, value_is b args w) (compared_are int_le (value_of a args w.registers)
@@ -107,7 +107,7 @@ last_step false w go m rest same = refl
 
 test_step : (h : Truth) (r : OrCode Bool) (ys ns : Run) (m : Contents) (next : Bool → OrCode Workspace) (rest : Workspace → Outcome)
     → r ≡ test_or_code h → serial ys m ≡ after (next true) rest → serial ns m ≡ after (next false) rest
-    → serial (with_test h ys ns) m ≡ after (and_then r next) rest
+    → serial (with_condition h ys ns) m ≡ after (and_then r next) rest
 test_step (holds true) r ys ns m next rest e yes_same no_same = rw e yes_same
 test_step (holds false) r ys ns m next rest e yes_same no_same = rw e no_same
 test_step too_far r ys ns m next rest e yes_same no_same = rw e refl

@@ -14,13 +14,13 @@ use Rattle.sgt_model.specs.declared.kind.Kind.TheVariants.{Look}
 use Rattle.sgt_model.specs.Contents.{Key, key_eq}
 use Rattle.sgt_model.specs.Walks.{Member}
 use Rattle.sgt_model.specs.Accesses.{Access, access_in, access_of}
-use Rattle.sgt_model.specs.Fates.{is_start, starts, ending_in, fate_of, has_committed, has_aborted, aborted, committed, live}
+use Rattle.sgt_model.specs.Fates.{is_start, start_count, ending_in, fate_of, has_committed, has_aborted, aborted, committed, live}
 use Rattle.sgt_model.specs.Values.{visible}
 use Rattle.sgt_model.specs.Pairs.{one_stores, conflicts, has_conflicting, FollowsIn, Precedes}
 use Rattle.sgt_model.specs.Closes.{Closes}
 use Rattle.sgt_model.specs.Settings.{Setting}
 use Rattle.sgt_model.specs.Progress.{call_at, call_in, call_of, next_of}
-use Rattle.sgt_model.specs.Legality.{NoneLive, LegalReply, Legal}
+use Rattle.sgt_model.specs.Legality.{HasNoLivePredecessor, LegalReply, Legal}
 use Rattle.sgt_model.specs.Replay.{told_call_in, told_in}
 use Rattle.sgt_model.specs.Laws.{CommitAgrees}
 use Rattle.sgt_model.proofs.Effects.{EndsNone, ends_none-no_end, ends_none-no_call, ends_none-tells_none, ends_none-agrees, no_start-no_call, Begins, Fits, Accesses, Commits, Undoing, Undoes, Effect, idle, begins, accesses, commits, undoes, Refusal, refuses, none_from, effect}
@@ -47,14 +47,14 @@ none_unless (Some g) h = absurd (h g refl)
 
 -- on one entry
 
-pub live-started : (past : List Entry) (t : ℕ) → live past t ≡ true → t < starts past
-live-started past t h = ltb-true t (starts past) (and_parts _ _ h).0
+pub live-started : (past : List Entry) (t : ℕ) → live past t ≡ true → t < start_count past
+live-started past t h = ltb-true t (start_count past) (and_parts _ _ h).0
 
 pub live-no_fate : (past : List Entry) (t : ℕ) → live past t ≡ true → fate_of past t ≡ None
 live-no_fate past t h = none_from _ (and_parts _ _ h).1
 
-pub live_from : (past : List Entry) (t : ℕ) → t < starts past → fate_of past t ≡ None → live past t ≡ true
-live_from past t started open_still = and_from _ _ (lt-ltb t (starts past) started) (ap is_none open_still)
+pub live_from : (past : List Entry) (t : ℕ) → t < start_count past → fate_of past t ≡ None → live past t ≡ true
+live_from past t started open_still = and_from _ _ (lt-ltb t (start_count past) started) (ap is_none open_still)
 
 Commits-ends : {s : Setting} {past : List Entry} {event : Event} {r : Reply} (c : Commits s past event r) (u : ℕ)
     → ending_in event r u ≡ cond (nat_eq c.t u) (Some fate.Committed) None
@@ -185,10 +185,10 @@ ended-no_end s past event r h t f e = none_unless _ (λ g q. absurd (cc (sym (li
 
 -- a transaction that commits had no live one before it, and no other ends with it
 pub commit-none_live : (s : Setting) (past : List Entry) (event : Event) (r : Reply) → LegalReply s past event r → (t : ℕ)
-    → ending_in event r t ≡ Some fate.Committed → NoneLive past t
+    → ending_in event r t ≡ Some fate.Committed → HasNoLivePredecessor past t
 commit-none_live s past event r h t e =
     elim (end_case (effect s past event r h) t fate.Committed e) [
-      | inl q ↦ subst (λ u. NoneLive past u) q.is q.commit.none_live
+      | inl q ↦ subst (λ u. HasNoLivePredecessor past u) q.is q.commit.none_live
       | inr q ↦ absurd (cc q.is_abort)
     ]
 
@@ -207,10 +207,10 @@ starts_at : (b : Bool) (n : ℕ) → n ≤ cond b (n + 1) n
 starts_at true n = omega arith
 starts_at false n = le_refl n
 
-pub starts-grow : (e : Entry) (past : List Entry) → starts past ≤ starts (e ∷ past)
-starts-grow e past = starts_at (is_start e.reply) (starts past)
+pub starts-grow : (e : Entry) (past : List Entry) → start_count past ≤ start_count (e ∷ past)
+starts-grow e past = starts_at (is_start e.reply) (start_count past)
 
-pub started-stays : (e : Entry) (past : List Entry) (t : ℕ) → t < starts past → t < starts (e ∷ past)
+pub started-stays : (e : Entry) (past : List Entry) (t : ℕ) → t < start_count past → t < start_count (e ∷ past)
 started-stays e past t h = lt_of_lt_of_le h (starts-grow e past)
 
 -- a fate is final
@@ -219,7 +219,7 @@ pub fate-final : (s : Setting) (e : Entry) (past : List Entry) → Legal s (e �
 fate-final s e past h t f ended = option_or-at_none _ _ (ended-no_end s past e.event e.reply h.1 t f ended) ∙ ended
 
 -- what has ended was started
-pub ended-started : (s : Setting) (past : List Entry) → Legal s past → (t : ℕ) (f : Fate) → fate_of past t ≡ Some f → t < starts past
+pub ended-started : (s : Setting) (past : List Entry) → Legal s past → (t : ℕ) (f : Fate) → fate_of past t ≡ Some f → t < start_count past
 ended-started s [] h t f ended = absurd (cc)
 ended-started s (e ∷ past) h t f ended =
     elim (option_or-cases _ _ f ended) [
@@ -228,11 +228,11 @@ ended-started s (e ∷ past) h t f ended =
       | inr before ↦ started-stays e past t (ended-started s past h.0 t f before.1)
     ]
 
-pub unstarted-no_fate : (s : Setting) (past : List Entry) → Legal s past → (t : ℕ) → starts past ≤ t → fate_of past t ≡ None
+pub unstarted-no_fate : (s : Setting) (past : List Entry) → Legal s past → (t : ℕ) → start_count past ≤ t → fate_of past t ≡ None
 unstarted-no_fate s past h t unstarted = none_unless _ (λ f ended. let started = ended-started s past h t f ended in omega arith)
 
 -- what is live after an entry was live before it, or was started by it
-pub live-before : (e : Entry) (past : List Entry) (t : ℕ) → live (e ∷ past) t ≡ true → t < starts past → live past t ≡ true
+pub live-before : (e : Entry) (past : List Entry) (t : ℕ) → live (e ∷ past) t ≡ true → t < start_count past → live past t ≡ true
 live-before e past t alive started = live_from past t started (option_or-none _ _ (live-no_fate (e ∷ past) t alive)).1
 
 pub committed-fate : (past : List Entry) (t : ℕ) → committed past t ≡ true → fate_of past t ≡ Some fate.Committed
@@ -279,7 +279,7 @@ pub committed-stands : (past : List Entry) (t : ℕ) → committed past t ≡ tr
 committed-stands past t h = ap has_aborted (committed-fate past t h)
 
 -- a started transaction is live, committed or aborted
-pub status : (past : List Entry) (t : ℕ) → t < starts past → (live past t ≡ true) ⊎ ((committed past t ≡ true) ⊎ (aborted past t ≡ true))
+pub status : (past : List Entry) (t : ℕ) → t < start_count past → (live past t ≡ true) ⊎ ((committed past t ≡ true) ⊎ (aborted past t ≡ true))
 status past t started = go (fate_of past t) refl
   where
     go : (o : Option Fate) → fate_of past t ≡ o → (live past t ≡ true) ⊎ ((committed past t ≡ true) ⊎ (aborted past t ≡ true))
@@ -289,7 +289,7 @@ status past t started = go (fate_of past t) refl
     go (Some (fate.Fell u)) e = inr (inr (ap has_aborted e))
 
 -- a started one that is neither live nor aborted is committed
-pub committed_else : (past : List Entry) (t : ℕ) → t < starts past → (live past t ≡ true → ⊥) → aborted past t ≡ false
+pub committed_else : (past : List Entry) (t : ℕ) → t < start_count past → (live past t ≡ true → ⊥) → aborted past t ≡ false
     → committed past t ≡ true
 committed_else past t started not_live stands = elim (status past t started) [
   | inl alive ↦ absurd (not_live alive)
@@ -344,22 +344,22 @@ follows-access past (Some a) t u h = record { access = a; is = refl; by = h.0; a
 
 -- who has an access was started, and so unstarted transactions have none
 pub has_conflicting-started : (s : Setting) (past : List Entry) → Legal s past → (t : ℕ) (k : Key) (kind : Kind)
-    → has_conflicting past t k kind ≡ true → t < starts past
+    → has_conflicting past t k kind ≡ true → t < start_count past
 has_conflicting-started s [] h t k kind q = absurd (cc)
 has_conflicting-started s (e ∷ past) h t k kind q = elim (or_cases _ _ q) [
   | inl now ↦ let c = conflicts-access _ t k kind now in
       started-stays e past t
-      (subst (λ u. u < starts past) c.by (live-started past _ (access-live s past e.event e.reply h.1 c.access c.is)))
+      (subst (λ u. u < start_count past) c.by (live-started past _ (access-live s past e.event e.reply h.1 c.access c.is)))
   | inr before ↦ started-stays e past t (has_conflicting-started s past h.0 t k kind before)
 ]
 
 pub precedes-started : (s : Setting) (past : List Entry) → Legal s past → (t u : ℕ) → Precedes past t u
-    → (t < starts past) × (u < starts past)
+    → (t < start_count past) × (u < start_count past)
 precedes-started s [] h t u p = absurd p
 precedes-started s (e ∷ past) h t u (inl now) = let f = follows-access past (access_of e) t u now in (
   started-stays e past t (has_conflicting-started s past h.0 t _ _ f.access_list),
   started-stays e past u
-      (subst (λ v. v < starts past) f.by (live-started past _ (access-live s past e.event e.reply h.1 f.access f.is))),
+      (subst (λ v. v < start_count past) f.by (live-started past _ (access-live s past e.event e.reply h.1 f.access f.is))),
 )
 precedes-started s (e ∷ past) h t u (inr before) = let p = precedes-started s past h.0 t u before in
     (started-stays e past t p.0, started-stays e past u p.1)
@@ -402,17 +402,17 @@ commits_or_not {s} {past} {event} {r} (undoes x) = inr (inr (undone_uncommitted 
 commits_or_not (refuses x) = inr (inl x)
 
 -- the call of a transaction that was started stays
-call_in-kept : {s : Setting} {past : List Entry} {event : Event} {r : Reply} → Effect s past event r → (t : ℕ) → t < starts past
+call_in-kept : {s : Setting} {past : List Entry} {event : Event} {r : Reply} → Effect s past event r → (t : ℕ) → t < start_count past
     → call_in event r t ≡ None
 call_in-kept {s} {past} {event} {r} (idle i) t h = no_start-no_call event r i.no_start t
 call_in-kept {s} {past} {event} {r} (begins b) t h = ap (λ x. call_in event x t) b.reply_is ∙ ap (λ c. cond c (call_at event) None)
-    (ne_eqb (starts past) t (λ e. omega arith))
+    (ne_eqb (start_count past) t (λ e. omega arith))
 call_in-kept {s} {past} {event} {r} (accesses x) t h = no_start-no_call event r x.no_start t
 call_in-kept {s} {past} {event} {r} (commits c) t h = ap (λ x. call_in event x t) c.reply_is
 call_in-kept {s} {past} {event} {r} (undoes x) t h = ap (λ y. call_in event y t) x.reply_is
 call_in-kept {s} {past} {event} {r} (refuses x) t h = ap (λ y. call_in event y t) x.reply_is
 
-pub call-kept : (s : Setting) (past : List Entry) (e : Entry) (t : ℕ) → LegalReply s past e.event e.reply → t < starts past
+pub call-kept : (s : Setting) (past : List Entry) (e : Entry) (t : ℕ) → LegalReply s past e.event e.reply → t < start_count past
     → call_of (e ∷ past) t ≡ call_of past t
 call-kept s past e t h started = ap (λ x. unwrap_or x (call_of past t)) (call_in-kept (effect s past e.event e.reply h) t started)
 

@@ -4,11 +4,11 @@ use Rattle.std.proofs.Common.{refl, sym, ap, ◌∙◌, arith}
 use Rattle.sgt_model.specs.Numbers.{is_value}
 use Rattle.sgt_model.specs.Contents.{Key}
 use Rattle.sgt_model.specs.Syntax.{Block, empty, look, find, put, save, ask, choose, answer}
-use Rattle.sgt_model.specs.Runs.{Run, looks, puts, ends, asks}
-use Rattle.sgt_model.specs.Traces.{Used, Next, Looks, Puts, Ends, Asks, trace, next_at}
+use Rattle.sgt_model.specs.Runs.{Run, looks, puts, ends, raises}
+use Rattle.sgt_model.specs.Traces.{Used, Next, Looks, Puts, Ends, Raises, trace, next_at}
 use Rattle.sgt_model.specs.Ways.{Way, onto}
 use Rattle.sgt_model.specs.Ways as way
-use Rattle.sgt_model.specs.Meaning.{Got, is, over, missing, Truth, holds, too_far, unknown, Registers, value_of, truth_of, wrong, with_value, with_test, is_key, if_found, found_or, run, run_with}
+use Rattle.sgt_model.specs.Meaning.{Got, is, over, missing, Truth, holds, too_far, unknown, Registers, value_of, truth_of, wrong, with_value, with_condition, is_key, if_found, found_or, run, run_with}
 use Rattle.sgt_model.specs.Executions.{OrCode, and_then, provided}
 use Rattle.sgt_model.specs.Left.{Rest, Left, ToRun, ToAsk, left_at_start, followed_by, Reached, AtLook, AtFind, AtStore, AtEnd, then_behind, number_or_code, choice_or_code, reach, reached, next_of_reached, next_left, with_found, behind_look, after_look, behind_store, after_store, after_next, left_after, NextIsOfLeft, LeftAfterLook, LeftAfterStore}
 
@@ -32,7 +32,7 @@ run_reached args behind (Ok (AtFind key to absent r)) =
     looks key (λ found. run r.args (onto r.statements behind) (slice_set r.registers to (Some (found_or absent found))) r.answers)
 run_reached args behind (Ok (AtStore key v r)) = puts key v (run r.args (onto r.statements behind) r.registers r.answers)
 run_reached args behind (Ok (AtEnd registers answers)) = run args behind registers answers
-run_reached args behind (Err code) = asks code
+run_reached args behind (Err code) = raises code
 
 -- the tests of a run, one by one
 
@@ -53,7 +53,7 @@ last_step args behind true r go same = same
 last_step args behind false r go same = refl
 
 test_step : (args : List ℤ) (behind : Way) (h : Truth) (ys ns : Run) (next : Bool → OrCode Reached) → ys ≡ run_reached args behind
-    (next true) → ns ≡ run_reached args behind (next false) → with_test h ys ns ≡ run_reached args behind (and_then (choice_or_code h) next)
+    (next true) → ns ≡ run_reached args behind (next false) → with_condition h ys ns ≡ run_reached args behind (and_then (choice_or_code h) next)
 test_step args behind (holds true) ys ns next yes_same no_same = yes_same
 test_step args behind (holds false) ys ns next yes_same no_same = no_same
 test_step args behind too_far ys ns next yes_same no_same = refl
@@ -104,7 +104,7 @@ reach_is args (answer value b) behind registers answers =
 
 abbrev pub run_left : Left → Run
 run_left (ToRun r) = run r.args (onto r.statements way.end) r.registers r.answers
-run_left (ToAsk code) = asks code
+run_left (ToAsk code) = raises code
 
 -- at the end nothing depends on the arguments
 at_end : (args : List ℤ) (o : OrCode Reached) → run_reached args way.end o ≡ run_reached [] way.end o
@@ -125,13 +125,13 @@ abbrev next_of_run : Run → Next
 next_of_run (looks k go) = Looks k
 next_of_run (puts k v rest) = Puts k v
 next_of_run (ends answers) = Ends answers
-next_of_run (asks code) = Asks code
+next_of_run (raises code) = Raises code
 
 next_of_trace : (r : Run) → next_of_run r ≡ next_at (trace r []) 0
 next_of_trace (looks k go) = refl
 next_of_trace (puts k v rest) = refl
 next_of_trace (ends answers) = refl
-next_of_trace (asks code) = refl
+next_of_trace (raises code) = refl
 
 next_reached : (o : OrCode Reached) → next_of_reached o ≡ next_of_run (run_reached [] way.end o)
 next_reached (Ok (AtLook key to absent r)) = refl
@@ -205,7 +205,7 @@ next_after (suc made) (puts k v rest) l values same used =
     ap next_left (store_first l k v values made (next_is l (puts k v rest) same))
     ∙ next_after made rest (after_store l) values (store_is l (puts k v rest) same) used
 next_after (suc made) (ends answers) l values same used = absurd used
-next_after (suc made) (asks code) l values same used = absurd used
+next_after (suc made) (raises code) l values same used = absurd used
 
 pub look_after : (made : ℕ) (r : Run) (l : Left) (values : List (Option ℤ)) → run_left l ≡ r → Used r values made
     → (key : Key) (found : Option ℤ) → next_left (left_after l values made) ≡ Looks key → left_after l (values ++ found ∷ [])
@@ -226,7 +226,7 @@ look_after (suc made) (puts k w rest) l values same used key found next =
     ∙ (look_after made rest (after_store l) values (store_is l (puts k w rest) same) used key found (ap next_left (sym one) ∙ next)
     ∙ ap (after_look found) (sym one))
 look_after (suc made) (ends answers) l values same used key found next = absurd used
-look_after (suc made) (asks code) l values same used key found next = absurd used
+look_after (suc made) (raises code) l values same used key found next = absurd used
 
 pub store_after : (made : ℕ) (r : Run) (l : Left) (values : List (Option ℤ)) → run_left l ≡ r → Used r values made
     → (key : Key) (v : ℤ) → next_left (left_after l values made) ≡ Puts key v → left_after l values (suc made) ≡ after_store
@@ -247,7 +247,7 @@ store_after (suc made) (puts k w rest) l values same used key v next =
     ∙ (store_after made rest (after_store l) values (store_is l (puts k w rest) same) used key v (ap next_left (sym one) ∙ next)
     ∙ ap after_store (sym one))
 store_after (suc made) (ends answers) l values same used key v next = absurd used
-store_after (suc made) (asks code) l values same used key v next = absurd used
+store_after (suc made) (raises code) l values same used key v next = absurd used
 
 -- the laws
 

@@ -3,9 +3,9 @@ use Rattle.std.specs.Prelude.{◌≡◌, ℕ, suc, ℤ, List, [], ◌∷◌, ◌
 use Rattle.std.proofs.Common.{refl, sym, ◌∙◌, subst, append-nil}
 use Rattle.sgt_model.specs.declared.entry.Entry.{Entry}
 use Rattle.sgt_model.specs.Contents.{Key}
-use Rattle.sgt_model.specs.Syntax.{Program}
+use Rattle.sgt_model.specs.Syntax.{ProcedureText}
 use Rattle.sgt_model.specs.Runs.{Run}
-use Rattle.sgt_model.specs.Traces.{Used, trace, Next, Looks, Puts, Ends, Asks, next_at}
+use Rattle.sgt_model.specs.Traces.{Used, trace, Next, Looks, Puts, Ends, Raises, next_at}
 use Rattle.sgt_model.specs.Left.{Left, next_left, after_look, after_store, left_after}
 use Rattle.sgt_model.specs.Accesses.{Access, acts}
 use Rattle.sgt_model.specs.Settings.{Setting, run_if}
@@ -32,7 +32,7 @@ one_used r done a (Puts k v) next fits used = subst (λ kind. Used r (values_rea
     (sym fits.1) (subst (λ l. Used r l (suc (length done))) (sym (append-nil (values_read done)))
     (used_store-suc r (values_read done) (length done) k v used next))
 one_used r done a (Ends answers) next fits used = absurd fits
-one_used r done a (Asks code) next fits used = absurd fits
+one_used r done a (Raises code) next fits used = absurd fits
 
 all_used : (r : Run) (done : List Access) → AsAsked (asks_of r) done → Used r (values_read done) (length done)
 all_used r [] h = tt
@@ -40,12 +40,12 @@ all_used r (a ∷ done) h = one_used r done a (next_at (trace r (values_read don
 
 -- what is left at the start is the whole run
 
-run_at_start : (p : Option Program) (args : List ℤ) → run_left (left_if p args) ≡ run_if p args
+run_at_start : (p : Option ProcedureText) (args : List ℤ) → run_left (left_if p args) ≡ run_if p args
 run_at_start None args = refl
 run_at_start (Some p) args = refl
 
 -- what is left of a procedure goes on as its run does
-module _ (p : Option Program) (args : List ℤ) (values : List (Option ℤ)) (made : ℕ) (used : Used (run_if p args) values made) where
+module _ (p : Option ProcedureText) (args : List ℤ) (values : List (Option ℤ)) (made : ℕ) (used : Used (run_if p args) values made) where
   pub next_if : next_left (left_after (left_if p args) values made) ≡ next_at (trace (run_if p args) values) made
   next_if = next_after made (run_if p args) (left_if p args) values (run_at_start p args) used
 

@@ -17,7 +17,7 @@ state_new s c n = record {
   settled = n.settled;
   read_from = λ u t. ((λ q. absurd (subst (λ l. Has l u t) n.read_from q)), (λ p. absurd p.read));
   fates = n.fates;
-  starts = n.starts;
+  start_count = n.start_count;
   left = λ t l. absurd (both_ways (live [] t) (none t) l);
 }
   where

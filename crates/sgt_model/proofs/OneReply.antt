@@ -10,16 +10,16 @@ use Rattle.sgt_model.specs.declared.reply.Fate.{Fate}
 use Rattle.sgt_model.specs.declared.entry.Entry.{Entry}
 use Rattle.sgt_model.specs.declared.kind.Kind.{Kind}
 use Rattle.sgt_model.specs.declared.kind.Kind.TheVariants.{Look, Store}
-use Rattle.sgt_model.specs.declared.limits.Asks.{Asks as When}
+use Rattle.sgt_model.specs.declared.limits.Asks.{Asks}
 use Rattle.sgt_model.specs.declared.limits.Asks.TheVariants.{AtStep, AtCommit}
 use Rattle.sgt_model.specs.Contents.{Key}
-use Rattle.sgt_model.specs.Traces.{Next, Looks, Puts, Ends, Asks}
-use Rattle.sgt_model.specs.Walks.{Member, Rising, IsLeastBefore}
-use Rattle.sgt_model.specs.Fates.{starts, fate_of}
+use Rattle.sgt_model.specs.Traces.{Next, Looks, Puts, Ends, Raises}
+use Rattle.sgt_model.specs.Walks.{Member, Rising, IsLeastPredecessor}
+use Rattle.sgt_model.specs.Fates.{start_count, fate_of}
 use Rattle.sgt_model.specs.Falls.{Falls}
 use Rattle.sgt_model.specs.Settings.{Setting}
 use Rattle.sgt_model.specs.Progress.{next_of}
-use Rattle.sgt_model.specs.Legality.{Aborts, AbortsByCycle, AskedStep, AskedCommit, Makes, StepReply, LivePredecessor, MustWait, MayCommit, CommitReply, OfStarted}
+use Rattle.sgt_model.specs.Legality.{AbortReply, CycleAbortReply, RaisedStep, RaisedCommit, Makes, StepReply, LivePredecessor, MustWait, MayCommit, CommitReply, OfStarted}
 use Rattle.sgt_model.specs.OneReply.{SameButWalk, RepliesAreUnique}
 use Rattle.sgt_model.proofs.Paths.{Within}
 
@@ -69,13 +69,13 @@ same_fall : (past : List Entry) (t : ℕ) (fell other : List ℕ) → Falls past
 same_fall past t fell other f g = rising_same fell other f.rising g.rising (falls_within past t fell other f g)
     (falls_within past t other fell g f)
 
-one_abort : (past : List Entry) (t : ℕ) (why : Cause) (r q : Reply) → Aborts past t why r → Aborts past t why q → r ≡ q
+one_abort : (past : List Entry) (t : ℕ) (why : Cause) (r q : Reply) → AbortReply past t why r → AbortReply past t why q → r ≡ q
 one_abort past t why r q a b = a.is ∙ (ap (λ l. reply.Aborted why l) (same_fall past t a.fell b.fell a.falls b.falls) ∙ sym b.is)
 
 -- steps
 
 one_access : (past : List Entry) (t : ℕ) (k : Key) (kind : Kind) (given r q : Reply)
-    → AbortsByCycle past t k kind r ⊎ Makes past t k kind given r → AbortsByCycle past t k kind q ⊎ Makes past t k kind given q
+    → CycleAbortReply past t k kind r ⊎ Makes past t k kind given r → CycleAbortReply past t k kind q ⊎ Makes past t k kind given q
     → SameButWalk r q
 one_access past t k kind given r q (inl a) (inl b) = inr (record {
   walk = t ∷ a.rest;
@@ -89,8 +89,8 @@ one_access past t k kind given r q (inl a) (inr b) = absurd (b.free a.rest a.clo
 one_access past t k kind given r q (inr a) (inl b) = absurd (a.free b.rest b.closes)
 one_access past t k kind given r q (inr a) (inr b) = inl (a.is ∙ sym b.is)
 
-one_asked_step : (asks : When) (past : List Entry) (t code : ℕ) (r q : Reply) → AskedStep asks past t code r
-    → AskedStep asks past t code q → r ≡ q
+one_asked_step : (asks : Asks) (past : List Entry) (t code : ℕ) (r q : Reply) → RaisedStep asks past t code r
+    → RaisedStep asks past t code q → r ≡ q
 one_asked_step AtStep past t code r q a b = one_abort past t (cause.Asked code) r q a b
 one_asked_step AtCommit past t code r q a b = a ∙ sym b
 
@@ -99,28 +99,28 @@ one_step : (s : Setting) (past : List Entry) (t : ℕ) (next : Next) (r q : Repl
 one_step s past t (Looks k) r q a b = one_access past t k Look _ r q a b
 one_step s past t (Puts k v) r q a b = one_access past t k Store _ r q a b
 one_step s past t (Ends answers) r q a b = inl (a ∙ sym b)
-one_step s past t (Asks code) r q a b = inl (one_asked_step s.rules.limits.asks past t code r q a b)
+one_step s past t (Raises code) r q a b = inl (one_asked_step s.rules.limits.asks past t code r q a b)
 
 -- commits
 
-one_least : (past : List Entry) (t u v : ℕ) → IsLeastBefore (LivePredecessor past) t u → IsLeastBefore (LivePredecessor past) t v → u ≡ v
+one_least : (past : List Entry) (t u v : ℕ) → IsLeastPredecessor (LivePredecessor past) t u → IsLeastPredecessor (LivePredecessor past) t v → u ≡ v
 one_least past t u v a b = let below = a.least v b.pair in let above = b.least u a.pair in omega arith
 
 one_end : (past : List Entry) (t : ℕ) (answers : List ℤ) (r q : Reply) → MustWait past t r ⊎ MayCommit past t answers r
     → MustWait past t q ⊎ MayCommit past t answers q → r ≡ q
-one_end past t answers r q (inl a) (inl b) = a.is ∙ (ap (λ u. reply.Waits u) (one_least past t a.before b.before a.least b.least)
+one_end past t answers r q (inl a) (inl b) = a.is ∙ (ap (λ u. reply.Waits u) (one_least past t a.predecessor b.predecessor a.least b.least)
     ∙ sym b.is)
-one_end past t answers r q (inl a) (inr b) = absurd (b.none_live a.before a.least.pair)
-one_end past t answers r q (inr a) (inl b) = absurd (a.none_live b.before b.least.pair)
+one_end past t answers r q (inl a) (inr b) = absurd (b.none_live a.predecessor a.least.pair)
+one_end past t answers r q (inr a) (inl b) = absurd (a.none_live b.predecessor b.least.pair)
 one_end past t answers r q (inr a) (inr b) = a.is ∙ sym b.is
 
-one_asked_commit : (asks : When) (past : List Entry) (t code : ℕ) (r q : Reply) → AskedCommit asks past t code r
-    → AskedCommit asks past t code q → r ≡ q
+one_asked_commit : (asks : Asks) (past : List Entry) (t code : ℕ) (r q : Reply) → RaisedCommit asks past t code r
+    → RaisedCommit asks past t code q → r ≡ q
 one_asked_commit AtStep past t code r q a b = a ∙ sym b
 one_asked_commit AtCommit past t code r q (inl a) (inl b) = a.is
-    ∙ (ap (λ u. reply.Waits u) (one_least past t a.before b.before a.least b.least) ∙ sym b.is)
-one_asked_commit AtCommit past t code r q (inl a) (inr b) = absurd (b.none_live a.before a.least.pair)
-one_asked_commit AtCommit past t code r q (inr a) (inl b) = absurd (a.none_live b.before b.least.pair)
+    ∙ (ap (λ u. reply.Waits u) (one_least past t a.predecessor b.predecessor a.least b.least) ∙ sym b.is)
+one_asked_commit AtCommit past t code r q (inl a) (inr b) = absurd (b.none_live a.predecessor a.least.pair)
+one_asked_commit AtCommit past t code r q (inr a) (inl b) = absurd (a.none_live b.predecessor b.least.pair)
 one_asked_commit AtCommit past t code r q (inr a) (inr b) =
     a.is ∙ (ap (λ l. reply.Refused code l) (same_fall past t a.fell b.fell a.falls b.falls) ∙ sym b.is)
 
@@ -129,7 +129,7 @@ one_commit : (s : Setting) (past : List Entry) (t : ℕ) (next : Next) (r q : Re
 one_commit s past t (Ends answers) r q a b = one_end past t answers r q a b
 one_commit s past t (Looks k) r q a b = a ∙ sym b
 one_commit s past t (Puts k v) r q a b = a ∙ sym b
-one_commit s past t (Asks code) r q a b = one_asked_commit s.rules.limits.asks past t code r q a b
+one_commit s past t (Raises code) r q a b = one_asked_commit s.rules.limits.asks past t code r q a b
 
 -- every event
 
@@ -142,8 +142,8 @@ one_of_started P if_live false ended r q a b = inl (a ∙ sym b)
 pub replies_are_unique : RepliesAreUnique
 replies_are_unique s past (Start p args) r q a b = inl (a ∙ sym b)
 replies_are_unique s past (Step t) r q a b = one_of_started (λ x. StepReply s past t (next_of s past t) x)
-    (one_step s past t (next_of s past t)) (nat_lt t (starts past)) (fate_of past t) r q a b
+    (one_step s past t (next_of s past t)) (nat_lt t (start_count past)) (fate_of past t) r q a b
 replies_are_unique s past (Commit t) r q a b = one_of_started (λ x. CommitReply s past t (next_of s past t) x)
-    (λ x y g h. inl (one_commit s past t (next_of s past t) x y g h)) (nat_lt t (starts past)) (fate_of past t) r q a b
-replies_are_unique s past (Quit t) r q a b = one_of_started (λ x. Aborts past t cause.Quit x)
-    (λ x y g h. inl (one_abort past t cause.Quit x y g h)) (nat_lt t (starts past)) (fate_of past t) r q a b
+    (λ x y g h. inl (one_commit s past t (next_of s past t) x y g h)) (nat_lt t (start_count past)) (fate_of past t) r q a b
+replies_are_unique s past (Quit t) r q a b = one_of_started (λ x. AbortReply past t cause.Quit x)
+    (λ x y g h. inl (one_abort past t cause.Quit x y g h)) (nat_lt t (start_count past)) (fate_of past t) r q a b

@@ -11,7 +11,7 @@ use Rattle.sgt_model.specs.Accesses.{Access, access_of, act_in, acts}
 use Rattle.sgt_model.specs.Fates.{live}
 use Rattle.sgt_model.specs.Values.{stores, newest_store, value_or, settled}
 use Rattle.sgt_model.specs.Settings.{Setting}
-use Rattle.sgt_model.specs.Legality.{NoneLive, Legal}
+use Rattle.sgt_model.specs.Legality.{HasNoLivePredecessor, Legal}
 use Rattle.sgt_model.specs.Laws.{LookAgrees, LooksAgree}
 use Rattle.sgt_model.proofs.Acts.{over, FindsIn}
 use Rattle.sgt_model.proofs.AtLook.{finds}
@@ -46,17 +46,17 @@ over-acts m (e ∷ past) t k =
 
 -- what `finds` says, with the past and the transaction named
 finds_at : (s : Setting) (newer older past : List Entry) (e : Entry) (a : Access) (t : ℕ) → newer ++ e ∷ older ≡ past → a.by ≡ t
-    → Legal s past → access_of e ≡ Some a → a.kind ≡ Look → live past t ≡ true → NoneLive past t → a.value ≡ value_or
+    → Legal s past → access_of e ≡ Some a → a.kind ≡ Look → live past t ≡ true → HasNoLivePredecessor past t → a.value ≡ value_or
     (newest_store (λ u. nat_eq u t) a.key older) (settled s.opening past a.key)
 finds_at s newer older past e a t split by legal is is_look is_live none_live =
-    let At : List Entry → ℕ → Type 0 = λ p u. Legal s p → live p u ≡ true → NoneLive p u → a.value ≡ value_or
+    let At : List Entry → ℕ → Type 0 = λ p u. Legal s p → live p u ≡ true → HasNoLivePredecessor p u → a.value ≡ value_or
     (newest_store (λ v. nat_eq v u) a.key older) (settled s.opening p a.key) in
     let at : At (newer ++ e ∷ older) a.by = λ g l n. finds s newer older e a g is is_look l n in
     (subst₂ At split by at) legal is_live none_live
 
 -- each look of a transaction that may commit agrees with what is committed by then
 pub looks_agree : (s : Setting) (newer older past : List Entry) (t : ℕ) → newer ++ older ≡ past → Legal s past → live past t ≡ true
-    → NoneLive past t → LooksAgree (settled s.opening past) t older
+    → HasNoLivePredecessor past t → LooksAgree (settled s.opening past) t older
 looks_agree s newer [] past t split legal is_live none_live = tt
 looks_agree s newer (e ∷ older) past t split legal is_live none_live = (
   looks_agree s (newer ++ e ∷ []) older past t (append_assoc newer (e ∷ []) older ∙ split) legal is_live none_live,

@@ -4,7 +4,7 @@ use Rattle.std.proofs.Common.{refl, sym, ap, ◌∙◌, subst, inl, inr, ⊎_eli
 use Rattle.std.proofs.lemmas.Bool.{cases_eq, cases_lt, eq-eqb, ne_eqb, cond-true, cond-false}
 use Rattle.sgt_model.specs.declared.entry.Entry.{Entry}
 use Rattle.sgt_model.specs.Accesses.{Access, access_of, act_in, acts}
-use Rattle.sgt_model.specs.Fates.{starts}
+use Rattle.sgt_model.specs.Fates.{start_count}
 use Rattle.sgt_model.specs.Settings.{Setting}
 use Rattle.sgt_model.specs.Progress.{Call, call_of, run_of, next_of}
 use Rattle.sgt_model.specs.Legality.{LegalReply, Legal}
@@ -23,22 +23,22 @@ pub act_none : (x : Option Access) (t : ℕ) (rest : List Access) → x ≡ None
 act_none x t rest h = ap (λ y. act_in y t rest) h
 
 -- who was not started does not act
-skip_unstarted : (s : Setting) (past : List Entry) (e : Entry) (t : ℕ) → LegalReply s past e.event e.reply → starts past ≤ t
+skip_unstarted : (s : Setting) (past : List Entry) (e : Entry) (t : ℕ) → LegalReply s past e.event e.reply → start_count past ≤ t
     → acts (e ∷ past) t ≡ acts past t
 skip_unstarted s past e t h unstarted = by_access (access_of e) refl
   where
     apart : (a : Access) → access_of e ≡ Some a → a.by ≢ t
-    apart a is z = let started : a.by < starts past = live-started past a.by (access-live s past e.event e.reply h a is) in omega arith
+    apart a is z = let started : a.by < start_count past = live-started past a.by (access-live s past e.event e.reply h a is) in omega arith
 
     by_access : (x : Option Access) → access_of e ≡ x → acts (e ∷ past) t ≡ acts past t
     by_access None is = act_none (access_of e) t (acts past t) is
     by_access (Some a) is = act_other (access_of e) a t (acts past t) is (apart a is)
 
-pub acts_unstarted : (s : Setting) (past : List Entry) (t : ℕ) → Legal s past → starts past ≤ t → acts past t ≡ []
+pub acts_unstarted : (s : Setting) (past : List Entry) (t : ℕ) → Legal s past → start_count past ≤ t → acts past t ≡ []
 acts_unstarted s [] t h unstarted = refl
 acts_unstarted s (e ∷ past) t h unstarted =
     let grow = starts-grow e past in
-    let before : starts past ≤ t = omega arith in
+    let before : start_count past ≤ t = omega arith in
     skip_unstarted s past e t h.1 before ∙ acts_unstarted s past t h.0 before
 
 -- these accesses are what the call's run asks for
@@ -63,9 +63,9 @@ plays_on s past e t h ih = by_access (access_of e) refl
 -- what a transaction did is what its procedure asked for
 pub plays : (s : Setting) (past : List Entry) (t : ℕ) → Legal s past → PlaysCall s (call_of past t) (acts past t)
 plays s [] t h = tt
-plays s (e ∷ past) t h = by_start (plays s past t h.0) (cases_lt t (starts past))
+plays s (e ∷ past) t h = by_start (plays s past t h.0) (cases_lt t (start_count past))
   where
-    by_start : PlaysCall s (call_of past t) (acts past t) → (t < starts past) ⊎ (starts past ≤ t)
+    by_start : PlaysCall s (call_of past t) (acts past t) → (t < start_count past) ⊎ (start_count past ≤ t)
         → PlaysCall s (call_of (e ∷ past) t) (acts (e ∷ past) t)
     by_start ih (inl started) = subst (λ c. PlaysCall s c (acts (e ∷ past) t)) (sym (call-kept s past e t h.1 started))
         (plays_on s past e t h.1 ih)

@@ -12,15 +12,15 @@ use Rattle.sgt_model.specs.declared.reply.Cause.TheVariants as cause
 use Rattle.sgt_model.specs.declared.reply.Fate.{Fate}
 use Rattle.sgt_model.specs.declared.reply.Fate.TheVariants as fate
 use Rattle.sgt_model.specs.declared.entry.Entry.{Entry}
-use Rattle.sgt_model.specs.declared.limits.Asks.{Asks as When}
+use Rattle.sgt_model.specs.declared.limits.Asks.{Asks}
 use Rattle.sgt_model.specs.declared.limits.Asks.TheVariants.{AtStep, AtCommit}
-use Rattle.sgt_model.specs.Traces.{Next, Looks, Puts, Ends, Asks}
-use Rattle.sgt_model.specs.Fates.{is_start, starts, concerns, subject, ending_in, fate_of, live}
+use Rattle.sgt_model.specs.Traces.{Next, Looks, Puts, Ends, Raises}
+use Rattle.sgt_model.specs.Fates.{is_start, start_count, concerns, subject, ending_in, fate_of, live}
 use Rattle.sgt_model.specs.Questions.{named_by, started_number, started_in, tells_end, over_in, is_ending}
 use Rattle.sgt_model.specs.Settings.{Setting}
 use Rattle.sgt_model.specs.Progress.{next_of}
-use Rattle.sgt_model.specs.Legality.{AskedStep, AskedCommit, Aborts, StepReply, CommitReply, OfStarted, OfLive, LegalReply, Legal}
-use Rattle.sgt_model.specs.Aborts.{HasCause}
+use Rattle.sgt_model.specs.Legality.{RaisedStep, RaisedCommit, AbortReply, StepReply, CommitReply, OfStarted, OfLive, LegalReply, Legal}
+use Rattle.sgt_model.specs.Aborts.{CauseHolds}
 use Rattle.sgt_model.specs.Laws.{StartedAreLive, OverAreNotLive, EndingsEndOne, OthersEndNone}
 use Rattle.sgt_model.proofs.Effects.{EndsNone, ends_none-no_end, Effect, idle, begins, accesses, commits, undoes, refuses, effect}
 use Rattle.sgt_model.proofs.Facts.{live-started, live-no_fate, live_from, option_or-at_none, some_is, started-stays, unstarted-no_fate}
@@ -32,7 +32,7 @@ and_false true = refl
 and_false false = refl
 
 has_fate : (past : List Entry) (t : ℕ) (f : Fate) → fate_of past t ≡ Some f → live past t ≡ false
-has_fate past t f e = ap (λ o. nat_lt t (starts past) && is_none o) e ∙ and_false (nat_lt t (starts past))
+has_fate past t f e = ap (λ o. nat_lt t (start_count past) && is_none o) e ∙ and_false (nat_lt t (start_count past))
 
 ends_now : (past : List Entry) (e : Entry) (t : ℕ) (f : Fate) → ending_in e.event e.reply t ≡ Some f → live (e ∷ past) t ≡ false
 ends_now past e t f now = has_fate (e ∷ past) t f (ap (λ o. option_or o (fate_of past t)) now)
@@ -60,7 +60,7 @@ ends_named event _ t own e = absurd (cc)
 ending_of : (r answer : Reply) → r ≡ answer → (tells_end answer ≡ true → is_ending answer ≡ true) → tells_end r ≡ true → is_ending r ≡ true
 ending_of r answer is so e = subst (λ x. tells_end x ≡ true → is_ending x ≡ true) (sym is) so e
 
-asked_step_ends : (asks : When) (past : List Entry) (t code : ℕ) (r : Reply) → AskedStep asks past t code r → tells_end r ≡ true
+asked_step_ends : (asks : Asks) (past : List Entry) (t code : ℕ) (r : Reply) → RaisedStep asks past t code r → tells_end r ≡ true
     → is_ending r ≡ true
 asked_step_ends AtStep past t code r h = ending_of r _ h.is (λ e. refl)
 asked_step_ends AtCommit past t code r h = ending_of r _ h (λ e. e)
@@ -72,9 +72,9 @@ step_ends s past t (Looks k) r (inr h) = ending_of r _ h.is (λ e. e)
 step_ends s past t (Puts k v) r (inl h) = ending_of r _ h.aborts.is (λ e. refl)
 step_ends s past t (Puts k v) r (inr h) = ending_of r _ h.is (λ e. e)
 step_ends s past t (Ends answers) r h = ending_of r _ h (λ e. e)
-step_ends s past t (Asks code) r h = asked_step_ends s.rules.limits.asks past t code r h
+step_ends s past t (Raises code) r h = asked_step_ends s.rules.limits.asks past t code r h
 
-asked_commit_ends : (asks : When) (past : List Entry) (t code : ℕ) (r : Reply) → AskedCommit asks past t code r → tells_end r ≡ true
+asked_commit_ends : (asks : Asks) (past : List Entry) (t code : ℕ) (r : Reply) → RaisedCommit asks past t code r → tells_end r ≡ true
     → is_ending r ≡ true
 asked_commit_ends AtStep past t code r h = ending_of r _ h (λ e. e)
 asked_commit_ends AtCommit past t code r (inl h) = ending_of r _ h.is (λ e. e)
@@ -86,21 +86,21 @@ commit_ends s past t (Ends answers) r (inl h) = ending_of r _ h.is (λ e. e)
 commit_ends s past t (Ends answers) r (inr h) = ending_of r _ h.is (λ e. refl)
 commit_ends s past t (Looks k) r h = ending_of r _ h (λ e. e)
 commit_ends s past t (Puts k v) r h = ending_of r _ h (λ e. e)
-commit_ends s past t (Asks code) r h = asked_commit_ends s.rules.limits.asks past t code r h
+commit_ends s past t (Raises code) r h = asked_commit_ends s.rules.limits.asks past t code r h
 
 -- the transaction of an event is not live after it, where it ends if it was live: else it was not started, or has ended
 over_at : (past : List Entry) (e : Entry) (t : ℕ) (P : Type 0) → (P → EndsIt e.event e.reply t) → (b : Bool) (o : Option Fate)
-    → nat_lt t (starts past) ≡ b → fate_of past t ≡ o → OfStarted b o e.reply P → live (e ∷ past) t ≡ false
+    → nat_lt t (start_count past) ≡ b → fate_of past t ≡ o → OfStarted b o e.reply P → live (e ∷ past) t ≡ false
 over_at past e t P ends true None begun ended h = let f = ends h in ends_now past e t f.0 f.1
 over_at past e t P ends true (Some f) begun ended h =
     has_fate (e ∷ past) t f (option_or-at_none _ _ (ap (λ r. ending_in e.event r t) h) ∙ ended)
 over_at past e t P ends false o begun ended h =
-    ap (λ r. nat_lt t (cond (is_start r) (starts past + 1) (starts past)) && is_none (fate_of (e ∷ past) t)) h
+    ap (λ r. nat_lt t (cond (is_start r) (start_count past + 1) (start_count past)) && is_none (fate_of (e ∷ past) t)) h
     ∙ ap (λ b. b && is_none (fate_of (e ∷ past) t)) begun
 
 over : (past : List Entry) (e : Entry) (t : ℕ) (P : Type 0) → (P → EndsIt e.event e.reply t) → OfLive past t e.reply P
     → live (e ∷ past) t ≡ false
-over past e t P ends h = over_at past e t P ends (nat_lt t (starts past)) (fate_of past t) refl refl h
+over past e t P ends h = over_at past e t P ends (nat_lt t (start_count past)) (fate_of past t) refl refl h
 
 named_own : (u t : ℕ) → Some u ≡ Some t → nat_eq u t ≡ true
 named_own u t e = eq-eqb u t (some_is u t e)
@@ -130,17 +130,17 @@ over_are_not_live s past e legal t is = by_event e.event refl is
     by_event (Quit u) same x =
         let now : LegalReply s past (Quit u) e.reply = subst (λ v. LegalReply s past v e.reply) same legal.1 in
         let own : concerns e.event u ≡ true = ap (λ v. concerns v u) same ∙ eq-eqb u u refl in
-        subst (λ v. live (e ∷ past) v ≡ false) (some_is u t x) (over past e u (Aborts past u cause.Quit e.reply)
+        subst (λ v. live (e ∷ past) v ≡ false) (some_is u t x) (over past e u (AbortReply past u cause.Quit e.reply)
         (λ y. ends_named e.event e.reply u own (ap is_ending y.is)) now)
 
 -- what is started
 
-started_live : (s : Setting) (past : List Entry) (e : Entry) → Legal s past → e.reply ≡ reply.Started (starts past)
-    → live (e ∷ past) (starts past) ≡ true
+started_live : (s : Setting) (past : List Entry) (e : Entry) → Legal s past → e.reply ≡ reply.Started (start_count past)
+    → live (e ∷ past) (start_count past) ≡ true
 started_live s past e h is =
-    let more : starts (e ∷ past) ≡ starts past + 1 = ap (λ r. cond (is_start r) (starts past + 1) (starts past)) is in
-    let none : fate_of past (starts past) ≡ None = unstarted-no_fate s past h (starts past) (le_refl (starts past)) in
-    live_from (e ∷ past) (starts past) (omega arith) (option_or-at_none _ _ (ap (λ r. ending_in e.event r (starts past)) is) ∙ none)
+    let more : start_count (e ∷ past) ≡ start_count past + 1 = ap (λ r. cond (is_start r) (start_count past + 1) (start_count past)) is in
+    let none : fate_of past (start_count past) ≡ None = unstarted-no_fate s past h (start_count past) (le_refl (start_count past)) in
+    live_from (e ∷ past) (start_count past) (omega arith) (option_or-at_none _ _ (ap (λ r. ending_in e.event r (start_count past)) is) ∙ none)
 
 number_is : (r : Reply) (n t : ℕ) → r ≡ reply.Started n → started_number r ≡ Some t → n ≡ t
 number_is r n t is e = some_is n t (sym (ap started_number is) ∙ e)
@@ -166,7 +166,7 @@ started_are_live s past e legal t is = by_effect (effect s past e.event e.reply 
 
     by_effect : Effect s past e.event e.reply → live (e ∷ past) t ≡ true
     by_effect (idle i) = absurd (cc (sym i.no_start ∙ one))
-    by_effect (begins b) = subst (λ u. live (e ∷ past) u ≡ true) (number_is e.reply (starts past) t b.reply_is number)
+    by_effect (begins b) = subst (λ u. live (e ∷ past) u ≡ true) (number_is e.reply (start_count past) t b.reply_is number)
         (started_live s past e legal.0 b.reply_is)
     by_effect (accesses x) = absurd (cc (sym x.no_start ∙ one))
     by_effect (commits c) = absurd (cc (sym (ap is_start c.reply_is) ∙ one))
@@ -191,7 +191,7 @@ pub others_end_none : OthersEndNone
 others_end_none past e is t alive = live_from (e ∷ past) t (started-stays e past t (live-started past t alive))
     (option_or-at_none _ _ (ends_none-no_end e.event e.reply (ends_nobody e.reply is) t) ∙ live-no_fate past t alive)
 
-named_cause : (s : Setting) (past : List Entry) (event : Event) (why : Cause) → HasCause s past event why → named_by event ≡ Some
+named_cause : (s : Setting) (past : List Entry) (event : Event) (why : Cause) → CauseHolds s past event why → named_by event ≡ Some
     (subject event)
 named_cause s past (Start p args) why h = absurd h
 named_cause s past (Step t) why h = refl

@@ -18,7 +18,7 @@ use Rattle.sgt_model.specs.Pairs.{Precedes}
 use Rattle.sgt_model.specs.Settings.{Setting}
 use Rattle.sgt_model.specs.Progress.{call_of, run_of}
 use Rattle.sgt_model.specs.Legality.{Legal}
-use Rattle.sgt_model.specs.Replay.{result_of, run_in_turn, told_call_in, told_in, told_calls, folded, told, IsSerializable}
+use Rattle.sgt_model.specs.Replay.{result_of, run_in_turn, told_call_in, told_in, told_calls, folded, told, ReplayAgrees}
 use Rattle.sgt_model.specs.Laws.{LooksAgree, CommitAgrees, CommitsAgree}
 use Rattle.sgt_model.proofs.Effects.{Commits, Refusal, effect}
 use Rattle.sgt_model.proofs.Facts.{undone_case, access-live, committed-stays, live-stands, live-not_committed, committed-stands, commit-case, Uncommitted, commits_or_not}
@@ -83,7 +83,7 @@ settled_quiet s past e k h no_commit =
 
 -- after t's commit the contents of its run are the committed ones
 same_after : (s : Setting) (past : List Entry) (t : ℕ) (answers : List ℤ) → Legal s past → live past t ≡ true
-    → IsSerializable s past → (k : Key) → over (folded s past).last (acts past t) k ≡ settled s.opening (commit_entry t answers ∷ past) k
+    → ReplayAgrees s past → (k : Key) → over (folded s past).last (acts past t) k ≡ settled s.opening (commit_entry t answers ∷ past) k
 same_after s past t answers h is_live ih k =
     over-acts (folded s past).last past t k
     ∙ (ap (λ v. value_or (newest_store (λ u. nat_eq u t) k past) v) (ih.database k)
@@ -112,7 +112,7 @@ commits_agree s (e ∷ past) h = (commits_agree s past h.0, now (commits_or_not 
 
 -- the run of a transaction that commits, on the contents so far
 run_done : (s : Setting) (past : List Entry) (event : Event) (r : Reply) → Legal s past → (c : Commits s past event r)
-    → IsSerializable s past → DoneWith (serial (run_of s.rules (call_of past c.t)) (folded s past).last) c.answers
+    → ReplayAgrees s past → DoneWith (serial (run_of s.rules (call_of past c.t)) (folded s past).last) c.answers
     (over (folded s past).last (acts past c.t))
 run_done s past event r h c ih =
     let run : Run = run_of s.rules (call_of past c.t) in
@@ -121,14 +121,14 @@ run_done s past event r h c ih =
 
 at_commit : (s : Setting) (past : List Entry) (t : ℕ) (answers : List ℤ) → Legal s past → live past t ≡ true
     → DoneWith (serial (run_of s.rules (call_of past t)) (folded s past).last) answers (over (folded s past).last (acts past t))
-    → IsSerializable s past → IsSerializable s (commit_entry t answers ∷ past)
+    → ReplayAgrees s past → ReplayAgrees s (commit_entry t answers ∷ past)
 at_commit s past t answers h is_live d ih = record {
   answers = ap₂ (λ r l. r ∷ l) (ap result_of d.1) ih.answers;
   database = λ k. ap (λ o. contents_after o (folded s past).last k) d.1 ∙ (d.2 k ∙ same_after s past t answers h is_live ih k);
 }
 
 at_quiet : (s : Setting) (e : Entry) (past : List Entry) → Legal s (e ∷ past) → Uncommitted s past e.event e.reply
-    → IsSerializable s past → IsSerializable s (e ∷ past)
+    → ReplayAgrees s past → ReplayAgrees s (e ∷ past)
 at_quiet s e past h quiet ih = record {
   answers = ap (λ l. (run_in_turn s (l ++ told_calls past)).results) quiet.no_call
       ∙ (ih.answers ∙ ap (λ l. l ++ told past) (sym quiet.tells_none));
@@ -138,7 +138,7 @@ at_quiet s e past h quiet ih = record {
 
 -- the run of a transaction that is refused asks its code
 run_asked : (s : Setting) (past : List Entry) (event : Event) (r : Reply) → Legal s past → (x : Refusal s past event r)
-    → IsSerializable s past → serial (run_of s.rules (call_of past x.undoing.t)) (folded s past).last ≡ Asked x.code
+    → ReplayAgrees s past → serial (run_of s.rules (call_of past x.undoing.t)) (folded s past).last ≡ Asked x.code
 run_asked s past event r h x ih =
     let t : ℕ = x.undoing.t in
     let run : Run = run_of s.rules (call_of past t) in
@@ -150,7 +150,7 @@ refusal-no_commit : {s : Setting} {past : List Entry} {event : Event} {r : Reply
 refusal-no_commit x u e = let a = (undone_case x.undoing u fate.Committed e).is_abort in cc a
 
 at_refusal : (s : Setting) (e : Entry) (past : List Entry) → Legal s (e ∷ past) → Refusal s past e.event e.reply
-    → IsSerializable s past → IsSerializable s (e ∷ past)
+    → ReplayAgrees s past → ReplayAgrees s (e ∷ past)
 at_refusal s e past h x ih =
     let asked = run_asked s past e.event e.reply h.0 x ih in
     let call : told_call_in past e.event e.reply ≡ call_of past x.undoing.t ∷ [] = ap₂ (λ ev r. told_call_in past ev r) x.event_is
@@ -164,13 +164,13 @@ at_refusal s e past h x ih =
     }
 
 -- reply order is serial
-pub is_serializable : (s : Setting) (past : List Entry) → Legal s past → IsSerializable s past
+pub is_serializable : (s : Setting) (past : List Entry) → Legal s past → ReplayAgrees s past
 is_serializable s [] h = record { answers = refl; database = λ k. refl }
 is_serializable s (e ∷ past) h = now (is_serializable s past h.0) (commits_or_not (effect s past e.event e.reply h.1))
   where
-    now : IsSerializable s past → Commits s past e.event e.reply ⊎ (Refusal s past e.event e.reply ⊎ Uncommitted s past e.event e.reply)
-        → IsSerializable s (e ∷ past)
-    now ih (inl c) = subst₂ (λ event r. IsSerializable s (record { event = event; reply = r } ∷ past)) (sym c.event_is)
+    now : ReplayAgrees s past → Commits s past e.event e.reply ⊎ (Refusal s past e.event e.reply ⊎ Uncommitted s past e.event e.reply)
+        → ReplayAgrees s (e ∷ past)
+    now ih (inl c) = subst₂ (λ event r. ReplayAgrees s (record { event = event; reply = r } ∷ past)) (sym c.event_is)
         (sym c.reply_is) (at_commit s past c.t c.answers h.0 c.is_live (run_done s past e.event e.reply h.0 c ih) ih)
     now ih (inr (inl x)) = at_refusal s e past h x ih
     now ih (inr (inr quiet)) = at_quiet s e past h quiet ih

@@ -15,18 +15,18 @@ use Rattle.sgt_model.specs.declared.reply.Fate.TheVariants as fate
 use Rattle.sgt_model.specs.declared.entry.Entry.{Entry}
 use Rattle.sgt_model.specs.declared.kind.Kind.{Kind}
 use Rattle.sgt_model.specs.declared.kind.Kind.TheVariants.{Look, Store}
-use Rattle.sgt_model.specs.declared.limits.Asks.{Asks as When}
+use Rattle.sgt_model.specs.declared.limits.Asks.{Asks}
 use Rattle.sgt_model.specs.declared.limits.Asks.TheVariants.{AtStep, AtCommit}
 use Rattle.sgt_model.specs.Contents.{Key}
-use Rattle.sgt_model.specs.Traces.{Next, Looks, Puts, Ends, Asks}
+use Rattle.sgt_model.specs.Traces.{Next, Looks, Puts, Ends, Raises}
 use Rattle.sgt_model.specs.Walks.{PathOf, Member, Distinct, Rising}
-use Rattle.sgt_model.specs.Fates.{concerns, subject, ending_in, starts, fate_of, begun, live, live_ones}
+use Rattle.sgt_model.specs.Fates.{concerns, subject, ending_in, start_count, fate_of, started_ones, live, live_ones}
 use Rattle.sgt_model.specs.Pairs.{Pair}
 use Rattle.sgt_model.specs.Falls.{Falls}
 use Rattle.sgt_model.specs.Settings.{Rules, Setting, takes}
 use Rattle.sgt_model.specs.Progress.{next_of}
 use Rattle.sgt_model.specs.StartReply.{args_fit, room_reply, taken_reply, start_reply}
-use Rattle.sgt_model.specs.Legality.{AskedStep, AskedCommit, Aborts, AbortsByCycle, Makes, StepReply, CommitReply, OfStarted, LegalReply, Legal}
+use Rattle.sgt_model.specs.Legality.{RaisedStep, RaisedCommit, AbortReply, CycleAbortReply, Makes, StepReply, CommitReply, OfStarted, LegalReply, Legal}
 use Rattle.sgt_model.specs.ReplySizes.{CauseNamesAtMost, FateNamesAtMost, ReplyNamesAtMost, RepliesNameFew}
 use Rattle.sgt_model.proofs.Paths.{Within}
 use Rattle.sgt_model.proofs.Facts.{some_is, option_or-cases}
@@ -98,8 +98,8 @@ module _ (s : Setting) (past : List Entry) (h : Legal s past) where
   live_listed : (l : List ℕ) → Distinct l → ((u : ℕ) → Member u l → live past u ≡ true) → length l ≤ s.rules.limits.live
   live_listed l d alive =
       let fits : length l ≤ length (live_ones past) =
-      distinct_fits l (live_ones past) d (λ u m. kept_member (live past) u (begun past) (alive u m)
-      (begun_has past u (ltb-true u (starts past) (and_parts _ _ (alive u m)).0))) in
+      distinct_fits l (live_ones past) d (λ u m. kept_member (live past) u (started_ones past) (alive u m)
+      (begun_has past u (ltb-true u (start_count past) (and_parts _ _ (alive u m)).0))) in
       let kept : length (live_ones past) ≤ s.rules.limits.live = (limits_are_kept s past h).1 in
       omega arith
 
@@ -118,18 +118,18 @@ module _ (s : Setting) (past : List Entry) (h : Legal s past) where
       omega arith
 
   abort_names : (t : ℕ) → live past t ≡ true → (why : Cause) → CauseNamesAtMost s.rules.limits.live why → (r : Reply)
-      → Aborts past t why r → ReplyNamesAtMost s.rules.limits.live r
+      → AbortReply past t why r → ReplyNamesAtMost s.rules.limits.live r
   abort_names t alive why few r a = subst (λ x. ReplyNamesAtMost s.rules.limits.live x) (sym a.is)
       (few, few_fall t alive a.fell a.falls)
 
   access_names : (t : ℕ) → live past t ≡ true → (k : Key) (kind : Kind) (given r : Reply)
-      → ReplyNamesAtMost s.rules.limits.live given → AbortsByCycle past t k kind r ⊎ Makes past t k kind given r
+      → ReplyNamesAtMost s.rules.limits.live given → CycleAbortReply past t k kind r ⊎ Makes past t k kind given r
       → ReplyNamesAtMost s.rules.limits.live r
   access_names t alive k kind given r few (inl x) = abort_names t alive (cause.Cycle (t ∷ x.rest))
       (live_listed (t ∷ x.rest) x.closes.distinct (walk_live t x.rest alive x.closes.pairs)) r x.aborts
   access_names t alive k kind given r few (inr x) = subst (λ y. ReplyNamesAtMost s.rules.limits.live y) (sym x.is) few
 
-  asked_step_names : (t : ℕ) → live past t ≡ true → (code : ℕ) (asks : When) (r : Reply) → AskedStep asks past t code r
+  asked_step_names : (t : ℕ) → live past t ≡ true → (code : ℕ) (asks : Asks) (r : Reply) → RaisedStep asks past t code r
       → ReplyNamesAtMost s.rules.limits.live r
   asked_step_names t alive code AtStep r x = abort_names t alive (cause.Asked code) tt r x
   asked_step_names t alive code AtCommit r x = subst (λ y. ReplyNamesAtMost s.rules.limits.live y) (sym x) tt
@@ -138,9 +138,9 @@ module _ (s : Setting) (past : List Entry) (h : Legal s past) where
   step_names t alive (Looks k) r x = access_names t alive k Look _ r tt x
   step_names t alive (Puts k v) r x = access_names t alive k Store _ r tt x
   step_names t alive (Ends answers) r x = subst (λ y. ReplyNamesAtMost s.rules.limits.live y) (sym x) tt
-  step_names t alive (Asks code) r x = asked_step_names t alive code s.rules.limits.asks r x
+  step_names t alive (Raises code) r x = asked_step_names t alive code s.rules.limits.asks r x
 
-  asked_commit_names : (t : ℕ) → live past t ≡ true → (code : ℕ) (asks : When) (r : Reply) → AskedCommit asks past t code r
+  asked_commit_names : (t : ℕ) → live past t ≡ true → (code : ℕ) (asks : Asks) (r : Reply) → RaisedCommit asks past t code r
       → ReplyNamesAtMost s.rules.limits.live r
   asked_commit_names t alive code AtStep r x = subst (λ y. ReplyNamesAtMost s.rules.limits.live y) (sym x) tt
   asked_commit_names t alive code AtCommit r (inl x) = subst (λ y. ReplyNamesAtMost s.rules.limits.live y) (sym x.is) tt
@@ -153,11 +153,11 @@ module _ (s : Setting) (past : List Entry) (h : Legal s past) where
   commit_names t alive (Ends answers) r (inr x) = subst (λ y. ReplyNamesAtMost s.rules.limits.live y) (sym x.is) tt
   commit_names t alive (Looks k) r x = subst (λ y. ReplyNamesAtMost s.rules.limits.live y) (sym x) tt
   commit_names t alive (Puts k v) r x = subst (λ y. ReplyNamesAtMost s.rules.limits.live y) (sym x) tt
-  commit_names t alive (Asks code) r x = asked_commit_names t alive code s.rules.limits.asks r x
+  commit_names t alive (Raises code) r x = asked_commit_names t alive code s.rules.limits.asks r x
 
   module _ (fates : (t : ℕ) (f : Fate) → fate_of past t ≡ Some f → FateNamesAtMost s.rules.limits.live f) where
     of_started : (t : ℕ) (r : Reply) (P : Type 0) → (live past t ≡ true → P → ReplyNamesAtMost s.rules.limits.live r)
-        → (b : Bool) (o : Option Fate) → nat_lt t (starts past) ≡ b → fate_of past t ≡ o → OfStarted b o r P
+        → (b : Bool) (o : Option Fate) → nat_lt t (start_count past) ≡ b → fate_of past t ≡ o → OfStarted b o r P
         → ReplyNamesAtMost s.rules.limits.live r
     of_started t r P if_live true None started unended x = if_live (and_from _ _ started (ap is_none unended)) x
     of_started t r P if_live true (Some f) started ended x = subst (λ y. ReplyNamesAtMost s.rules.limits.live y) (sym x) (fates t f ended)
@@ -165,13 +165,13 @@ module _ (s : Setting) (past : List Entry) (h : Legal s past) where
 
     reply_names : (event : Event) (r : Reply) → LegalReply s past event r → ReplyNamesAtMost s.rules.limits.live r
     reply_names (Start p args) r x = subst (λ y. ReplyNamesAtMost s.rules.limits.live y) (sym x)
-        (start_names s.rules.limits.live s.rules (starts past) (length (live_ones past)) p args)
+        (start_names s.rules.limits.live s.rules (start_count past) (length (live_ones past)) p args)
     reply_names (Step t) r x = of_started t r (StepReply s past t (next_of s past t) r)
-        (λ alive. step_names t alive (next_of s past t) r) (nat_lt t (starts past)) (fate_of past t) refl refl x
+        (λ alive. step_names t alive (next_of s past t) r) (nat_lt t (start_count past)) (fate_of past t) refl refl x
     reply_names (Commit t) r x = of_started t r (CommitReply s past t (next_of s past t) r)
-        (λ alive. commit_names t alive (next_of s past t) r) (nat_lt t (starts past)) (fate_of past t) refl refl x
-    reply_names (Quit t) r x = of_started t r (Aborts past t cause.Quit r) (λ alive. abort_names t alive cause.Quit tt r)
-        (nat_lt t (starts past)) (fate_of past t) refl refl x
+        (λ alive. commit_names t alive (next_of s past t) r) (nat_lt t (start_count past)) (fate_of past t) refl refl x
+    reply_names (Quit t) r x = of_started t r (AbortReply past t cause.Quit r) (λ alive. abort_names t alive cause.Quit tt r)
+        (nat_lt t (start_count past)) (fate_of past t) refl refl x
 
 fates_name : (s : Setting) (past : List Entry) → Legal s past → (t : ℕ) (f : Fate) → fate_of past t ≡ Some f
     → FateNamesAtMost s.rules.limits.live f

@@ -3,7 +3,7 @@ use Rattle.std.proofs.Common.{ℕ, ◌+◌, ◌<◌, Bool, true, false, cond, Li
 use Rattle.std.specs.List.{filter}
 use Rattle.sgt_model.specs.declared.entry.Entry.{Entry}
 use Rattle.sgt_model.specs.Walks.{Rising}
-use Rattle.sgt_model.specs.Fates.{is_start, starts, live, begun, live_ones}
+use Rattle.sgt_model.specs.Fates.{is_start, start_count, live, started_ones, live_ones}
 
 -- t is below each of the list
 abbrev Above : ℕ → List ℕ → Type 0
@@ -48,21 +48,21 @@ under-add : (n : ℕ) (l : List ℕ) → Under n l → Under (n + 1) (l ++ n ∷
 under-add n [] h = (omega arith, tt)
 under-add n (t ∷ l) h = ((let lt = h.0 in omega arith), under-add n l h.1)
 
-begun-under : (past : List Entry) → Under (starts past) (begun past)
+begun-under : (past : List Entry) → Under (start_count past) (started_ones past)
 begun-under [] = tt
 begun-under (e ∷ past) = go (is_start e.reply) (begun-under past)
   where
-    go : (b : Bool) → Under (starts past) (begun past) → Under (cond b (starts past + 1) (starts past))
-        (cond b (begun past ++ starts past ∷ []) (begun past))
-    go true h = under-add (starts past) (begun past) h
+    go : (b : Bool) → Under (start_count past) (started_ones past) → Under (cond b (start_count past + 1) (start_count past))
+        (cond b (started_ones past ++ start_count past ∷ []) (started_ones past))
+    go true h = under-add (start_count past) (started_ones past) h
     go false h = h
 
-begun-sorted : (past : List Entry) → Sorted (begun past)
+begun-sorted : (past : List Entry) → Sorted (started_ones past)
 begun-sorted [] = tt
 begun-sorted (e ∷ past) = go (is_start e.reply) (begun-sorted past)
   where
-    go : (b : Bool) → Sorted (begun past) → Sorted (cond b (begun past ++ starts past ∷ []) (begun past))
-    go true h = sorted-add (starts past) (begun past) h (begun-under past)
+    go : (b : Bool) → Sorted (started_ones past) → Sorted (cond b (started_ones past ++ start_count past ∷ []) (started_ones past))
+    go true h = sorted-add (start_count past) (started_ones past) h (begun-under past)
     go false h = h
 
 sorted-rising : (l : List ℕ) → Sorted l → Rising l
@@ -71,8 +71,8 @@ sorted-rising (t ∷ []) h = tt
 sorted-rising (t ∷ u ∷ l) h = (h.0.0, sorted-rising (u ∷ l) h.1)
 
 -- those of the started ones that pass a test
-pub begun-rise : (f : ℕ → Bool) (past : List Entry) → Rising (filter f (begun past))
-begun-rise f past = sorted-rising (filter f (begun past)) (sorted-filter f (begun past) (begun-sorted past))
+pub begun-rise : (f : ℕ → Bool) (past : List Entry) → Rising (filter f (started_ones past))
+begun-rise f past = sorted-rising (filter f (started_ones past)) (sorted-filter f (started_ones past) (begun-sorted past))
 
 pub live_ones-rise : (past : List Entry) → Rising (live_ones past)
 live_ones-rise past = begun-rise (live past) past

@@ -8,7 +8,7 @@ use Rattle.sgt_model.specs.declared.event.Event.{Event}
 use Rattle.sgt_model.specs.declared.reply.Reply.{Reply}
 use Rattle.sgt_model.specs.declared.entry.Entry.{Entry}
 use Rattle.sgt_model.specs.Walks.{Member}
-use Rattle.sgt_model.specs.Fates.{is_start, starts, live, begun, live_ones}
+use Rattle.sgt_model.specs.Fates.{is_start, start_count, live, started_ones, live_ones}
 use Rattle.sgt_model.specs.Settings.{Setting}
 use Rattle.sgt_model.specs.Legality.{Legal}
 use Rattle.sgt_model.proofs.Effects.{Begins, Effect, idle, begins, accesses, commits, undoes, refuses, effect}
@@ -39,14 +39,14 @@ member_append t [] u (inr m) = absurd m
 member_append t (v ∷ l) u (inl e) = inl (inl e)
 member_append t (v ∷ l) u (inr m) = elim (member_append t l u m) [ inl k ↦ inl (inr k) | inr e ↦ inr e ]
 
-pub begun_below : (past : List Entry) (t : ℕ) → Member t (begun past) → t < starts past
+pub begun_below : (past : List Entry) (t : ℕ) → Member t (started_ones past) → t < start_count past
 begun_below [] t m = absurd m
 begun_below (e ∷ past) t m = go (begun_below past t) (is_start e.reply) m
   where
-    go : (Member t (begun past) → t < starts past) → (b : Bool) → Member t (cond b (begun past ++ starts past ∷ []) (begun past))
-        → t < cond b (starts past + 1) (starts past)
-    go rest true m = elim (member_append t (begun past) (starts past) m) [
-      | inl k ↦ let before : t < starts past = rest k in
+    go : (Member t (started_ones past) → t < start_count past) → (b : Bool) → Member t (cond b (started_ones past ++ start_count past ∷ []) (started_ones past))
+        → t < cond b (start_count past + 1) (start_count past)
+    go rest true m = elim (member_append t (started_ones past) (start_count past) m) [
+      | inl k ↦ let before : t < start_count past = rest k in
           omega arith
       | inr e ↦ omega arith
     ]
@@ -62,35 +62,35 @@ starts_or_not (undoes x) = inr (ap is_start x.reply_is)
 starts_or_not (refuses x) = inr (ap is_start x.reply_is)
 
 -- of those that were started before an entry, no more are live after it
-live_fewer : (e : Entry) (past : List Entry) → length (filter (live (e ∷ past)) (begun past)) ≤ length (live_ones past)
-live_fewer e past = filter_fewer (live (e ∷ past)) (live past) (begun past) (λ t m alive. live-before e past t alive (begun_below past t m))
+live_fewer : (e : Entry) (past : List Entry) → length (filter (live (e ∷ past)) (started_ones past)) ≤ length (live_ones past)
+live_fewer e past = filter_fewer (live (e ∷ past)) (live past) (started_ones past) (λ t m alive. live-before e past t alive (begun_below past t m))
 
 not_equal : (a b : ℕ) → nat_eq a b ≡ false → a ≢ b
 not_equal a b h e = true≢false (sym (eq-eqb a b e) ∙ h)
 
 pub limits_are_kept : (s : Setting) (past : List Entry) → Legal s past
-    → (starts past ≤ s.rules.limits.begins) × (length (live_ones past) ≤ s.rules.limits.live)
+    → (start_count past ≤ s.rules.limits.begins) × (length (live_ones past) ≤ s.rules.limits.live)
 limits_are_kept s [] h = (omega arith, omega arith)
 limits_are_kept s (e ∷ past) h = now (limits_are_kept s past h.0) (live_fewer e past) (starts_or_not (effect s past e.event e.reply h.1))
   where
-    now : (starts past ≤ s.rules.limits.begins) × (length (live_ones past) ≤ s.rules.limits.live)
-        → length (filter (live (e ∷ past)) (begun past)) ≤ length (live_ones past)
+    now : (start_count past ≤ s.rules.limits.begins) × (length (live_ones past) ≤ s.rules.limits.live)
+        → length (filter (live (e ∷ past)) (started_ones past)) ≤ length (live_ones past)
         → Begins s past e.event e.reply ⊎ (is_start e.reply ≡ false)
-        → (cond (is_start e.reply) (starts past + 1) (starts past) ≤ s.rules.limits.begins) × (length
-        (filter (live (e ∷ past)) (cond (is_start e.reply) (begun past ++ starts past ∷ []) (begun past))) ≤ s.rules.limits.live)
+        → (cond (is_start e.reply) (start_count past + 1) (start_count past) ≤ s.rules.limits.begins) × (length
+        (filter (live (e ∷ past)) (cond (is_start e.reply) (started_ones past ++ start_count past ∷ []) (started_ones past))) ≤ s.rules.limits.live)
     now (few, kept) fewer (inr none) =
-        subst (λ b. (cond b (starts past + 1) (starts past) ≤ s.rules.limits.begins) × (length
-        (filter (live (e ∷ past)) (cond b (begun past ++ starts past ∷ []) (begun past))) ≤ s.rules.limits.live)) (sym none)
+        subst (λ b. (cond b (start_count past + 1) (start_count past) ≤ s.rules.limits.begins) × (length
+        (filter (live (e ∷ past)) (cond b (started_ones past ++ start_count past ∷ []) (started_ones past))) ≤ s.rules.limits.live)) (sym none)
         (few, omega arith)
     now (few, kept) fewer (inl b) =
-        let spent = not_equal (starts past) s.rules.limits.begins b.not_spent in
+        let spent = not_equal (start_count past) s.rules.limits.begins b.not_spent in
         let full = not_equal (length (live_ones past)) s.rules.limits.live b.not_full in
-        let one : length (filter (live (e ∷ past)) (starts past ∷ [])) ≤ 1 = filter_one (live (e ∷ past)) (starts past) in
-        let sum : length (filter (live (e ∷ past)) (begun past ++ starts past ∷ [])) ≡ length
-        (filter (live (e ∷ past)) (begun past)) + length (filter (live (e ∷ past)) (starts past ∷ [])) =
-        ap length (filter-append (live (e ∷ past)) (begun past) (starts past ∷ []))
-        ∙ length-append (filter (live (e ∷ past)) (begun past)) (filter (live (e ∷ past)) (starts past ∷ [])) in
+        let one : length (filter (live (e ∷ past)) (start_count past ∷ [])) ≤ 1 = filter_one (live (e ∷ past)) (start_count past) in
+        let sum : length (filter (live (e ∷ past)) (started_ones past ++ start_count past ∷ [])) ≡ length
+        (filter (live (e ∷ past)) (started_ones past)) + length (filter (live (e ∷ past)) (start_count past ∷ [])) =
+        ap length (filter-append (live (e ∷ past)) (started_ones past) (start_count past ∷ []))
+        ∙ length-append (filter (live (e ∷ past)) (started_ones past)) (filter (live (e ∷ past)) (start_count past ∷ [])) in
         let started : is_start e.reply ≡ true = ap is_start b.reply_is in
-        subst (λ c. (cond c (starts past + 1) (starts past) ≤ s.rules.limits.begins) × (length
-        (filter (live (e ∷ past)) (cond c (begun past ++ starts past ∷ []) (begun past))) ≤ s.rules.limits.live)) (sym started)
+        subst (λ c. (cond c (start_count past + 1) (start_count past) ≤ s.rules.limits.begins) × (length
+        (filter (live (e ∷ past)) (cond c (started_ones past ++ start_count past ∷ []) (started_ones past))) ≤ s.rules.limits.live)) (sym started)
         (omega arith, omega arith)

@@ -13,21 +13,21 @@ use Rattle.sgt_model.specs.declared.reply.Fate.{Fate}
 use Rattle.sgt_model.specs.declared.entry.Entry.{Entry}
 use Rattle.sgt_model.specs.declared.kind.Kind.{Kind}
 use Rattle.sgt_model.specs.declared.kind.Kind.TheVariants.{Look, Store}
-use Rattle.sgt_model.specs.declared.limits.Asks.{Asks as When}
+use Rattle.sgt_model.specs.declared.limits.Asks.{Asks}
 use Rattle.sgt_model.specs.declared.limits.Asks.TheVariants.{AtStep, AtCommit}
 use Rattle.sgt_model.specs.Contents.{Key}
-use Rattle.sgt_model.specs.Traces.{Asks, Ends, Looks, Next, Puts}
-use Rattle.sgt_model.specs.Fates.{fate_of, live, live_ones, starts}
+use Rattle.sgt_model.specs.Traces.{Raises, Ends, Looks, Next, Puts}
+use Rattle.sgt_model.specs.Fates.{fate_of, live, live_ones, start_count}
 use Rattle.sgt_model.specs.Closes.{Closes}
 use Rattle.sgt_model.specs.Settings.{Setting, takes}
 use Rattle.sgt_model.specs.Progress.{next_of}
-use Rattle.sgt_model.specs.Legality.{Aborts, AskedCommit, AskedStep, CommitReply, MayRefuse, MustWait, Legal, LegalReply, OfStarted, AbortsByCycle, StepReply}
+use Rattle.sgt_model.specs.Legality.{AbortReply, RaisedCommit, RaisedStep, CommitReply, MayRefuse, MustWait, Legal, LegalReply, OfStarted, CycleAbortReply, StepReply}
 use Rattle.sgt_model.specs.Left.{next_left}
 use Rattle.sgt_model.specs.State.{State}
 use Rattle.sgt_model.specs.StateAfter.{IsStateAfter}
 use Rattle.sgt_model.specs.Blocks.{Blocks}
 use Rattle.sgt_model.specs.StartReply.{args_fit, taken_reply}
-use Rattle.sgt_model.specs.CallEffects.{Undo, AbortsIn, AskedCommitOn, AskedStepOn, CommitEffect, CommitOn, IfOpen, QuitEffect, AbortsByCycleIn, RefusesIn, StartEffect, StartOn, Stays, StepEffect, StepOn, WaitsOn}
+use Rattle.sgt_model.specs.CallEffects.{Undo, AbortEffect, RaisedCommitOn, RaisedStepOn, CommitEffect, CommitOn, IfOpen, QuitEffect, CycleAbortEffect, RefusesIn, StartEffect, StartOn, Stays, StepEffect, StepOn, WaitsOn}
 use Rattle.sgt_model.proofs.Effects.{Idle, ends_none-no_end, no_start-no_call}
 use Rattle.sgt_model.proofs.Facts.{live_from, member_from}
 use Rattle.sgt_model.proofs.Verdict.{blocks_from_closes, closes_from_blocks, falls_from, found-visible, least_from, none_from}
@@ -88,8 +88,8 @@ module _ (s : Setting) (past : List Entry) (h : Legal s past) (before after : St
     | inr m ↦ sym (i.nodes u) ∙ (x.falls.each u (member_from u fell m)).0
   ]
 
-  pub aborted_in : (event : Event) (why : Cause) (r : Reply) → Of event t → live past t ≡ true → AbortsIn t why before r after
-      → Aborts past t why r × IsStateAfter s (entry event r ∷ past) after
+  pub aborted_in : (event : Event) (why : Cause) (r : Reply) → Of event t → live past t ≡ true → AbortEffect t why before r after
+      → AbortReply past t why r × IsStateAfter s (entry event r ∷ past) after
   aborted_in event why r o alive x = (
     record { fell = x.fell; falls = falls_from s past h before i t x.fell alive x.undo.falls; is = x.reply },
     subst (λ z. IsStateAfter s (entry event z ∷ past) after) (sym x.reply)
@@ -111,8 +111,8 @@ module _ (s : Setting) (past : List Entry) (h : Legal s past) (before after : St
         (lived (cause.Asked code) x.fell alive x.undo) i x.undo.drops),
   )
 
-  refused_in : (k : Key) (kind : Kind) (r : Reply) → live past t ≡ true → AbortsByCycleIn t k kind before r after
-      → AbortsByCycle past t k kind r × IsStateAfter s (entry (Step t) r ∷ past) after
+  refused_in : (k : Key) (kind : Kind) (r : Reply) → live past t ≡ true → CycleAbortEffect t k kind before r after
+      → CycleAbortReply past t k kind r × IsStateAfter s (entry (Step t) r ∷ past) after
   refused_in k kind r alive x = let a = aborted_in (Step t) (cause.Cycle (t ∷ x.rest)) r (of_step t) alive x.aborts in
       (record { rest = x.rest; closes = closes_from_blocks s past h before i t k kind x.rest x.blocks; aborts = a.0 }, a.1)
 
@@ -120,8 +120,8 @@ module _ (s : Setting) (past : List Entry) (h : Legal s past) (before after : St
       → Closes past t k kind rest → ⊥
   free_of k kind alive free rest c = free rest (blocks_from_closes s past h before i t k kind rest alive c)
 
-  asked_step_on : (asks : When) (code : ℕ) (r : Reply) → live past t ≡ true → AskedStepOn asks t code before r after
-      → AskedStep asks past t code r × IsStateAfter s (entry (Step t) r ∷ past) after
+  asked_step_on : (asks : Asks) (code : ℕ) (r : Reply) → live past t ≡ true → RaisedStepOn asks t code before r after
+      → RaisedStep asks past t code r × IsStateAfter s (entry (Step t) r ∷ past) after
   asked_step_on AtStep code r alive x = aborted_in (Step t) (cause.Asked code) r (of_step t) alive x
   asked_step_on AtCommit code r alive x = stayed s past (Step t) reply.Ended r before after refl i x
 
@@ -139,14 +139,14 @@ module _ (s : Setting) (past : List Entry) (h : Legal s past) (before after : St
         (after_store s past h before after i t k alive v next x.stores),
   )
   step_on (Ends answers) r next alive x = stayed s past (Step t) reply.Ended r before after refl i x
-  step_on (Asks code) r next alive x = asked_step_on s.rules.limits.asks code r alive x
+  step_on (Raises code) r next alive x = asked_step_on s.rules.limits.asks code r alive x
 
   waits_on : (r : Reply) → WaitsOn t before r after → MustWait past t r × IsStateAfter s (entry (Commit t) r ∷ past) after
   waits_on r x = let y = stayed s past (Commit t) (reply.Waits x.on) r before after refl i x.stays in
-      (record { before = x.on; least = least_from s past h before i t x.on x.least; is = y.0 }, y.1)
+      (record { predecessor = x.on; least = least_from s past h before i t x.on x.least; is = y.0 }, y.1)
 
-  asked_commit_on : (asks : When) (code : ℕ) (r : Reply) → live past t ≡ true → AskedCommitOn asks t code before r after
-      → AskedCommit asks past t code r × IsStateAfter s (entry (Commit t) r ∷ past) after
+  asked_commit_on : (asks : Asks) (code : ℕ) (r : Reply) → live past t ≡ true → RaisedCommitOn asks t code before r after
+      → RaisedCommit asks past t code r × IsStateAfter s (entry (Commit t) r ∷ past) after
   asked_commit_on AtStep code r alive x = stayed s past (Commit t) reply.NotEnded r before after refl i x
   asked_commit_on AtCommit code r alive (inl x) = let y = waits_on r x in (inl y.0, y.1)
   asked_commit_on AtCommit code r alive (inr x) = let y = refused_at_commit code r alive x in (inr y.0, y.1)
@@ -161,24 +161,24 @@ module _ (s : Setting) (past : List Entry) (h : Legal s past) (before after : St
   )
   commit_on (Looks k) r alive x = stayed s past (Commit t) reply.NotEnded r before after refl i x
   commit_on (Puts k v) r alive x = stayed s past (Commit t) reply.NotEnded r before after refl i x
-  commit_on (Asks code) r alive x = asked_commit_on s.rules.limits.asks code r alive x
+  commit_on (Raises code) r alive x = asked_commit_on s.rules.limits.asks code r alive x
 
   -- what every call on a transaction shares
   if_open : (event : Event) (r : Reply) (OnContents OnPast : Type 0)
       → (live past t ≡ true → OnContents → OnPast × IsStateAfter s (entry event r ∷ past) after) → (b : Bool) (o : Option Fate)
-      → nat_lt t (starts past) ≡ b → fate_of past t ≡ o → IfOpen b o before r after OnContents
+      → nat_lt t (start_count past) ≡ b → fate_of past t ≡ o → IfOpen b o before r after OnContents
       → OfStarted b o r OnPast × IsStateAfter s (entry event r ∷ past) after
   if_open event r A B go false o e f x = stayed s past event reply.Unknown r before after refl i x
   if_open event r A B go true (Some fate) e f x = stayed s past event (reply.Over fate) r before after refl i x
-  if_open event r A B go true None e f x = go (live_from past t (ltb-true t (starts past) e) f) x
+  if_open event r A B go true None e f x = go (live_from past t (ltb-true t (start_count past) e) f) x
 
   opened : (event : Event) (r : Reply) (OnContents OnPast : Type 0)
-      → (live past t ≡ true → OnContents → OnPast × IsStateAfter s (entry event r ∷ past) after) → IfOpen (nat_lt t before.starts)
-      (before.fates t) before r after OnContents → OfStarted (nat_lt t (starts past)) (fate_of past t) r OnPast × IsStateAfter s
+      → (live past t ≡ true → OnContents → OnPast × IsStateAfter s (entry event r ∷ past) after) → IfOpen (nat_lt t before.start_count)
+      (before.fates t) before r after OnContents → OfStarted (nat_lt t (start_count past)) (fate_of past t) r OnPast × IsStateAfter s
       (entry event r ∷ past) after
-  opened event r A B go x = if_open event r A B go (nat_lt t (starts past)) (fate_of past t) refl refl
-      (subst (λ n. IfOpen (nat_lt t n) (fate_of past t) before r after A) i.starts
-      (subst (λ o. IfOpen (nat_lt t before.starts) o before r after A) (i.fates t) x))
+  opened event r A B go x = if_open event r A B go (nat_lt t (start_count past)) (fate_of past t) refl refl
+      (subst (λ n. IfOpen (nat_lt t n) (fate_of past t) before r after A) i.start_count
+      (subst (λ o. IfOpen (nat_lt t before.start_count) o before r after A) (i.fates t) x))
 
   next_same : live past t ≡ true → next_left (before.left t) ≡ next_of s past t
   next_same alive = ap next_left (i.left t alive) ∙ next_is_left s past h t
@@ -197,7 +197,7 @@ module _ (s : Setting) (past : List Entry) (h : Legal s past) (before after : St
 
   pub quit_simulates : (r : Reply) → QuitEffect t before r after → LegalReply s past (Quit t) r × IsStateAfter s
       (entry (Quit t) r ∷ past) after
-  quit_simulates r x = opened (Quit t) r (AbortsIn t cause.Quit before r after) (Aborts past t cause.Quit r)
+  quit_simulates r x = opened (Quit t) r (AbortEffect t cause.Quit before r after) (AbortReply past t cause.Quit r)
       (λ alive y. aborted_in (Quit t) cause.Quit r (of_quit t) alive y) x
 
 -- a start
@@ -222,16 +222,16 @@ module _ (s : Setting) (past : List Entry) (h : Legal s past) (before after : St
       → LegalReply s past (Start p args) r × IsStateAfter s (entry (Start p args) r ∷ past) after
   start_simulates r x = (
     answer,
-    elim (start_cases (starts past) (length (live_ones past)) (takes s.rules p)) [
+    elim (start_cases (start_count past) (length (live_ones past)) (takes s.rules p)) [
       | inl e ↦ begins (answer ∙ e)
       | inr q ↦ idle r (ap quiet answer ∙ q) x.does
     ],
   )
     where
-      answer : r ≡ taken_reply s.rules.limits (starts past) (length (live_ones past)) (takes s.rules p) args
-      answer = x.reply ∙ ap₂ (λ n l. taken_reply s.rules.limits n (length l) (takes s.rules p) args) i.starts i.lives
+      answer : r ≡ taken_reply s.rules.limits (start_count past) (length (live_ones past)) (takes s.rules p) args
+      answer = x.reply ∙ ap₂ (λ n l. taken_reply s.rules.limits n (length l) (takes s.rules p) args) i.start_count i.lives
 
-      begins : r ≡ reply.Started (starts past) → IsStateAfter s (entry (Start p args) r ∷ past) after
+      begins : r ≡ reply.Started (start_count past) → IsStateAfter s (entry (Start p args) r ∷ past) after
       begins e = subst (λ z. IsStateAfter s (entry (Start p args) z ∷ past) after) (sym e)
           (after_start s past h p args before after i (subst (λ z. StartOn (s.rules.procedures p) args before z after) e x.does))
 

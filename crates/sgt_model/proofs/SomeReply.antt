@@ -13,12 +13,12 @@ use Rattle.sgt_model.specs.declared.reply.Fate.{Fate}
 use Rattle.sgt_model.specs.declared.entry.Entry.{Entry}
 use Rattle.sgt_model.specs.declared.kind.Kind.{Kind}
 use Rattle.sgt_model.specs.declared.kind.Kind.TheVariants.{Look, Store}
-use Rattle.sgt_model.specs.declared.limits.Asks.{Asks as When}
+use Rattle.sgt_model.specs.declared.limits.Asks.{Asks}
 use Rattle.sgt_model.specs.declared.limits.Asks.TheVariants.{AtStep, AtCommit}
 use Rattle.sgt_model.specs.Contents.{Key}
 use Rattle.sgt_model.specs.Walks.{last_of, Member, Reaches}
-use Rattle.sgt_model.specs.Traces.{Next, Looks, Puts, Ends, Asks}
-use Rattle.sgt_model.specs.Fates.{is_start, starts, fate_of, begun, live, live_ones}
+use Rattle.sgt_model.specs.Traces.{Next, Looks, Puts, Ends, Raises}
+use Rattle.sgt_model.specs.Fates.{is_start, start_count, fate_of, started_ones, live, live_ones}
 use Rattle.sgt_model.specs.Values.{visible}
 use Rattle.sgt_model.specs.Falls.{Feeds, Falls}
 use Rattle.sgt_model.specs.Pairs.{has_conflicting, Pair}
@@ -26,7 +26,7 @@ use Rattle.sgt_model.specs.Closes.{Closes}
 use Rattle.sgt_model.specs.Settings.{Setting}
 use Rattle.sgt_model.specs.Progress.{next_of}
 use Rattle.sgt_model.specs.StartReply.{start_reply}
-use Rattle.sgt_model.specs.Legality.{AskedStep, AskedCommit, NoneLive, Aborts, AbortsByCycle, Makes, StepReply, MustWait, MayCommit, CommitReply, OfStarted}
+use Rattle.sgt_model.specs.Legality.{RaisedStep, RaisedCommit, HasNoLivePredecessor, AbortReply, CycleAbortReply, Makes, StepReply, MustWait, MayCommit, CommitReply, OfStarted}
 use Rattle.sgt_model.specs.OneReply.{SomeReplyIsLegal}
 use Rattle.sgt_model.proofs.Paths.{last_is_member, Simple, simple, simple_some}
 use Rattle.sgt_model.proofs.Listed.{member_added, kept_member, member_kept}
@@ -83,14 +83,14 @@ least_or_none test (t ∷ l) = elim (cases_Bool (test t)) [
 ]
 
 -- who was started is listed
-pub begun_has : (past : List Entry) (t : ℕ) → t < starts past → Member t (begun past)
+pub begun_has : (past : List Entry) (t : ℕ) → t < start_count past → Member t (started_ones past)
 begun_has [] t less = absurd (omega arith)
 begun_has (e ∷ past) t less = go (begun_has past t) (is_start e.reply) less
   where
-    go : (t < starts past → Member t (begun past)) → (b : Bool) → t < cond b (starts past + 1) (starts past)
-        → Member t (cond b (begun past ++ starts past ∷ []) (begun past))
-    go before true less = member_added t (begun past) (starts past)
-        (elim (cases_lt t (starts past)) [ inl early ↦ inl (before early) | inr last ↦ inr (omega arith) ])
+    go : (t < start_count past → Member t (started_ones past)) → (b : Bool) → t < cond b (start_count past + 1) (start_count past)
+        → Member t (cond b (started_ones past ++ start_count past ∷ []) (started_ones past))
+    go before true less = member_added t (started_ones past) (start_count past)
+        (elim (cases_lt t (start_count past)) [ inl early ↦ inl (before early) | inr last ↦ inr (omega arith) ])
     go before false less = before less
 
 module _ (past : List Entry) (t : ℕ) where
@@ -99,9 +99,9 @@ module _ (past : List Entry) (t : ℕ) where
   abbrev falls : ℕ → Bool
   falls u = live past u && (not (nat_eq u t) && leads (feeds past) (actors past) t u)
 
-  falls-each : (u : ℕ) → Member u (filter falls (begun past)) → (live past u ≡ true) × (u ≢ t) × Reaches (Feeds past) t u
+  falls-each : (u : ℕ) → Member u (filter falls (started_ones past)) → (live past u ≡ true) × (u ≢ t) × Reaches (Feeds past) t u
   falls-each u m =
-      let p = and_parts _ _ (member_kept falls u (begun past) m).0 in
+      let p = and_parts _ _ (member_kept falls u (started_ones past) m).0 in
       let q = and_parts _ _ p.1 in (
         p.0,
         (λ e. both_ways _ (not-true _ q.0) (eq-eqb u t e)),
@@ -109,18 +109,18 @@ module _ (past : List Entry) (t : ℕ) where
             (λ a b h. read_from-so past b a h) (actors past) t u q.1,
       )
 
-  falls-all : (u : ℕ) → live past u ≡ true → u ≢ t → Reaches (Feeds past) t u → Member u (filter falls (begun past))
+  falls-all : (u : ℕ) → live past u ≡ true → u ≢ t → Reaches (Feeds past) t u → Member u (filter falls (started_ones past))
   falls-all u alive apart r =
       let led : leads (feeds past) (actors past) t u ≡ true =
       reaches-leads (feeds past) (Feeds past) (λ a b h. so-read_from past b a h) (actors past)
       (λ a b h. read_from-actor past b a h) t u r in
-      kept_member falls u (begun past) (and_from _ _ alive (and_from _ _ (not_from_false _ (ne_eqb u t apart)) led))
-      (begun_has past u (ltb-true u (starts past) (and_parts _ _ alive).0))
+      kept_member falls u (started_ones past) (and_from _ _ alive (and_from _ _ (not_from_false _ (ne_eqb u t apart)) led))
+      (begun_has past u (ltb-true u (start_count past) (and_parts _ _ alive).0))
 
   some_fall : (fell : List ℕ) × Falls past t fell
-  some_fall = (filter falls (begun past), record { rising = begun-rise falls past; each = falls-each; all = falls-all })
+  some_fall = (filter falls (started_ones past), record { rising = begun-rise falls past; each = falls-each; all = falls-all })
 
-  some_abort : (why : Cause) → (r : Reply) × Aborts past t why r
+  some_abort : (why : Cause) → (r : Reply) × AbortReply past t why r
   some_abort why = (reply.Aborted why some_fall.0, record { fell = some_fall.0; falls = some_fall.1; is = refl })
 
   -- whether an access closes a walk
@@ -156,7 +156,7 @@ module _ (past : List Entry) (t : ℕ) where
         (actors past) (λ a b p. (precedes-actors past a b p.precedes).1) t (last_of t rest) (rest, c.pairs, refl) in
         and_from _ _ (not_from_false _ (ne_eqb t (last_of t rest) (apart_from_last rest c))) (and_from _ _ c.conflict led)
 
-    some_access : (given : Reply) → (r : Reply) × (AbortsByCycle past t k kind r ⊎ Makes past t k kind given r)
+    some_access : (given : Reply) → (r : Reply) × (CycleAbortReply past t k kind r ⊎ Makes past t k kind given r)
     some_access given = elim (least_or_none closing (actors past)) [
       | inl w ↦
           let walk = walk_to w.at w.passes in
@@ -180,12 +180,12 @@ module _ (past : List Entry) (t : ℕ) where
   before-actor : (u : ℕ) → Pair past u t → Member u (actors past)
   before-actor u p = (precedes-actors past u t p.precedes).0
 
-  some_wait : ((r : Reply) × MustWait past t r) ⊎ NoneLive past t
+  some_wait : ((r : Reply) × MustWait past t r) ⊎ HasNoLivePredecessor past t
   some_wait = elim (least_or_none before (actors past)) [
     | inl w ↦ let p = and_parts _ _ w.passes in inl (
       reply.Waits w.at,
       record {
-        before = w.at;
+        predecessor = w.at;
         least = record {
           pair = record { is_live = p.0; pair = pair-so past w.at t p.1 };
           least = λ u q. w.least u (before-actor u q.pair) (and_from _ _ q.is_live (so-pair past u t q.pair));
@@ -202,11 +202,11 @@ module _ (past : List Entry) (t : ℕ) where
     | inr none ↦ (reply.Committed answers, inr (record { none_live = none; is = refl }))
   ]
 
-  some_asked_step : (asks : When) (code : ℕ) → (r : Reply) × AskedStep asks past t code r
+  some_asked_step : (asks : Asks) (code : ℕ) → (r : Reply) × RaisedStep asks past t code r
   some_asked_step AtStep code = some_abort (cause.Asked code)
   some_asked_step AtCommit code = (reply.Ended, refl)
 
-  some_asked_commit : (asks : When) (code : ℕ) → (r : Reply) × AskedCommit asks past t code r
+  some_asked_commit : (asks : Asks) (code : ℕ) → (r : Reply) × RaisedCommit asks past t code r
   some_asked_commit AtStep code = (reply.NotEnded, refl)
   some_asked_commit AtCommit code = elim some_wait [
     | inl w ↦ (w.0, inl w.1)
@@ -222,13 +222,13 @@ module _ (past : List Entry) (t : ℕ) where
   some_step s (Looks k) = some_access k Look (reply.Looked k (visible s.opening past k))
   some_step s (Puts k v) = some_access k Store (reply.Wrote k v)
   some_step s (Ends answers) = (reply.Ended, refl)
-  some_step s (Asks code) = some_asked_step s.rules.limits.asks code
+  some_step s (Raises code) = some_asked_step s.rules.limits.asks code
 
   some_commit : (s : Setting) (next : Next) → (r : Reply) × CommitReply s past t next r
   some_commit s (Ends answers) = some_end answers
   some_commit s (Looks k) = (reply.NotEnded, refl)
   some_commit s (Puts k v) = (reply.NotEnded, refl)
-  some_commit s (Asks code) = some_asked_commit s.rules.limits.asks code
+  some_commit s (Raises code) = some_asked_commit s.rules.limits.asks code
 
 some_of_started : (P : Reply → Type 0) → (r : Reply) × P r → (started : Bool) (ended : Option Fate)
     → (r : Reply) × OfStarted started ended r (P r)
@@ -237,10 +237,10 @@ some_of_started P if_live true (Some fate) = (reply.Over fate, refl)
 some_of_started P if_live false ended = (reply.Unknown, refl)
 
 pub some_reply_is_legal : SomeReplyIsLegal
-some_reply_is_legal s past (Start p args) = (start_reply s.rules (starts past) (length (live_ones past)) p args, refl)
+some_reply_is_legal s past (Start p args) = (start_reply s.rules (start_count past) (length (live_ones past)) p args, refl)
 some_reply_is_legal s past (Step t) = some_of_started (λ r. StepReply s past t (next_of s past t) r)
-    (some_step past t s (next_of s past t)) (nat_lt t (starts past)) (fate_of past t)
+    (some_step past t s (next_of s past t)) (nat_lt t (start_count past)) (fate_of past t)
 some_reply_is_legal s past (Commit t) = some_of_started (λ r. CommitReply s past t (next_of s past t) r)
-    (some_commit past t s (next_of s past t)) (nat_lt t (starts past)) (fate_of past t)
-some_reply_is_legal s past (Quit t) = some_of_started (λ r. Aborts past t cause.Quit r) (some_abort past t cause.Quit)
-    (nat_lt t (starts past)) (fate_of past t)
+    (some_commit past t s (next_of s past t)) (nat_lt t (start_count past)) (fate_of past t)
+some_reply_is_legal s past (Quit t) = some_of_started (λ r. AbortReply past t cause.Quit r) (some_abort past t cause.Quit)
+    (nat_lt t (start_count past)) (fate_of past t)

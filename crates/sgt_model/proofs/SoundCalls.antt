@@ -66,7 +66,7 @@ module _ (most : ℕ) (before after : State) (sound : Sound most before) where
 
   pub sound_look : (t : ℕ) (k : Key) → before.nodes t ≡ true → LooksAt t k before after → Sound most after
   sound_look t k node l = record {
-    begun = λ u q. subst (λ n. u < n) (sym l.notes.starts) (sound.begun u (sym (l.notes.nodes u) ∙ q));
+    begun = λ u q. subst (λ n. u < n) (sym l.notes.start_count) (sound.begun u (sym (l.notes.nodes u) ∙ q));
     listed = λ u. (
       (λ q. subst (λ x. Member u x) (sym l.notes.live) ((sound.listed u).0 (sym (l.notes.nodes u) ∙ q))),
       (λ m. l.notes.nodes u ∙ (sound.listed u).1 (subst (λ x. Member u x) l.notes.live m)),
@@ -96,7 +96,7 @@ module _ (most : ℕ) (before after : State) (sound : Sound most before) where
       → ((j : Key) → after.chain j ≡ cond (key_eq k j) (write_last t v (before.chain j)) (before.chain j))
       → ((u w : ℕ) → Has after.read_from u w ↔ Has before.read_from u w) → Sound most after
   sound_store t k v node n chain read_from = record {
-    begun = λ u q. subst (λ n. u < n) (sym n.starts) (sound.begun u (sym (n.nodes u) ∙ q));
+    begun = λ u q. subst (λ n. u < n) (sym n.start_count) (sound.begun u (sym (n.nodes u) ∙ q));
     listed = λ u. (
       (λ q. subst (λ x. Member u x) (sym n.live) ((sound.listed u).0 (sym (n.nodes u) ∙ q))),
       (λ m. n.nodes u ∙ (sound.listed u).1 (subst (λ x. Member u x) n.live m)),
@@ -143,7 +143,7 @@ module _ (most : ℕ) (before after : State) (sound : Sound most before) where
 
   pub sound_removes : (gone : ℕ → Bool) → Removes gone before after → Sound most after
   sound_removes gone r = record {
-    begun = λ u q. subst (λ n. u < n) (sym r.starts) (sound.begun u (was u q).0);
+    begun = λ u q. subst (λ n. u < n) (sym r.start_count) (sound.begun u (was u q).0);
     listed = λ u. (
       (λ q. subst (λ x. Member u x) (sym r.live) (let w = was u q in kept_member (λ x. not (gone x)) u before.live w.1
           ((sound.listed u).0 w.0))),
@@ -240,25 +240,25 @@ module _ (most : ℕ) (before after : State) (sound : Sound most before) where
 
   pub sound_starts : (at_start : Left) → length before.live < most → Starts at_start before after → Sound most after
   sound_starts call room x = record {
-    begun = λ u q. elim (or_cases (before.nodes u) (nat_eq u before.starts)
+    begun = λ u q. elim (or_cases (before.nodes u) (nat_eq u before.start_count)
         (sym (x.nodes u) ∙ q)) [
-          | inl old ↦ (let b = sound.begun u old in let e = x.starts in omega arith)
-          | inr new ↦ (let is = eqb-true u before.starts new in let e = x.starts in omega arith)
+          | inl old ↦ (let b = sound.begun u old in let e = x.start_count in omega arith)
+          | inr new ↦ (let is = eqb-true u before.start_count new in let e = x.start_count in omega arith)
         ];
     listed = λ u. (
       (λ q. subst (λ l. Member u l) (sym x.live)
-          (elim (or_cases (before.nodes u) (nat_eq u before.starts)
+          (elim (or_cases (before.nodes u) (nat_eq u before.start_count)
           (sym (x.nodes u) ∙ q)) [
-            | inl old ↦ member_added u before.live before.starts (inl ((sound.listed u).0 old))
-            | inr new ↦ member_added u before.live before.starts (inr (eqb-true u before.starts new))
+            | inl old ↦ member_added u before.live before.start_count (inl ((sound.listed u).0 old))
+            | inr new ↦ member_added u before.live before.start_count (inr (eqb-true u before.start_count new))
           ])),
-      (λ m. x.nodes u ∙ elim (member_append u before.live before.starts (subst (λ l. Member u l) x.live m)) [
+      (λ m. x.nodes u ∙ elim (member_append u before.live before.start_count (subst (λ l. Member u l) x.live m)) [
         | inl old ↦ or_left
-            (before.nodes u) (nat_eq u before.starts) ((sound.listed u).1 old)
-        | inr new ↦ or_right (before.nodes u) (nat_eq u before.starts) (eq-eqb u before.starts new)
+            (before.nodes u) (nat_eq u before.start_count) ((sound.listed u).1 old)
+        | inr new ↦ or_right (before.nodes u) (nat_eq u before.start_count) (eq-eqb u before.start_count new)
       ]),
     );
-    few = subst (λ l. length l ≤ most) (sym x.live) (let e = length-append before.live (before.starts ∷ []) in omega arith);
+    few = subst (λ l. length l ≤ most) (sym x.live) (let e = length-append before.live (before.start_count ∷ []) in omega arith);
     pair_nodes = λ u v q. let n = sound.pair_nodes u v (sym (x.pairs u v) ∙ q) in (still u n.0, still v n.1);
     pair_apart = λ u v q. sound.pair_apart u v (sym (x.pairs u v) ∙ q);
     access_nodes = λ u j way q. still u (sound.access_nodes u j way (ap (λ l. lists_conflicting l u j way) (sym x.accesses) ∙ q));
@@ -269,4 +269,4 @@ module _ (most : ℕ) (before after : State) (sound : Sound most before) where
   }
     where
       still : (u : ℕ) → before.nodes u ≡ true → after.nodes u ≡ true
-      still u n = x.nodes u ∙ or_left (before.nodes u) (nat_eq u before.starts) n
+      still u n = x.nodes u ∙ or_left (before.nodes u) (nat_eq u before.start_count) n

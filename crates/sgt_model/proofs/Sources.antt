@@ -21,7 +21,7 @@ use Rattle.sgt_model.specs.Falls.{Feeds}
 use Rattle.sgt_model.specs.Pairs.{has_conflicting, Precedes}
 use Rattle.sgt_model.specs.Settings.{Setting}
 use Rattle.sgt_model.specs.Progress.{reads}
-use Rattle.sgt_model.specs.Legality.{Legal, NoneLive}
+use Rattle.sgt_model.specs.Legality.{Legal, HasNoLivePredecessor}
 use Rattle.sgt_model.specs.CommitOrder.{CommitsBefore}
 use Rattle.sgt_model.proofs.Paths.{reaches_trans}
 use Rattle.sgt_model.proofs.Effects.{EndsNone, Undoing, Effect, idle, begins, accesses, commits, undoes, refuses, effect}
@@ -137,7 +137,7 @@ stands_after s e past h sound t u stands (inr reads) = go (aborted (e ∷ past) 
 
 -- what a live transaction that waits for nobody has read from has committed
 source_committed : (s : Setting) (past : List Entry) → Legal s past → Sound past → (t u : ℕ) → live past t ≡ true
-    → NoneLive past t → ReadFrom past t u → committed past u ≡ true
+    → HasNoLivePredecessor past t → ReadFrom past t u → committed past u ≡ true
 source_committed s past h sound t u t_alive none_live reads = go (status past u (precedes-started s past h u t precedes).0)
   where
     precedes : Precedes past u t

@@ -6,7 +6,7 @@ use Rattle.sgt_model.specs.declared.entry.Entry.{Entry}
 use Rattle.sgt_model.specs.declared.kind.Kind.TheVariants.{Store}
 use Rattle.sgt_model.specs.Contents.{Key}
 use Rattle.sgt_model.specs.Walks.{Member}
-use Rattle.sgt_model.specs.Fates.{is_start, starts, live, begun}
+use Rattle.sgt_model.specs.Fates.{is_start, start_count, live, started_ones}
 use Rattle.sgt_model.specs.Settings.{Setting}
 use Rattle.sgt_model.specs.Legality.{Legal}
 use Rattle.sgt_model.specs.AccessList.{lists_conflicting}
@@ -44,25 +44,25 @@ writers_from_state s past h c i k t m = let w = chain-wrote (live past) k past t
 
 -- the list of the live ones has each that is live, and no other
 
-begun_has : (past : List Entry) (t : ℕ) → t < starts past → Member t (begun past)
+begun_has : (past : List Entry) (t : ℕ) → t < start_count past → Member t (started_ones past)
 begun_has [] t lt = absurd (omega arith)
 begun_has (e ∷ past) t lt = go (is_start e.reply) (begun_has past t) lt
   where
-    now_or : t < starts past + 1 → (t < starts past → Member t (begun past)) → Member t (begun past) ⊎ (t ≡ starts past)
-    now_or lt before = elim (cases_lt t (starts past)) [ inl l ↦ inl (before l) | inr le ↦ inr (omega arith) ]
+    now_or : t < start_count past + 1 → (t < start_count past → Member t (started_ones past)) → Member t (started_ones past) ⊎ (t ≡ start_count past)
+    now_or lt before = elim (cases_lt t (start_count past)) [ inl l ↦ inl (before l) | inr le ↦ inr (omega arith) ]
 
-    go : (b : Bool) → (t < starts past → Member t (begun past)) → t < cond b (starts past + 1) (starts past)
-        → Member t (cond b (begun past ++ starts past ∷ []) (begun past))
-    go true before lt = member_added t (begun past) (starts past) (now_or lt before)
+    go : (b : Bool) → (t < start_count past → Member t (started_ones past)) → t < cond b (start_count past + 1) (start_count past)
+        → Member t (cond b (started_ones past ++ start_count past ∷ []) (started_ones past))
+    go true before lt = member_added t (started_ones past) (start_count past) (now_or lt before)
     go false before lt = before lt
 
 pub state_is_sound : (s : Setting) (past : List Entry) → Legal s past → (c : State) → IsStateAfter s past c → Sound s.rules.limits.live c
 state_is_sound s past h c i = record {
-  begun = λ t q. subst (λ n. t < n) (sym i.starts) (live-started past t (sym (i.nodes t) ∙ q));
+  begun = λ t q. subst (λ n. t < n) (sym i.start_count) (live-started past t (sym (i.nodes t) ∙ q));
   listed = λ t. (
-    (λ q. subst (λ l. Member t l) (sym i.lives) (kept_member (live past) t (begun past) (sym (i.nodes t) ∙ q)
+    (λ q. subst (λ l. Member t l) (sym i.lives) (kept_member (live past) t (started_ones past) (sym (i.nodes t) ∙ q)
         (begun_has past t (live-started past t (sym (i.nodes t) ∙ q))))),
-    (λ m. i.nodes t ∙ (member_kept (live past) t (begun past) (subst (λ l. Member t l) i.lives m)).0),
+    (λ m. i.nodes t ∙ (member_kept (live past) t (started_ones past) (subst (λ l. Member t l) i.lives m)).0),
   );
   few = subst (λ l. length l ≤ s.rules.limits.live) (sym i.lives) (limits_are_kept s past h).1;
   pair_nodes = λ t u q. let p = (i.pairs t u).0 q in (i.nodes t ∙ p.first_live, i.nodes u ∙ p.second_live);

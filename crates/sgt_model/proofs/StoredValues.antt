@@ -4,11 +4,11 @@ use Rattle.std.specs.Prelude.{int_le, IfSome, slice_get}
 use Rattle.std.proofs.lemmas.Bool.{and_parts}
 use Rattle.sgt_model.specs.Numbers.{IsValue, is_value}
 use Rattle.sgt_model.specs.Contents.{Key, key_eq, Contents, put_in}
-use Rattle.sgt_model.specs.Syntax.{Program}
+use Rattle.sgt_model.specs.Syntax.{ProcedureText}
 use Rattle.sgt_model.specs.Ways.{Way, onto}
 use Rattle.sgt_model.specs.Ways as way
-use Rattle.sgt_model.specs.Runs.{Run, looks, puts, ends, asks, serial, contents_after}
-use Rattle.sgt_model.specs.Meaning.{Got, is, over, missing, Registers, fresh, value_of, Truth, holds, too_far, unknown, truth_of, wrong, with_value, with_test, is_key, with_key, with_stored, if_found, found_or, run}
+use Rattle.sgt_model.specs.Runs.{Run, looks, puts, ends, raises, serial, contents_after}
+use Rattle.sgt_model.specs.Meaning.{Got, is, over, missing, Registers, fresh, value_of, Truth, holds, too_far, unknown, truth_of, wrong, with_value, with_condition, is_key, with_key, with_stored, if_found, found_or, run}
 use Rattle.sgt_model.specs.Settings.{setting, run_if}
 use Rattle.sgt_model.specs.StoredValues.{HoldValues, StoresValues, RunsStoreValues, ReplaysHoldValues, CommittedAreValues}
 use Rattle.sgt_model.proofs.Replays.{is_serializable}
@@ -31,7 +31,7 @@ stores_with (is v) go h = h v
 stores_with over go h = tt
 stores_with missing go h = tt
 
-stores_either : (h : Truth) (ys ns : Run) → StoresValues ys → StoresValues ns → StoresValues (with_test h ys ns)
+stores_either : (h : Truth) (ys ns : Run) → StoresValues ys → StoresValues ns → StoresValues (with_condition h ys ns)
 stores_either (holds true) ys ns first second = first
 stores_either (holds false) ys ns first second = second
 stores_either too_far ys ns first second = tt
@@ -72,7 +72,7 @@ stores_along args (way.answer value rest) regs answers =
 pub runs_store_values : RunsStoreValues
 runs_store_values p args = stores_along args (onto p.body way.end) fresh []
 
-stores_if_any : (o : Option Program) (args : List ℤ) → StoresValues (run_if o args)
+stores_if_any : (o : Option ProcedureText) (args : List ℤ) → StoresValues (run_if o args)
 stores_if_any None args = tt
 stores_if_any (Some p) args = runs_store_values p args
 
@@ -89,7 +89,7 @@ hold_after (looks k go) m before stores now left = hold_after (go (m k)) m befor
 hold_after (puts k v rest) m before stores now left = hold_after rest (put_in m k v) before stores.1
     (λ other. value_put (key_eq k other) v (m other) stores.0 (now other)) left
 hold_after (ends answers) m before stores now left = now
-hold_after (asks code) m before stores now left = left
+hold_after (raises code) m before stores now left = left
 
 pub replays_hold_values : ReplaysHoldValues
 replays_hold_values opening programs limits [] hold = hold

@@ -5,8 +5,8 @@ use Rattle.std.proofs.Common.{refl, sym, ap, ap₂, ◌∙◌, subst, subst₂, 
 use Rattle.sgt_model.specs.declared.kind.Kind.{Kind}
 use Rattle.sgt_model.specs.declared.kind.Kind.TheVariants.{Look, Store}
 use Rattle.sgt_model.specs.Contents.{Key, key_eq, Contents, put_in}
-use Rattle.sgt_model.specs.Runs.{Run, looks, puts, ends, asks, serial}
-use Rattle.sgt_model.specs.Traces.{Act, look, put, TraceEnding, ended, asking, Trace, after_access, trace, Next, Looks, Puts, Ends, Asks, next_at, Finds, with_stores, GivesAt, RunIsTrace}
+use Rattle.sgt_model.specs.Runs.{Run, looks, puts, ends, raises, serial}
+use Rattle.sgt_model.specs.Traces.{Act, look, put, TraceEnding, ended, raising, Trace, after_access, trace, Next, Looks, Puts, Ends, Raises, next_at, Finds, with_stores, GivesAt, RunIsTrace}
 use Rattle.sgt_model.specs.Accesses.{Access, is_store}
 use Rattle.sgt_model.specs.Progress.{if_look, values_read}
 use Rattle.sgt_model.proofs.Effects.{Fits}
@@ -20,7 +20,7 @@ run_is_trace (looks k go) m (v ∷ vs) f = subst (λ w. GivesAt (trace (go v) vs
     (serial (go w) m)) f.0 (run_is_trace (go v) m vs f.1)
 run_is_trace (puts k v rest) m vs f = run_is_trace rest (put_in m k v) vs f
 run_is_trace (ends answers) m vs f = refl
-run_is_trace (asks code) m vs f = refl
+run_is_trace (raises code) m vs f = refl
 
 abbrev act_of : Kind → Key → Option ℤ → Act
 act_of kind k v = cond (is_store kind) (put k (unwrap_or v (pos 0))) (look k)
@@ -37,7 +37,7 @@ abbrev left_by : Run → Access → Run
 left_by (looks k go) a = go a.value
 left_by (puts k v rest) a = rest
 left_by (ends answers) a = ends answers
-left_by (asks code) a = asks code
+left_by (raises code) a = raises code
 
 abbrev left : Run → List Access → Run
 left r [] = r
@@ -50,13 +50,13 @@ abbrev next_of_run : Run → Next
 next_of_run (looks k go) = Looks k
 next_of_run (puts k v rest) = Puts k v
 next_of_run (ends answers) = Ends answers
-next_of_run (asks code) = Asks code
+next_of_run (raises code) = Raises code
 
 first_next : (r : Run) → next_at (trace r []) 0 ≡ next_of_run r
 first_next (looks k go) = refl
 first_next (puts k v rest) = refl
 first_next (ends answers) = refl
-first_next (asks code) = refl
+first_next (raises code) = refl
 
 next_behind : (xs : List Act) (t : Trace) → next_at (behind xs t) (length xs) ≡ next_at t 0
 next_behind [] t = refl
@@ -76,7 +76,7 @@ trace_by (puts k v rest) a ws h =
     ∙ (ap₂ (λ j w. after_access (act_of Store j w) (trace rest ws)) (sym h.0) (sym h.2)
     ∙ ap (λ kind. after_access (act_of kind a.key a.value) (trace rest ws)) (sym h.1))
 trace_by (ends answers) a ws h = absurd h
-trace_by (asks code) a ws h = absurd h
+trace_by (raises code) a ws h = absurd h
 
 behind_append : (xs : List Act) (x : Act) (t : Trace) → behind xs (after_access x t) ≡ behind (xs ++ x ∷ []) t
 behind_append xs x t = ap (λ (l : List Act). record { accesses = l; ending = t.ending }) (sym (append_assoc xs (x ∷ []) t.accesses))
@@ -111,7 +111,7 @@ fits_shape : (n : Next) (a : Access) → Fits n a → Shape a
 fits_shape (Looks k) a h = inl h.1
 fits_shape (Puts k v) a h = inr (v, h.1, h.2)
 fits_shape (Ends answers) a h = absurd h
-fits_shape (Asks code) a h = absurd h
+fits_shape (Raises code) a h = absurd h
 
 asked_shaped : (asked : List (Option ℤ) → ℕ → Next) (done : List Access) → AsAsked asked done → Shaped done
 asked_shaped asked [] h = tt
@@ -160,13 +160,13 @@ ended_trace : (r : Run) (answers : List ℤ) → next_of_run r ≡ Ends answers 
 ended_trace (looks k go) answers h = absurd (cc h)
 ended_trace (puts k v rest) answers h = absurd (cc h)
 ended_trace (ends given) answers h = let e : given ≡ answers = cc h in ap (λ l. over_with [] (ended l)) e
-ended_trace (asks code) answers h = absurd (cc h)
+ended_trace (raises code) answers h = absurd (cc h)
 
-asking_trace : (r : Run) (code : ℕ) → next_of_run r ≡ Asks code → trace r [] ≡ over_with [] (asking code)
+asking_trace : (r : Run) (code : ℕ) → next_of_run r ≡ Raises code → trace r [] ≡ over_with [] (raising code)
 asking_trace (looks k go) code h = absurd (cc h)
 asking_trace (puts k v rest) code h = absurd (cc h)
 asking_trace (ends given) code h = absurd (cc h)
-asking_trace (asks given) code h = let e : given ≡ code = cc h in ap (λ c. over_with [] (asking c)) e
+asking_trace (raises given) code h = let e : given ≡ code = cc h in ap (λ c. over_with [] (raising c)) e
 
 whole_trace : (r : Run) (done : List Access) (e : TraceEnding) → AsAsked (asks_of r) done → trace (left r done) [] ≡ over_with [] e
     → trace r (values_read done) ≡ over_with done e
@@ -196,5 +196,5 @@ law_over_acts r law = record {
         (ended_trace (left r done) answers (sym (left_next r done h) ∙ e)),
     with_over m done (asked_shaped (asks_of r) done h),
   );
-  asked = λ m done code h f e. gives r law m done (asking code) h f (asking_trace (left r done) code (sym (left_next r done h) ∙ e));
+  asked = λ m done code h f e. gives r law m done (raising code) h f (asking_trace (left r done) code (sym (left_next r done h) ∙ e));
 }

@@ -1,7 +1,7 @@
 -- How far a run has come: one more access keeps what was used, and a run of few accesses has made few.
 use Rattle.std.proofs.Common.{◌≡◌, ℕ, zero, suc, ℤ, List, [], ◌∷◌, ◌++◌, Option}
 use Rattle.sgt_model.specs.Contents.{Key}
-use Rattle.sgt_model.specs.Runs.{Run, looks, puts, ends, asks}
+use Rattle.sgt_model.specs.Runs.{Run, looks, puts, ends, raises}
 use Rattle.sgt_model.specs.Traces.{Looks, Puts, trace, next_at, Used}
 
 -- where a look is next, its value is used next
@@ -10,13 +10,13 @@ pub used_look-suc : (r : Run) (vs : List (Option ℤ)) (made : ℕ) (k : Key) (v
 used_look-suc (looks j go) [] zero k v u e = tt
 used_look-suc (puts j x rest) [] zero k v u e = absurd (cc)
 used_look-suc (ends answers) [] zero k v u e = absurd (cc)
-used_look-suc (asks code) [] zero k v u e = absurd (cc)
+used_look-suc (raises code) [] zero k v u e = absurd (cc)
 used_look-suc r (w ∷ vs) zero k v u e = absurd u
 used_look-suc (looks j go) [] (suc made) k v u e = absurd u
 used_look-suc (looks j go) (w ∷ vs) (suc made) k v u e = used_look-suc (go w) vs made k v u e
 used_look-suc (puts j x rest) vs (suc made) k v u e = used_look-suc rest vs made k v u e
 used_look-suc (ends answers) vs (suc made) k v u e = absurd u
-used_look-suc (asks code) vs (suc made) k v u e = absurd u
+used_look-suc (raises code) vs (suc made) k v u e = absurd u
 
 -- where a store is next, it is made
 pub used_store-suc : (r : Run) (vs : List (Option ℤ)) (made : ℕ) (k : Key) (x : ℤ) → Used r vs made
@@ -24,10 +24,10 @@ pub used_store-suc : (r : Run) (vs : List (Option ℤ)) (made : ℕ) (k : Key) (
 used_store-suc (looks j go) [] zero k x u e = absurd (cc)
 used_store-suc (puts j y rest) [] zero k x u e = tt
 used_store-suc (ends answers) [] zero k x u e = absurd (cc)
-used_store-suc (asks code) [] zero k x u e = absurd (cc)
+used_store-suc (raises code) [] zero k x u e = absurd (cc)
 used_store-suc r (w ∷ vs) zero k x u e = absurd u
 used_store-suc (looks j go) [] (suc made) k x u e = absurd u
 used_store-suc (looks j go) (w ∷ vs) (suc made) k x u e = used_store-suc (go w) vs made k x u e
 used_store-suc (puts j y rest) vs (suc made) k x u e = used_store-suc rest vs made k x u e
 used_store-suc (ends answers) vs (suc made) k x u e = absurd u
-used_store-suc (asks code) vs (suc made) k x u e = absurd u
+used_store-suc (raises code) vs (suc made) k x u e = absurd u

@@ -8,7 +8,7 @@ use Rattle.sgt_model.specs.declared.entry.Entry.{Entry}
 use Rattle.sgt_model.specs.declared.kind.Kind.{Kind}
 use Rattle.sgt_model.specs.declared.kind.Kind.TheVariants.{Look}
 use Rattle.sgt_model.specs.Contents.{Key}
-use Rattle.sgt_model.specs.Walks.{Member, PathOf, last_of, IsLeastBefore, NoneBefore}
+use Rattle.sgt_model.specs.Walks.{Member, PathOf, last_of, IsLeastPredecessor, HasNoPredecessor}
 use Rattle.sgt_model.specs.Accesses.{Access}
 use Rattle.sgt_model.specs.Fates.{aborted, committed, live}
 use Rattle.sgt_model.specs.Values.{newest_store, settled, value_or, visible}
@@ -17,7 +17,7 @@ use Rattle.sgt_model.specs.Falls.{Feeds, Falls}
 use Rattle.sgt_model.specs.Pairs.{Pair, Precedes, has_conflicting}
 use Rattle.sgt_model.specs.Closes.{Closes}
 use Rattle.sgt_model.specs.Settings.{Setting}
-use Rattle.sgt_model.specs.Legality.{Legal, LivePredecessor, NoneLive}
+use Rattle.sgt_model.specs.Legality.{Legal, LivePredecessor, HasNoLivePredecessor}
 use Rattle.sgt_model.specs.AccessList.{lists_conflicting}
 use Rattle.sgt_model.specs.State.{Has, State, PairIn}
 use Rattle.sgt_model.specs.StateAfter.{IsStateAfter}
@@ -157,7 +157,7 @@ module _ (s : Setting) (past : List Entry) (h : Legal s past) where
 
     -- the least predecessor
 
-    pub least_from : (t u : ℕ) → IsLeastBefore (PairIn c) t u → IsLeastBefore (LivePredecessor past) t u
+    pub least_from : (t u : ℕ) → IsLeastPredecessor (PairIn c) t u → IsLeastPredecessor (LivePredecessor past) t u
     least_from t u l =
         let p = (i.pairs u t).0 l.pair in
         record {
@@ -165,7 +165,7 @@ module _ (s : Setting) (past : List Entry) (h : Legal s past) where
           least = λ v q. l.least v ((i.pairs v t).1 (record { first_live = q.is_live; second_live = p.second_live; pair = q.pair }));
         }
 
-    pub none_from : (t : ℕ) → live past t ≡ true → NoneBefore (PairIn c) t → NoneLive past t
+    pub none_from : (t : ℕ) → live past t ≡ true → HasNoPredecessor (PairIn c) t → HasNoLivePredecessor past t
     none_from t t_alive none v p = none v ((i.pairs v t).1 (record { first_live = p.is_live; second_live = t_alive; pair = p.pair }))
 
     -- who falls

@@ -15,7 +15,7 @@ use Rattle.sgt_model.specs.Contents.{Key}
 use Rattle.sgt_model.specs.Walks.{Member, PathOf, last_of, Rising}
 use Rattle.sgt_model.specs.Fates.{live}
 use Rattle.sgt_model.specs.Pairs.{Pair, has_conflicting}
-use Rattle.sgt_model.specs.Legality.{AbortsByCycle, Makes, MustWait, MayCommit, LegalReply}
+use Rattle.sgt_model.specs.Legality.{CycleAbortReply, Makes, MustWait, MayCommit, LegalReply}
 use Rattle.sgt_model.proofs.Computed.{pair, pair-so, so-pair, free_test, free-so, closes-so, each-so, all-so}
 use Rattle.sgt_model.proofs.ExampleSettings.{small_bank, entry, small_bank_put, small_bank_copy, small_bank_twice, small_bank_look_twice, small_bank_put_over, small_bank_tell}
 use Rattle.sgt_model.proofs.ExamplesDeepCascades.{three_levels}
@@ -23,7 +23,7 @@ use Rattle.sgt_model.proofs.ExamplesRefusals.{refusing}
 
 -- where an access closes no walk it is not rejected
 not_refused : {past : List Entry} {t : ℕ} {k : Key} {kind : Kind} {why : Cause} {fell : List ℕ} (given : Reply) (set : List ℕ)
-    → free_test past t k kind set ≡ true → (given ≡ reply.Aborted why fell → ⊥) → AbortsByCycle past t k kind
+    → free_test past t k kind set ≡ true → (given ≡ reply.Aborted why fell → ⊥) → CycleAbortReply past t k kind
     (reply.Aborted why fell) ⊎ Makes past t k kind given (reply.Aborted why fell) → ⊥
 not_refused {past} {t} {k} {kind} given set free apart (inl h) = free-so past t k kind set free h.rest h.closes
 not_refused {past} {t} {k} {kind} given set free apart (inr h) = apart (sym h.is)
@@ -92,7 +92,7 @@ last_writer_only h = not_committed 0 refl h
 
 -- and it is the first that has to be waited for
 waits_for_another : LegalReply small_bank_put three_writers (Commit 2) (reply.Waits 1) → ⊥
-waits_for_another (inl h) = let b : h.before ≡ 1 = cc h.is in cc (subst (λ u. live three_writers u ≡ true) b h.least.pair.is_live)
+waits_for_another (inl h) = let b : h.predecessor ≡ 1 = cc h.is in cc (subst (λ u. live three_writers u ≡ true) b h.least.pair.is_live)
 waits_for_another (inr h) = cc h.is
 
 -- `before-image`: after the first of two writers quits, a look finds what the second stored
@@ -226,8 +226,8 @@ two_live_writers =
 
 waits_for_the_greater : LegalReply small_bank_put two_live_writers (Commit 2) (reply.Waits 1) → ⊥
 waits_for_the_greater (inl h) =
-    let named : h.before ≡ 1 = cc h.is in
-    let least : h.before ≤ 0 = h.least.least 0 (record { is_live = refl; pair = pair-so two_live_writers 0 2 refl }) in
+    let named : h.predecessor ≡ 1 = cc h.is in
+    let least : h.predecessor ≤ 0 = h.least.least 0 (record { is_live = refl; pair = pair-so two_live_writers 0 2 refl }) in
     omega arith
 waits_for_the_greater (inr h) = cc h.is
 

@@ -11,7 +11,7 @@ use Rattle.sgt_model.specs.declared.kind.Kind.{Kind}
 use Rattle.sgt_model.specs.declared.kind.Kind.TheVariants.{Look, Store}
 use Rattle.sgt_model.specs.Contents.{Key}
 use Rattle.sgt_model.specs.Walks.{Orders}
-use Rattle.sgt_model.specs.Traces.{Next, Looks, Puts, Ends, Asks}
+use Rattle.sgt_model.specs.Traces.{Next, Looks, Puts, Ends, Raises}
 use Rattle.sgt_model.specs.Accesses.{Access, access_of}
 use Rattle.sgt_model.specs.Fates.{subject}
 use Rattle.sgt_model.specs.Falls.{Falls}
@@ -25,7 +25,7 @@ abbrev pub Wants : Next → Key → Kind → Type 0
 Wants (Looks j) k kind = (k ≡ j) × (kind ≡ Look)
 Wants (Puts j v) k kind = (k ≡ j) × (kind ≡ Store)
 Wants (Ends answers) k kind = ⊥
-Wants (Asks code) k kind = ⊥
+Wants (Raises code) k kind = ⊥
 
 -- an access is t's, of that kind of the key, whatever the value
 abbrev pub IsAccessBy : Option Access → ℕ → Key → Kind → Type 0
@@ -44,32 +44,32 @@ pub record ClosesCycle (s : Setting) (past : List Entry) (t : ℕ) (walk : List 
   pub no_order : (e : Entry) → IsAccessBy (access_of e) t key kind → (order : List ℕ) → Orders (Pair (e ∷ past)) walk order → ⊥
 
 -- the cause that a reply names is so: the step would close that walk, the procedure asks that code, or the caller quits
-abbrev pub HasCause : Setting → List Entry → Event → Cause → Type 0
-HasCause s past (Step t) (cause.Cycle walk) = ClosesCycle s past t walk
-HasCause s past (Step t) (cause.Asked code) = next_of s past t ≡ Asks code
-HasCause s past (Quit t) cause.Quit = Unit {0}
-HasCause s past _ _ = ⊥
+abbrev pub CauseHolds : Setting → List Entry → Event → Cause → Type 0
+CauseHolds s past (Step t) (cause.Cycle walk) = ClosesCycle s past t walk
+CauseHolds s past (Step t) (cause.Asked code) = next_of s past t ≡ Raises code
+CauseHolds s past (Quit t) cause.Quit = Unit {0}
+CauseHolds s past _ _ = ⊥
 
 -- an abort has its cause, and so has a refusal: the procedure asks that code. Those that fall are exactly those that read
 -- from it
-abbrev pub AbortHasCause : Setting → List Entry → Event → Reply → Type 0
-AbortHasCause s past event (reply.Aborted why fell) = HasCause s past event why × Falls past (subject event) fell
-AbortHasCause s past event (reply.Refused code fell) = (next_of s past (subject event) ≡ Asks code) × Falls past (subject event) fell
-AbortHasCause s past event (reply.Started u) = Unit {0}
-AbortHasCause s past event reply.NoProcedure = Unit {0}
-AbortHasCause s past event reply.BadArgs = Unit {0}
-AbortHasCause s past event reply.Spent = Unit {0}
-AbortHasCause s past event reply.Full = Unit {0}
-AbortHasCause s past event reply.Unknown = Unit {0}
-AbortHasCause s past event (reply.Over ended) = Unit {0}
-AbortHasCause s past event (reply.Looked k v) = Unit {0}
-AbortHasCause s past event (reply.Wrote k v) = Unit {0}
-AbortHasCause s past event reply.Ended = Unit {0}
-AbortHasCause s past event reply.NotEnded = Unit {0}
-AbortHasCause s past event (reply.Waits u) = Unit {0}
-AbortHasCause s past event (reply.Committed answers) = Unit {0}
+abbrev pub ReplyIsJustified : Setting → List Entry → Event → Reply → Type 0
+ReplyIsJustified s past event (reply.Aborted why fell) = CauseHolds s past event why × Falls past (subject event) fell
+ReplyIsJustified s past event (reply.Refused code fell) = (next_of s past (subject event) ≡ Raises code) × Falls past (subject event) fell
+ReplyIsJustified s past event (reply.Started u) = Unit {0}
+ReplyIsJustified s past event reply.NoProcedure = Unit {0}
+ReplyIsJustified s past event reply.BadArgs = Unit {0}
+ReplyIsJustified s past event reply.Spent = Unit {0}
+ReplyIsJustified s past event reply.Full = Unit {0}
+ReplyIsJustified s past event reply.Unknown = Unit {0}
+ReplyIsJustified s past event (reply.Over ended) = Unit {0}
+ReplyIsJustified s past event (reply.Looked k v) = Unit {0}
+ReplyIsJustified s past event (reply.Wrote k v) = Unit {0}
+ReplyIsJustified s past event reply.Ended = Unit {0}
+ReplyIsJustified s past event reply.NotEnded = Unit {0}
+ReplyIsJustified s past event (reply.Waits u) = Unit {0}
+ReplyIsJustified s past event (reply.Committed answers) = Unit {0}
 
 -- so has each abort of a history
 abbrev pub AbortsHaveCause : Setting → List Entry → Type 0
 AbortsHaveCause s [] = Unit {0}
-AbortsHaveCause s (e ∷ past) = AbortsHaveCause s past × AbortHasCause s past e.event e.reply
+AbortsHaveCause s (e ∷ past) = AbortsHaveCause s past × ReplyIsJustified s past e.event e.reply

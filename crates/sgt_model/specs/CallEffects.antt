@@ -9,12 +9,12 @@ use Rattle.sgt_model.specs.declared.reply.Cause.TheVariants as cause
 use Rattle.sgt_model.specs.declared.reply.Fate.{Fate}
 use Rattle.sgt_model.specs.declared.kind.Kind.{Kind}
 use Rattle.sgt_model.specs.declared.kind.Kind.TheVariants.{Look, Store}
-use Rattle.sgt_model.specs.declared.limits.Asks.{Asks as When}
+use Rattle.sgt_model.specs.declared.limits.Asks.{Asks}
 use Rattle.sgt_model.specs.declared.limits.Asks.TheVariants.{AtStep, AtCommit}
 use Rattle.sgt_model.specs.Contents.{Key}
-use Rattle.sgt_model.specs.Syntax.{Program}
-use Rattle.sgt_model.specs.Traces.{Next, Looks, Puts, Ends, Asks}
-use Rattle.sgt_model.specs.Walks.{IsLeastBefore, NoneBefore}
+use Rattle.sgt_model.specs.Syntax.{ProcedureText}
+use Rattle.sgt_model.specs.Traces.{Next, Looks, Puts, Ends, Raises}
+use Rattle.sgt_model.specs.Walks.{IsLeastPredecessor, HasNoPredecessor}
 use Rattle.sgt_model.specs.Settings.{Rules}
 use Rattle.sgt_model.specs.StartReply.{start_reply}
 use Rattle.sgt_model.specs.Left.{next_left}
@@ -44,16 +44,16 @@ pub record Undo (t : ℕ) (why : Cause) (fell : List ℕ) (before after : State)
   pub drops : Drops t why fell before after
 
 -- t is aborted, with those that fall
-pub record AbortsIn (t : ℕ) (why : Cause) (before : State) (r : Reply) (after : State) : Type 0 where
+pub record AbortEffect (t : ℕ) (why : Cause) (before : State) (r : Reply) (after : State) : Type 0 where
   pub fell : List ℕ
   pub undo : Undo t why fell before after
   pub reply : r ≡ reply.Aborted why fell
 
 -- an access that is blocked is rejected: t is aborted, and the reply names the walk
-pub record AbortsByCycleIn (t : ℕ) (k : Key) (kind : Kind) (before : State) (r : Reply) (after : State) : Type 0 where
+pub record CycleAbortEffect (t : ℕ) (k : Key) (kind : Kind) (before : State) (r : Reply) (after : State) : Type 0 where
   pub rest : List ℕ
   pub blocks : Blocks before t k kind rest
-  pub aborts : AbortsIn t (cause.Cycle (t ∷ rest)) before r after
+  pub aborts : AbortEffect t (cause.Cycle (t ∷ rest)) before r after
 
 -- a look that nothing blocks is made
 pub record MakesLook (t : ℕ) (k : Key) (before : State) (r : Reply) (after : State) : Type 0 where
@@ -68,72 +68,72 @@ pub record MakesStore (t : ℕ) (k : Key) (v : ℤ) (before : State) (r : Reply)
   pub stores : StoresInto t k v before after
 
 -- a step that asks is answered at once, or left to the commit
-abbrev pub AskedStepOn : When → ℕ → ℕ → State → Reply → State → Type 0
-AskedStepOn AtStep t code before r after = AbortsIn t (cause.Asked code) before r after
-AskedStepOn AtCommit t code before r after = Stays reply.Ended before r after
+abbrev pub RaisedStepOn : Asks → ℕ → ℕ → State → Reply → State → Type 0
+RaisedStepOn AtStep t code before r after = AbortEffect t (cause.Asked code) before r after
+RaisedStepOn AtCommit t code before r after = Stays reply.Ended before r after
 
 -- a step of a live transaction, by what its procedure does next
-abbrev pub StepOn : When → ℕ → Next → State → Reply → State → Type 0
-StepOn asks t (Looks k) before r after = AbortsByCycleIn t k Look before r after ⊎ MakesLook t k before r after
-StepOn asks t (Puts k v) before r after = AbortsByCycleIn t k Store before r after ⊎ MakesStore t k v before r after
+abbrev pub StepOn : Asks → ℕ → Next → State → Reply → State → Type 0
+StepOn asks t (Looks k) before r after = CycleAbortEffect t k Look before r after ⊎ MakesLook t k before r after
+StepOn asks t (Puts k v) before r after = CycleAbortEffect t k Store before r after ⊎ MakesStore t k v before r after
 StepOn asks t (Ends answers) before r after = Stays reply.Ended before r after
-StepOn asks t (Asks code) before r after = AskedStepOn asks t code before r after
+StepOn asks t (Raises code) before r after = RaisedStepOn asks t code before r after
 
 -- a step of any transaction
-abbrev pub StepEffect : When → ℕ → State → Reply → State → Type 0
-StepEffect asks t before r after = IfOpen (nat_lt t before.starts) (before.fates t) before r after (StepOn asks t (next_left (before.left t)) before r after)
+abbrev pub StepEffect : Asks → ℕ → State → Reply → State → Type 0
+StepEffect asks t before r after = IfOpen (nat_lt t before.start_count) (before.fates t) before r after (StepOn asks t (next_left (before.left t)) before r after)
 
 -- a commit
 
 -- t has to wait for its least predecessor
 pub record WaitsOn (t : ℕ) (before : State) (r : Reply) (after : State) : Type 0 where
   pub on : ℕ
-  pub least : IsLeastBefore (PairIn before) t on
+  pub least : IsLeastPredecessor (PairIn before) t on
   pub stays : Stays (reply.Waits on) before r after
 
 -- t has no predecessor, and commits with its answers
 pub record CommitsIn (t : ℕ) (answers : List ℤ) (before : State) (r : Reply) (after : State) : Type 0 where
-  pub first : NoneBefore (PairIn before) t
+  pub first : HasNoPredecessor (PairIn before) t
   pub reply : r ≡ reply.Committed answers
   pub settles : Settles t before after
 
 -- t has no predecessor, and is refused with its code
 pub record RefusesIn (t code : ℕ) (before : State) (r : Reply) (after : State) : Type 0 where
-  pub first : NoneBefore (PairIn before) t
+  pub first : HasNoPredecessor (PairIn before) t
   pub fell : List ℕ
   pub undo : Undo t (cause.Asked code) fell before after
   pub reply : r ≡ reply.Refused code fell
 
 -- a commit of one that asks: its step was answered already, or it is answered now, and waits as every commit does
-abbrev pub AskedCommitOn : When → ℕ → ℕ → State → Reply → State → Type 0
-AskedCommitOn AtStep t code before r after = Stays reply.NotEnded before r after
-AskedCommitOn AtCommit t code before r after = WaitsOn t before r after ⊎ RefusesIn t code before r after
+abbrev pub RaisedCommitOn : Asks → ℕ → ℕ → State → Reply → State → Type 0
+RaisedCommitOn AtStep t code before r after = Stays reply.NotEnded before r after
+RaisedCommitOn AtCommit t code before r after = WaitsOn t before r after ⊎ RefusesIn t code before r after
 
 -- a commit of a live transaction, by what its procedure does next
-abbrev pub CommitOn : When → ℕ → Next → State → Reply → State → Type 0
+abbrev pub CommitOn : Asks → ℕ → Next → State → Reply → State → Type 0
 CommitOn asks t (Ends answers) before r after = WaitsOn t before r after ⊎ CommitsIn t answers before r after
 CommitOn asks t (Looks k) before r after = Stays reply.NotEnded before r after
 CommitOn asks t (Puts k v) before r after = Stays reply.NotEnded before r after
-CommitOn asks t (Asks code) before r after = AskedCommitOn asks t code before r after
+CommitOn asks t (Raises code) before r after = RaisedCommitOn asks t code before r after
 
 -- a commit of any transaction
-abbrev pub CommitEffect : When → ℕ → State → Reply → State → Type 0
-CommitEffect asks t before r after = IfOpen (nat_lt t before.starts) (before.fates t) before r after (CommitOn asks t (next_left (before.left t)) before r after)
+abbrev pub CommitEffect : Asks → ℕ → State → Reply → State → Type 0
+CommitEffect asks t before r after = IfOpen (nat_lt t before.start_count) (before.fates t) before r after (CommitOn asks t (next_left (before.left t)) before r after)
 
 -- a quit
 
 -- a quit of any transaction
 abbrev pub QuitEffect : ℕ → State → Reply → State → Type 0
-QuitEffect t before r after = IfOpen (nat_lt t before.starts) (before.fates t) before r after (AbortsIn t cause.Quit before r after)
+QuitEffect t before r after = IfOpen (nat_lt t before.start_count) (before.fates t) before r after (AbortEffect t cause.Quit before r after)
 
 -- a start
 
 -- the one reply to a start, from the state
 abbrev pub start_answer : Rules → State → ℕ → List ℤ → Reply
-start_answer rules c p args = start_reply rules c.starts (length c.live) p args
+start_answer rules c p args = start_reply rules c.start_count (length c.live) p args
 
 -- what a start with this reply does
-abbrev pub StartOn : Option Program → List ℤ → State → Reply → State → Type 0
+abbrev pub StartOn : Option ProcedureText → List ℤ → State → Reply → State → Type 0
 StartOn p args before (reply.Started t) after = Starts (left_if p args) before after
 StartOn p args before _ after = after ≡ before
 

@@ -21,7 +21,7 @@ pub record Notes (t : ℕ) (k : Key) (kind : Kind) (before after : State) : Type
   pub accesses : after.accesses ≡ before.accesses ++ record { by = t; key = k; kind = kind } ∷ []
   pub settled : (j : Key) → after.settled j ≡ before.settled j
   pub fates : (u : ℕ) → after.fates u ≡ before.fates u
-  pub starts : after.starts ≡ before.starts
+  pub start_count : after.start_count ≡ before.start_count
   pub left : (u : ℕ) → u ≢ t → after.left u ≡ before.left u
 
 -- t looks at the key
@@ -40,17 +40,17 @@ pub record StoresInto (t : ℕ) (k : Key) (v : ℤ) (before after : State) : Typ
 
 -- a transaction is started, with the next number; all that it has to do is left of it
 pub record Starts (at_start : Left) (before after : State) : Type 0 where
-  pub live : after.live ≡ before.live ++ before.starts ∷ []
-  pub nodes : (u : ℕ) → after.nodes u ≡ (before.nodes u || nat_eq u before.starts)
+  pub live : after.live ≡ before.live ++ before.start_count ∷ []
+  pub nodes : (u : ℕ) → after.nodes u ≡ (before.nodes u || nat_eq u before.start_count)
   pub pairs : (u v : ℕ) → after.pairs u v ≡ before.pairs u v
   pub accesses : after.accesses ≡ before.accesses
   pub chain : (k : Key) → after.chain k ≡ before.chain k
   pub settled : (k : Key) → after.settled k ≡ before.settled k
   pub read_from : (u v : ℕ) → Has after.read_from u v ↔ Has before.read_from u v
   pub fates : (u : ℕ) → after.fates u ≡ before.fates u
-  pub starts : after.starts ≡ before.starts + 1
-  pub left : (u : ℕ) → u ≢ before.starts → after.left u ≡ before.left u
-  pub own_left : after.left before.starts ≡ at_start
+  pub start_count : after.start_count ≡ before.start_count + 1
+  pub left : (u : ℕ) → u ≢ before.start_count → after.left u ≡ before.left u
+  pub own_left : after.left before.start_count ≡ at_start
 
 -- some transactions leave each layer
 pub record Removes (gone : ℕ → Bool) (before after : State) : Type 0 where
@@ -60,7 +60,7 @@ pub record Removes (gone : ℕ → Bool) (before after : State) : Type 0 where
   pub accesses : after.accesses ≡ filter (λ a. not (gone a.by)) before.accesses
   pub chain : (k : Key) → after.chain k ≡ filter (λ w. not (gone w.0)) (before.chain k)
   pub read_from : (u v : ℕ) → Has after.read_from u v ↔ (Has before.read_from u v × (gone u ≡ false) × (gone v ≡ false))
-  pub starts : after.starts ≡ before.starts
+  pub start_count : after.start_count ≡ before.start_count
   pub left : (u : ℕ) → gone u ≡ false → after.left u ≡ before.left u
 
 -- t commits: its values become the committed ones

@@ -28,7 +28,7 @@ pub record CommitsInOrder (past : List Entry) : Type 0 where
   pub sources : (t u : ℕ) → committed past t ≡ true → ReadFrom past t u → CommitsBefore past u t
 
 -- commit order is a strict total order of the committed transactions
-pub record CommitsInLine (past : List Entry) : Type 0 where
+pub record CommitOrderIsTotal (past : List Entry) : Type 0 where
   pub of_committed : (t u : ℕ) → CommitsBefore past t u → (committed past t ≡ true) × (committed past u ≡ true)
   pub irreflexive : (t : ℕ) → CommitsBefore past t t → ⊥
   pub transitive : (t u v : ℕ) → CommitsBefore past t u → CommitsBefore past u v → CommitsBefore past t v

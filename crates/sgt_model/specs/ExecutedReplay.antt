@@ -4,7 +4,7 @@ use Rattle.std.specs.Prelude.{◌≡◌, ℤ, List, [], ◌∷◌, Option, Some,
 use Rattle.sgt_model.specs.declared.limits.Limits.{Limits}
 use Rattle.sgt_model.specs.declared.entry.Entry.{Entry}
 use Rattle.sgt_model.specs.Contents.{Key, Contents}
-use Rattle.sgt_model.specs.Syntax.{Program}
+use Rattle.sgt_model.specs.Syntax.{ProcedureText}
 use Rattle.sgt_model.specs.Runs.{Outcome, Asked}
 use Rattle.sgt_model.specs.Executions.{stuck, execution}
 use Rattle.sgt_model.specs.Values.{settled}
@@ -14,29 +14,29 @@ use Rattle.sgt_model.specs.Legality.{Legal}
 use Rattle.sgt_model.specs.Replay.{Folded, with_outcome, told_calls, told}
 
 -- the execution of a procedure, if there is one
-abbrev pub execution_if : Option Program → List ℤ → Contents → Outcome
+abbrev pub execution_if : Option ProcedureText → List ℤ → Contents → Outcome
 execution_if None args database = Asked stuck
 execution_if (Some p) args database = execution p args database
 
 -- what a call does to a database: procedures are numbered from 0
-abbrev pub execution_of : List Program → Call → Contents → Outcome
+abbrev pub execution_of : List ProcedureText → Call → Contents → Outcome
 execution_of programs c database = execution_if (slice_get programs c.procedure) c.args database
 
 -- these calls, the last one first, were executed one after another on the opening
-abbrev pub execute_in_turn : Contents → List Program → List Call → Folded
+abbrev pub execute_in_turn : Contents → List ProcedureText → List Call → Folded
 execute_in_turn opening programs [] = record { results = []; last = opening }
 execute_in_turn opening programs (c ∷ before) = with_outcome (execution_of programs c (execute_in_turn opening programs before).last) (execute_in_turn opening programs before)
 
 -- the committed and refused transactions, executed one after another in reply order on the opening
-abbrev pub executed : Contents → List Program → List Entry → Folded
+abbrev pub executed : Contents → List ProcedureText → List Entry → Folded
 executed opening programs past = execute_in_turn opening programs (told_calls past)
 
 -- executed one after another, the committed and refused transactions' procedures give each the answers or the code that it
 -- was told, and leave the committed values
-pub record IsExecuted (opening : Contents) (programs : List Program) (past : List Entry) : Type 0 where
+pub record IsExecuted (opening : Contents) (programs : List ProcedureText) (past : List Entry) : Type 0 where
   pub answers : (executed opening programs past).results ≡ told past
   pub database : (k : Key) → (executed opening programs past).last k ≡ settled opening past k
 
 -- so it is in every legal history of these procedures
 abbrev pub HistoriesAreExecuted : Type 0
-HistoriesAreExecuted = (opening : Contents) (programs : List Program) (limits : Limits) (past : List Entry) → Legal (setting opening programs limits) past → IsExecuted opening programs past
+HistoriesAreExecuted = (opening : Contents) (programs : List ProcedureText) (limits : Limits) (past : List Entry) → Legal (setting opening programs limits) past → IsExecuted opening programs past

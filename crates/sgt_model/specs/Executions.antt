@@ -5,7 +5,7 @@ use Rattle.std.specs.Prelude.{◌≡◌, ℕ, ℤ, ◌+ℤ◌, ◌-ℤ◌, ◌*�
 use Rattle.std.specs.Ordering.{int_eq}
 use Rattle.sgt_model.specs.Numbers.{is_value}
 use Rattle.sgt_model.specs.Contents.{Key, Contents, put_in}
-use Rattle.sgt_model.specs.Syntax.{Term, num, arg, reg, sum, diff, product, quotient, Test, less, at_most, equal, Block, empty, look, find, put, save, ask, choose, answer, Program}
+use Rattle.sgt_model.specs.Syntax.{ExprText, num, arg, reg, sum, diff, product, quotient, CondText, less, at_most, equal, Block, empty, look, find, put, save, ask, choose, answer, ProcedureText}
 use Rattle.sgt_model.specs.Runs.{Outcome, Done, Asked, serial}
 use Rattle.sgt_model.specs.Meaning.{found_or, run_with}
 
@@ -72,7 +72,7 @@ abbrev pub quotient_or_overflow : ℤ → ℤ → OrCode ℤ
 quotient_or_overflow x y = cond (int_eq y (pos 0)) (Err overflow) (value_or_overflow (int_div x y))
 
 -- the value of an expression
-abbrev pub evaluate : Term → List ℤ → Workspace → OrCode ℤ
+abbrev pub evaluate : ExprText → List ℤ → Workspace → OrCode ℤ
 evaluate (num n) args w = Ok n
 evaluate (arg n) args w = ok_or (slice_get args n) stuck
 evaluate (reg n) args w = ok_or (slice_index_or w.registers n None) stuck
@@ -82,7 +82,7 @@ evaluate (product a b) args w = in_turn (evaluate a args w) (evaluate b args w) 
 evaluate (quotient a b) args w = in_turn (evaluate a args w) (evaluate b args w) (λ x y. quotient_or_overflow x y)
 
 -- whether a condition holds
-abbrev pub decide : Test → List ℤ → Workspace → OrCode Bool
+abbrev pub decide : CondText → List ℤ → Workspace → OrCode Bool
 decide (less a b) args w = in_turn (evaluate a args w) (evaluate b args w) (λ x y. Ok (int_lt x y))
 decide (at_most a b) args w = in_turn (evaluate a args w) (evaluate b args w) (λ x y. Ok (int_le x y))
 decide (equal a b) args w = in_turn (evaluate a args w) (evaluate b args w) (λ x y. Ok (int_eq x y))
@@ -94,7 +94,7 @@ abbrev pub key_of : ℕ → ℤ → OrCode Key
 key_of table id = provided (nat_le table 7 && is_value id) (table, id) stuck
 
 -- Look: the value of the record in the working map goes into the register; where there is no record `absent` is asked
-abbrev pub look_at_record : List ℤ → (to table : ℕ) → (id : Term) → (absent : ℕ) → Workspace → OrCode Workspace
+abbrev pub look_at_record : List ℤ → (to table : ℕ) → (id : ExprText) → (absent : ℕ) → Workspace → OrCode Workspace
 look_at_record args to table id absent w =
     and_then (evaluate id args w) (λ n.
     and_then (key_of table n) (λ key.
@@ -102,7 +102,7 @@ look_at_record args to table id absent w =
     Ok (into_register to v w))))
 
 -- Find: the value of the record in the working map goes into the register, or `absent` where there is no record
-abbrev pub find_record : List ℤ → (to table : ℕ) → (id absent : Term) → Workspace → OrCode Workspace
+abbrev pub find_record : List ℤ → (to table : ℕ) → (id absent : ExprText) → Workspace → OrCode Workspace
 find_record args to table id absent w =
     and_then (evaluate id args w) (λ n.
     and_then (evaluate absent args w) (λ v.
@@ -110,7 +110,7 @@ find_record args to table id absent w =
     Ok (into_register to (found_or v (w.working key)) w))))
 
 -- Put: the value goes into the record
-abbrev pub put_record : List ℤ → (table : ℕ) → (id value : Term) → Workspace → OrCode Workspace
+abbrev pub put_record : List ℤ → (table : ℕ) → (id value : ExprText) → Workspace → OrCode Workspace
 put_record args table id value w =
     and_then (evaluate id args w) (λ n.
     and_then (evaluate value args w) (λ v.
@@ -118,11 +118,11 @@ put_record args table id value w =
     provided (is_value v) (into_record key v w) stuck)))
 
 -- Let: the value goes into the register
-abbrev pub let_register : List ℤ → (to : ℕ) → (value : Term) → Workspace → OrCode Workspace
+abbrev pub let_register : List ℤ → (to : ℕ) → (value : ExprText) → Workspace → OrCode Workspace
 let_register args to value w = and_then (evaluate value args w) (λ v. Ok (into_register to v w))
 
 -- Answer: the value is one answer more, of at most eight
-abbrev pub give_answer : List ℤ → (value : Term) → Workspace → OrCode Workspace
+abbrev pub give_answer : List ℤ → (value : ExprText) → Workspace → OrCode Workspace
 give_answer args value w = and_then (evaluate value args w) (λ v. provided (nat_lt (length w.answers) 8) (into_answers v w) stuck)
 
 -- statements in a row: the first one, and then the rest. An Ask ends the procedure with its code; an If is the branch that its
@@ -148,9 +148,9 @@ outcome_of (Ok w) = Done w.answers w.working
 outcome_of (Err code) = Asked code
 
 -- what a procedure with these arguments does to a database
-abbrev pub execution : Program → List ℤ → Contents → Outcome
+abbrev pub execution : ProcedureText → List ℤ → Contents → Outcome
 execution p args database = outcome_of (execute args p.body (workspace_of database))
 
 -- the run of a procedure at once is its execution: for every text, whatever its flaws, all arguments and every database
 abbrev pub SerialIsExecution : Type 0
-SerialIsExecution = (p : Program) (args : List ℤ) (database : Contents) → serial (run_with p args) database ≡ execution p args database
+SerialIsExecution = (p : ProcedureText) (args : List ℤ) (database : Contents) → serial (run_with p args) database ≡ execution p args database

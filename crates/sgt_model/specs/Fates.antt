@@ -19,9 +19,9 @@ is_start (reply.Started t) = true
 is_start _ = false
 
 -- how many transactions were started; the next one to start has this number
-abbrev pub starts : List Entry → ℕ
-starts [] = 0
-starts (e ∷ past) = cond (is_start e.reply) (starts past + 1) (starts past)
+abbrev pub start_count : List Entry → ℕ
+start_count [] = 0
+start_count (e ∷ past) = cond (is_start e.reply) (start_count past + 1) (start_count past)
 
 -- the event names transaction t; a start names none
 abbrev pub concerns : Event → ℕ → Bool
@@ -89,13 +89,13 @@ committed past t = has_committed (fate_of past t)
 
 -- it was started, and is neither committed nor aborted
 abbrev pub live : List Entry → ℕ → Bool
-live past t = nat_lt t (starts past) && is_none (fate_of past t)
+live past t = nat_lt t (start_count past) && is_none (fate_of past t)
 
 -- those that were started, rising
-abbrev pub begun : List Entry → List ℕ
-begun [] = []
-begun (e ∷ past) = cond (is_start e.reply) (begun past ++ starts past ∷ []) (begun past)
+abbrev pub started_ones : List Entry → List ℕ
+started_ones [] = []
+started_ones (e ∷ past) = cond (is_start e.reply) (started_ones past ++ start_count past ∷ []) (started_ones past)
 
 -- those that are live, rising
 abbrev pub live_ones : List Entry → List ℕ
-live_ones past = filter (λ t. live past t) (begun past)
+live_ones past = filter (λ t. live past t) (started_ones past)

@@ -4,7 +4,7 @@ use Rattle.sgt_model.specs.declared.entry.Entry.{Entry}
 use Rattle.sgt_model.specs.Walks.{Acyclic}
 use Rattle.sgt_model.specs.Pairs.{Pair}
 use Rattle.sgt_model.specs.Settings.{Setting}
-use Rattle.sgt_model.specs.Replay.{IsSerializable}
+use Rattle.sgt_model.specs.Replay.{ReplayAgrees}
 use Rattle.sgt_model.specs.Aborts.{AbortsHaveCause}
 use Rattle.sgt_model.specs.CommitOrder.{CommitsInOrder}
 
@@ -14,7 +14,7 @@ use Rattle.sgt_model.specs.CommitOrder.{CommitsInOrder}
 -- its step would close one, it read from an aborted one, or its procedure or caller asked; and commit order agrees with the
 -- conflict pairs and with who read from whom
 pub record Headline (s : Setting) (past : List Entry) : Type 0 where
-  pub replay : IsSerializable s past
+  pub replay : ReplayAgrees s past
   pub no_cycle : Acyclic (Pair past)
   pub causes : AbortsHaveCause s past
   pub order : CommitsInOrder past

@@ -11,7 +11,7 @@ use Rattle.sgt_model.specs.Walks.{Acyclic}
 use Rattle.sgt_model.specs.Runs.{Run}
 use Rattle.sgt_model.specs.Traces.{RunIsTrace}
 use Rattle.sgt_model.specs.Accesses.{Access, access_of}
-use Rattle.sgt_model.specs.Fates.{subject, starts, live, live_ones, aborted, committed}
+use Rattle.sgt_model.specs.Fates.{subject, start_count, live, live_ones, aborted, committed}
 use Rattle.sgt_model.specs.Values.{newest_store, value_or, settled}
 use Rattle.sgt_model.specs.ReadFrom.{ReadFrom}
 use Rattle.sgt_model.specs.Questions.{named_by, started_in, over_in, is_ending}
@@ -19,8 +19,8 @@ use Rattle.sgt_model.specs.Pairs.{Pair}
 use Rattle.sgt_model.specs.Settings.{Setting}
 use Rattle.sgt_model.specs.Legality.{Legal}
 use Rattle.sgt_model.specs.Admissions.{AreAdmitted}
-use Rattle.sgt_model.specs.Replay.{told_calls, IsSerializable}
-use Rattle.sgt_model.specs.CommitOrder.{CommitsBefore, last_store, CommitsInOrder, CommitsInLine}
+use Rattle.sgt_model.specs.Replay.{told_calls, ReplayAgrees}
+use Rattle.sgt_model.specs.CommitOrder.{CommitsBefore, last_store, CommitsInOrder, CommitOrderIsTotal}
 use Rattle.sgt_model.specs.Aborts.{AbortsHaveCause}
 use Rattle.sgt_model.specs.Headline.{Headline}
 
@@ -120,7 +120,7 @@ PairsHaveNoCycle = InEach (λ s past. Acyclic (Pair past))
 -- the committed and refused transactions run one after another give the answers and codes that were told and the committed
 -- values
 abbrev pub ReplayIsSerial : Type 0
-ReplayIsSerial = InEach IsSerializable
+ReplayIsSerial = InEach ReplayAgrees
 
 -- each abort has its cause
 abbrev pub AbortsAlwaysHaveCause : Type 0
@@ -132,7 +132,7 @@ CommitsAlwaysInOrder = InEach (λ s past. CommitsInOrder past)
 
 -- commit order is a strict total order of the committed transactions
 abbrev pub CommitsAlwaysInLine : Type 0
-CommitsAlwaysInLine = InEach (λ s past. CommitsInLine past)
+CommitsAlwaysInLine = InEach (λ s past. CommitOrderIsTotal past)
 
 -- who committed or was refused was started with a procedure of the setting, and with as many arguments as it takes, each a
 -- value
@@ -141,7 +141,7 @@ CommittedAreAdmitted = InEach (λ s past. AreAdmitted s (told_calls past))
 
 -- never are more transactions started, or live at once, than the limits say
 abbrev pub LimitsAreKept : Type 0
-LimitsAreKept = InEach (λ s past. (starts past ≤ s.rules.limits.begins) × (length (live_ones past) ≤ s.rules.limits.live))
+LimitsAreKept = InEach (λ s past. (start_count past ≤ s.rules.limits.begins) × (length (live_ones past) ≤ s.rules.limits.live))
 
 -- the transaction that an entry starts is live after it
 abbrev pub StartedAreLive : Type 0

@@ -4,8 +4,8 @@
 use Rattle.std.specs.Prelude.{◌≡◌, ℕ, zero, suc, ◌+◌, ℤ, Bool, cond, nat_lt, List, [], ◌∷◌, ◌++◌, length, Option, Some, None, Ok, Err, slice_set}
 use Rattle.sgt_model.specs.Numbers.{is_value}
 use Rattle.sgt_model.specs.Contents.{Key}
-use Rattle.sgt_model.specs.Syntax.{Block, empty, look, find, put, save, ask, choose, answer, Program}
-use Rattle.sgt_model.specs.Traces.{Used, Next, Looks, Puts, Ends, Asks, trace, next_at}
+use Rattle.sgt_model.specs.Syntax.{Block, empty, look, find, put, save, ask, choose, answer, ProcedureText}
+use Rattle.sgt_model.specs.Traces.{Used, Next, Looks, Puts, Ends, Raises, trace, next_at}
 use Rattle.sgt_model.specs.Meaning.{Got, is, over, missing, Truth, holds, too_far, unknown, Registers, fresh, value_of, truth_of, found_or, run_with}
 use Rattle.sgt_model.specs.Executions.{OrCode, and_then, provided, overflow, stuck, key_of}
 
@@ -24,7 +24,7 @@ pub data Left : Type 0 where
   ToAsk : ℕ → Left
 
 -- nothing is done yet
-abbrev pub left_at_start : Program → List ℤ → Left
+abbrev pub left_at_start : ProcedureText → List ℤ → Left
 left_at_start p args = ToRun (record { statements = p.body; args = args; registers = fresh; answers = [] })
 
 -- up to the next access
@@ -117,7 +117,7 @@ next_of_reached (Ok (AtLook key to absent r)) = Looks key
 next_of_reached (Ok (AtFind key to absent r)) = Looks key
 next_of_reached (Ok (AtStore key v r)) = Puts key v
 next_of_reached (Ok (AtEnd registers answers)) = Ends answers
-next_of_reached (Err code) = Asks code
+next_of_reached (Err code) = Raises code
 
 -- what the procedure does next
 abbrev pub next_left : Left → Next
@@ -161,7 +161,7 @@ after_next (Looks key) l (found ∷ values) others = others (after_look found l)
 after_next (Looks key) l [] others = l
 after_next (Puts key v) l values others = others (after_store l) values
 after_next (Ends answers) l values others = l
-after_next (Asks code) l values others = l
+after_next (Raises code) l values others = l
 
 -- what is left after so many accesses, of which the looks find these values
 abbrev pub left_after : Left → List (Option ℤ) → ℕ → Left
@@ -169,14 +169,14 @@ left_after l values zero = l
 left_after l values (suc made) = after_next (next_left l) l values (λ then values_then. left_after then values_then made)
 
 -- what is left of a procedure with these arguments just after its first `made` accesses, of which the looks found these values
-abbrev pub left : Program → List ℤ → List (Option ℤ) → ℕ → Left
+abbrev pub left : ProcedureText → List ℤ → List (Option ℤ) → ℕ → Left
 left p args values made = left_after (left_at_start p args) values made
 
 -- the laws, each for a procedure that has made so many accesses, of which the looks found just these values
 
 -- what holds of each such procedure
-abbrev pub OfEachUsed : (Program → List ℤ → List (Option ℤ) → ℕ → Type 0) → Type 0
-OfEachUsed P = (p : Program) (args : List ℤ) (values : List (Option ℤ)) (made : ℕ) → Used (run_with p args) values made → P p args values made
+abbrev pub OfEachUsed : (ProcedureText → List ℤ → List (Option ℤ) → ℕ → Type 0) → Type 0
+OfEachUsed P = (p : ProcedureText) (args : List ℤ) (values : List (Option ℤ)) (made : ℕ) → Used (run_with p args) values made → P p args values made
 
 -- what it does next is a function of what is left of it
 abbrev pub NextIsOfLeft : Type 0

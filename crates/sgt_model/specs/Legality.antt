@@ -12,16 +12,16 @@ use Rattle.sgt_model.specs.declared.reply.Fate.{Fate}
 use Rattle.sgt_model.specs.declared.entry.Entry.{Entry}
 use Rattle.sgt_model.specs.declared.kind.Kind.{Kind}
 use Rattle.sgt_model.specs.declared.kind.Kind.TheVariants.{Look, Store}
-use Rattle.sgt_model.specs.declared.limits.Asks.{Asks as When}
+use Rattle.sgt_model.specs.declared.limits.Asks.{Asks}
 use Rattle.sgt_model.specs.declared.limits.Asks.TheVariants.{AtStep, AtCommit}
 use Rattle.sgt_model.specs.Contents.{Key}
-use Rattle.sgt_model.specs.Traces.{Next, Looks, Puts, Ends, Asks}
-use Rattle.sgt_model.specs.Fates.{starts, fate_of, live, live_ones}
+use Rattle.sgt_model.specs.Traces.{Next, Looks, Puts, Ends, Raises}
+use Rattle.sgt_model.specs.Fates.{start_count, fate_of, live, live_ones}
 use Rattle.sgt_model.specs.Values.{visible}
 use Rattle.sgt_model.specs.Falls.{Falls}
 use Rattle.sgt_model.specs.Pairs.{Pair}
 use Rattle.sgt_model.specs.Closes.{Closes}
-use Rattle.sgt_model.specs.Walks.{IsLeastBefore, NoneBefore}
+use Rattle.sgt_model.specs.Walks.{IsLeastPredecessor, HasNoPredecessor}
 use Rattle.sgt_model.specs.Settings.{Setting}
 use Rattle.sgt_model.specs.Progress.{next_of}
 use Rattle.sgt_model.specs.StartReply.{start_reply}
@@ -29,16 +29,16 @@ use Rattle.sgt_model.specs.StartReply.{start_reply}
 -- a step
 
 -- t is aborted, with those that fall
-pub record Aborts (past : List Entry) (t : ℕ) (why : Cause) (r : Reply) : Type 0 where
+pub record AbortReply (past : List Entry) (t : ℕ) (why : Cause) (r : Reply) : Type 0 where
   pub fell : List ℕ
   pub falls : Falls past t fell
   pub is : r ≡ reply.Aborted why fell
 
 -- an access that would close a cycle is rejected: t is aborted, and the reply names some walk
-pub record AbortsByCycle (past : List Entry) (t : ℕ) (k : Key) (kind : Kind) (r : Reply) : Type 0 where
+pub record CycleAbortReply (past : List Entry) (t : ℕ) (k : Key) (kind : Kind) (r : Reply) : Type 0 where
   pub rest : List ℕ
   pub closes : Closes past t k kind rest
-  pub aborts : Aborts past t (cause.Cycle (t ∷ rest)) r
+  pub aborts : AbortReply past t (cause.Cycle (t ∷ rest)) r
 
 -- an access that closes no cycle is made
 pub record Makes (past : List Entry) (t : ℕ) (k : Key) (kind : Kind) (made_reply r : Reply) : Type 0 where
@@ -46,16 +46,16 @@ pub record Makes (past : List Entry) (t : ℕ) (k : Key) (kind : Kind) (made_rep
   pub is : r ≡ made_reply
 
 -- a step that asks is answered at once, or left to the commit
-abbrev pub AskedStep : When → List Entry → ℕ → ℕ → Reply → Type 0
-AskedStep AtStep past t code r = Aborts past t (cause.Asked code) r
-AskedStep AtCommit past t code r = r ≡ reply.Ended
+abbrev pub RaisedStep : Asks → List Entry → ℕ → ℕ → Reply → Type 0
+RaisedStep AtStep past t code r = AbortReply past t (cause.Asked code) r
+RaisedStep AtCommit past t code r = r ≡ reply.Ended
 
 -- the reply to a step of a live transaction, by what its procedure does next
 abbrev pub StepReply : Setting → List Entry → ℕ → Next → Reply → Type 0
-StepReply s past t (Looks k) r = AbortsByCycle past t k Look r ⊎ Makes past t k Look (reply.Looked k (visible s.opening past k)) r
-StepReply s past t (Puts k v) r = AbortsByCycle past t k Store r ⊎ Makes past t k Store (reply.Wrote k v) r
+StepReply s past t (Looks k) r = CycleAbortReply past t k Look r ⊎ Makes past t k Look (reply.Looked k (visible s.opening past k)) r
+StepReply s past t (Puts k v) r = CycleAbortReply past t k Store r ⊎ Makes past t k Store (reply.Wrote k v) r
 StepReply s past t (Ends answers) r = r ≡ reply.Ended
-StepReply s past t (Asks code) r = AskedStep s.rules.limits.asks past t code r
+StepReply s past t (Raises code) r = RaisedStep s.rules.limits.asks past t code r
 
 -- a commit
 
@@ -65,38 +65,38 @@ pub record LivePredecessor (past : List Entry) (t u : ℕ) : Type 0 where
   pub pair : Pair past t u
 
 -- no live transaction has a pair into t
-abbrev pub NoneLive : List Entry → ℕ → Type 0
-NoneLive past t = NoneBefore (LivePredecessor past) t
+abbrev pub HasNoLivePredecessor : List Entry → ℕ → Type 0
+HasNoLivePredecessor past t = HasNoPredecessor (LivePredecessor past) t
 
 -- t has to wait for its least live predecessor
 pub record MustWait (past : List Entry) (t : ℕ) (r : Reply) : Type 0 where
-  pub before : ℕ
-  pub least : IsLeastBefore (LivePredecessor past) t before
-  pub is : r ≡ reply.Waits before
+  pub predecessor : ℕ
+  pub least : IsLeastPredecessor (LivePredecessor past) t predecessor
+  pub is : r ≡ reply.Waits predecessor
 
 -- t has no live predecessor, and commits with its answers
 pub record MayCommit (past : List Entry) (t : ℕ) (answers : List ℤ) (r : Reply) : Type 0 where
-  pub none_live : NoneLive past t
+  pub none_live : HasNoLivePredecessor past t
   pub is : r ≡ reply.Committed answers
 
 -- t has no live predecessor, and is refused with its code
 pub record MayRefuse (past : List Entry) (t code : ℕ) (r : Reply) : Type 0 where
-  pub none_live : NoneLive past t
+  pub none_live : HasNoLivePredecessor past t
   pub fell : List ℕ
   pub falls : Falls past t fell
   pub is : r ≡ reply.Refused code fell
 
 -- a commit of one that asks: its step was answered already, or it is answered now, and waits as every commit does
-abbrev pub AskedCommit : When → List Entry → ℕ → ℕ → Reply → Type 0
-AskedCommit AtStep past t code r = r ≡ reply.NotEnded
-AskedCommit AtCommit past t code r = MustWait past t r ⊎ MayRefuse past t code r
+abbrev pub RaisedCommit : Asks → List Entry → ℕ → ℕ → Reply → Type 0
+RaisedCommit AtStep past t code r = r ≡ reply.NotEnded
+RaisedCommit AtCommit past t code r = MustWait past t r ⊎ MayRefuse past t code r
 
 -- the reply to a commit of a live transaction, by what its procedure does next
 abbrev pub CommitReply : Setting → List Entry → ℕ → Next → Reply → Type 0
 CommitReply s past t (Ends answers) r = MustWait past t r ⊎ MayCommit past t answers r
 CommitReply s past t (Looks k) r = r ≡ reply.NotEnded
 CommitReply s past t (Puts k v) r = r ≡ reply.NotEnded
-CommitReply s past t (Asks code) r = AskedCommit s.rules.limits.asks past t code r
+CommitReply s past t (Raises code) r = RaisedCommit s.rules.limits.asks past t code r
 
 -- every event
 
@@ -113,14 +113,14 @@ OfStarted false ended r if_live = r ≡ reply.Unknown
 -- what the events of a transaction share: Unknown where it was not started, Over with its fate where it ended, or else the
 -- reply to a live one
 abbrev pub OfLive : List Entry → ℕ → Reply → Type 0 → Type 0
-OfLive past t r if_live = OfStarted (nat_lt t (starts past)) (fate_of past t) r if_live
+OfLive past t r if_live = OfStarted (nat_lt t (start_count past)) (fate_of past t) r if_live
 
 -- the event may get this reply after the history
 abbrev pub LegalReply : Setting → List Entry → Event → Reply → Type 0
-LegalReply s past (Start p args) r = r ≡ start_reply s.rules (starts past) (length (live_ones past)) p args
+LegalReply s past (Start p args) r = r ≡ start_reply s.rules (start_count past) (length (live_ones past)) p args
 LegalReply s past (Step t) r = OfLive past t r (StepReply s past t (next_of s past t) r)
 LegalReply s past (Commit t) r = OfLive past t r (CommitReply s past t (next_of s past t) r)
-LegalReply s past (Quit t) r = OfLive past t r (Aborts past t cause.Quit r)
+LegalReply s past (Quit t) r = OfLive past t r (AbortReply past t cause.Quit r)
 
 -- each entry's reply is legal after the entries before it
 abbrev pub Legal : Setting → List Entry → Type 0

@@ -31,7 +31,7 @@ pub mod Headline
 -- ---- Part 2, words of single contracts: what types and functions say of themselves beside these.
 pub mod Bounds
 pub mod Databases
-pub mod Programs
+pub mod ProcedureTexts
 pub mod Codes
 pub mod Histories
 pub mod Questions

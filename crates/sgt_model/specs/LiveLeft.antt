@@ -1,14 +1,14 @@
 -- What is left of a live transaction, by the rules and a history.
 use Rattle.std.specs.Prelude.{ℕ, ℤ, List, Option, Some, None}
 use Rattle.sgt_model.specs.declared.entry.Entry.{Entry}
-use Rattle.sgt_model.specs.Syntax.{Program}
+use Rattle.sgt_model.specs.Syntax.{ProcedureText}
 use Rattle.sgt_model.specs.Executions.{stuck}
 use Rattle.sgt_model.specs.Left.{Left, ToAsk, left_at_start, left_after}
 use Rattle.sgt_model.specs.Settings.{Rules}
 use Rattle.sgt_model.specs.Progress.{Call, call_of, reads, made}
 
 -- what is left of a procedure at its start; one that is not there is never started
-abbrev pub left_if : Option Program → List ℤ → Left
+abbrev pub left_if : Option ProcedureText → List ℤ → Left
 left_if None args = ToAsk stuck
 left_if (Some p) args = left_at_start p args
 

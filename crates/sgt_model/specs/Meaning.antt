@@ -3,10 +3,10 @@ use Rattle.std.specs.Prelude.{ℕ, ℤ, ◌+ℤ◌, ◌-ℤ◌, ◌*ℤ◌, pos,
 use Rattle.std.specs.Ordering.{int_eq}
 use Rattle.sgt_model.specs.Numbers.{is_value}
 use Rattle.sgt_model.specs.Contents.{Key}
-use Rattle.sgt_model.specs.Syntax.{Term, num, arg, reg, sum, diff, product, quotient, Test, less, at_most, equal, Program}
+use Rattle.sgt_model.specs.Syntax.{ExprText, num, arg, reg, sum, diff, product, quotient, CondText, less, at_most, equal, ProcedureText}
 use Rattle.sgt_model.specs.Ways.{Way, onto}
 use Rattle.sgt_model.specs.Ways as way
-use Rattle.sgt_model.specs.Runs.{Run, looks, puts, ends, asks}
+use Rattle.sgt_model.specs.Runs.{Run, looks, puts, ends, raises}
 
 -- what an expression gives: a number, or what arithmetic gives is no value, or nothing, as it names a register that is not set
 -- or an argument that is not there
@@ -45,7 +45,7 @@ abbrev pub fresh : Registers
 fresh = replicate 16 None
 
 -- what an expression gives
-abbrev pub value_of : Term → List ℤ → Registers → Got
+abbrev pub value_of : ExprText → List ℤ → Registers → Got
 value_of (num n) args regs = is n
 value_of (arg n) args regs = got (slice_get args n)
 value_of (reg n) args regs = got (slice_index_or regs n None)
@@ -69,26 +69,26 @@ compared f over _ = too_far
 compared f missing _ = unknown
 
 -- what a condition gives
-abbrev pub truth_of : Test → List ℤ → Registers → Truth
+abbrev pub truth_of : CondText → List ℤ → Registers → Truth
 truth_of (less a b) args regs = compared int_lt (value_of a args regs) (value_of b args regs)
 truth_of (at_most a b) args regs = compared int_le (value_of a args regs) (value_of b args regs)
 truth_of (equal a b) args regs = compared int_eq (value_of a args regs) (value_of b args regs)
 
 -- what no procedure that passed the check does: it asks code 0
 abbrev pub wrong : Run
-wrong = asks 0
+wrong = raises 0
 
 -- a number that is over asks code 1000
 abbrev pub with_value : Got → (ℤ → Run) → Run
 with_value (is v) go = go v
-with_value over go = asks 1000
+with_value over go = raises 1000
 with_value missing go = wrong
 
 -- the branch that a condition chooses
-abbrev pub with_test : Truth → Run → Run → Run
-with_test (holds b) ys ns = cond b ys ns
-with_test too_far ys ns = asks 1000
-with_test unknown ys ns = wrong
+abbrev pub with_condition : Truth → Run → Run → Run
+with_condition (holds b) ys ns = cond b ys ns
+with_condition too_far ys ns = raises 1000
+with_condition unknown ys ns = wrong
 
 -- a table from 0 to 7, and a value
 abbrev pub is_key : ℕ → ℤ → Bool
@@ -104,7 +104,7 @@ with_stored v go = cond (is_value v) go wrong
 
 -- a look that finds no record asks its code
 abbrev pub if_found : ℕ → Option ℤ → (ℤ → Run) → Run
-if_found absent None go = asks absent
+if_found absent None go = raises absent
 if_found absent (Some v) go = go v
 
 -- what was found, or a number in its place where there is no record
@@ -127,12 +127,12 @@ run args (way.put table id value rest) regs answers =
     with_value (value_of id args regs) (λ n. with_value (value_of value args regs) (λ v. with_key table n (λ k. with_stored v (puts k v (run args rest regs answers)))))
 run args (way.save to value rest) regs answers =
     with_value (value_of value args regs) (λ v. run args rest (slice_set regs to (Some v)) answers)
-run args (way.ask code) regs answers = asks code
+run args (way.ask code) regs answers = raises code
 run args (way.fork test ys ns) regs answers =
-    with_test (truth_of test args regs) (run args ys regs answers) (run args ns regs answers)
+    with_condition (truth_of test args regs) (run args ys regs answers) (run args ns regs answers)
 run args (way.answer value rest) regs answers =
     with_value (value_of value args regs) (λ v. with_room answers (run args rest regs (answers ++ v ∷ [])))
 
 -- the run of a procedure with these arguments
-abbrev pub run_with : Program → List ℤ → Run
+abbrev pub run_with : ProcedureText → List ℤ → Run
 run_with p args = run args (onto p.body way.end) fresh []

@@ -95,6 +95,6 @@ told (e ∷ past) = told_in e.reply ++ told past
 
 -- serializable, in reply order: run one after another, the committed and refused transactions' procedures give each the
 -- answers or the code that it was told, and leave the committed values
-pub record IsSerializable (s : Setting) (past : List Entry) : Type 0 where
+pub record ReplayAgrees (s : Setting) (past : List Entry) : Type 0 where
   pub answers : (folded s past).results ≡ told past
   pub database : (k : Key) → (folded s past).last k ≡ settled s.opening past k

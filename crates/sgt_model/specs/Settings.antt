@@ -3,13 +3,13 @@ use Rattle.std.specs.Prelude.{ℕ, ℤ, List, Option, Some, None, slice_get}
 use Rattle.std.specs.Option.{option_map}
 use Rattle.sgt_model.specs.declared.limits.Limits.{Limits}
 use Rattle.sgt_model.specs.Contents.{Contents}
-use Rattle.sgt_model.specs.Syntax.{Program}
+use Rattle.sgt_model.specs.Syntax.{ProcedureText}
 use Rattle.sgt_model.specs.Runs.{Run}
 use Rattle.sgt_model.specs.Meaning.{wrong, run_with}
 
 -- the rules by which events are answered: by its number each procedure, or that there is none, and the limits
 pub record Rules : Type 0 where
-  pub procedures : ℕ → Option Program
+  pub procedures : ℕ → Option ProcedureText
   pub limits : Limits
 
 -- the opening contents, and the rules
@@ -19,21 +19,21 @@ pub record Setting : Type 0 where
 
 -- how many arguments procedure n takes, if there is one
 abbrev pub takes : Rules → ℕ → Option ℕ
-takes r n = option_map (λ (p : Program). p.args) (r.procedures n)
+takes r n = option_map (λ (p : ProcedureText). p.args) (r.procedures n)
 
 -- the run of a procedure, if there is one
-abbrev pub run_if : Option Program → List ℤ → Run
+abbrev pub run_if : Option ProcedureText → List ℤ → Run
 run_if None args = wrong
 run_if (Some p) args = run_with p args
 
 -- what procedure n of a list does, numbered from 0
-abbrev pub runs_in : List Program → ℕ → List ℤ → Run
+abbrev pub runs_in : List ProcedureText → ℕ → List ℤ → Run
 runs_in programs n = run_if (slice_get programs n)
 
 -- the rules of these procedures, numbered from 0, and limits
-abbrev pub rules_from : List Program → Limits → Rules
+abbrev pub rules_from : List ProcedureText → Limits → Rules
 rules_from programs limits = record { procedures = slice_get programs; limits = limits }
 
 -- the setting of these opening contents, procedures and limits
-abbrev pub setting : Contents → List Program → Limits → Setting
+abbrev pub setting : Contents → List ProcedureText → Limits → Setting
 setting opening programs limits = record { opening = opening; rules = rules_from programs limits }

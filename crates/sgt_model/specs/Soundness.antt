@@ -12,7 +12,7 @@ use Rattle.sgt_model.specs.State.{State, Has, PairIn}
 -- nodes were started, are listed, and are not too many; pairs, accesses, reads and chains are of nodes; who has a value in
 -- a chain has a listed store of its key, and chains stand in the order of pairs
 pub record Sound (most : ℕ) (c : State) : Type 0 where
-  pub begun : (t : ℕ) → c.nodes t ≡ true → t < c.starts
+  pub begun : (t : ℕ) → c.nodes t ≡ true → t < c.start_count
   pub listed : (t : ℕ) → (c.nodes t ≡ true) ↔ Member t c.live
   pub few : length c.live ≤ most
   pub pair_nodes : (t u : ℕ) → c.pairs t u ≡ true → (c.nodes t ≡ true) × (c.nodes u ≡ true)

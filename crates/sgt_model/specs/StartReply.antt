@@ -13,13 +13,13 @@ args_fit count args = nat_eq (length args) count && list_all is_value args
 
 -- where the limits allow one more
 abbrev pub room_reply : Limits → ℕ → ℕ → Reply
-room_reply limits begun living = cond (nat_eq begun limits.begins) reply.Spent (cond (nat_eq living limits.live) reply.Full (reply.Started begun))
+room_reply limits started living = cond (nat_eq started limits.begins) reply.Spent (cond (nat_eq living limits.live) reply.Full (reply.Started started))
 
 -- where the procedure takes so many arguments
 abbrev pub taken_reply : Limits → ℕ → ℕ → Option ℕ → List ℤ → Reply
-taken_reply limits begun living None args = reply.NoProcedure
-taken_reply limits begun living (Some count) args = cond (args_fit count args) (room_reply limits begun living) reply.BadArgs
+taken_reply limits started living None args = reply.NoProcedure
+taken_reply limits started living (Some count) args = cond (args_fit count args) (room_reply limits started living) reply.BadArgs
 
 -- the one reply to a start: no such procedure, bad arguments, all numbers spent, full, or started with the next number
 abbrev pub start_reply : Rules → ℕ → ℕ → ℕ → List ℤ → Reply
-start_reply rules begun living p args = taken_reply rules.limits begun living (takes rules p) args
+start_reply rules started living p args = taken_reply rules.limits started living (takes rules p) args

@@ -16,7 +16,7 @@ pub record State : Type 0 where
   pub settled : Key → Option ℤ
   pub read_from : List (ℕ × ℕ)
   pub fates : ℕ → Option Fate
-  pub starts : ℕ
+  pub start_count : ℕ
   pub left : ℕ → Left
 
 -- the two numbers are a member of the list

@@ -2,7 +2,7 @@
 use Rattle.std.specs.Prelude.{◌≡◌, ℕ, true, ◌↔◌, List}
 use Rattle.sgt_model.specs.declared.entry.Entry.{Entry}
 use Rattle.sgt_model.specs.Contents.{Key}
-use Rattle.sgt_model.specs.Fates.{starts, fate_of, live, live_ones}
+use Rattle.sgt_model.specs.Fates.{start_count, fate_of, live, live_ones}
 use Rattle.sgt_model.specs.Values.{settled}
 use Rattle.sgt_model.specs.ReadFrom.{ReadFrom}
 use Rattle.sgt_model.specs.Pairs.{Pair}
@@ -34,5 +34,5 @@ pub record IsStateAfter (s : Setting) (past : List Entry) (c : State) : Type 0 w
   pub settled : (k : Key) → c.settled k ≡ settled s.opening past k
   pub read_from : (u t : ℕ) → Has c.read_from u t ↔ LiveRead past t u
   pub fates : (t : ℕ) → c.fates t ≡ fate_of past t
-  pub starts : c.starts ≡ starts past
+  pub start_count : c.start_count ≡ start_count past
   pub left : (t : ℕ) → live past t ≡ true → c.left t ≡ left_of s.rules past t

@@ -4,8 +4,8 @@ use Rattle.sgt_model.specs.declared.limits.Limits.{Limits}
 use Rattle.sgt_model.specs.declared.entry.Entry.{Entry}
 use Rattle.sgt_model.specs.Numbers.{IsValue}
 use Rattle.sgt_model.specs.Contents.{Key, Contents}
-use Rattle.sgt_model.specs.Syntax.{Program}
-use Rattle.sgt_model.specs.Runs.{Run, looks, puts, ends, asks}
+use Rattle.sgt_model.specs.Syntax.{ProcedureText}
+use Rattle.sgt_model.specs.Runs.{Run, looks, puts, ends, raises}
 use Rattle.sgt_model.specs.Meaning.{run_with}
 use Rattle.sgt_model.specs.Values.{settled}
 use Rattle.sgt_model.specs.Settings.{setting}
@@ -22,16 +22,16 @@ abbrev pub StoresValues : Run → Type 0
 StoresValues (looks k go) = (found : Option ℤ) → StoresValues (go found)
 StoresValues (puts k v rest) = IsValue v × StoresValues rest
 StoresValues (ends answers) = Unit {0}
-StoresValues (asks code) = Unit {0}
+StoresValues (raises code) = Unit {0}
 
 -- what the run of a procedure stores are values, whatever its text and its arguments
 abbrev pub RunsStoreValues : Type 0
-RunsStoreValues = (p : Program) (args : List ℤ) → StoresValues (run_with p args)
+RunsStoreValues = (p : ProcedureText) (args : List ℤ) → StoresValues (run_with p args)
 
 -- where the opening holds values, so do the contents after transactions that ran one after another
 abbrev pub ReplaysHoldValues : Type 0
-ReplaysHoldValues = (opening : Contents) (programs : List Program) (limits : Limits) (calls : List Call) → HoldValues opening → HoldValues (run_in_turn (setting opening programs limits) calls).last
+ReplaysHoldValues = (opening : Contents) (programs : List ProcedureText) (limits : Limits) (calls : List Call) → HoldValues opening → HoldValues (run_in_turn (setting opening programs limits) calls).last
 
 -- and so do the committed ones after a legal history
 abbrev pub CommittedAreValues : Type 0
-CommittedAreValues = (opening : Contents) (programs : List Program) (limits : Limits) (past : List Entry) → HoldValues opening → Legal (setting opening programs limits) past → HoldValues (settled opening past)
+CommittedAreValues = (opening : Contents) (programs : List ProcedureText) (limits : Limits) (past : List Entry) → HoldValues opening → Legal (setting opening programs limits) past → HoldValues (settled opening past)

@@ -2,33 +2,33 @@
 use Rattle.std.specs.Prelude.{ℕ, ℤ}
 
 -- an expression: a literal, an argument, a register, a sum, a difference, a product or a quotient
-pub data Term : Type 0 where
-  num : ℤ → Term
-  arg : ℕ → Term
-  reg : ℕ → Term
-  sum : Term → Term → Term
-  diff : Term → Term → Term
-  product : Term → Term → Term
-  quotient : Term → Term → Term
+pub data ExprText : Type 0 where
+  num : ℤ → ExprText
+  arg : ℕ → ExprText
+  reg : ℕ → ExprText
+  sum : ExprText → ExprText → ExprText
+  diff : ExprText → ExprText → ExprText
+  product : ExprText → ExprText → ExprText
+  quotient : ExprText → ExprText → ExprText
 
 -- a condition
-pub data Test : Type 0 where
-  less : Term → Term → Test
-  at_most : Term → Term → Test
-  equal : Term → Term → Test
+pub data CondText : Type 0 where
+  less : ExprText → ExprText → CondText
+  at_most : ExprText → ExprText → CondText
+  equal : ExprText → ExprText → CondText
 
 -- statements in a row: `empty` is none, and each other constructor is one statement, whose last part is those behind it
 pub data Block : Type 0 where
   empty : Block
-  look : (to table : ℕ) → (id : Term) → (absent : ℕ) → Block → Block
-  find : (to table : ℕ) → (id absent : Term) → Block → Block
-  put : (table : ℕ) → (id value : Term) → Block → Block
-  save : (to : ℕ) → (value : Term) → Block → Block
+  look : (to table : ℕ) → (id : ExprText) → (absent : ℕ) → Block → Block
+  find : (to table : ℕ) → (id absent : ExprText) → Block → Block
+  put : (table : ℕ) → (id value : ExprText) → Block → Block
+  save : (to : ℕ) → (value : ExprText) → Block → Block
   ask : (code : ℕ) → Block → Block
-  choose : Test → (ys ns : Block) → Block → Block
-  answer : Term → Block → Block
+  choose : CondText → (ys ns : Block) → Block → Block
+  answer : ExprText → Block → Block
 
 -- how many arguments, and the statements
-pub record Program : Type 0 where
+pub record ProcedureText : Type 0 where
   pub args : ℕ
   pub body : Block

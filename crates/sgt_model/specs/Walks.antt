@@ -49,13 +49,13 @@ StandsBefore a b [] = ⊥
 StandsBefore a b (c ∷ rest) = ((a ≡ c) × Member b rest) ⊎ StandsBefore a b rest
 
 -- u is the least number from which a step leads to t
-pub record IsLeastBefore (step : ℕ → ℕ → Type 0) (t u : ℕ) : Type 0 where
+pub record IsLeastPredecessor (step : ℕ → ℕ → Type 0) (t u : ℕ) : Type 0 where
   pub pair : step u t
   pub least : (v : ℕ) → step v t → u ≤ v
 
 -- a step leads to t from no number
-abbrev pub NoneBefore : (ℕ → ℕ → Type 0) → ℕ → Type 0
-NoneBefore step t = (v : ℕ) → step v t → ⊥
+abbrev pub HasNoPredecessor : (ℕ → ℕ → Type 0) → ℕ → Type 0
+HasNoPredecessor step t = (v : ℕ) → step v t → ⊥
 
 -- an order of the members of a list, in which the first of each pair among them comes first
 pub record Orders (pair : ℕ → ℕ → Type 0) (members order : List ℕ) : Type 0 where

@@ -1,18 +1,18 @@
 -- The ways through a procedure: what stands behind an If stands at the end of either branch.
 use Rattle.std.specs.Prelude.{ℕ}
 use Rattle.sgt_model.specs.Syntax as text
-use Rattle.sgt_model.specs.Syntax.{Term, Test, Block}
+use Rattle.sgt_model.specs.Syntax.{ExprText, CondText, Block}
 
 -- the statements to come; an Ask ends the way, and a fork shows the two ways behind an If
 pub data Way : Type 0 where
   end : Way
-  look : (to table : ℕ) → (id : Term) → (absent : ℕ) → Way → Way
-  find : (to table : ℕ) → (id absent : Term) → Way → Way
-  put : (table : ℕ) → (id value : Term) → Way → Way
-  save : (to : ℕ) → (value : Term) → Way → Way
+  look : (to table : ℕ) → (id : ExprText) → (absent : ℕ) → Way → Way
+  find : (to table : ℕ) → (id absent : ExprText) → Way → Way
+  put : (table : ℕ) → (id value : ExprText) → Way → Way
+  save : (to : ℕ) → (value : ExprText) → Way → Way
   ask : (code : ℕ) → Way
-  fork : Test → (ys ns : Way) → Way
-  answer : Term → Way → Way
+  fork : CondText → (ys ns : Way) → Way
+  answer : ExprText → Way → Way
 
 -- the statements of a block, and what comes behind them
 abbrev pub onto : Block → Way → Way

@@ -1,6 +1,6 @@
 ghost use Rattle.std.specs.Prelude.{◌≡◌, [], None, OnOk, OnErr};
 ghost use Rattle.sgt_model.specs.Numbers.{IsValue};
-ghost use Rattle.sgt_model.specs.Contents.{Key as K, put_in};
+ghost use Rattle.sgt_model.specs.Contents.{Key, put_in};
 ghost use Rattle.sgt_model.specs.Databases.{contents_of, IsByKey, IsFound, IsRowIndex, HasValues};
 
 use crate::errors::NoMemory;
@@ -50,7 +50,7 @@ impl Database {
     /// memory: where it is refused, nothing changes.
     pub fn put(&mut self, key: Key, value: i64) -> Result<(), NoMemory>
         requires { IsValue value }
-        ensures put { OnOk result ((k : K) → contents_of self.new k ≡ put_in (contents_of self.old) key value k) }
+        ensures put { OnOk result ((k : Key) → contents_of self.new k ≡ put_in (contents_of self.old) key value k) }
         ensures err { OnErr result (self.new ≡ self.old) }
         ensures absent { OnErr result (contents_of self.old key ≡ None) }
         ensures by_key { IsByKey self.new }

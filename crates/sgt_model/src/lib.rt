@@ -69,7 +69,7 @@ pub use event::{Answers, Args, Event};
 pub use key::{Key, LAST_TABLE, LEAST, MOST, is_value};
 pub use kind::Kind;
 pub use laws::{
-    aborts_have_cause, commits_in_line, commits_in_order, committed_are_admitted, headline_holds,
+    aborts_have_cause, commit_order_is_total, commits_in_order, committed_are_admitted, headline_holds,
     histories_are_executed, histories_go_on, limits_are_kept, looks_agree_at_commit,
     no_pair_from_live, pairs_have_no_cycle, replay_is_serial, replays_hold_values,
     replies_are_unique, replies_name_few, replies_tell_who_is_live, runs_are_traces,

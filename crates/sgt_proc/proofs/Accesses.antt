@@ -6,7 +6,7 @@ use Rattle.sgt_model.specs.declared.procedure.Expr.{Expr}
 use Rattle.sgt_model.specs.declared.procedure.Statement.{Statement}
 use Rattle.sgt_model.specs.declared.procedure.Statement.TheVariants.{Look, Find, Put}
 use Rattle.sgt_model.specs.Syntax.{Block}
-use Rattle.sgt_model.specs.Programs.{term_of, before}
+use Rattle.sgt_model.specs.ProcedureTexts.{expr_text, in_front}
 use Rattle.sgt_model.specs.Meaning.{Got, value_of}
 use Rattle.sgt_model.specs.Executions.{OrCode, and_then, in_turn, provided, key_of, stuck}
 use Rattle.sgt_model.specs.Left.{Reached, AtLook, AtFind, AtStore, followed_by, number_or_code, reach}
@@ -38,15 +38,15 @@ both_made (Ok x) (Err code) key make found e = ap (λ r. and_then r (λ p. make 
 both_made (Err code) v key make found e = ap (λ r. and_then r (λ p. make p.0 p.1)) (sym e)
 
 module _ (b : Block) (m : Place) (s : Statement) (inside : IsIn b m)
-    (here : behind m.at (inner m.path.items b) ≡ before s (behind (m.at + 1) (inner m.path.items b))) where
+    (here : behind m.at (inner m.path.items b) ≡ in_front s (behind (m.at + 1) (inner m.path.items b))) where
   -- where the statements to come lead, which begin with this one
-  led : reach_from b m ≡ reach (followed_by (before s (behind (m.at + 1) (inner m.path.items b))) (outer m.path.items b))
+  led : reach_from b m ≡ reach (followed_by (in_front s (behind (m.at + 1) (inner m.path.items b))) (outer m.path.items b))
       m.args m.registers m.answers
   led = ap (λ x. reach (followed_by x (outer m.path.items b)) m.args m.registers m.answers) here
 
   led_by : (t : Statement) → s ≡ t → reach_from b m ≡ reach
-      (followed_by (before t (behind (m.at + 1) (inner m.path.items b))) (outer m.path.items b)) m.args m.registers m.answers
-  led_by t is = led ∙ ap (λ x. reach (followed_by (before x (behind (m.at + 1) (inner m.path.items b))) (outer m.path.items b))
+      (followed_by (in_front t (behind (m.at + 1) (inner m.path.items b))) (outer m.path.items b)) m.args m.registers m.answers
+  led_by t is = led ∙ ap (λ x. reach (followed_by (in_front x (behind (m.at + 1) (inner m.path.items b))) (outer m.path.items b))
       m.args m.registers m.answers) is
 
   stops : (st : Stop) → reach_from b m ≡ reached_at b m st → StopsBefore m st → HasFound st → Stops b m st m
@@ -54,9 +54,9 @@ module _ (b : Block) (m : Place) (s : Statement) (inside : IsIn b m)
 
   -- a look
   module _ (to table : ℕ) (id : Expr) (absent : ℕ) (is : s ≡ Look to table id absent) (found : OrCode Key)
-      (looked_for : found ≡ and_then (number_or_code (value_of (term_of id) m.args m.registers)) (λ n. key_of table n)) where
+      (looked_for : found ≡ and_then (number_or_code (value_of (expr_text id) m.args m.registers)) (λ n. key_of table n)) where
     look_led : reach_from b m ≡ and_then found (λ key. Ok (AtLook key to absent (rest_from b m (m.at + 1))))
-    look_led = led_by (Look to table id absent) is ∙ key_made (number_or_code (value_of (term_of id) m.args m.registers)) (key_of table)
+    look_led = led_by (Look to table id absent) is ∙ key_made (number_or_code (value_of (expr_text id) m.args m.registers)) (key_of table)
         (λ key. Ok (AtLook key to absent (rest_from b m (m.at + 1)))) found looked_for
 
     pub look_stops : (key : Key) → Ok key ≡ found → m.at < 64 → Stops b m (stop.Look key to absent) m
@@ -69,13 +69,13 @@ module _ (b : Block) (m : Place) (s : Statement) (inside : IsIn b m)
 
   -- a find
   module _ (to table : ℕ) (id absent : Expr) (is : s ≡ Find to table id absent) (found : OrCode (Key × ℤ))
-      (looked_for : found ≡ in_turn {A = Key × ℤ} (number_or_code (value_of (term_of id) m.args m.registers))
-      (number_or_code (value_of (term_of absent) m.args m.registers))
+      (looked_for : found ≡ in_turn {A = Key × ℤ} (number_or_code (value_of (expr_text id) m.args m.registers))
+      (number_or_code (value_of (expr_text absent) m.args m.registers))
       (λ n v. and_then {B = Key × ℤ} (key_of table n) (λ k. Ok (k, v)))) where
     find_led : reach_from b m ≡ and_then {A = Key × ℤ} found (λ p. Ok (AtFind p.0 to p.1 (rest_from b m (m.at + 1))))
     find_led = led_by (Find to table id absent) is
-        ∙ both_made (number_or_code (value_of (term_of id) m.args m.registers))
-        (number_or_code (value_of (term_of absent) m.args m.registers))
+        ∙ both_made (number_or_code (value_of (expr_text id) m.args m.registers))
+        (number_or_code (value_of (expr_text absent) m.args m.registers))
         (key_of table) (λ k v. Ok (AtFind k to v (rest_from b m (m.at + 1)))) found looked_for
 
     pub find_stops : (p : Key × ℤ) → Ok p ≡ found → m.at < 64 → Stops b m (stop.Find p.0 to p.1) m
@@ -88,15 +88,15 @@ module _ (b : Block) (m : Place) (s : Statement) (inside : IsIn b m)
 
   -- a store
   module _ (table : ℕ) (id value : Expr) (is : s ≡ Put table id value) (found : OrCode (Key × ℤ))
-      (looked_for : found ≡ in_turn {A = Key × ℤ} (number_or_code (value_of (term_of id) m.args m.registers))
-      (number_or_code (value_of (term_of value) m.args m.registers))
+      (looked_for : found ≡ in_turn {A = Key × ℤ} (number_or_code (value_of (expr_text id) m.args m.registers))
+      (number_or_code (value_of (expr_text value) m.args m.registers))
       (λ n v. and_then {B = Key × ℤ} (key_of table n) (λ k. Ok (k, v)))) where
     abbrev stored : Key × ℤ → OrCode Reached
     stored p = provided (is_value p.1) (AtStore p.0 p.1 (rest_from b m (m.at + 1))) stuck
 
     put_led : reach_from b m ≡ and_then {A = Key × ℤ} found stored
-    put_led = led_by (Put table id value) is ∙ both_made (number_or_code (value_of (term_of id) m.args m.registers))
-        (number_or_code (value_of (term_of value) m.args m.registers)) (key_of table) (λ k v. stored (k, v)) found looked_for
+    put_led = led_by (Put table id value) is ∙ both_made (number_or_code (value_of (expr_text id) m.args m.registers))
+        (number_or_code (value_of (expr_text value) m.args m.registers)) (key_of table) (λ k v. stored (k, v)) found looked_for
 
     pub put_stops : (p : Key × ℤ) → Ok p ≡ found → is_value p.1 ≡ true → m.at < 64 → Stops b m (stop.Put p.0 p.1) m
     put_stops p e fits few = stops (stop.Put p.0 p.1)

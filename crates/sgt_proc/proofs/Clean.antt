@@ -4,7 +4,7 @@ use Rattle.std.proofs.Common.{refl, arith}
 use Rattle.std.proofs.lemmas.Bool.{or_parts}
 use Rattle.std.proofs.lemmas.Bool.Decides.{nat_tests}
 use Rattle.sgt_model.specs.Numbers.{IsValue, is_value}
-use Rattle.sgt_model.specs.Syntax.{Term, Test, Block}
+use Rattle.sgt_model.specs.Syntax.{ExprText, CondText, Block}
 use Rattle.sgt_model.specs.Syntax as text
 use Rattle.sgt_model.specs.Ways.{Way, onto}
 use Rattle.sgt_model.specs.Ways as way
@@ -12,21 +12,21 @@ use Rattle.sgt_proc.specs.declared.flaw.Flaw.{Flaw}
 use Rattle.sgt_proc.specs.declared.flaw.Flaw.TheVariants.{HighRegister, NoArgument, HighTable, BadCode, BadLiteral}
 use Rattle.sgt_proc.specs.declared.numbers.Number.{Number}
 use Rattle.sgt_proc.specs.declared.numbers.Number.TheVariants.{Register, Argument, Table, Code, Literal}
-use Rattle.sgt_proc.specs.Flaws.{in_term, in_test, in_block}
+use Rattle.sgt_proc.specs.Flaws.{in_expr, in_cond, in_block}
 use Rattle.sgt_proc.specs.NumberFlaws.{is_bad}
 
 -- some number along a way is so
 abbrev pub in_way : (Number → Bool) → Way → Bool
 in_way so way.end = false
 in_way so (way.look to table id absent rest) =
-    (so (Register to) || (so (Table table) || (in_term so id || so (Code absent)))) || in_way so rest
+    (so (Register to) || (so (Table table) || (in_expr so id || so (Code absent)))) || in_way so rest
 in_way so (way.find to table id absent rest) =
-    (so (Register to) || (so (Table table) || (in_term so id || in_term so absent))) || in_way so rest
-in_way so (way.put table id value rest) = (so (Table table) || (in_term so id || in_term so value)) || in_way so rest
-in_way so (way.save to value rest) = (so (Register to) || in_term so value) || in_way so rest
+    (so (Register to) || (so (Table table) || (in_expr so id || in_expr so absent))) || in_way so rest
+in_way so (way.put table id value rest) = (so (Table table) || (in_expr so id || in_expr so value)) || in_way so rest
+in_way so (way.save to value rest) = (so (Register to) || in_expr so value) || in_way so rest
 in_way so (way.ask code) = so (Code code)
-in_way so (way.fork test ys ns) = in_test so test || (in_way so ys || in_way so ns)
-in_way so (way.answer value rest) = in_term so value || in_way so rest
+in_way so (way.fork test ys ns) = in_cond so test || (in_way so ys || in_way so ns)
+in_way so (way.answer value rest) = in_expr so value || in_way so rest
 
 or_none : (a b : Bool) → a ≡ false → b ≡ false → (a || b) ≡ false
 or_none true b e f = e
@@ -42,15 +42,15 @@ in_onto so (text.put table id value b) rest h r = let p = or_parts _ (in_block s
 in_onto so (text.save to value b) rest h r = let p = or_parts _ (in_block so b) h in or_none _ _ p.0 (in_onto so b rest p.1 r)
 in_onto so (text.ask code b) rest h r = (or_parts (so (Code code)) (in_block so b) h).0
 in_onto so (text.choose test ys ns b) rest h r =
-    let p = or_parts (in_test so test || (in_block so ys || in_block so ns)) (in_block so b) h in
-    let q = or_parts (in_test so test) (in_block so ys || in_block so ns) p.0 in
+    let p = or_parts (in_cond so test || (in_block so ys || in_block so ns)) (in_block so b) h in
+    let q = or_parts (in_cond so test) (in_block so ys || in_block so ns) p.0 in
     let branches = or_parts (in_block so ys) (in_block so ns) q.1 in
     or_none _ _ q.0 (or_none _ _ (in_onto so ys (onto b rest) branches.0 (in_onto so b rest p.1 r))
     (in_onto so ns (onto b rest) branches.1 (in_onto so b rest p.1 r)))
 in_onto so (text.answer value b) rest h r = let p = or_parts _ (in_block so b) h in or_none _ _ p.0 (in_onto so b rest p.1 r)
 
 -- where no number is so, none in a text is
-term_nothing : (t : Term) → in_term (λ n. false) t ≡ false
+term_nothing : (t : ExprText) → in_expr (λ n. false) t ≡ false
 term_nothing (text.num n) = refl
 term_nothing (text.arg n) = refl
 term_nothing (text.reg n) = refl
@@ -59,7 +59,7 @@ term_nothing (text.diff a b) = or_none _ _ (term_nothing a) (term_nothing b)
 term_nothing (text.product a b) = or_none _ _ (term_nothing a) (term_nothing b)
 term_nothing (text.quotient a b) = or_none _ _ (term_nothing a) (term_nothing b)
 
-test_nothing : (t : Test) → in_test (λ n. false) t ≡ false
+test_nothing : (t : CondText) → in_cond (λ n. false) t ≡ false
 test_nothing (text.less a b) = or_none _ _ (term_nothing a) (term_nothing b)
 test_nothing (text.at_most a b) = or_none _ _ (term_nothing a) (term_nothing b)
 test_nothing (text.equal a b) = or_none _ _ (term_nothing a) (term_nothing b)

@@ -1,13 +1,13 @@
 -- A procedure without a flaw makes at most 64 accesses.
 use Rattle.std.proofs.Common.{◌≡◌, ℕ, zero, suc, ℤ, ◌<◌, ◌≤◌, ◌+◌, arith, Bool, true, false, cond, List, [], ◌∷◌, ◌++◌, Option, Some, None, subst, slice_set, nat_lt, length}
 use Rattle.sgt_model.specs.Numbers.{is_value}
-use Rattle.sgt_model.specs.Syntax.{Block, Program}
+use Rattle.sgt_model.specs.Syntax.{Block, ProcedureText}
 use Rattle.sgt_model.specs.Syntax as text
 use Rattle.sgt_model.specs.Ways.{Way, onto}
 use Rattle.sgt_model.specs.Ways as way
-use Rattle.sgt_model.specs.Runs.{Run, looks, puts, ends, asks}
-use Rattle.sgt_model.specs.Traces.{Next, Looks, Puts, Ends, Asks, trace, next_at, Used}
-use Rattle.sgt_model.specs.Meaning.{Got, is, over, missing, Truth, holds, too_far, unknown, Registers, value_of, truth_of, with_value, with_test, is_key, if_found, found_or, run, run_with, fresh}
+use Rattle.sgt_model.specs.Runs.{Run, looks, puts, ends, raises}
+use Rattle.sgt_model.specs.Traces.{Next, Looks, Puts, Ends, Raises, trace, next_at, Used}
+use Rattle.sgt_model.specs.Meaning.{Got, is, over, missing, Truth, holds, too_far, unknown, Registers, value_of, truth_of, with_value, with_condition, is_key, if_found, found_or, run, run_with, fresh}
 use Rattle.sgt_proc.specs.declared.flaw.Flaw.TheVariants.{TooLong}
 use Rattle.sgt_proc.specs.declared.next.Next.{Next as DeclaredNext}
 use Rattle.sgt_proc.specs.declared.next.Next.TheVariants as declared
@@ -17,7 +17,7 @@ use Rattle.sgt_proc.specs.Flaws.{size, IsFlawless}
 -- a run makes at most so many accesses, whatever its looks find
 abbrev pub MakesAtMost : Run → ℕ → Type 0
 MakesAtMost (ends answers) n = Unit {0}
-MakesAtMost (asks code) n = Unit {0}
+MakesAtMost (raises code) n = Unit {0}
 MakesAtMost (looks k go) zero = ⊥
 MakesAtMost (looks k go) (suc n) = (v : Option ℤ) → MakesAtMost (go v) n
 MakesAtMost (puts k v rest) zero = ⊥
@@ -25,7 +25,7 @@ MakesAtMost (puts k v rest) (suc n) = MakesAtMost rest n
 
 within_more : (r : Run) (n m : ℕ) → n ≤ m → MakesAtMost r n → MakesAtMost r m
 within_more (ends answers) n m h w = tt
-within_more (asks code) n m h w = tt
+within_more (raises code) n m h w = tt
 within_more (looks k go) zero m h w = absurd w
 within_more (looks k go) (suc n) zero h w = absurd (omega arith)
 within_more (looks k go) (suc n) (suc m) h w = λ v. within_more (go v) n m (omega arith) (w v)
@@ -40,11 +40,11 @@ within_value n (is v) go h = h v
 within_value n over go h = tt
 within_value n missing go h = tt
 
-within_cond : (n : ℕ) (b : Bool) (r : Run) → MakesAtMost r n → MakesAtMost (cond b r (asks 0)) n
+within_cond : (n : ℕ) (b : Bool) (r : Run) → MakesAtMost r n → MakesAtMost (cond b r (raises 0)) n
 within_cond n true r h = h
 within_cond n false r h = tt
 
-within_test : (n : ℕ) (t : Truth) (ys ns : Run) → MakesAtMost ys n → MakesAtMost ns n → MakesAtMost (with_test t ys ns) n
+within_test : (n : ℕ) (t : Truth) (ys ns : Run) → MakesAtMost ys n → MakesAtMost ns n → MakesAtMost (with_condition t ys ns) n
 within_test n (holds true) ys ns h i = h
 within_test n (holds false) ys ns h i = i
 within_test n too_far ys ns h i = tt
@@ -99,7 +99,7 @@ within_onto (text.answer value b) rest n h args regs answers =
     (λ x. within_cond (size b + n) (nat_lt (length answers) 8) _ (within_onto b rest n h args regs (answers ++ x ∷ []))))
 
 -- so a procedure makes at most as many accesses as it has statements
-pub within_size : (p : Program) (args : List ℤ) → MakesAtMost (run_with p args) (size p.body)
+pub within_size : (p : ProcedureText) (args : List ℤ) → MakesAtMost (run_with p args) (size p.body)
 within_size p args = within_more (run_with p args) (size p.body + 0) (size p.body) (omega arith)
     (within_onto p.body way.end 0 (λ args regs answers. tt) args fresh [])
 
@@ -109,7 +109,7 @@ abbrev pub AccessNext : Next → Type 0
 AccessNext (Looks k) = Unit {0}
 AccessNext (Puts k v) = Unit {0}
 AccessNext (Ends answers) = ⊥
-AccessNext (Asks code) = ⊥
+AccessNext (Raises code) = ⊥
 
 pub fewer : (r : Run) (n : ℕ) (vs : List (Option ℤ)) (made : ℕ) → MakesAtMost r n → Used r vs made → AccessNext (next_at (trace r vs) made)
     → made < n
@@ -125,9 +125,9 @@ fewer (puts k x rest) (suc n) vs (suc made) w u a = let h = fewer rest n vs made
 fewer (ends answers) n [] zero w u a = absurd a
 fewer (ends answers) n (v ∷ vs) zero w u a = absurd u
 fewer (ends answers) n vs (suc made) w u a = absurd u
-fewer (asks code) n [] zero w u a = absurd a
-fewer (asks code) n (v ∷ vs) zero w u a = absurd u
-fewer (asks code) n vs (suc made) w u a = absurd u
+fewer (raises code) n [] zero w u a = absurd a
+fewer (raises code) n (v ∷ vs) zero w u a = absurd u
+fewer (raises code) n vs (suc made) w u a = absurd u
 
 access_seen : (n : DeclaredNext) → IsAccess n → AccessNext (seen n)
 access_seen (declared.Look k) a = tt
@@ -135,7 +135,7 @@ access_seen (declared.Put k v) a = tt
 access_seen (declared.Ends answers) a = absurd a
 access_seen (declared.Asks code) a = absurd a
 
-pub few_made : (p : Program) (args : List ℤ) (vs : List (Option ℤ)) (made : ℕ) (n : DeclaredNext) → IsFlawless p
+pub few_made : (p : ProcedureText) (args : List ℤ) (vs : List (Option ℤ)) (made : ℕ) (n : DeclaredNext) → IsFlawless p
     → seen n ≡ next_at (trace (run_with p args) vs) made → IsAccess n → Used (run_with p args) vs made → made < 64
 few_made p args vs made n flawless told a used =
     fewer (run_with p args) 64 vs made (within_more (run_with p args) (size p.body) 64 (omega (arith, flawless TooLong))

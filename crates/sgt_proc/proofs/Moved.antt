@@ -1,7 +1,7 @@
 -- What is left once a cursor has moved on.
 use Rattle.std.proofs.Common.{◌≡◌, refl, ap, ◌∙◌, ℕ, ◌+◌, ℤ, List, [], Some}
 use Rattle.sgt_model.specs.Contents.{Key}
-use Rattle.sgt_model.specs.Syntax.{Block, Program}
+use Rattle.sgt_model.specs.Syntax.{Block, ProcedureText}
 use Rattle.sgt_model.specs.Meaning.{fresh}
 use Rattle.sgt_model.specs.Left.{ToRun, left_at_start, reached, behind_look, behind_store, after_look, after_store}
 use Rattle.sgt_proc.specs.declared.place.Place.{Place}
@@ -20,7 +20,7 @@ left_to_run b m (stop.Asks code) h = refl
 left_to_run b m (stop.Absent code) h = absurd h
 
 -- at the start
-pub begun : (p : Program) (args : List ℤ) (m : Place) (s : Stop) → HasFound s → m.args ≡ args → m.registers ≡ fresh → m.answers ≡ []
+pub begun : (p : ProcedureText) (args : List ℤ) (m : Place) (s : Stop) → HasFound s → m.args ≡ args → m.registers ≡ fresh → m.answers ≡ []
     → m.path.items ≡ [] → m.at ≡ 0 → left_behind p.body m s ≡ left_at_start p args
 begun p args m s found same registers answers path at =
     left_to_run p.body m s found ∙ rw (same, registers, answers, path, at)

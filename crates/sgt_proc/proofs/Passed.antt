@@ -3,10 +3,10 @@ use Rattle.std.specs.Prelude.{◌≡◌, ℕ, zero, suc, ◌+◌, ◌<◌, ◌�
 use Rattle.std.proofs.Common.{refl, sym, ap, ◌∙◌, subst, arith}
 use Rattle.std.proofs.lemmas.List.{take-append-drop, take_more, drop_all}
 use Rattle.sgt_model.specs.Contents.{Key}
-use Rattle.sgt_model.specs.Syntax.{Program}
-use Rattle.sgt_model.specs.Runs.{Run, looks, puts, ends, asks}
+use Rattle.sgt_model.specs.Syntax.{ProcedureText}
+use Rattle.sgt_model.specs.Runs.{Run, looks, puts, ends, raises}
 use Rattle.sgt_model.specs.Meaning.{run_with}
-use Rattle.sgt_model.specs.Traces.{Used, Next, Looks, Puts, Ends, Asks, trace, next_at}
+use Rattle.sgt_model.specs.Traces.{Used, Next, Looks, Puts, Ends, Raises, trace, next_at}
 use Rattle.sgt_model.specs.Left.{Left, left, next_left, after_look, after_store}
 use Rattle.sgt_model.proofs.LeftRuns.{next_is_of_left, left_after_look, left_after_store}
 
@@ -24,9 +24,9 @@ used_look (puts k w rest) vs (suc made) q found used next = used_look rest vs ma
 used_look (ends answers) [] zero q found used next = cc
 used_look (ends answers) (v ∷ vs) zero q found used next = absurd used
 used_look (ends answers) vs (suc made) q found used next = absurd used
-used_look (asks code) [] zero q found used next = cc
-used_look (asks code) (v ∷ vs) zero q found used next = absurd used
-used_look (asks code) vs (suc made) q found used next = absurd used
+used_look (raises code) [] zero q found used next = cc
+used_look (raises code) (v ∷ vs) zero q found used next = absurd used
+used_look (raises code) vs (suc made) q found used next = absurd used
 
 used_store : (r : Run) (vs : List (Option ℤ)) (made : ℕ) (k : Key) (x : ℤ) → Used r vs made
     → next_at (trace r vs) made ≡ Puts k x → Used r vs (suc made)
@@ -40,9 +40,9 @@ used_store (puts k w rest) vs (suc made) q x used next = used_store rest vs made
 used_store (ends answers) [] zero q x used next = cc
 used_store (ends answers) (v ∷ vs) zero q x used next = absurd used
 used_store (ends answers) vs (suc made) q x used next = absurd used
-used_store (asks code) [] zero q x used next = cc
-used_store (asks code) (v ∷ vs) zero q x used next = absurd used
-used_store (asks code) vs (suc made) q x used next = absurd used
+used_store (raises code) [] zero q x used next = cc
+used_store (raises code) (v ∷ vs) zero q x used next = absurd used
+used_store (raises code) vs (suc made) q x used next = absurd used
 
 -- where the values run on, what comes next is the same
 
@@ -57,8 +57,8 @@ next_more (puts k w rest) vs more zero used = refl
 next_more (puts k w rest) vs more (suc made) used = next_more rest vs more made used
 next_more (ends answers) vs more zero used = refl
 next_more (ends answers) vs more (suc made) used = absurd used
-next_more (asks code) vs more zero used = refl
-next_more (asks code) vs more (suc made) used = absurd used
+next_more (raises code) vs more zero used = refl
+next_more (raises code) vs more (suc made) used = absurd used
 
 -- and it stays so where no access can be made: at the end, at a code, and at a look for which no value is left
 
@@ -66,7 +66,7 @@ abbrev pub Stays : List (Option ℤ) → Next → Type 0
 Stays more (Looks k) = more ≡ []
 Stays more (Puts k x) = ⊥
 Stays more (Ends answers) = Unit {0}
-Stays more (Asks code) = Unit {0}
+Stays more (Raises code) = Unit {0}
 
 next_stays : (r : Run) (vs more : List (Option ℤ)) (made later : ℕ) → Used r vs made → Stays more (next_at (trace r vs) made) → made ≤ later
     → next_at (trace r (vs ++ more)) later ≡ next_at (trace r vs) made
@@ -86,20 +86,20 @@ next_stays (puts k w rest) vs more (suc made) (suc later) used stays within =
 next_stays (ends answers) vs more zero zero used stays within = refl
 next_stays (ends answers) vs more zero (suc later) used stays within = refl
 next_stays (ends answers) vs more (suc made) later used stays within = absurd used
-next_stays (asks code) vs more zero zero used stays within = refl
-next_stays (asks code) vs more zero (suc later) used stays within = refl
-next_stays (asks code) vs more (suc made) later used stays within = absurd used
+next_stays (raises code) vs more zero zero used stays within = refl
+next_stays (raises code) vs more zero (suc later) used stays within = refl
+next_stays (raises code) vs more (suc made) later used stays within = absurd used
 
 -- a cursor has passed so many accesses, of which the looks found so many of the values
-pub record HasPassed (p : Program) (args : List ℤ) (read : List (Option ℤ)) (used made : ℕ) (w : Program × Left) : Type 0 where
+pub record HasPassed (p : ProcedureText) (args : List ℤ) (read : List (Option ℤ)) (used made : ℕ) (w : ProcedureText × Left) : Type 0 where
   pub few : used ≤ length read
   pub done : Used (run_with p args) (take used read) made
   pub same : w ≡ (p, left p args (take used read) made)
 
-module _ (p : Program) (args : List ℤ) (read : List (Option ℤ)) (used made : ℕ) (w : Program × Left)
+module _ (p : ProcedureText) (args : List ℤ) (read : List (Option ℤ)) (used made : ℕ) (w : ProcedureText × Left)
     (passed : HasPassed p args read used made w) where
   left_next : (n : Next) → n ≡ next_left w.1 → next_left (left p args (take used read) made) ≡ n
-  left_next n told = ap (λ (v : Program × Left). next_left v.1) (sym passed.same) ∙ sym told
+  left_next n told = ap (λ (v : ProcedureText × Left). next_left v.1) (sym passed.same) ∙ sym told
 
   trace_next : (n : Next) → n ≡ next_left w.1 → next_at (trace (run_with p args) (take used read)) made ≡ n
   trace_next n told = sym (next_is_of_left p args (take used read) made passed.done) ∙ left_next n told
@@ -114,7 +114,7 @@ module _ (p : Program) (args : List ℤ) (read : List (Option ℤ)) (used made :
     few = omega (arith, within);
     done = subst (λ vs. Used (run_with p args) vs (made + 1)) (sym more) (subst (Used (run_with p args) (take used read ++ found ∷ [])) one
         (used_look (run_with p args) (take used read) made k found passed.done (trace_next (Looks k) told)));
-    same = ap (λ (v : Program × Left). (v.0, after_look found v.1)) passed.same
+    same = ap (λ (v : ProcedureText × Left). (v.0, after_look found v.1)) passed.same
         ∙ ap (λ l. (p, l)) (sym (left_after_look p args (take used read) made passed.done k found (left_next (Looks k) told))
         ∙ ap (λ vs. left p args vs (made + 1)) (sym more));
   } where
@@ -130,7 +130,7 @@ module _ (p : Program) (args : List ℤ) (read : List (Option ℤ)) (used made :
     few = passed.few;
     done = subst (Used (run_with p args) (take used read)) one
         (used_store (run_with p args) (take used read) made k x passed.done (trace_next (Puts k x) told));
-    same = ap (λ (v : Program × Left). (v.0, after_store v.1)) passed.same
+    same = ap (λ (v : ProcedureText × Left). (v.0, after_store v.1)) passed.same
         ∙ ap (λ l. (p, l)) (sym (left_after_store p args (take used read) made passed.done k x (left_next (Puts k x) told)));
   }
 

@@ -4,7 +4,7 @@ use Rattle.std.proofs.lemmas.List.{drop_all}
 use Rattle.sgt_model.specs.declared.procedure.Statement.{Statement}
 use Rattle.sgt_model.specs.declared.procedure.Statement.TheVariants.{Look, Find, Put, Let, Ask, If', Answer}
 use Rattle.sgt_model.specs.Syntax.{Block, empty, look, find, put, save, ask, choose, answer}
-use Rattle.sgt_model.specs.Programs.{before, block_of}
+use Rattle.sgt_model.specs.ProcedureTexts.{in_front, block_of}
 use Rattle.sgt_model.specs.Left.{followed_by}
 use Rattle.sgt_proc.specs.declared.place.Turn.{Turn}
 use Rattle.sgt_proc.specs.Flaws.{size, depth}
@@ -14,7 +14,7 @@ use Rattle.sgt_proc.proofs.Followed.{followed_empty, followed_twice}
 
 -- a list of statements
 
-behind_before : (n : ℕ) (s : Statement) (b : Block) → behind (suc n) (before s b) ≡ behind n b
+behind_before : (n : ℕ) (s : Statement) (b : Block) → behind (suc n) (in_front s b) ≡ behind n b
 behind_before n (Look to table id absent) b = refl
 behind_before n (Find to table id absent) b = refl
 behind_before n (Put table id value) b = refl
@@ -28,7 +28,7 @@ behind_list zero list = refl
 behind_list (suc n) [] = refl
 behind_list (suc n) (s ∷ list) = behind_before n s (block_of list) ∙ behind_list n list
 
-before_size : (s : Statement) (b : Block) → size b + 1 ≤ size (before s b)
+before_size : (s : Statement) (b : Block) → size b + 1 ≤ size (in_front s b)
 before_size (Look to table id absent) b = omega arith
 before_size (Find to table id absent) b = omega arith
 before_size (Put table id value) b = omega arith
@@ -37,7 +37,7 @@ before_size (Ask code) b = omega arith
 before_size (If' cond p ys q ns) b = omega arith
 before_size (Answer value) b = omega arith
 
-pub before_depth : (s : Statement) (b : Block) → 1 ≤ depth (before s b)
+pub before_depth : (s : Statement) (b : Block) → 1 ≤ depth (in_front s b)
 before_depth (Look to table id absent) b = omega arith
 before_depth (Find to table id absent) b = omega arith
 before_depth (Put table id value) b = omega arith
@@ -52,8 +52,8 @@ list_size (s ∷ list) = omega (arith, list_size list, before_size s (block_of l
 
 -- the one at a place
 pub behind_at : (list : List Statement) (n : ℕ) (s : Statement) → n < length list → s ≡ get_or list n s
-    → behind n (block_of list) ≡ before s (behind (n + 1) (block_of list))
-behind_at list n s h e = behind_list n list ∙ (block_drop list n s h e ∙ ap (before s) (sym (behind_list (n + 1) list)))
+    → behind n (block_of list) ≡ in_front s (behind (n + 1) (block_of list))
+behind_at list n s h e = behind_list n list ∙ (block_drop list n s h e ∙ ap (in_front s) (sym (behind_list (n + 1) list)))
 
 -- none at the end
 pub behind_end : (list : List Statement) (n : ℕ) → length list ≤ n → behind n (block_of list) ≡ empty

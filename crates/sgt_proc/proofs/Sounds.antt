@@ -10,16 +10,16 @@ use Rattle.std.proofs.lemmas.Option.{slice_get-get_or}
 use Rattle.std.proofs.Math.ListN.{length-set}
 use Rattle.sgt_model.specs.Numbers.{IsValue, is_value}
 use Rattle.sgt_model.specs.Contents.{Key}
-use Rattle.sgt_model.specs.Syntax.{Term, num, arg, reg, sum, diff, product, quotient, Test, less, at_most, equal, Program}
+use Rattle.sgt_model.specs.Syntax.{ExprText, num, arg, reg, sum, diff, product, quotient, CondText, less, at_most, equal, ProcedureText}
 use Rattle.sgt_model.specs.Ways.{Way, onto}
 use Rattle.sgt_model.specs.Ways as way
 use Rattle.sgt_model.specs.Runs.{Run, looks, puts}
-use Rattle.sgt_model.specs.Meaning.{Got, is, over, missing, got, bounded, divided, both, Registers, fresh, value_of, Truth, holds, too_far, unknown, compared, truth_of, with_value, with_test, with_key, with_stored, if_found, found_or, with_room, run}
+use Rattle.sgt_model.specs.Meaning.{Got, is, over, missing, got, bounded, divided, both, Registers, fresh, value_of, Truth, holds, too_far, unknown, compared, truth_of, with_value, with_condition, with_key, with_stored, if_found, found_or, with_room, run}
 use Rattle.sgt_proc.specs.declared.flaw.Flaw.{Flaw}
 use Rattle.sgt_proc.specs.declared.flaw.Flaw.TheVariants.{HighRegister, UnsetRegister, NoArgument, HighTable, TooLong, TooDeep, ManyAnswers, BadCode, ManyArguments, BadLiteral}
 use Rattle.sgt_proc.specs.declared.numbers.Number.{Number}
 use Rattle.sgt_proc.specs.declared.numbers.Number.TheVariants.{Register, Argument, Table, Code, Literal}
-use Rattle.sgt_proc.specs.Flaws.{in_term, in_test, in_block, uses, test_uses, uses_unset, most_answers, IsFlawless}
+use Rattle.sgt_proc.specs.Flaws.{in_expr, in_cond, in_block, uses, cond_uses, uses_unset, most_answers, IsFlawless}
 use Rattle.sgt_proc.specs.NumberFlaws.{is_bad}
 use Rattle.sgt_proc.specs.Sound.{MayBeFound, IsSound, FlawlessIsSound}
 use Rattle.sgt_proc.proofs.Clean.{in_way, in_onto, in_nothing, value_from, allowed_number}
@@ -92,7 +92,7 @@ with_value_sound (is v) f h s = s v h
 with_value_sound over f h s = (omega arith, omega arith)
 with_value_sound missing f h s = absurd h
 
-with_test_sound : (h : Truth) (f g : Run) → IsKnown h → IsSound f → IsSound g → IsSound (with_test h f g)
+with_test_sound : (h : Truth) (f g : Run) → IsKnown h → IsSound f → IsSound g → IsSound (with_condition h f g)
 with_test_sound (holds true) f g h s s' = s
 with_test_sound (holds false) f g h s s' = s'
 with_test_sound too_far f g h s s' = (omega arith, omega arith)
@@ -133,7 +133,7 @@ module _ (args : List ℤ) (all_values : All IsValue args) where
   arg_has : (k : ℕ) → k < length args → IsSomeValue (slice_get args k)
   arg_has k h = subst IsSomeValue (sym (slice_get-get_or args k (pos 0) h)) (All-get_or IsValue args k (pos 0) h all_values)
 
-  value_fine : (regs : Registers) (t : Term) → Clean (λ so. in_term so t) → AreAssigned (λ r. uses r t) regs → IsFine (value_of t args regs)
+  value_fine : (regs : Registers) (t : ExprText) → Clean (λ so. in_expr so t) → AreAssigned (λ r. uses r t) regs → IsFine (value_of t args regs)
   value_fine regs (num v) c assigned = allowed_number (length args) (Literal v) c
   value_fine regs (arg k) c assigned = got_fine (slice_get args k) (arg_has k (allowed_number (length args) (Argument k) c))
   value_fine regs (reg n) c assigned =
@@ -155,14 +155,14 @@ module _ (args : List ℤ) (all_values : All IsValue args) where
       (value_fine regs a (λ f. (or_parts _ _ (c f)).0) (λ r h e. assigned r h (or_left (uses r a) (uses r b) e)))
       (value_fine regs b (λ f. (or_parts _ _ (c f)).1) (λ r h e. assigned r h (or_right (uses r a) (uses r b) e)))
 
-  both_known : (op : ℤ → ℤ → Bool) (regs : Registers) (a b : Term) → Clean (λ so. in_term so a || in_term so b)
+  both_known : (op : ℤ → ℤ → Bool) (regs : Registers) (a b : ExprText) → Clean (λ so. in_expr so a || in_expr so b)
       → AreAssigned (λ r. uses r a || uses r b) regs → IsKnown (compared op (value_of a args regs) (value_of b args regs))
   both_known op regs a b c assigned =
       compared_known op (value_of a args regs) (value_of b args regs)
       (value_fine regs a (λ f. (or_parts _ _ (c f)).0) (λ r h e. assigned r h (or_left (uses r a) (uses r b) e)))
       (value_fine regs b (λ f. (or_parts _ _ (c f)).1) (λ r h e. assigned r h (or_right (uses r a) (uses r b) e)))
 
-  test_known : (regs : Registers) (t : Test) → Clean (λ so. in_test so t) → AreAssigned (λ r. test_uses r t) regs
+  test_known : (regs : Registers) (t : CondText) → Clean (λ so. in_cond so t) → AreAssigned (λ r. cond_uses r t) regs
       → IsKnown (truth_of t args regs)
   test_known regs (less a b) c assigned = both_known _ regs a b c assigned
   test_known regs (at_most a b) c assigned = both_known _ regs a b c assigned
@@ -257,7 +257,7 @@ at_most_8 : (n : ℕ) → (8 < n → ⊥) → 0 + n ≤ 8
 at_most_8 n h = grind (arith, h)
 
 -- a text without a flaw has clean numbers
-clean : (p : Program) → IsFlawless p → (f : Flaw) → in_block (is_bad f p.args) p.body ≡ false
+clean : (p : ProcedureText) → IsFlawless p → (f : Flaw) → in_block (is_bad f p.args) p.body ≡ false
 clean p h HighRegister = not_true _ (h HighRegister)
 clean p h UnsetRegister = in_nothing p.body
 clean p h NoArgument = not_true _ (h NoArgument)

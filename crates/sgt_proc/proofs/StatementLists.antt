@@ -3,29 +3,29 @@ use Rattle.std.proofs.Common.{◌≡◌, refl, ap, ◌∙◌, ℕ, ◌+◌, ◌<
 use Rattle.sgt_model.specs.declared.procedure.Statement.{Statement}
 use Rattle.sgt_model.specs.declared.procedure.Statement.TheVariants.{Look, Find, Put, Let, Ask, If', Answer}
 use Rattle.sgt_model.specs.Syntax.{Block, empty}
-use Rattle.sgt_model.specs.Programs.{term_of, test_of, before, row_block, block_of}
+use Rattle.sgt_model.specs.ProcedureTexts.{expr_text, cond_text, in_front, row_block, block_of}
 use Rattle.sgt_proc.specs.declared.numbers.Number.{Number}
 use Rattle.sgt_proc.specs.declared.numbers.Number.TheVariants.{Register, Table, Code}
-use Rattle.sgt_proc.specs.Flaws.{in_term, in_test, in_block, size, depth, terms_depth}
+use Rattle.sgt_proc.specs.Flaws.{in_expr, in_cond, in_block, size, depth, exprs_depth}
 use Rattle.sgt_proc.proofs.StatementTexts.{block_drop}
 
 or_first : (a b : Bool) → (a || b) ≡ ((a || false) || b)
 or_first true b = refl
 or_first false b = refl
 
-in_before : (so : Number → Bool) (s : Statement) (b : Block) → in_block so (before s b) ≡ (in_block so (before s empty) || in_block so b)
+in_before : (so : Number → Bool) (s : Statement) (b : Block) → in_block so (in_front s b) ≡ (in_block so (in_front s empty) || in_block so b)
 in_before so (Look to table id absent) b =
-    or_first (so (Register to) || (so (Table table) || (in_term so (term_of id) || so (Code absent)))) (in_block so b)
+    or_first (so (Register to) || (so (Table table) || (in_expr so (expr_text id) || so (Code absent)))) (in_block so b)
 in_before so (Find to table id absent) b =
-    or_first (so (Register to) || (so (Table table) || (in_term so (term_of id) || in_term so (term_of absent)))) (in_block so b)
-in_before so (Put table id value) b = or_first (so (Table table) || (in_term so (term_of id) || in_term so (term_of value))) (in_block so b)
-in_before so (Let to value) b = or_first (so (Register to) || in_term so (term_of value)) (in_block so b)
+    or_first (so (Register to) || (so (Table table) || (in_expr so (expr_text id) || in_expr so (expr_text absent)))) (in_block so b)
+in_before so (Put table id value) b = or_first (so (Table table) || (in_expr so (expr_text id) || in_expr so (expr_text value))) (in_block so b)
+in_before so (Let to value) b = or_first (so (Register to) || in_expr so (expr_text value)) (in_block so b)
 in_before so (Ask code) b = or_first (so (Code code)) (in_block so b)
 in_before so (If' cond p ys q ns) b =
-    or_first (in_test so (test_of cond) || (in_block so (row_block ys) || in_block so (row_block ns))) (in_block so b)
-in_before so (Answer value) b = or_first (in_term so (term_of value)) (in_block so b)
+    or_first (in_cond so (cond_text cond) || (in_block so (row_block ys) || in_block so (row_block ns))) (in_block so b)
+in_before so (Answer value) b = or_first (in_expr so (expr_text value)) (in_block so b)
 
-size_before : (s : Statement) (b : Block) → size (before s b) ≡ size (before s empty) + size b
+size_before : (s : Statement) (b : Block) → size (in_front s b) ≡ size (in_front s empty) + size b
 size_before (Look to table id absent) b = omega arith
 size_before (Find to table id absent) b = omega arith
 size_before (Put table id value) b = omega arith
@@ -34,7 +34,7 @@ size_before (Ask code) b = omega arith
 size_before (If' cond p ys q ns) b = omega arith
 size_before (Answer value) b = omega arith
 
-depth_before : (s : Statement) (b : Block) → depth (before s b) ≡ max (depth (before s empty)) (depth b)
+depth_before : (s : Statement) (b : Block) → depth (in_front s b) ≡ max (depth (in_front s empty)) (depth b)
 depth_before (Look to table id absent) b = omega arith
 depth_before (Find to table id absent) b = omega arith
 depth_before (Put table id value) b = omega arith
@@ -43,7 +43,7 @@ depth_before (Ask code) b = omega arith
 depth_before (If' cond p ys q ns) b = omega arith
 depth_before (Answer value) b = omega arith
 
-terms_before : (s : Statement) (b : Block) → terms_depth (before s b) ≡ max (terms_depth (before s empty)) (terms_depth b)
+terms_before : (s : Statement) (b : Block) → exprs_depth (in_front s b) ≡ max (exprs_depth (in_front s empty)) (exprs_depth b)
 terms_before (Look to table id absent) b = omega arith
 terms_before (Find to table id absent) b = omega arith
 terms_before (Put table id value) b = omega arith
@@ -54,14 +54,14 @@ terms_before (Answer value) b = omega arith
 
 module _ (list : List Statement) (i : ℕ) (s : Statement) (h : i < length list) (e : s ≡ get_or list i s) where
   pub in_drop : (so : Number → Bool) → in_block so (block_of (drop i list))
-      ≡ (in_block so (before s empty) || in_block so (block_of (drop (i + 1) list)))
+      ≡ (in_block so (in_front s empty) || in_block so (block_of (drop (i + 1) list)))
   in_drop so = ap (in_block so) (block_drop list i s h e) ∙ in_before so s _
 
-  pub size_drop : size (block_of (drop i list)) ≡ size (before s empty) + size (block_of (drop (i + 1) list))
+  pub size_drop : size (block_of (drop i list)) ≡ size (in_front s empty) + size (block_of (drop (i + 1) list))
   size_drop = ap size (block_drop list i s h e) ∙ size_before s _
 
-  pub depth_drop : depth (block_of (drop i list)) ≡ max (depth (before s empty)) (depth (block_of (drop (i + 1) list)))
+  pub depth_drop : depth (block_of (drop i list)) ≡ max (depth (in_front s empty)) (depth (block_of (drop (i + 1) list)))
   depth_drop = ap depth (block_drop list i s h e) ∙ depth_before s _
 
-  pub terms_drop : terms_depth (block_of (drop i list)) ≡ max (terms_depth (before s empty)) (terms_depth (block_of (drop (i + 1) list)))
-  terms_drop = ap terms_depth (block_drop list i s h e) ∙ terms_before s _
+  pub terms_drop : exprs_depth (block_of (drop i list)) ≡ max (exprs_depth (in_front s empty)) (exprs_depth (block_of (drop (i + 1) list)))
+  terms_drop = ap exprs_depth (block_drop list i s h e) ∙ terms_before s _

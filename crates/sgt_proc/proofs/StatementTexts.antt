@@ -7,11 +7,11 @@ use Rattle.sgt_model.specs.declared.procedure.Statement.{Statement}
 use Rattle.sgt_model.specs.declared.procedure.Statement.TheVariants.{Look, Find, Put, Let, Ask, If', If, Answer}
 use Rattle.sgt_model.specs.declared.procedure.Cond.{Cond}
 use Rattle.sgt_model.specs.Syntax.{Block, empty}
-use Rattle.sgt_model.specs.Programs.{test_of, before, block_of}
+use Rattle.sgt_model.specs.ProcedureTexts.{cond_text, in_front, block_of}
 use Rattle.sgt_model.specs.Ways.{Way, fork, onto}
 use Rattle.sgt_model.proofs.Texts.{before_if}
 
-onto_before : (s : Statement) (b : Block) (rest : Way) → onto (before s b) rest ≡ onto (before s empty) (onto b rest)
+onto_before : (s : Statement) (b : Block) (rest : Way) → onto (in_front s b) rest ≡ onto (in_front s empty) (onto b rest)
 onto_before (Look to table id absent) b rest = refl
 onto_before (Find to table id absent) b rest = refl
 onto_before (Put table id value) b rest = refl
@@ -22,21 +22,21 @@ onto_before (Answer value) b rest = refl
 
 -- the text from place i of a list begins with the statement there
 pub block_drop : (list : List Statement) (i : ℕ) (s : Statement) → i < length list → s ≡ get_or list i s
-    → block_of (drop i list) ≡ before s (block_of (drop (i + 1) list))
+    → block_of (drop i list) ≡ in_front s (block_of (drop (i + 1) list))
 block_drop list i s h e =
     let d : drop i list ≡ s ∷ drop (i + 1) list = rw add-one (drop-cons list i s h ∙ ap (λ x. x ∷ drop (suc i) list) (sym e)) in
     ap block_of d
 
 -- the ways through a list go at last through its last statement
 pub onto_last : (list : List Statement) (s : Statement) (rest : Way)
-    → onto (block_of (list ++ s ∷ [])) rest ≡ onto (block_of list) (onto (before s empty) rest)
+    → onto (block_of (list ++ s ∷ [])) rest ≡ onto (block_of list) (onto (in_front s empty) rest)
 onto_last [] s rest = refl
 onto_last (x ∷ xs) s rest = onto_before x (block_of (xs ++ s ∷ [])) rest
-    ∙ (ap (onto (before x empty)) (onto_last xs s rest) ∙ sym (onto_before x (block_of xs) (onto (before s empty) rest)))
+    ∙ (ap (onto (in_front x empty)) (onto_last xs s rest) ∙ sym (onto_before x (block_of xs) (onto (in_front s empty) rest)))
 
 -- the ways through a list up to place a go at last through the statement before it
 pub onto_ahead : (list : List Statement) (a i : ℕ) (s : Statement) (rest : Way) → a ≡ i + 1 → i < length list → s ≡ get_or list i s
-    → onto (block_of (take a list)) rest ≡ onto (block_of (take i list)) (onto (before s empty) rest)
+    → onto (block_of (take a list)) rest ≡ onto (block_of (take i list)) (onto (in_front s empty) rest)
 onto_ahead list a i s rest next h e =
     let d : take a list ≡ take i list ++ s ∷ [] =
     rw (next, add-one) (take-suc list i s h ∙ ap (λ x. take i list ++ x ∷ []) (sym e)) in
@@ -50,5 +50,5 @@ onto_none list (suc a) rest behind h e = absurd (omega arith)
 
 -- an If is a fork, whose branches go on behind it
 pub onto_if : (c : Cond) (ys ns : Vec Statement Global) (rest : Way)
-    → onto (before (If c ys ns) empty) rest ≡ fork (test_of c) (onto (block_of ys.items) rest) (onto (block_of ns.items) rest)
+    → onto (in_front (If c ys ns) empty) rest ≡ fork (cond_text c) (onto (block_of ys.items) rest) (onto (block_of ns.items) rest)
 onto_if c ys ns rest = ap (λ b. onto b rest) (before_if c ys ns empty)

@@ -5,8 +5,8 @@ use Rattle.std.specs.declared.alloc.Global.{Global}
 use Rattle.sgt_model.specs.declared.procedure.Statement.{Statement}
 use Rattle.sgt_model.specs.declared.procedure.Statement.TheVariants.{If}
 use Rattle.sgt_model.specs.declared.procedure.Cond.{Cond}
-use Rattle.sgt_model.specs.Syntax.{Test, Block, empty, choose}
-use Rattle.sgt_model.specs.Programs.{test_of, before, block_of}
+use Rattle.sgt_model.specs.Syntax.{CondText, Block, empty, choose}
+use Rattle.sgt_model.specs.ProcedureTexts.{cond_text, in_front, block_of}
 use Rattle.sgt_model.specs.Meaning.{Truth, holds, too_far, unknown, Registers, truth_of}
 use Rattle.sgt_model.specs.Left.{followed_by, choice_or_code, reach}
 use Rattle.sgt_model.proofs.Texts.{before_if}
@@ -30,12 +30,12 @@ test_is (holds v) b e = cc
 test_is too_far b e = cc
 test_is unknown b e = cc
 
-to_come_branch : (path : List Turn) (t : Turn) (b : Block) (test : Test) (ys ns rest : Block)
+to_come_branch : (path : List Turn) (t : Turn) (b : Block) (test : CondText) (ys ns rest : Block)
     → behind t.at (inner path b) ≡ choose test ys ns rest
     → to_come (path ++ t ∷ []) 0 b ≡ followed_by (cond t.held ys ns) (to_come path (t.at + 1) b)
 to_come_branch path t b test ys ns rest e = both_followed _ _ _ _ (inner_last path t b ∙ ap (branch t.held) e) (outer_last path t b)
 
-reach_branch : (held : Bool) (test : Test) (ys ns rest : Block) (args : List ℤ) (registers : Registers) (answers : List ℤ)
+reach_branch : (held : Bool) (test : CondText) (ys ns rest : Block) (args : List ℤ) (registers : Registers) (answers : List ℤ)
     → truth_of test args registers ≡ holds held → reach (followed_by (cond held ys ns) rest) args registers answers ≡ reach
     (choose test ys ns rest) args registers answers
 reach_branch true test ys ns rest args registers answers e = rw e (reach_followed ys rest args registers answers)
@@ -46,12 +46,12 @@ branch_smaller true ys ns = omega arith
 branch_smaller false ys ns = omega arith
 
 pub if_step : (b : Block) (m m' : Place) (s : Statement) (c : Cond) (ys ns : Vec Statement Global) (held : Bool) → IsIn b m → s ≡ If c ys ns
-    → behind m.at (inner m.path.items b) ≡ before s (behind (m.at + 1) (inner m.path.items b)) → m.at < 64
-    → truth_of (test_of c) m.args m.registers ≡ holds held → m'.args ≡ m.args → m'.registers ≡ m.registers → m'.answers ≡ m.answers
+    → behind m.at (inner m.path.items b) ≡ in_front s (behind (m.at + 1) (inner m.path.items b)) → m.at < 64
+    → truth_of (cond_text c) m.args m.registers ≡ holds held → m'.args ≡ m.args → m'.registers ≡ m.registers → m'.answers ≡ m.answers
     → m'.path.items ≡ m.path.items ++ record { at = m.at; held = held } ∷ [] → m'.at ≡ 0 → Passes b m m'
 if_step b m m' s c ys ns held inside is here few choice args registers answers path at = record {
   same = rw (args, registers, answers, at, path, come)
-      (reach_branch held (test_of c) (block_of ys.items) (block_of ns.items) R m.args m.registers m.answers choice
+      (reach_branch held (cond_text c) (block_of ys.items) (block_of ns.items) R m.args m.registers m.answers choice
       ∙ sym (ap (λ x. reach (followed_by x (outer m.path.items b)) m.args m.registers m.answers) here_is));
   inside = record {
     path = rw path (path_more m.path.items t b inside.path few (subst IsIf (sym here_is) tt));
@@ -73,12 +73,12 @@ if_step b m m' s c ys ns held inside is here few choice args registers answers p
   R : Block
   R = to_come m.path.items (m.at + 1) b
 
-  here_is : behind m.at (inner m.path.items b) ≡ choose (test_of c) (block_of ys.items) (block_of ns.items)
+  here_is : behind m.at (inner m.path.items b) ≡ choose (cond_text c) (block_of ys.items) (block_of ns.items)
       (behind (m.at + 1) (inner m.path.items b))
-  here_is = here ∙ (ap (λ x. before x (behind (m.at + 1) (inner m.path.items b))) is ∙ before_if c ys ns _)
+  here_is = here ∙ (ap (λ x. in_front x (behind (m.at + 1) (inner m.path.items b))) is ∙ before_if c ys ns _)
 
   come : to_come (m.path.items ++ t ∷ []) 0 b ≡ followed_by (cond held (block_of ys.items) (block_of ns.items)) R
-  come = to_come_branch m.path.items t b (test_of c) (block_of ys.items) (block_of ns.items) _ here_is
+  come = to_come_branch m.path.items t b (cond_text c) (block_of ys.items) (block_of ns.items) _ here_is
 
   whole_size : size (to_come m.path.items m.at b) ≡ 1 + (size (block_of ys.items) + size (block_of ns.items)) + size R
   whole_size = ap (λ x. size (followed_by x (outer m.path.items b))) here_is
@@ -110,8 +110,8 @@ module _ (list : List Statement) (b : Block) (m : Place) (is_list : block_of lis
 
 module _ (list : List Statement) (b : Block) (m : Place) (is_list : block_of list ≡ inner m.path.items b) (s : Statement)
     (within : m.at < length list) (is : s ≡ get_or list m.at s) where
-  pub at_statement : behind m.at (inner m.path.items b) ≡ before s (behind (m.at + 1) (inner m.path.items b))
-  at_statement = subst (λ x. behind m.at x ≡ before s (behind (m.at + 1) x)) is_list (behind_at list m.at s within is)
+  pub at_statement : behind m.at (inner m.path.items b) ≡ in_front s (behind (m.at + 1) (inner m.path.items b))
+  at_statement = subst (λ x. behind m.at x ≡ in_front s (behind (m.at + 1) x)) is_list (behind_at list m.at s within is)
 
   pub at_few : size b ≤ 64 → m.at < 64
   at_few small = omega (arith, inner_size m.path.items b, list_size list, ap size is_list)

@@ -2,8 +2,8 @@
 use Rattle.std.specs.Prelude.{◌≡◌, ◌⊎◌, ℕ, ℤ, List, Option}
 use Rattle.std.proofs.Common.{refl, inl, inr}
 use Rattle.std.specs.Coded.{Coded, code_by, coded×, coded⊎, coded_ℕ, coded_ℤ, coded_list, coded_option}
-use Rattle.sgt_model.specs.Codes.{coded_program, coded_block}
-use Rattle.sgt_model.specs.Syntax.{Block, Program}
+use Rattle.sgt_model.specs.Codes.{coded_procedure, coded_block}
+use Rattle.sgt_model.specs.Syntax.{Block, ProcedureText}
 use Rattle.sgt_model.specs.Left.{Rest, Left, ToRun, ToAsk}
 
 -- the parts of a rest, in their order
@@ -29,5 +29,5 @@ abbrev pub coded_left : Coded Left
 coded_left = code_by (Rest ⊎ ℕ) (coded⊎ coded_rest coded_ℕ) either_left left_either left_back
 
 -- a program and what is left of it
-abbrev pub coded_cursor : Coded (Program × Left)
-coded_cursor = coded× coded_program coded_left
+abbrev pub coded_cursor : Coded (ProcedureText × Left)
+coded_cursor = coded× coded_procedure coded_left

@@ -1,7 +1,7 @@
 -- The flaws that a procedure's text can have.
 use Rattle.std.specs.Prelude.{ℕ, ◌+◌, ◌<◌, max, Bool, false, not, ◌&&◌, ◌||◌, nat_eq, nat_lt, nat_le, IsTrue}
 use Rattle.sgt_model.specs.Numbers.{is_value}
-use Rattle.sgt_model.specs.Syntax.{Term, num, arg, reg, sum, diff, product, quotient, Test, less, at_most, equal, Block, empty, look, find, put, save, ask, choose, answer, Program}
+use Rattle.sgt_model.specs.Syntax.{ExprText, num, arg, reg, sum, diff, product, quotient, CondText, less, at_most, equal, Block, empty, look, find, put, save, ask, choose, answer, ProcedureText}
 use Rattle.sgt_model.specs.Ways.{Way, onto}
 use Rattle.sgt_model.specs.Ways as way
 use Rattle.sgt_proc.specs.declared.flaw.Flaw.{Flaw}
@@ -10,31 +10,31 @@ use Rattle.sgt_proc.specs.declared.numbers.Number.{Number}
 use Rattle.sgt_proc.specs.declared.numbers.Number.TheVariants.{Register, Argument, Table, Code, Literal}
 
 -- some number in an expression is so
-abbrev pub in_term : (Number → Bool) → Term → Bool
-in_term so (num n) = so (Literal n)
-in_term so (arg n) = so (Argument n)
-in_term so (reg n) = so (Register n)
-in_term so (sum a b) = in_term so a || in_term so b
-in_term so (diff a b) = in_term so a || in_term so b
-in_term so (product a b) = in_term so a || in_term so b
-in_term so (quotient a b) = in_term so a || in_term so b
+abbrev pub in_expr : (Number → Bool) → ExprText → Bool
+in_expr so (num n) = so (Literal n)
+in_expr so (arg n) = so (Argument n)
+in_expr so (reg n) = so (Register n)
+in_expr so (sum a b) = in_expr so a || in_expr so b
+in_expr so (diff a b) = in_expr so a || in_expr so b
+in_expr so (product a b) = in_expr so a || in_expr so b
+in_expr so (quotient a b) = in_expr so a || in_expr so b
 
 -- some number in a condition is so
-abbrev pub in_test : (Number → Bool) → Test → Bool
-in_test so (less a b) = in_term so a || in_term so b
-in_test so (at_most a b) = in_term so a || in_term so b
-in_test so (equal a b) = in_term so a || in_term so b
+abbrev pub in_cond : (Number → Bool) → CondText → Bool
+in_cond so (less a b) = in_expr so a || in_expr so b
+in_cond so (at_most a b) = in_expr so a || in_expr so b
+in_cond so (equal a b) = in_expr so a || in_expr so b
 
 -- some number in statements is so, wherever it stands
 abbrev pub in_block : (Number → Bool) → Block → Bool
 in_block so empty = false
-in_block so (look to table id absent b) = (so (Register to) || (so (Table table) || (in_term so id || so (Code absent)))) || in_block so b
-in_block so (find to table id absent b) = (so (Register to) || (so (Table table) || (in_term so id || in_term so absent))) || in_block so b
-in_block so (put table id value b) = (so (Table table) || (in_term so id || in_term so value)) || in_block so b
-in_block so (save to value b) = (so (Register to) || in_term so value) || in_block so b
+in_block so (look to table id absent b) = (so (Register to) || (so (Table table) || (in_expr so id || so (Code absent)))) || in_block so b
+in_block so (find to table id absent b) = (so (Register to) || (so (Table table) || (in_expr so id || in_expr so absent))) || in_block so b
+in_block so (put table id value b) = (so (Table table) || (in_expr so id || in_expr so value)) || in_block so b
+in_block so (save to value b) = (so (Register to) || in_expr so value) || in_block so b
 in_block so (ask code b) = so (Code code) || in_block so b
-in_block so (choose test ys ns b) = (in_test so test || (in_block so ys || in_block so ns)) || in_block so b
-in_block so (answer value b) = in_term so value || in_block so b
+in_block so (choose test ys ns b) = (in_cond so test || (in_block so ys || in_block so ns)) || in_block so b
+in_block so (answer value b) = in_expr so value || in_block so b
 
 -- a register number over 15
 abbrev pub high_register : Number → Bool
@@ -62,7 +62,7 @@ bad_literal (Literal n) = not (is_value n)
 bad_literal _ = false
 
 -- an expression uses the register
-abbrev pub uses : ℕ → Term → Bool
+abbrev pub uses : ℕ → ExprText → Bool
 uses r (num n) = false
 uses r (arg n) = false
 uses r (reg n) = nat_eq n r
@@ -72,10 +72,10 @@ uses r (product a b) = uses r a || uses r b
 uses r (quotient a b) = uses r a || uses r b
 
 -- a condition uses the register
-abbrev pub test_uses : ℕ → Test → Bool
-test_uses r (less a b) = uses r a || uses r b
-test_uses r (at_most a b) = uses r a || uses r b
-test_uses r (equal a b) = uses r a || uses r b
+abbrev pub cond_uses : ℕ → CondText → Bool
+cond_uses r (less a b) = uses r a || uses r b
+cond_uses r (at_most a b) = uses r a || uses r b
+cond_uses r (equal a b) = uses r a || uses r b
 
 -- on some way the register is used before it is set
 abbrev pub uses_unset : ℕ → Way → Bool
@@ -85,7 +85,7 @@ uses_unset r (way.find to table id absent rest) = (uses r id || uses r absent) |
 uses_unset r (way.put table id value rest) = (uses r id || uses r value) || uses_unset r rest
 uses_unset r (way.save to value rest) = uses r value || (not (nat_eq to r) && uses_unset r rest)
 uses_unset r (way.ask code) = false
-uses_unset r (way.fork test ys ns) = test_uses r test || (uses_unset r ys || uses_unset r ns)
+uses_unset r (way.fork test ys ns) = cond_uses r test || (uses_unset r ys || uses_unset r ns)
 uses_unset r (way.answer value rest) = uses r value || uses_unset r rest
 
 -- on some way some register, from 0 to 15, is used before it is set
@@ -115,31 +115,31 @@ size (choose test ys ns b) = 1 + (size ys + size ns) + size b
 size (answer value b) = 1 + size b
 
 -- how deep an expression is
-abbrev pub term_depth : Term → ℕ
-term_depth (num n) = 1
-term_depth (arg n) = 1
-term_depth (reg n) = 1
-term_depth (sum a b) = 1 + max (term_depth a) (term_depth b)
-term_depth (diff a b) = 1 + max (term_depth a) (term_depth b)
-term_depth (product a b) = 1 + max (term_depth a) (term_depth b)
-term_depth (quotient a b) = 1 + max (term_depth a) (term_depth b)
+abbrev pub expr_depth : ExprText → ℕ
+expr_depth (num n) = 1
+expr_depth (arg n) = 1
+expr_depth (reg n) = 1
+expr_depth (sum a b) = 1 + max (expr_depth a) (expr_depth b)
+expr_depth (diff a b) = 1 + max (expr_depth a) (expr_depth b)
+expr_depth (product a b) = 1 + max (expr_depth a) (expr_depth b)
+expr_depth (quotient a b) = 1 + max (expr_depth a) (expr_depth b)
 
 -- how deep the deeper expression of a condition is
-abbrev pub test_depth : Test → ℕ
-test_depth (less a b) = max (term_depth a) (term_depth b)
-test_depth (at_most a b) = max (term_depth a) (term_depth b)
-test_depth (equal a b) = max (term_depth a) (term_depth b)
+abbrev pub cond_depth : CondText → ℕ
+cond_depth (less a b) = max (expr_depth a) (expr_depth b)
+cond_depth (at_most a b) = max (expr_depth a) (expr_depth b)
+cond_depth (equal a b) = max (expr_depth a) (expr_depth b)
 
 -- how deep the deepest expression in statements is
-abbrev pub terms_depth : Block → ℕ
-terms_depth empty = 0
-terms_depth (look to table id absent b) = max (term_depth id) (terms_depth b)
-terms_depth (find to table id absent b) = max (max (term_depth id) (term_depth absent)) (terms_depth b)
-terms_depth (put table id value b) = max (max (term_depth id) (term_depth value)) (terms_depth b)
-terms_depth (save to value b) = max (term_depth value) (terms_depth b)
-terms_depth (ask code b) = terms_depth b
-terms_depth (choose test ys ns b) = max (max (test_depth test) (max (terms_depth ys) (terms_depth ns))) (terms_depth b)
-terms_depth (answer value b) = max (term_depth value) (terms_depth b)
+abbrev pub exprs_depth : Block → ℕ
+exprs_depth empty = 0
+exprs_depth (look to table id absent b) = max (expr_depth id) (exprs_depth b)
+exprs_depth (find to table id absent b) = max (max (expr_depth id) (expr_depth absent)) (exprs_depth b)
+exprs_depth (put table id value b) = max (max (expr_depth id) (expr_depth value)) (exprs_depth b)
+exprs_depth (save to value b) = max (expr_depth value) (exprs_depth b)
+exprs_depth (ask code b) = exprs_depth b
+exprs_depth (choose test ys ns b) = max (max (cond_depth test) (max (exprs_depth ys) (exprs_depth ns))) (exprs_depth b)
+exprs_depth (answer value b) = max (expr_depth value) (exprs_depth b)
 
 -- how deep the deepest statement is
 abbrev pub depth : Block → ℕ
@@ -153,13 +153,13 @@ depth (choose test ys ns b) = max (1 + max (depth ys) (depth ns)) (depth b)
 depth (answer value b) = max 1 (depth b)
 
 -- a procedure has the flaw
-abbrev pub HasFlaw : Flaw → Program → Type 0
+abbrev pub HasFlaw : Flaw → ProcedureText → Type 0
 HasFlaw HighRegister p = IsTrue (in_block high_register p.body)
 HasFlaw UnsetRegister p = UsesUnset (onto p.body way.end)
 HasFlaw NoArgument p = IsTrue (in_block (no_argument p.args) p.body)
 HasFlaw HighTable p = IsTrue (in_block high_table p.body)
 HasFlaw TooLong p = 64 < size p.body
-HasFlaw TooDeep p = 16 < max (depth p.body) (terms_depth p.body)
+HasFlaw TooDeep p = 16 < max (depth p.body) (exprs_depth p.body)
 HasFlaw ManyAnswers p = 8 < most_answers (onto p.body way.end)
 HasFlaw BadCode p = IsTrue (in_block bad_code p.body)
 HasFlaw ManyArguments p = 4 < p.args
@@ -179,9 +179,9 @@ number ManyArguments = 9
 number BadLiteral = 10
 
 -- a procedure has no flaw
-abbrev pub IsFlawless : Program → Type 0
+abbrev pub IsFlawless : ProcedureText → Type 0
 IsFlawless p = (f : Flaw) → HasFlaw f p → ⊥
 
 -- a procedure has the flaw, and none with a smaller number
-abbrev pub IsLeastFlaw : Flaw → Program → Type 0
+abbrev pub IsLeastFlaw : Flaw → ProcedureText → Type 0
 IsLeastFlaw f p = HasFlaw f p × ((g : Flaw) → number g < number f → HasFlaw g p → ⊥)

@@ -5,7 +5,7 @@ use Rattle.sgt_model.specs.Syntax.{Block}
 use Rattle.sgt_model.specs.Executions.{OrCode}
 use Rattle.sgt_model.specs.Left.{Rest, Reached, AtLook, AtFind, AtStore, AtEnd, reach}
 use Rattle.sgt_model.specs.declared.procedure.Statement.{Statement}
-use Rattle.sgt_model.specs.Programs.{before}
+use Rattle.sgt_model.specs.ProcedureTexts.{in_front}
 use Rattle.sgt_proc.specs.declared.place.Place.{Place}
 use Rattle.sgt_proc.specs.declared.place.Stop.{Stop}
 use Rattle.sgt_proc.specs.declared.place.Stop.TheVariants as stop
@@ -79,4 +79,4 @@ GoesOn b old (Err s) new = Stops b old s new
 
 -- a statement was executed that is the next one of a text
 abbrev pub Steps : Block → Statement → Place → Result Unit Stop → Place → Type 0
-Steps b s old result new = IsIn b old → behind old.at (inner old.path.items b) ≡ before s (behind (old.at + 1) (inner old.path.items b)) → GoesOn b old result new
+Steps b s old result new = IsIn b old → behind old.at (inner old.path.items b) ≡ in_front s (behind (old.at + 1) (inner old.path.items b)) → GoesOn b old result new

@@ -2,8 +2,8 @@
 use Rattle.std.specs.Prelude.{◌≡◌, ◌≤◌, ℤ, List, length, All, Option, Some, None}
 use Rattle.sgt_model.specs.Numbers.{IsValue}
 use Rattle.sgt_model.specs.Contents.{Key}
-use Rattle.sgt_model.specs.Syntax.{Program}
-use Rattle.sgt_model.specs.Runs.{Run, looks, puts, ends, asks}
+use Rattle.sgt_model.specs.Syntax.{ProcedureText}
+use Rattle.sgt_model.specs.Runs.{Run, looks, puts, ends, raises}
 use Rattle.sgt_model.specs.Meaning.{run_with}
 use Rattle.sgt_proc.specs.Flaws.{IsFlawless}
 
@@ -22,8 +22,8 @@ abbrev pub IsSound : Run → Type 0
 IsSound (looks k go) = IsKey k × ((found : Option ℤ) → MayBeFound found → IsSound (go found))
 IsSound (puts k v rest) = IsKey k × (IsValue v × IsSound rest)
 IsSound (ends answers) = (length answers ≤ 8) × All IsValue answers
-IsSound (asks code) = (1 ≤ code) × (code ≤ 1000)
+IsSound (raises code) = (1 ≤ code) × (code ≤ 1000)
 
 -- a procedure without a flaw never goes wrong, with as many arguments as it takes, which are values
 abbrev pub FlawlessIsSound : Type 0
-FlawlessIsSound = (p : Program) (args : List ℤ) → IsFlawless p → length args ≡ p.args → All IsValue args → IsSound (run_with p args)
+FlawlessIsSound = (p : ProcedureText) (args : List ℤ) → IsFlawless p → length args ≡ p.args → All IsValue args → IsSound (run_with p args)

@@ -1,5 +1,5 @@
 ghost use Rattle.sgt_model.specs.Syntax.{empty};
-ghost use Rattle.sgt_model.specs.Programs.{before, block_of};
+ghost use Rattle.sgt_model.specs.ProcedureTexts.{in_front, block_of};
 ghost use Rattle.sgt_proc.specs.Dataflow.{AnswersFrom};
 
 use sgt_model::Statement;
@@ -23,7 +23,7 @@ pub fn most_answers(statements: &[Statement], behind: u8) -> u8
 
 #[cycle(answers)]
 fn most_answers_from(statement: &Statement, behind: u8) -> u8
-    ensures { AnswersFrom (before statement.now empty) behind result }
+    ensures { AnswersFrom (in_front statement.now empty) behind result }
 {
     match statement {
         Statement::Answer { .. } => behind.min(MOST_ANSWERS) + 1,

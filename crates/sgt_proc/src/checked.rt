@@ -1,5 +1,5 @@
 ghost use Rattle.std.specs.Prelude.{◌≡◌, ◌≤◌, ◌<◌, IfOk, OnOk, IfErr};
-ghost use Rattle.sgt_model.specs.Programs.{program_of};
+ghost use Rattle.sgt_model.specs.ProcedureTexts.{procedure_text};
 ghost use Rattle.sgt_model.specs.Meaning.{run_with};
 ghost use Rattle.sgt_model.specs.Traces.{next_at, trace, Used};
 ghost use Rattle.sgt_proc.specs.Nexts.{seen, IsAccess, StoresValue};
@@ -19,26 +19,26 @@ pub struct Checked {
 }
 
 impl Model for Checked {
-    ghost use Rattle.sgt_model.specs.Codes.{coded_program};
-    ghost use Rattle.sgt_model.specs.Programs.{program_of};
-    ghost use Rattle.sgt_model.specs.Syntax.{Program};
+    ghost use Rattle.sgt_model.specs.Codes.{coded_procedure};
+    ghost use Rattle.sgt_model.specs.ProcedureTexts.{procedure_text};
+    ghost use Rattle.sgt_model.specs.Syntax.{ProcedureText};
     ghost use Rattle.sgt_proc.specs.Flaws.{IsFlawless};
 
-    ghost Value = { Program };
+    ghost Value = { ProcedureText };
 
-    ghost coded = { coded_program };
+    ghost coded = { coded_procedure };
 
-    ghost view = { λ c. program_of c.procedure };
+    ghost view = { λ c. procedure_text c.procedure };
 
-    ghost invariant = { λ c. IsFlawless (program_of c.procedure) };
+    ghost invariant = { λ c. IsFlawless (procedure_text c.procedure) };
 }
 
 /// The procedure as one that may run, where it has no flaw. Else it comes back, with the flaw that has the least number. This
 /// takes no memory.
 pub fn check(procedure: Procedure) -> Result<Checked, Flawed>
-    ensures same { IfOk result (λ checked. checked ≡ program_of procedure) }
-    ensures flawless { OnOk result (IsFlawless (program_of procedure)) }
-    ensures least { IfErr result (λ flawed. IsLeastFlaw flawed.flaw (program_of procedure)) }
+    ensures same { IfOk result (λ checked. checked ≡ procedure_text procedure) }
+    ensures flawless { OnOk result (IsFlawless (procedure_text procedure)) }
+    ensures least { IfErr result (λ flawed. IsLeastFlaw flawed.flaw (procedure_text procedure)) }
     ensures back { IfErr result (λ flawed. flawed.procedure ≡ procedure) }
 {
     for flaw in Flaw::ALL {
@@ -52,7 +52,7 @@ pub fn check(procedure: Procedure) -> Result<Checked, Flawed>
 impl Checked {
     /// The procedure as it is written.
     pub fn procedure(&self) -> &Procedure
-        ensures { program_of result.now ≡ self.now }
+        ensures { procedure_text result.now ≡ self.now }
     {
         &self.procedure
     }

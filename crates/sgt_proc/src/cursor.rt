@@ -27,11 +27,11 @@ pub struct Cursor {
 
 impl Model for Cursor {
     ghost use Rattle.sgt_model.specs.Left.{Left};
-    ghost use Rattle.sgt_model.specs.Syntax.{Program};
+    ghost use Rattle.sgt_model.specs.Syntax.{ProcedureText};
     ghost use Rattle.sgt_proc.specs.Codes.{coded_cursor};
     ghost use Rattle.sgt_proc.specs.Cursors.{left_behind, Stands};
 
-    ghost Value = { Program × Left };
+    ghost Value = { ProcedureText × Left };
 
     ghost coded = { coded_cursor };
 

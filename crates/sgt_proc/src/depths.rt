@@ -1,7 +1,7 @@
 ghost use Rattle.std.specs.Prelude.{◌≡◌, ◌+◌, min, max};
 ghost use Rattle.sgt_model.specs.Syntax.{empty};
-ghost use Rattle.sgt_model.specs.Programs.{term_of, test_of, before, block_of};
-ghost use Rattle.sgt_proc.specs.Flaws.{depth, term_depth, test_depth, terms_depth};
+ghost use Rattle.sgt_model.specs.ProcedureTexts.{expr_text, cond_text, in_front, block_of};
+ghost use Rattle.sgt_proc.specs.Flaws.{depth, expr_depth, cond_depth, exprs_depth};
 
 use sgt_model::{Cond, Expr, Statement};
 
@@ -22,7 +22,7 @@ pub fn depth(statements: &[Statement]) -> u8
 
 #[cycle(depth)]
 fn depth_of(statement: &Statement) -> u8
-    ensures { result ≡ min 17 (depth (before statement.now empty)) }
+    ensures { result ≡ min 17 (depth (in_front statement.now empty)) }
 {
     match statement {
         Statement::If { yes, no, .. } => one_deeper(depth(yes), depth(no)),
@@ -37,8 +37,8 @@ fn depth_of(statement: &Statement) -> u8
 
 /// How deep the deepest expression is; 17 stands for more.
 #[cycle(terms)]
-pub fn terms_depth(statements: &[Statement]) -> u8
-    ensures { result ≡ min 17 (terms_depth (block_of statements.now)) }
+pub fn exprs_depth(statements: &[Statement]) -> u8
+    ensures { result ≡ min 17 (exprs_depth (block_of statements.now)) }
 {
     let mut deepest = 0;
     for statement in statements {
@@ -49,38 +49,38 @@ pub fn terms_depth(statements: &[Statement]) -> u8
 
 #[cycle(terms)]
 fn terms_depth_of(statement: &Statement) -> u8
-    ensures { result ≡ min 17 (terms_depth (before statement.now empty)) }
+    ensures { result ≡ min 17 (exprs_depth (in_front statement.now empty)) }
 {
     match statement {
-        Statement::Look { id, .. } => term_depth(id),
-        Statement::Find { id, absent, .. } => term_depth(id).max(term_depth(absent)),
-        Statement::Put { id, value, .. } => term_depth(id).max(term_depth(value)),
+        Statement::Look { id, .. } => expr_depth(id),
+        Statement::Find { id, absent, .. } => expr_depth(id).max(expr_depth(absent)),
+        Statement::Put { id, value, .. } => expr_depth(id).max(expr_depth(value)),
         Statement::Ask { .. } => 0,
         Statement::If { cond, yes, no } => {
-            test_depth(cond).max(terms_depth(yes).max(terms_depth(no)))
+            cond_depth(cond).max(exprs_depth(yes).max(exprs_depth(no)))
         }
-        Statement::Let { value, .. } | Statement::Answer { value } => term_depth(value),
+        Statement::Let { value, .. } | Statement::Answer { value } => expr_depth(value),
     }
 }
 
-fn term_depth(expr: &Expr) -> u8
-    ensures { result ≡ min 17 (term_depth (term_of expr.now)) }
+fn expr_depth(expr: &Expr) -> u8
+    ensures { result ≡ min 17 (expr_depth (expr_text expr.now)) }
 {
     match expr {
         Expr::Num(_) | Expr::Arg(_) | Expr::Reg(_) => 1,
         Expr::Sum(left, right)
         | Expr::Diff(left, right)
         | Expr::Product(left, right)
-        | Expr::Quotient(left, right) => { one_deeper(term_depth(left), term_depth(right)) }
+        | Expr::Quotient(left, right) => { one_deeper(expr_depth(left), expr_depth(right)) }
     }
 }
 
-fn test_depth(cond: &Cond) -> u8
-    ensures { result ≡ min 17 (test_depth (test_of cond.now)) }
+fn cond_depth(cond: &Cond) -> u8
+    ensures { result ≡ min 17 (cond_depth (cond_text cond.now)) }
 {
     match cond {
         Cond::Less(left, right) | Cond::AtMost(left, right) | Cond::Equal(left, right) => {
-            term_depth(left).max(term_depth(right))
+            expr_depth(left).max(expr_depth(right))
         }
     }
 }

@@ -1,9 +1,9 @@
 ghost use Rattle.std.specs.Prelude.{◌≡◌, ◌↔◌, IsTrue};
-ghost use Rattle.sgt_model.specs.Programs.{program_of};
+ghost use Rattle.sgt_model.specs.ProcedureTexts.{procedure_text};
 ghost use Rattle.sgt_proc.specs.Flaws.{number, HasFlaw};
 
 use crate::answers::{MOST_ANSWERS, most_answers};
-use crate::depths::{DEEPEST, depth, terms_depth};
+use crate::depths::{DEEPEST, depth, exprs_depth};
 use crate::numbers::Rule;
 use crate::registers::uses_unset;
 use crate::sizes::{MOST_STATEMENTS, size};
@@ -81,7 +81,7 @@ impl Flaw {
 
     /// Whether the procedure has this flaw.
     pub(crate) fn is_in(&self, procedure: &Procedure) -> bool
-        ensures { IsTrue result ↔ HasFlaw self.now (program_of procedure.now) }
+        ensures { IsTrue result ↔ HasFlaw self.now (procedure_text procedure.now) }
     {
         let flaw = *self;
         let args = procedure.args;
@@ -94,7 +94,7 @@ impl Flaw {
             | Flaw::BadLiteral => Rule { flaw, args }.is_broken_in_text(body),
             Flaw::UnsetRegister => uses_unset(body),
             Flaw::TooLong => size(body) > MOST_STATEMENTS,
-            Flaw::TooDeep => depth(body).max(terms_depth(body)) > DEEPEST,
+            Flaw::TooDeep => depth(body).max(exprs_depth(body)) > DEEPEST,
             Flaw::ManyAnswers => most_answers(body, 0) > MOST_ANSWERS,
             Flaw::ManyArguments => args > MOST_ARGS,
         }

@@ -1,7 +1,7 @@
 ghost use Rattle.std.specs.Prelude.{◌≡◌};
 ghost use Rattle.sgt_model.specs.Syntax.{empty};
-ghost use Rattle.sgt_model.specs.Programs.{term_of, test_of, before, block_of};
-ghost use Rattle.sgt_proc.specs.Flaws.{in_term, in_test, in_block};
+ghost use Rattle.sgt_model.specs.ProcedureTexts.{expr_text, cond_text, in_front, block_of};
+ghost use Rattle.sgt_proc.specs.Flaws.{in_expr, in_cond, in_block};
 ghost use Rattle.sgt_proc.specs.NumberFlaws.{is_bad};
 
 use crate::flaw::Flaw;
@@ -39,7 +39,7 @@ impl Rule {
     }
 
     fn is_broken_in(self, expr: &Expr) -> bool
-        ensures { result ≡ in_term (is_bad self.flaw self.args) (term_of expr.now) }
+        ensures { result ≡ in_expr (is_bad self.flaw self.args) (expr_text expr.now) }
     {
         match expr {
             Expr::Num(n) => self.is_broken(Number::Literal(*n)),
@@ -53,7 +53,7 @@ impl Rule {
     }
 
     fn is_broken_in_test(self, cond: &Cond) -> bool
-        ensures { result ≡ in_test (is_bad self.flaw self.args) (test_of cond.now) }
+        ensures { result ≡ in_cond (is_bad self.flaw self.args) (cond_text cond.now) }
     {
         match cond {
             Cond::Less(left, right) | Cond::AtMost(left, right) | Cond::Equal(left, right) => {
@@ -64,7 +64,7 @@ impl Rule {
 
     #[cycle(text)]
     fn is_broken_by(self, statement: &Statement) -> bool
-        ensures { result ≡ in_block (is_bad self.flaw self.args) (before statement.now empty) }
+        ensures { result ≡ in_block (is_bad self.flaw self.args) (in_front statement.now empty) }
     {
         match statement {
             Statement::Look {

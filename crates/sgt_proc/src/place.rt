@@ -1,7 +1,7 @@
 ghost use Rattle.std.specs.Prelude.{◌≡◌, ◌≤◌, ◌<◌, Ok, IfErr};
 ghost use Rattle.arrayvec.specs.ArrayVec.{array_vec_len};
 ghost use Rattle.sgt_model.specs.Syntax.{Block};
-ghost use Rattle.sgt_model.specs.Programs.{term_of, before, block_of};
+ghost use Rattle.sgt_model.specs.ProcedureTexts.{expr_text, in_front, block_of};
 ghost use Rattle.sgt_model.specs.Meaning.{value_of};
 ghost use Rattle.sgt_model.specs.Executions.{and_then, in_turn, key_of};
 ghost use Rattle.sgt_model.specs.Left.{number_or_code};
@@ -166,7 +166,7 @@ impl Place {
     // The key of this table's record that an expression names there, or the code that is asked in its place.
     #[inline(always)]
     fn key(&self, table: u8, id: &Expr) -> Result<Key, u16>
-        ensures { result ≡ and_then (number_or_code (value_of (term_of id.now) self.now.args self.now.registers))
+        ensures { result ≡ and_then (number_or_code (value_of (expr_text id.now) self.now.args self.now.registers))
             (λ n. key_of table n) }
     {
         key(table, self.value(id)?)
@@ -175,8 +175,8 @@ impl Place {
     // The same key, and what another expression gives, which is evaluated before it is known whether there is a key.
     #[inline(always)]
     fn key_and_value(&self, table: u8, id: &Expr, other: &Expr) -> Result<(Key, i64), u16>
-        ensures { result ≡ in_turn (number_or_code (value_of (term_of id.now) self.now.args self.now.registers))
-            (number_or_code (value_of (term_of other.now) self.now.args self.now.registers))
+        ensures { result ≡ in_turn (number_or_code (value_of (expr_text id.now) self.now.args self.now.registers))
+            (number_or_code (value_of (expr_text other.now) self.now.args self.now.registers))
             (λ n v. and_then (key_of table n) (λ k. Ok (k, v))) }
     {
         let (id, other) = numbers(id, other, self.args.as_slice(), &self.registers)?;
@@ -186,7 +186,7 @@ impl Place {
 
     // What an expression gives there, or the code that is asked in its place.
     fn value(&self, expr: &Expr) -> Result<i64, u16>
-        ensures { result ≡ number_or_code (value_of (term_of expr.now) self.now.args self.now.registers) }
+        ensures { result ≡ number_or_code (value_of (expr_text expr.now) self.now.args self.now.registers) }
     {
         value(expr, self.args.as_slice(), &self.registers)
     }
@@ -217,7 +217,7 @@ fn branch_at<'a>(list: &'a [Statement], turn: Turn) -> &'a [Statement]
 
 /// The branch of an If; none of another statement.
 fn branch_of<'a>(statement: &'a Statement, held: bool) -> &'a [Statement]
-    ensures { (rest : Block) → block_of result.now ≡ branch held (before statement.now rest) }
+    ensures { (rest : Block) → block_of result.now ≡ branch held (in_front statement.now rest) }
 {
     match statement {
         Statement::If { yes, no, .. } => { if held { yes.as_slice() } else { no.as_slice() } }

@@ -1,8 +1,8 @@
 ghost use Rattle.std.specs.Prelude.{◌≡◌, ◌↔◌, IsTrue};
 ghost use Rattle.sgt_model.specs.Syntax.{empty};
-ghost use Rattle.sgt_model.specs.Programs.{term_of, test_of, before, block_of};
+ghost use Rattle.sgt_model.specs.ProcedureTexts.{expr_text, cond_text, in_front, block_of};
 ghost use Rattle.sgt_model.specs.Ways.{onto, end};
-ghost use Rattle.sgt_proc.specs.Flaws.{uses, test_uses, UsesUnset};
+ghost use Rattle.sgt_proc.specs.Flaws.{uses, cond_uses, UsesUnset};
 ghost use Rattle.sgt_proc.specs.Dataflow.{LiveBefore};
 
 use sgt_model::{Cond, Expr, Statement};
@@ -36,7 +36,7 @@ fn is_live(statements: &[Statement], register: u8, behind: bool) -> bool
 
 #[cycle(live)]
 fn is_live_before(statement: &Statement, register: u8, behind: bool) -> bool
-    ensures { LiveBefore register (before statement.now empty) behind result }
+    ensures { LiveBefore register (in_front statement.now empty) behind result }
 {
     match statement {
         Statement::Look { reg, id, .. } => uses(id, register) || *reg != register && behind,
@@ -50,7 +50,7 @@ fn is_live_before(statement: &Statement, register: u8, behind: bool) -> bool
         Statement::Let { reg, value } => uses(value, register) || *reg != register && behind,
         Statement::Ask { .. } => false,
         Statement::If { cond, yes, no } => {
-            test_uses(cond, register)
+            cond_uses(cond, register)
                 || is_live(yes, register, behind)
                 || is_live(no, register, behind)
         }
@@ -59,7 +59,7 @@ fn is_live_before(statement: &Statement, register: u8, behind: bool) -> bool
 }
 
 fn uses(expr: &Expr, register: u8) -> bool
-    ensures { result ≡ uses register (term_of expr.now) }
+    ensures { result ≡ uses register (expr_text expr.now) }
 {
     match expr {
         Expr::Num(_) | Expr::Arg(_) => false,
@@ -71,8 +71,8 @@ fn uses(expr: &Expr, register: u8) -> bool
     }
 }
 
-fn test_uses(cond: &Cond, register: u8) -> bool
-    ensures { result ≡ test_uses register (test_of cond.now) }
+fn cond_uses(cond: &Cond, register: u8) -> bool
+    ensures { result ≡ cond_uses register (cond_text cond.now) }
 {
     match cond {
         Cond::Less(left, right) | Cond::AtMost(left, right) | Cond::Equal(left, right) => {

@@ -1,6 +1,6 @@
 ghost use Rattle.std.specs.Prelude.{◌≡◌, min};
 ghost use Rattle.sgt_model.specs.Syntax.{empty};
-ghost use Rattle.sgt_model.specs.Programs.{before, block_of};
+ghost use Rattle.sgt_model.specs.ProcedureTexts.{in_front, block_of};
 ghost use Rattle.sgt_proc.specs.Flaws.{size};
 
 use sgt_model::Statement;
@@ -22,7 +22,7 @@ pub fn size(statements: &[Statement]) -> u8
 
 #[cycle(size)]
 fn size_of(statement: &Statement) -> u8
-    ensures { result ≡ min 65 (size (before statement.now empty)) }
+    ensures { result ≡ min 65 (size (in_front statement.now empty)) }
 {
     match statement {
         Statement::If { yes, no, .. } => (1 + size(yes) + size(no)).min(MOST_STATEMENTS + 1),

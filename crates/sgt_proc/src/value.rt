@@ -1,5 +1,5 @@
 ghost use Rattle.std.specs.Prelude.{◌≡◌, ◌+ℤ◌, ◌-ℤ◌, ◌*ℤ◌, None, Ok, slice_get, slice_index_or};
-ghost use Rattle.sgt_model.specs.Programs.{term_of, test_of};
+ghost use Rattle.sgt_model.specs.ProcedureTexts.{expr_text, cond_text};
 ghost use Rattle.sgt_model.specs.Meaning.{got, bounded, divided, found_or, value_of, truth_of};
 ghost use Rattle.sgt_model.specs.Executions.{in_turn, key_of};
 ghost use Rattle.sgt_model.specs.Left.{number_or_code, choice_or_code};
@@ -16,7 +16,7 @@ pub const WRONG: u16 = 0;
 #[cycle(value)]
 #[inline(always)]
 pub fn value(expr: &Expr, args: &[i64], registers: &[Option<i64>; 16]) -> Result<i64, u16>
-    ensures { result ≡ number_or_code (value_of (term_of expr.now) args.now registers.now) }
+    ensures { result ≡ number_or_code (value_of (expr_text expr.now) args.now registers.now) }
 {
     match expr {
         Expr::Num(number) => Ok(*number),
@@ -31,7 +31,7 @@ pub fn value(expr: &Expr, args: &[i64], registers: &[Option<i64>; 16]) -> Result
 // The same, by recursion through the parts of arithmetic.
 #[cycle(value)]
 fn value_by_parts(expr: &Expr, args: &[i64], registers: &[Option<i64>; 16]) -> Result<i64, u16>
-    ensures { result ≡ number_or_code (value_of (term_of expr.now) args.now registers.now) }
+    ensures { result ≡ number_or_code (value_of (expr_text expr.now) args.now registers.now) }
 {
     match expr {
         Expr::Num(number) => Ok(*number),
@@ -65,8 +65,8 @@ pub fn numbers(
     args: &[i64],
     registers: &[Option<i64>; 16],
 ) -> Result<(i64, i64), u16>
-    ensures { result ≡ in_turn (number_or_code (value_of (term_of first.now) args.now registers.now))
-        (number_or_code (value_of (term_of second.now) args.now registers.now)) (λ x y. Ok (x, y)) }
+    ensures { result ≡ in_turn (number_or_code (value_of (expr_text first.now) args.now registers.now))
+        (number_or_code (value_of (expr_text second.now) args.now registers.now)) (λ x y. Ok (x, y)) }
 {
     let first = value(first, args, registers)?;
     let second = value(second, args, registers)?;
@@ -93,7 +93,7 @@ fn register(registers: &[Option<i64>; 16], n: u8) -> Result<i64, u16>
 
 /// Whether a condition holds, or the code that is asked in its place.
 pub fn test(cond: &Cond, args: &[i64], registers: &[Option<i64>; 16]) -> Result<bool, u16>
-    ensures { result ≡ choice_or_code (truth_of (test_of cond.now) args.now registers.now) }
+    ensures { result ≡ choice_or_code (truth_of (cond_text cond.now) args.now registers.now) }
 {
     let (Cond::Less(left, right) | Cond::AtMost(left, right) | Cond::Equal(left, right)) = cond;
     let (left, right) = numbers(left, right, args, registers)?;

@@ -11,8 +11,8 @@ use Rattle.std.specs.declared.alloc.Global.{Global}
 use Rattle.sgt_model.specs.declared.procedure.Cond.{Cond}
 use Rattle.sgt_model.specs.declared.procedure.Statement.{Statement}
 use Rattle.sgt_model.specs.declared.procedure.Statement.TheVariants.{If}
-use Rattle.sgt_model.specs.Syntax.{Test, Block, choose}
-use Rattle.sgt_model.specs.Programs.{test_of, before, block_of}
+use Rattle.sgt_model.specs.Syntax.{CondText, Block, choose}
+use Rattle.sgt_model.specs.ProcedureTexts.{cond_text, in_front, block_of}
 use Rattle.sgt_model.proofs.Texts.{before_if}
 use Rattle.sgt_proc_json.specs.Readings.{Reading, here, at, two, is_word, condition, block, statement}
 use Rattle.sgt_proc_json.specs.Rows.{other_row, if_of, if_row, is_if, branches}
@@ -36,10 +36,10 @@ pub row_of_other : (items : Items) (test : Bool) → test ≡ is_if items → te
 row_of_other items test is so = row_is items ∙ ap (λ t. cond t (if_row items) (other_row items)) (sym is ∙ so)
 
 -- an If of a condition and two branches
-abbrev pub if_of_two : Reading Test → Reading (Block × Block) → Reading (Block → Block)
+abbrev pub if_of_two : Reading CondText → Reading (Block × Block) → Reading (Block → Block)
 if_of_two = two (λ test found rest. choose test found.0 found.1 rest)
 
-by_two : (a : Reading Test) (b c : Reading Block) → if_of a b c ≡ if_of_two a (two (λ ys ns. (ys, ns)) b c)
+by_two : (a : Reading CondText) (b c : Reading Block) → if_of a b c ≡ if_of_two a (two (λ ys ns. (ys, ns)) b c)
 by_two (Err place) b c = refl
 by_two (Ok test) (Err place) c = refl
 by_two (Ok test) (Ok ys) (Err place) = refl
@@ -102,9 +102,9 @@ no_branches (a ∷ b ∷ c ∷ d ∷ []) other = absurd (omega arith)
 no_branches (a ∷ b ∷ c ∷ d ∷ e ∷ rest) other = refl
 
 -- the statement of an If's row
-pub if_made : (reading : Reading (Block → Block)) (a : Reading Test) (found : Reading (Block × Block)) (test : Cond)
-    (ys ns : Vec Statement Global) → reading ≡ if_of_two a found → a ≡ Ok (test_of test)
-    → found ≡ Ok (block_of ys.items, block_of ns.items) → reading ≡ Ok (before (If test ys ns))
+pub if_made : (reading : Reading (Block → Block)) (a : Reading CondText) (found : Reading (Block × Block)) (test : Cond)
+    (ys ns : Vec Statement Global) → reading ≡ if_of_two a found → a ≡ Ok (cond_text test)
+    → found ≡ Ok (block_of ys.items, block_of ns.items) → reading ≡ Ok (in_front (If test ys ns))
 if_made reading a found test ys ns is read read' =
-    is ∙ (ap (λ r. if_of_two r found) read ∙ (ap (λ r. if_of_two (Ok (test_of test)) r) read'
+    is ∙ (ap (λ r. if_of_two r found) read ∙ (ap (λ r. if_of_two (Ok (cond_text test)) r) read'
     ∙ ap Ok (fun_ext (λ rest. sym (before_if test ys ns rest)))))

@@ -4,7 +4,7 @@ use Rattle.serde_json.specs.Data.{array}
 use Rattle.serde_json.specs.Find.{as_str}
 use Rattle.serde_json.specs.View.{view, items_view}
 use Rattle.serde_json.specs.declared.value.Value.{Value}
-use Rattle.sgt_model.specs.Syntax.{Block, Program}
+use Rattle.sgt_model.specs.Syntax.{Block, ProcedureText}
 use Rattle.sgt_proc_json.specs.Readings.{Reading, here, at, two, byte, arg_or_reg, arithmetic, expression, block, comparison, condition, one_item, two_items, three_items, four_items, reading}
 use Rattle.sgt_proc_json.specs.Refusals.{Tells}
 use Rattle.sgt_proc_json.specs.Rows.{other_row}
@@ -42,7 +42,7 @@ no_other_row (a ∷ b ∷ c ∷ d ∷ e ∷ []) other = absurd (omega arith)
 no_other_row (a ∷ b ∷ c ∷ d ∷ e ∷ f ∷ rest) other = refl
 
 -- the procedure of a count of arguments and statements
-abbrev pub made_of : ℕ → Block → Program
+abbrev pub made_of : ℕ → Block → ProcedureText
 made_of args body = record { args = args; body = body }
 
 -- nor is a procedure

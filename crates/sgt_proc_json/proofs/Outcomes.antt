@@ -3,7 +3,7 @@ use Rattle.std.proofs.Common.{◌≡◌, ◌≢◌, refl, sym, ◌∙◌, Result
 use Rattle.std.specs.Prelude.{IfOk, IfErr}
 use Rattle.serde_json.specs.Data.{Data}
 use Rattle.sgt_model.specs.declared.procedure.Procedure.{Procedure}
-use Rattle.sgt_model.specs.Programs.{program_of}
+use Rattle.sgt_model.specs.ProcedureTexts.{procedure_text}
 use Rattle.sgt_proc_json.specs.Spelling.{Spells, SpellsNone}
 use Rattle.sgt_proc_json.specs.Readings.{reading}
 use Rattle.sgt_proc_json.specs.Refusals.{Tells}
@@ -13,9 +13,9 @@ use Rattle.sgt_proc_json.proofs.SpelledIsRead.{read_spelled}
 use Rattle.sgt_proc_json.proofs.ReadIsSpelled.{spelled_read}
 
 -- a procedure that is read is spelled
-pub read_is_spelled : (d : Data) (r : Result Procedure ReadError) → IfOk r (λ p. reading d ≡ Ok (program_of p))
-    → IfOk r (λ p. Spells (program_of p) d)
-read_is_spelled d (Ok p) is = spelled_read (program_of p) d is
+pub read_is_spelled : (d : Data) (r : Result Procedure ReadError) → IfOk r (λ p. reading d ≡ Ok (procedure_text p))
+    → IfOk r (λ p. Spells (procedure_text p) d)
+read_is_spelled d (Ok p) is = spelled_read (procedure_text p) d is
 read_is_spelled d (Err error) is = tt
 
 -- a tree with a misfit spells none

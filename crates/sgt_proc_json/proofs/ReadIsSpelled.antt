@@ -4,7 +4,7 @@ use Rattle.std.specs.Prelude.{codes, cond, option_and_then}
 use Rattle.std.proofs.lemmas.Slice.Eq.{bytes_eq-Decides}
 use Rattle.serde_json.specs.Data.{Data, null, boolean, number, array, string, object, Items, no_items, item}
 use Rattle.serde_json.specs.Find.{as_str}
-use Rattle.sgt_model.specs.Syntax.{Term, num, arg, reg, sum, diff, product, quotient, Test, less, at_most, equal, Block, empty, look, find, put, save, ask, choose, answer, Program}
+use Rattle.sgt_model.specs.Syntax.{ExprText, num, arg, reg, sum, diff, product, quotient, CondText, less, at_most, equal, Block, empty, look, find, put, save, ask, choose, answer, ProcedureText}
 use Rattle.sgt_proc_json.specs.Trees.{whole, natural}
 use Rattle.sgt_proc_json.specs.Spelling.{WordAnd, Byte, Short, SpellsTerm, SpellsTest, Listed, SpellsBlock, Spells}
 use Rattle.sgt_proc_json.specs.Readings.{Reading, here, at, one, two, three, four, or_here, is_word, byte, short, expression, condition, statement, block, statements, reading, one_item, two_items, three_items, four_items}
@@ -59,13 +59,13 @@ short_read : (i n : ℕ) (d : Data) → at i (short d) ≡ Ok n → Short n d
 short_read i n d is = here_read (option_and_then (natural 16) (whole d)) n (at_read i (short d) n is)
 
 -- a literal
-num_read : (d : Data) (e : Term) → one num (or_here (whole d)) ≡ Ok e → SpellsTerm e d
+num_read : (d : Data) (e : ExprText) → one num (or_here (whole d)) ≡ Ok e → SpellsTerm e d
 num_read d e is =
     let o = one_read num (or_here (whole d)) e is in
     subst (λ t. SpellsTerm t d) o.2 (here_read (whole d) o.0 o.1)
 
 -- an argument or a register
-name_read : (w n : Data) (e : Term) → expression (array (item w (item n no_items))) ≡ Ok e
+name_read : (w n : Data) (e : ExprText) → expression (array (item w (item n no_items))) ≡ Ok e
     → SpellsTerm e (array (item w (item n no_items)))
 name_read w n e is =
     elim (chosen (is_word (as_str w) (codes "arg")) (one arg (at 1 (byte n)))
@@ -82,9 +82,9 @@ name_read w n e is =
     ]
 
 -- two expressions
-pair_read : (f : Term → Term → Term) (word : List ℕ) (w a b : Data) (e : Term)
-    → ((x y : Term) → SpellsTerm (f x y) ≡ WordAnd word (SpellsTerm x ∷ SpellsTerm y ∷ [])) → w ≡ string word
-    → ((t : Term) → expression a ≡ Ok t → SpellsTerm t a) → ((t : Term) → expression b ≡ Ok t → SpellsTerm t b)
+pair_read : (f : ExprText → ExprText → ExprText) (word : List ℕ) (w a b : Data) (e : ExprText)
+    → ((x y : ExprText) → SpellsTerm (f x y) ≡ WordAnd word (SpellsTerm x ∷ SpellsTerm y ∷ [])) → w ≡ string word
+    → ((t : ExprText) → expression a ≡ Ok t → SpellsTerm t a) → ((t : ExprText) → expression b ≡ Ok t → SpellsTerm t b)
     → two f (at 1 (expression a)) (at 2 (expression b)) ≡ Ok e → SpellsTerm e (array (item w (item a (item b no_items))))
 pair_read f word w a b e spells says left right is =
     let o = two_read f (at 1 (expression a)) (at 2 (expression b)) e is in
@@ -98,7 +98,7 @@ pair_read f word w a b e spells says left right is =
     ))
 
 -- an expression
-term_read : (d : Data) (e : Term) → expression d ≡ Ok e → SpellsTerm e d
+term_read : (d : Data) (e : ExprText) → expression d ≡ Ok e → SpellsTerm e d
 term_read null e is = num_read null e is
 term_read (boolean b) e is = num_read (boolean b) e is
 term_read (number n) e is = num_read (number n) e is
@@ -128,8 +128,8 @@ term_read (array (item w (item a (item b no_items)))) e is =
 term_read (array (item w (item a (item b (item c rest))))) e is = absurd (cc)
 
 -- two expressions that are compared
-compared_read : (f : Term → Term → Test) (word : List ℕ) (w a b : Data) (e : Test)
-    → ((x y : Term) → SpellsTest (f x y) ≡ WordAnd word (SpellsTerm x ∷ SpellsTerm y ∷ [])) → w ≡ string word
+compared_read : (f : ExprText → ExprText → CondText) (word : List ℕ) (w a b : Data) (e : CondText)
+    → ((x y : ExprText) → SpellsTest (f x y) ≡ WordAnd word (SpellsTerm x ∷ SpellsTerm y ∷ [])) → w ≡ string word
     → two f (at 1 (expression a)) (at 2 (expression b)) ≡ Ok e → SpellsTest e (array (item w (item a (item b no_items))))
 compared_read f word w a b e spells says is =
     let o = two_read f (at 1 (expression a)) (at 2 (expression b)) e is in
@@ -143,7 +143,7 @@ compared_read f word w a b e spells says is =
     ))
 
 -- a condition
-test_read : (d : Data) (e : Test) → condition d ≡ Ok e → SpellsTest e d
+test_read : (d : Data) (e : CondText) → condition d ≡ Ok e → SpellsTest e d
 test_read null e is = absurd (cc)
 test_read (boolean b) e is = absurd (cc)
 test_read (number n) e is = absurd (cc)
@@ -305,7 +305,7 @@ mutual
       (statements_read (n + 1) items o.1 o.3))
 
 -- a procedure
-pub spelled_read : (p : Program) (d : Data) → reading d ≡ Ok p → Spells p d
+pub spelled_read : (p : ProcedureText) (d : Data) → reading d ≡ Ok p → Spells p d
 spelled_read p null is = absurd (cc)
 spelled_read p (boolean b) is = absurd (cc)
 spelled_read p (number n) is = absurd (cc)

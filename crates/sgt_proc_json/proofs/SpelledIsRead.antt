@@ -2,7 +2,7 @@
 use Rattle.std.proofs.Common.{◌≡◌, refl, ap, ◌∙◌, ℕ, ◌+◌, List, [], ◌∷◌, Ok}
 use Rattle.std.specs.Prelude.{codes}
 use Rattle.serde_json.specs.Data.{Data, null, boolean, number, array, string, object, Items, no_items, item}
-use Rattle.sgt_model.specs.Syntax.{Term, num, arg, reg, sum, diff, product, quotient, Test, less, at_most, equal, Block, empty, look, find, put, save, ask, choose, answer, Program}
+use Rattle.sgt_model.specs.Syntax.{ExprText, num, arg, reg, sum, diff, product, quotient, CondText, less, at_most, equal, Block, empty, look, find, put, save, ask, choose, answer, ProcedureText}
 use Rattle.sgt_proc_json.specs.Spelling.{Shape, Each, WordAnd, Byte, Short, SpellsTerm, SpellsTest, Listed, SpellsBlock, Spells}
 use Rattle.sgt_proc_json.specs.Readings.{at, one, or_here, byte, short, expression, condition, statement, block, statements, reading}
 
@@ -104,7 +104,7 @@ four_are word s t u v d is =
     )
 
 -- an expression
-read_term : (e : Term) (d : Data) → SpellsTerm e d → expression d ≡ Ok e
+read_term : (e : ExprText) (d : Data) → SpellsTerm e d → expression d ≡ Ok e
 read_term (num z) null is = absurd (cc)
 read_term (num z) (boolean b) is = absurd (cc)
 read_term (num z) (number n) is = ap (λ o. one num (or_here o)) is
@@ -131,7 +131,7 @@ read_term (quotient a b) d is =
     rw r.2 (rw (read_term a r.0 r.3, read_term b r.1 r.4) refl)
 
 -- a condition
-read_test : (t : Test) (d : Data) → SpellsTest t d → condition d ≡ Ok t
+read_test : (t : CondText) (d : Data) → SpellsTest t d → condition d ≡ Ok t
 read_test (less a b) d is =
     let r = two_are (codes "less") (SpellsTerm a) (SpellsTerm b) d is in
     rw r.2 (rw (read_term a r.0 r.3, read_term b r.1 r.4) refl)
@@ -194,7 +194,7 @@ read_block (answer value b) n (item d rest) is =
     read_first n d rest (λ b. answer value b) b (rw r.1 (rw (read_term value r.0 r.2) refl)) (read_block b (n + 1) rest is.1)
 
 -- a procedure
-pub read_spelled : (p : Program) (d : Data) → Spells p d → reading d ≡ Ok p
+pub read_spelled : (p : ProcedureText) (d : Data) → Spells p d → reading d ≡ Ok p
 read_spelled p d is =
     let l = listed_is (Each (Byte p.args ∷ Listed (SpellsBlock p.body) ∷ [])) d is in
     let x = each_is (Byte p.args) (Listed (SpellsBlock p.body) ∷ []) l.0 l.2 in

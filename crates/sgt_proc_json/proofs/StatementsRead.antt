@@ -4,7 +4,7 @@ use Rattle.serde_json.specs.View.{view, items_view}
 use Rattle.serde_json.specs.declared.value.Value.{Value}
 use Rattle.sgt_model.specs.declared.procedure.Statement.{Statement}
 use Rattle.sgt_model.specs.Syntax.{Block, empty}
-use Rattle.sgt_model.specs.Programs.{before, block_of}
+use Rattle.sgt_model.specs.ProcedureTexts.{in_front, block_of}
 use Rattle.sgt_proc_json.specs.Refusals.{Tells}
 use Rattle.sgt_proc_json.specs.declared.errors.ReadError.{ReadError}
 use Rattle.sgt_proc_json.specs.Readings.{Reading, at, one, two, statement, statements}
@@ -12,15 +12,15 @@ use Rattle.sgt_proc_json.specs.Readings.{Reading, at, one, two, statement, state
 -- statements in front of others
 abbrev pub onto_block : List Statement → Block → Block
 onto_block [] rest = rest
-onto_block (s ∷ list) rest = before s (onto_block list rest)
+onto_block (s ∷ list) rest = in_front s (onto_block list rest)
 
 -- behind all of them
-pub onto_last : (list : List Statement) (s : Statement) (rest : Block) → onto_block (list ++ s ∷ []) rest ≡ onto_block list (before s rest)
+pub onto_last : (list : List Statement) (s : Statement) (rest : Block) → onto_block (list ++ s ∷ []) rest ≡ onto_block list (in_front s rest)
 onto_last [] s rest = refl
-onto_last (x ∷ list) s rest = ap (before x) (onto_last list s rest)
+onto_last (x ∷ list) s rest = ap (in_front x) (onto_last list s rest)
 
 one_last : (list : List Statement) (s : Statement) (r : Reading Block)
-    → one (onto_block list) (one (before s) r) ≡ one (onto_block (list ++ s ∷ [])) r
+    → one (onto_block list) (one (in_front s) r) ≡ one (onto_block (list ++ s ∷ [])) r
 one_last list s (Ok b) = ap Ok (sym (onto_last list s b))
 one_last list s (Err place) = refl
 
@@ -34,7 +34,7 @@ items_next items i v h e =
 -- one more statement is read
 pub one_more : (items : List Value) (i : ℕ) (v : Value) (list : List Statement) (s : Statement) (r : Reading Block)
     → r ≡ one (onto_block list) (statements i (items_view (drop i items))) → i < length items → v ≡ get_or items i v
-    → at i (statement (view v)) ≡ Ok (before s) → r ≡ one (onto_block (list ++ s ∷ []))
+    → at i (statement (view v)) ≡ Ok (in_front s) → r ≡ one (onto_block (list ++ s ∷ []))
     (statements (i + 1) (items_view (drop (i + 1) items)))
 one_more items i v list s r so h e read =
     so ∙ ap (one (onto_block list)) (items_next items i v h e
@@ -52,7 +52,7 @@ one_refused items i v list error r so h e told place same =
 -- in front of none
 pub onto_all : (list : List Statement) → onto_block list empty ≡ block_of list
 onto_all [] = refl
-onto_all (s ∷ list) = ap (before s) (onto_all list)
+onto_all (s ∷ list) = ap (in_front s) (onto_all list)
 
 -- all are read
 pub all_read : (items : List Value) (i : ℕ) (list : List Statement) (r : Reading Block)

@@ -1,9 +1,9 @@
 -- How large an expression is.
 use Rattle.std.specs.Prelude.{ℕ, ◌+◌}
-use Rattle.sgt_model.specs.Syntax.{Term, num, arg, reg, sum, diff, product, quotient}
+use Rattle.sgt_model.specs.Syntax.{ExprText, num, arg, reg, sum, diff, product, quotient}
 
 -- how many parts it has
-abbrev pub term_size : Term → ℕ
+abbrev pub term_size : ExprText → ℕ
 term_size (num z) = 1
 term_size (arg n) = 1
 term_size (reg n) = 1

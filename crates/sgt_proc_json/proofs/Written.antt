@@ -12,17 +12,17 @@ use Rattle.sgt_model.specs.declared.procedure.Cond.{Cond}
 use Rattle.sgt_model.specs.declared.procedure.Statement.{Statement}
 use Rattle.sgt_model.specs.declared.procedure.Statement.TheVariants.{If}
 use Rattle.sgt_model.specs.Syntax.{Block, empty, choose}
-use Rattle.sgt_model.specs.Programs.{test_of, before, block_of}
+use Rattle.sgt_model.specs.ProcedureTexts.{cond_text, in_front, block_of}
 use Rattle.sgt_model.proofs.Texts.{before_if}
 use Rattle.sgt_proc_json.specs.Spelling.{WordAnd, SpellsTest, Listed, SpellsBlock}
 use Rattle.sgt_proc_json.proofs.StatementsRead.{onto_block, onto_last, onto_all}
 
 -- the tree of an If, in front of others
 if_spelled : (s : Statement) (test : Cond) (ys ns : Vec Statement Global) (tree : Data) → s ≡ If test ys ns → WordAnd (codes "if")
-    (SpellsTest (test_of test) ∷ Listed (SpellsBlock (block_of ys.items)) ∷ Listed (SpellsBlock (block_of ns.items)) ∷ []) tree
-    → (b : Block) (items : Items) → SpellsBlock b items → SpellsBlock (before s b) (item tree items)
+    (SpellsTest (cond_text test) ∷ Listed (SpellsBlock (block_of ys.items)) ∷ Listed (SpellsBlock (block_of ns.items)) ∷ []) tree
+    → (b : Block) (items : Items) → SpellsBlock b items → SpellsBlock (in_front s b) (item tree items)
 if_spelled s test ys ns tree is spelled b items others =
-    let text : before s b ≡ choose (test_of test) (block_of ys.items) (block_of ns.items) b = ap (λ x. before x b) is
+    let text : in_front s b ≡ choose (cond_text test) (block_of ys.items) (block_of ns.items) b = ap (λ x. in_front x b) is
     ∙ before_if test ys ns b in
     subst (λ x. SpellsBlock x (item tree items)) (sym text) (spelled, others)
 
@@ -30,8 +30,8 @@ if_spelled s test ys ns tree is spelled b items others =
 pub if_written : {E : Type 0} (result : Result Value E) (s : Statement) (test : Cond) (ys ns : Vec Statement Global) (first second : Value)
     → s ≡ If test ys ns → Listed (SpellsBlock (block_of ys.items)) (view first) → Listed (SpellsBlock (block_of ns.items)) (view second)
     → IfOk result (λ v. (b c : Block) → Listed (SpellsBlock b) (view first) → Listed (SpellsBlock c) (view second)
-    → WordAnd (codes "if") (SpellsTest (test_of test) ∷ Listed (SpellsBlock b) ∷ Listed (SpellsBlock c) ∷ []) (view v))
-    → IfOk result (λ v. (b : Block) (items : Items) → SpellsBlock b items → SpellsBlock (before s b) (item (view v) items))
+    → WordAnd (codes "if") (SpellsTest (cond_text test) ∷ Listed (SpellsBlock b) ∷ Listed (SpellsBlock c) ∷ []) (view v))
+    → IfOk result (λ v. (b : Block) (items : Items) → SpellsBlock b items → SpellsBlock (in_front s b) (item (view v) items))
 if_written (Ok v) s test ys ns first second is spelled spelled' written =
     if_spelled s test ys ns (view v) is (written (block_of ys.items) (block_of ns.items) spelled spelled')
 if_written (Err e) s test ys ns first second is spelled spelled' written = tt
@@ -55,16 +55,16 @@ abbrev pub Written : List Statement → List Value → Type 0
 Written list trees = (b : Block) (rest : Items) → SpellsBlock b rest → SpellsBlock (onto_block list b) (onto_items (map view trees) rest)
 
 written_last : (list : List Statement) (s : Statement) (trees : List Value) (v : Value) → Written list trees
-    → ((b : Block) (rest : Items) → SpellsBlock b rest → SpellsBlock (before s b) (item (view v) rest))
+    → ((b : Block) (rest : Items) → SpellsBlock b rest → SpellsBlock (in_front s b) (item (view v) rest))
     → Written (list ++ s ∷ []) (trees ++ v ∷ [])
 written_last list s trees v so one b rest others =
     rw (onto_last list s b, ap (λ l. onto_items l rest) (map-append view trees (v ∷ [])) ∙ onto_items-last (map view trees) (view v) rest)
-    (so (before s b) (item (view v) rest) (one b rest others))
+    (so (in_front s b) (item (view v) rest) (one b rest others))
 
 -- one more
 pub written_more : (list : List Statement) (i : ℕ) (s : Statement) (trees longer : List Value) (v : Value) → i < length list
     → s ≡ get_or list i s → longer ≡ trees ++ v ∷ [] → Written (take i list) trees
-    → ((b : Block) (rest : Items) → SpellsBlock b rest → SpellsBlock (before s b) (item (view v) rest)) → Written (take (i + 1) list) longer
+    → ((b : Block) (rest : Items) → SpellsBlock b rest → SpellsBlock (in_front s b) (item (view v) rest)) → Written (take (i + 1) list) longer
 written_more list i s trees longer v h e more so one =
     rw (more, take_more list i s h ∙ ap (λ x. take i list ++ x ∷ []) (sym e)) (written_last (take i list) s trees v so one)
 

@@ -4,7 +4,7 @@ use Rattle.std.specs.Prelude.{ℕ, ◌+◌, take, Bool, false, cond, List, [], �
 use Rattle.std.specs.Str.{bytes_eq}
 use Rattle.serde_json.specs.Data.{Data, array, Items, no_items, item}
 use Rattle.serde_json.specs.Find.{as_str}
-use Rattle.sgt_model.specs.Syntax.{Term, num, arg, reg, sum, diff, product, quotient, Test, less, at_most, equal, Block, empty, look, find, put, save, ask, choose, answer, Program}
+use Rattle.sgt_model.specs.Syntax.{ExprText, num, arg, reg, sum, diff, product, quotient, CondText, less, at_most, equal, Block, empty, look, find, put, save, ask, choose, answer, ProcedureText}
 use Rattle.sgt_proc_json.specs.Trees.{whole, natural}
 
 -- a thing that is spelled, or the place of a misfit: positions from the top, counted from 0
@@ -59,13 +59,13 @@ is_word None word = false
 is_word (Some text) word = bytes_eq text word
 
 -- the argument or register that a word and the number behind it spell
-abbrev pub arg_or_reg : Option (List ℕ) → Reading ℕ → Reading Term
+abbrev pub arg_or_reg : Option (List ℕ) → Reading ℕ → Reading ExprText
 arg_or_reg word n =
     cond (is_word word (codes "arg")) (one arg n)
     (cond (is_word word (codes "reg")) (one reg n) here)
 
 -- the arithmetic that a word and the two expressions behind it spell
-abbrev pub arithmetic : Option (List ℕ) → Reading Term → Reading Term → Reading Term
+abbrev pub arithmetic : Option (List ℕ) → Reading ExprText → Reading ExprText → Reading ExprText
 arithmetic word a b =
     cond (is_word word (codes "sum")) (two sum a b)
     (cond (is_word word (codes "diff")) (two diff a b)
@@ -73,20 +73,20 @@ arithmetic word a b =
     (cond (is_word word (codes "quotient")) (two quotient a b) here)))
 
 -- the expression that a tree spells
-abbrev pub expression : Data → Reading Term
+abbrev pub expression : Data → Reading ExprText
 expression (array (item w (item n no_items))) = arg_or_reg (as_str w) (at 1 (byte n))
 expression (array (item w (item a (item b no_items)))) = arithmetic (as_str w) (at 1 (expression a)) (at 2 (expression b))
 expression tree = one num (or_here (whole tree))
 
 -- the comparison that a word and the two expressions behind it spell
-abbrev pub comparison : Option (List ℕ) → Reading Term → Reading Term → Reading Test
+abbrev pub comparison : Option (List ℕ) → Reading ExprText → Reading ExprText → Reading CondText
 comparison word a b =
     cond (is_word word (codes "less")) (two less a b)
     (cond (is_word word (codes "most")) (two at_most a b)
     (cond (is_word word (codes "same")) (two equal a b) here))
 
 -- the condition that a tree spells
-abbrev pub condition : Data → Reading Test
+abbrev pub condition : Data → Reading CondText
 condition (array (item w (item a (item b no_items)))) = comparison (as_str w) (at 1 (expression a)) (at 2 (expression b))
 condition tree = here
 
@@ -133,6 +133,6 @@ abbrev mutual
   statements n (item tree items) = two (λ first rest. first rest) (at n (statement tree)) (statements (n + 1) items)
 
 -- the procedure that a tree spells
-abbrev pub reading : Data → Reading Program
+abbrev pub reading : Data → Reading ProcedureText
 reading (array (item a (item b no_items))) = two (λ args body. record { args = args; body = body }) (at 0 (byte a)) (at 1 (block b))
 reading tree = here

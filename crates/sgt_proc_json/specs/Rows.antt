@@ -2,7 +2,7 @@
 use Rattle.std.specs.Prelude.{Bool, false, codes}
 use Rattle.serde_json.specs.Data.{Data, Items, no_items, item}
 use Rattle.serde_json.specs.Find.{as_str}
-use Rattle.sgt_model.specs.Syntax.{Test, Block, look, find, put, save, ask, choose, answer}
+use Rattle.sgt_model.specs.Syntax.{CondText, Block, look, find, put, save, ask, choose, answer}
 use Rattle.sgt_proc_json.specs.Readings.{Reading, here, at, one, two, three, four, is_word, byte, short, expression, condition, block, one_item, two_items, three_items, four_items}
 
 -- behind `ask`
@@ -32,7 +32,7 @@ find_of a b c d =
     four (λ to table id absent rest. find to table id absent rest) (at 1 (byte a)) (at 2 (byte b)) (at 3 (expression c)) (at 4 (expression d))
 
 -- behind `if`
-abbrev pub if_of : Reading Test → Reading Block → Reading Block → Reading (Block → Block)
+abbrev pub if_of : Reading CondText → Reading Block → Reading Block → Reading (Block → Block)
 if_of = three (λ test ys ns rest. choose test ys ns rest)
 
 -- a word and three items behind it, where the word is that of an If

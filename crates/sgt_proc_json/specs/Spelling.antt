@@ -2,7 +2,7 @@
 -- expression.
 use Rattle.std.specs.Prelude.{◌≡◌, ⊤, ℕ, ℤ, List, [], ◌∷◌, Some, option_and_then, codes}
 use Rattle.serde_json.specs.Data.{Data, array, string, Items, no_items, item}
-use Rattle.sgt_model.specs.Syntax.{Term, num, arg, reg, sum, diff, product, quotient, Test, less, at_most, equal, Block, empty, look, find, put, save, ask, choose, answer, Program}
+use Rattle.sgt_model.specs.Syntax.{ExprText, num, arg, reg, sum, diff, product, quotient, CondText, less, at_most, equal, Block, empty, look, find, put, save, ask, choose, answer, ProcedureText}
 use Rattle.sgt_proc_json.specs.Trees.{whole, natural}
 
 -- what a tree may be
@@ -34,7 +34,7 @@ abbrev pub Short : ℕ → Shape
 Short n tree = option_and_then (natural 16) (whole tree) ≡ Some n
 
 -- the tree spells the expression
-abbrev pub SpellsTerm : Term → Shape
+abbrev pub SpellsTerm : ExprText → Shape
 SpellsTerm (num z) = Whole z
 SpellsTerm (arg n) = WordAnd (codes "arg") (Byte n ∷ [])
 SpellsTerm (reg n) = WordAnd (codes "reg") (Byte n ∷ [])
@@ -44,7 +44,7 @@ SpellsTerm (product a b) = WordAnd (codes "product") (SpellsTerm a ∷ SpellsTer
 SpellsTerm (quotient a b) = WordAnd (codes "quotient") (SpellsTerm a ∷ SpellsTerm b ∷ [])
 
 -- the tree spells the condition
-abbrev pub SpellsTest : Test → Shape
+abbrev pub SpellsTest : CondText → Shape
 SpellsTest (less a b) = WordAnd (codes "less") (SpellsTerm a ∷ SpellsTerm b ∷ [])
 SpellsTest (at_most a b) = WordAnd (codes "most") (SpellsTerm a ∷ SpellsTerm b ∷ [])
 SpellsTest (equal a b) = WordAnd (codes "same") (SpellsTerm a ∷ SpellsTerm b ∷ [])
@@ -72,9 +72,9 @@ SpellsBlock (choose test ys ns b) items = First (WordAnd (codes "if") (SpellsTes
 SpellsBlock (answer value b) items = First (WordAnd (codes "answer") (SpellsTerm value ∷ [])) (SpellsBlock b) items
 
 -- the tree spells the procedure: a list of the count of its arguments and the list of its statements
-abbrev pub Spells : Program → Shape
+abbrev pub Spells : ProcedureText → Shape
 Spells p = Listed (Each (Byte p.args ∷ Listed (SpellsBlock p.body) ∷ []))
 
 -- the tree spells no procedure
 abbrev pub SpellsNone : Shape
-SpellsNone tree = (p : Program) → Spells p tree → ⊥
+SpellsNone tree = (p : ProcedureText) → Spells p tree → ⊥

@@ -2,8 +2,8 @@ ghost use Rattle.std.specs.Prelude.{◌≡◌, Ok, IfOk, IfErr, IfSome, IsNone};
 ghost use Rattle.serde_json.specs.Data.{array};
 ghost use Rattle.serde_json.specs.Find.{as_str};
 ghost use Rattle.serde_json.specs.View.{view, items_view};
-ghost use Rattle.sgt_model.specs.Programs.{term_of, test_of};
-ghost use Rattle.sgt_model.specs.Syntax.{Term};
+ghost use Rattle.sgt_model.specs.ProcedureTexts.{expr_text, cond_text};
+ghost use Rattle.sgt_model.specs.Syntax.{ExprText};
 ghost use Rattle.sgt_proc_json.specs.Operations.{tested};
 ghost use Rattle.sgt_proc_json.specs.Readings.{Reading, at, here, two, expression, comparison, condition};
 ghost use Rattle.sgt_proc_json.specs.Refusals.{Tells};
@@ -25,7 +25,7 @@ enum Relation {
 impl Relation {
     /// The condition that it holds between two expressions.
     fn of(self, left: Expr, right: Expr) -> Cond
-        ensures { test_of result ≡ tested self (term_of left) (term_of right) }
+        ensures { cond_text result ≡ tested self (expr_text left) (expr_text right) }
     {
         match self {
             Relation::Less => Cond::Less(left, right),
@@ -37,7 +37,7 @@ impl Relation {
 
 /// The condition that the item at this position of a list spells.
 pub(crate) fn cond_at(alloc: Global, position: u64, tree: &Value) -> Result<Cond, ReadError>
-    ensures ok { IfOk result (λ c. at position (condition (view tree.now)) ≡ Ok (test_of c)) }
+    ensures ok { IfOk result (λ c. at position (condition (view tree.now)) ≡ Ok (cond_text c)) }
     ensures err { IfErr result (Tells (at position (condition (view tree.now)))) }
 {
     let cond = match tree {
@@ -52,7 +52,7 @@ pub(crate) fn cond_at(alloc: Global, position: u64, tree: &Value) -> Result<Cond
 
 /// The condition that a list of these items spells.
 fn read_row(alloc: Global, items: &[Value]) -> Result<Cond, ReadError>
-    ensures ok { IfOk result (λ c. condition (array (items_view items.now)) ≡ Ok (test_of c)) }
+    ensures ok { IfOk result (λ c. condition (array (items_view items.now)) ≡ Ok (cond_text c)) }
     ensures err { IfErr result (Tells (condition (array (items_view items.now)))) }
 {
     match items {
@@ -65,7 +65,7 @@ fn read_row(alloc: Global, items: &[Value]) -> Result<Cond, ReadError>
 fn comparison(alloc: Global, word: &Value, a: &Value, b: &Value) -> Result<Cond, ReadError>
     ensures ok { IfOk result (λ c.
         comparison (as_str (view word.now)) (at 1 (expression (view a.now))) (at 2 (expression (view b.now)))
-        ≡ Ok (test_of c)) }
+        ≡ Ok (cond_text c)) }
     ensures err { IfErr result (Tells
         (comparison (as_str (view word.now)) (at 1 (expression (view a.now))) (at 2 (expression (view b.now))))) }
 {
@@ -81,9 +81,9 @@ fn comparison(alloc: Global, word: &Value, a: &Value, b: &Value) -> Result<Cond,
 
 /// The relation that a word names.
 fn relation_named(word: &Value) -> Option<Relation>
-    ensures some { IfSome result (λ c. (a b : Reading Term) →
+    ensures some { IfSome result (λ c. (a b : Reading ExprText) →
         comparison (as_str (view word.now)) a b ≡ two (tested c) a b) }
-    ensures none { IsNone result → (a b : Reading Term) → comparison (as_str (view word.now)) a b ≡ here }
+    ensures none { IsNone result → (a b : Reading ExprText) → comparison (as_str (view word.now)) a b ≡ here }
 {
     match word.as_str() {
         Some("less") => Some(Relation::Less),

@@ -2,8 +2,8 @@ ghost use Rattle.std.specs.Prelude.{◌≡◌, Ok, IfOk, IfErr, IfSome, IsNone};
 ghost use Rattle.serde_json.specs.View.{view, items_view};
 ghost use Rattle.serde_json.specs.Data.{array};
 ghost use Rattle.serde_json.specs.Find.{as_str};
-ghost use Rattle.sgt_model.specs.Programs.{term_of};
-ghost use Rattle.sgt_model.specs.Syntax.{Term};
+ghost use Rattle.sgt_model.specs.ProcedureTexts.{expr_text};
+ghost use Rattle.sgt_model.specs.Syntax.{ExprText};
 ghost use Rattle.sgt_proc_json.specs.Operations.{operated};
 ghost use Rattle.sgt_proc_json.specs.Readings.{Reading, at, byte, here, two, arg_or_reg, arithmetic, expression};
 ghost use Rattle.sgt_proc_json.specs.Refusals.{Tells};
@@ -26,7 +26,7 @@ enum Operation {
 impl Operation {
     /// The expression of two by this operation.
     fn of(self, left: Box<Expr>, right: Box<Expr>) -> Expr
-        ensures { term_of result ≡ operated self (term_of left.value) (term_of right.value) }
+        ensures { expr_text result ≡ operated self (expr_text left.value) (expr_text right.value) }
     {
         match self {
             Operation::Sum => Expr::Sum(left, right),
@@ -39,9 +39,9 @@ impl Operation {
 
 /// The operation that a word names.
 fn operation_named(word: &Value) -> Option<Operation>
-    ensures some { IfSome result (λ o. (a b : Reading Term) →
+    ensures some { IfSome result (λ o. (a b : Reading ExprText) →
         arithmetic (as_str (view word.now)) a b ≡ two (operated o) a b) }
-    ensures none { IsNone result → (a b : Reading Term) → arithmetic (as_str (view word.now)) a b ≡ here }
+    ensures none { IsNone result → (a b : Reading ExprText) → arithmetic (as_str (view word.now)) a b ≡ here }
 {
     match word.as_str() {
         Some("sum") => Some(Operation::Sum),
@@ -55,7 +55,7 @@ fn operation_named(word: &Value) -> Option<Operation>
 /// The expression that a tree spells.
 #[cycle(expression)]
 fn read_expr(alloc: Global, tree: &Value) -> Result<Expr, ReadError>
-    ensures ok { IfOk result (λ e. expression (view tree.now) ≡ Ok (term_of e)) }
+    ensures ok { IfOk result (λ e. expression (view tree.now) ≡ Ok (expr_text e)) }
     ensures err { IfErr result (Tells (expression (view tree.now))) }
 {
     match tree {
@@ -70,7 +70,7 @@ fn read_expr(alloc: Global, tree: &Value) -> Result<Expr, ReadError>
 /// The expression that a list of these items spells.
 #[cycle(expression)]
 fn read_row(alloc: Global, items: &[Value]) -> Result<Expr, ReadError>
-    ensures ok { IfOk result (λ e. expression (array (items_view items.now)) ≡ Ok (term_of e)) }
+    ensures ok { IfOk result (λ e. expression (array (items_view items.now)) ≡ Ok (expr_text e)) }
     ensures err { IfErr result (Tells (expression (array (items_view items.now)))) }
 {
     match items {
@@ -90,7 +90,7 @@ fn read_row(alloc: Global, items: &[Value]) -> Result<Expr, ReadError>
 /// The expression that a word and a number spell: an argument or a register.
 fn arg_or_reg(word: &Value, n: &Value) -> Result<Expr, ReadError>
     ensures ok { IfOk result (λ e.
-        arg_or_reg (as_str (view word.now)) (at 1 (byte (view n.now))) ≡ Ok (term_of e)) }
+        arg_or_reg (as_str (view word.now)) (at 1 (byte (view n.now))) ≡ Ok (expr_text e)) }
     ensures err { IfErr result
         (Tells (arg_or_reg (as_str (view word.now)) (at 1 (byte (view n.now))))) }
 {
@@ -104,7 +104,7 @@ fn arg_or_reg(word: &Value, n: &Value) -> Result<Expr, ReadError>
 /// The expression that the item at this position of a list spells.
 #[cycle(expression)]
 pub(crate) fn expr_at(alloc: Global, position: u64, tree: &Value) -> Result<Expr, ReadError>
-    ensures ok { IfOk result (λ e. at position (expression (view tree.now)) ≡ Ok (term_of e)) }
+    ensures ok { IfOk result (λ e. at position (expression (view tree.now)) ≡ Ok (expr_text e)) }
     ensures err { IfErr result (Tells (at position (expression (view tree.now)))) }
 {
     match read_expr(alloc, tree) {
@@ -116,7 +116,7 @@ pub(crate) fn expr_at(alloc: Global, position: u64, tree: &Value) -> Result<Expr
 /// The same, in a box.
 #[cycle(expression)]
 fn boxed_at(alloc: Global, position: u64, tree: &Value) -> Result<Box<Expr>, ReadError>
-    ensures ok { IfOk result (λ e. at position (expression (view tree.now)) ≡ Ok (term_of e.value)) }
+    ensures ok { IfOk result (λ e. at position (expression (view tree.now)) ≡ Ok (expr_text e.value)) }
     ensures err { IfErr result (Tells (at position (expression (view tree.now)))) }
 {
     Ok(Box::new(alloc, expr_at(alloc, position, tree)?)?)

@@ -2,7 +2,7 @@ ghost use Rattle.std.specs.Prelude.{◌≡◌, Ok, IfOk, IfErr, codes};
 ghost use Rattle.serde_json.specs.Data.{array};
 ghost use Rattle.serde_json.specs.Find.{as_str};
 ghost use Rattle.serde_json.specs.View.{view, items_view};
-ghost use Rattle.sgt_model.specs.Programs.{before, block_of};
+ghost use Rattle.sgt_model.specs.ProcedureTexts.{in_front, block_of};
 ghost use Rattle.sgt_proc_json.specs.Readings.{at, is_word, statement, block, one_item, two_items, three_items, four_items};
 ghost use Rattle.sgt_proc_json.specs.Refusals.{Tells};
 ghost use Rattle.sgt_proc_json.specs.Rows.{is_if, if_row, branches, other_row, ask_of, answer_of, let_of, put_of, look_of, find_of};
@@ -18,7 +18,7 @@ use std::alloc::Global;
 /// The statement that the item at this position of a list spells.
 #[cycle(statement)]
 fn statement_at(alloc: Global, position: u64, tree: &Value) -> Result<Statement, ReadError>
-    ensures ok { IfOk result (λ s. at position (statement (view tree.now)) ≡ Ok (before s)) }
+    ensures ok { IfOk result (λ s. at position (statement (view tree.now)) ≡ Ok (in_front s)) }
     ensures err { IfErr result (Tells (at position (statement (view tree.now)))) }
 {
     let statement = match tree {
@@ -34,7 +34,7 @@ fn statement_at(alloc: Global, position: u64, tree: &Value) -> Result<Statement,
 /// The statement that a list of these items spells.
 #[cycle(statement)]
 fn read_row(alloc: Global, items: &[Value]) -> Result<Statement, ReadError>
-    ensures ok { IfOk result (λ s. statement (array (items_view items.now)) ≡ Ok (before s)) }
+    ensures ok { IfOk result (λ s. statement (array (items_view items.now)) ≡ Ok (in_front s)) }
     ensures err { IfErr result (Tells (statement (array (items_view items.now)))) }
 {
     if is_if(items) {
@@ -63,7 +63,7 @@ fn is_word_if(word: &Value) -> bool
 /// The If that a list of these items spells, whose first is its word.
 #[cycle(statement)]
 fn if_row(alloc: Global, items: &[Value]) -> Result<Statement, ReadError>
-    ensures ok { IfOk result (λ s. if_row (items_view items.now) ≡ Ok (before s)) }
+    ensures ok { IfOk result (λ s. if_row (items_view items.now) ≡ Ok (in_front s)) }
     ensures err { IfErr result (Tells (if_row (items_view items.now))) }
 {
     match items {
@@ -94,7 +94,7 @@ fn branches(alloc: Global, items: &[Value]) -> Result<(Vec<Statement>, Vec<State
 
 /// The statement that a list of these items spells, where it has no blocks.
 fn other_row(alloc: Global, items: &[Value]) -> Result<Statement, ReadError>
-    ensures ok { IfOk result (λ s. other_row (items_view items.now) ≡ Ok (before s)) }
+    ensures ok { IfOk result (λ s. other_row (items_view items.now) ≡ Ok (in_front s)) }
     ensures err { IfErr result (Tells (other_row (items_view items.now))) }
 {
     match items {
@@ -109,7 +109,7 @@ fn other_row(alloc: Global, items: &[Value]) -> Result<Statement, ReadError>
 /// The statement that a word and one item spell: `ask` or `answer`.
 fn one_item(alloc: Global, word: &Value, a: &Value) -> Result<Statement, ReadError>
     ensures ok { IfOk result (λ s.
-        one_item (as_str (view word.now)) (view a.now) ≡ Ok (before s)) }
+        one_item (as_str (view word.now)) (view a.now) ≡ Ok (in_front s)) }
     ensures err { IfErr result (Tells (one_item (as_str (view word.now)) (view a.now))) }
 {
     match word.as_str() {
@@ -122,7 +122,7 @@ fn one_item(alloc: Global, word: &Value, a: &Value) -> Result<Statement, ReadErr
 /// The statement that a word and two items spell: `let`.
 fn two_items(alloc: Global, word: &Value, a: &Value, b: &Value) -> Result<Statement, ReadError>
     ensures ok { IfOk result (λ s.
-        two_items (as_str (view word.now)) (view a.now) (view b.now) ≡ Ok (before s)) }
+        two_items (as_str (view word.now)) (view a.now) (view b.now) ≡ Ok (in_front s)) }
     ensures err { IfErr result
         (Tells (two_items (as_str (view word.now)) (view a.now) (view b.now))) }
 {
@@ -142,7 +142,7 @@ fn three_items(
 ) -> Result<Statement, ReadError>
     ensures ok { IfOk result (λ s.
         three_items (as_str (view word.now)) (view a.now) (view b.now) (view c.now)
-        ≡ Ok (before s)) }
+        ≡ Ok (in_front s)) }
     ensures err { IfErr result (Tells
         (three_items (as_str (view word.now)) (view a.now) (view b.now) (view c.now))) }
 {
@@ -163,7 +163,7 @@ fn four_items(
 ) -> Result<Statement, ReadError>
     ensures ok { IfOk result (λ s.
         four_items (as_str (view word.now)) (view a.now) (view b.now) (view c.now) (view d.now)
-        ≡ Ok (before s)) }
+        ≡ Ok (in_front s)) }
     ensures err { IfErr result (Tells
         (four_items (as_str (view word.now)) (view a.now) (view b.now) (view c.now) (view d.now))) }
 {
@@ -176,7 +176,7 @@ fn four_items(
 
 /// The Ask that this item spells.
 fn ask_of(a: &Value) -> Result<Statement, ReadError>
-    ensures ok { IfOk result (λ s. ask_of (view a.now) ≡ Ok (before s)) }
+    ensures ok { IfOk result (λ s. ask_of (view a.now) ≡ Ok (in_front s)) }
     ensures err { IfErr result (Tells (ask_of (view a.now))) }
 {
     Ok(Statement::Ask {
@@ -186,7 +186,7 @@ fn ask_of(a: &Value) -> Result<Statement, ReadError>
 
 /// The Answer that this item spells.
 fn answer_of(alloc: Global, a: &Value) -> Result<Statement, ReadError>
-    ensures ok { IfOk result (λ s. answer_of (view a.now) ≡ Ok (before s)) }
+    ensures ok { IfOk result (λ s. answer_of (view a.now) ≡ Ok (in_front s)) }
     ensures err { IfErr result (Tells (answer_of (view a.now))) }
 {
     Ok(Statement::Answer {
@@ -196,7 +196,7 @@ fn answer_of(alloc: Global, a: &Value) -> Result<Statement, ReadError>
 
 /// The Let that these items spell.
 fn let_of(alloc: Global, a: &Value, b: &Value) -> Result<Statement, ReadError>
-    ensures ok { IfOk result (λ s. let_of (view a.now) (view b.now) ≡ Ok (before s)) }
+    ensures ok { IfOk result (λ s. let_of (view a.now) (view b.now) ≡ Ok (in_front s)) }
     ensures err { IfErr result (Tells (let_of (view a.now) (view b.now))) }
 {
     Ok(Statement::Let {
@@ -207,7 +207,7 @@ fn let_of(alloc: Global, a: &Value, b: &Value) -> Result<Statement, ReadError>
 
 /// The Put that these items spell.
 fn put_of(alloc: Global, a: &Value, b: &Value, c: &Value) -> Result<Statement, ReadError>
-    ensures ok { IfOk result (λ s. put_of (view a.now) (view b.now) (view c.now) ≡ Ok (before s)) }
+    ensures ok { IfOk result (λ s. put_of (view a.now) (view b.now) (view c.now) ≡ Ok (in_front s)) }
     ensures err { IfErr result (Tells (put_of (view a.now) (view b.now) (view c.now))) }
 {
     Ok(Statement::Put {
@@ -225,7 +225,7 @@ fn look_of(
     c: &Value,
     d: &Value,
 ) -> Result<Statement, ReadError>
-    ensures ok { IfOk result (λ s. look_of (view a.now) (view b.now) (view c.now) (view d.now) ≡ Ok (before s)) }
+    ensures ok { IfOk result (λ s. look_of (view a.now) (view b.now) (view c.now) (view d.now) ≡ Ok (in_front s)) }
     ensures err { IfErr result (Tells (look_of (view a.now) (view b.now) (view c.now) (view d.now))) }
 {
     Ok(Statement::Look {
@@ -244,7 +244,7 @@ fn find_of(
     c: &Value,
     d: &Value,
 ) -> Result<Statement, ReadError>
-    ensures ok { IfOk result (λ s. find_of (view a.now) (view b.now) (view c.now) (view d.now) ≡ Ok (before s)) }
+    ensures ok { IfOk result (λ s. find_of (view a.now) (view b.now) (view c.now) (view d.now) ≡ Ok (in_front s)) }
     ensures err { IfErr result (Tells (find_of (view a.now) (view b.now) (view c.now) (view d.now))) }
 {
     Ok(Statement::Find {

@@ -1,7 +1,7 @@
 ghost use Rattle.std.specs.Prelude.{◌≡◌, ◌≢◌, Ok, IfOk, IfErr};
 ghost use Rattle.serde_json.specs.Data.{array};
 ghost use Rattle.serde_json.specs.View.{view, items_view};
-ghost use Rattle.sgt_model.specs.Programs.{program_of};
+ghost use Rattle.sgt_model.specs.ProcedureTexts.{procedure_text};
 ghost use Rattle.sgt_proc_json.specs.Spelling.{Spells, SpellsNone};
 ghost use Rattle.sgt_proc_json.specs.Readings.{reading};
 ghost use Rattle.sgt_proc_json.specs.Refusals.{Tells};
@@ -22,8 +22,8 @@ use std::alloc::Global;
 ///
 /// `Shape` with the place of the first misfit, where the tree spells none, and `NoMemory`.
 pub fn read(alloc: Global, tree: &Value) -> Result<Procedure, ReadError>
-    ensures spells { IfOk result (λ p. Spells (program_of p) (view tree.now)) }
-    ensures procedure { IfOk result (λ p. reading (view tree.now) ≡ Ok (program_of p)) }
+    ensures spells { IfOk result (λ p. Spells (procedure_text p) (view tree.now)) }
+    ensures procedure { IfOk result (λ p. reading (view tree.now) ≡ Ok (procedure_text p)) }
     ensures shape { IfErr result (Tells (reading (view tree.now))) }
     ensures none { IfErr result (λ error. error ≢ NoMemory → SpellsNone (view tree.now)) }
 {
@@ -32,7 +32,7 @@ pub fn read(alloc: Global, tree: &Value) -> Result<Procedure, ReadError>
 
 /// The procedure that a tree spells.
 fn read_tree(alloc: Global, tree: &Value) -> Result<Procedure, ReadError>
-    ensures procedure { IfOk result (λ p. reading (view tree.now) ≡ Ok (program_of p)) }
+    ensures procedure { IfOk result (λ p. reading (view tree.now) ≡ Ok (procedure_text p)) }
     ensures shape { IfErr result (Tells (reading (view tree.now))) }
 {
     match tree {
@@ -44,7 +44,7 @@ fn read_tree(alloc: Global, tree: &Value) -> Result<Procedure, ReadError>
 /// The procedure that a list of these items spells.
 fn read_items(alloc: Global, items: &[Value]) -> Result<Procedure, ReadError>
     ensures procedure { IfOk result
-        (λ p. reading (array (items_view items.now)) ≡ Ok (program_of p)) }
+        (λ p. reading (array (items_view items.now)) ≡ Ok (procedure_text p)) }
     ensures shape { IfErr result (Tells (reading (array (items_view items.now)))) }
 {
     match items {

@@ -1,6 +1,6 @@
 ghost use Rattle.std.specs.Prelude.{IfOk};
 ghost use Rattle.serde_json.specs.View.{view};
-ghost use Rattle.sgt_model.specs.Programs.{test_of};
+ghost use Rattle.sgt_model.specs.ProcedureTexts.{cond_text};
 ghost use Rattle.sgt_proc_json.specs.Spelling.{SpellsTest};
 
 use crate::write_expr::write_pair;
@@ -10,7 +10,7 @@ use std::alloc::Global;
 
 /// The tree of a condition.
 pub(crate) fn write_cond(alloc: Global, cond: &Cond) -> Result<Value, NoMemory>
-    ensures { IfOk result (λ v. SpellsTest (test_of cond.now) (view v)) }
+    ensures { IfOk result (λ v. SpellsTest (cond_text cond.now) (view v)) }
 {
     match cond {
         Cond::Less(left, right) => write_pair(alloc, "less", left, right),

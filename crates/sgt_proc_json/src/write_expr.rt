@@ -1,6 +1,6 @@
 ghost use Rattle.std.specs.Prelude.{[], ◌∷◌, IfOk};
 ghost use Rattle.serde_json.specs.View.{view};
-ghost use Rattle.sgt_model.specs.Programs.{term_of};
+ghost use Rattle.sgt_model.specs.ProcedureTexts.{expr_text};
 ghost use Rattle.sgt_proc_json.specs.Spelling.{SpellsTerm, WordAnd};
 
 use crate::write_number::write_byte;
@@ -12,7 +12,7 @@ use std::alloc::Global;
 /// The tree of an expression.
 #[cycle(expression)]
 pub(crate) fn write_expr(alloc: Global, expr: &Expr) -> Result<Value, NoMemory>
-    ensures { IfOk result (λ v. SpellsTerm (term_of expr.now) (view v)) }
+    ensures { IfOk result (λ v. SpellsTerm (expr_text expr.now) (view v)) }
 {
     match expr {
         Expr::Num(n) => Ok(Value::from(*n)),
@@ -34,7 +34,7 @@ pub(crate) fn write_pair(
     right: &Expr,
 ) -> Result<Value, NoMemory>
     ensures { IfOk result (λ v.
-        WordAnd word.now (SpellsTerm (term_of left.now) ∷ SpellsTerm (term_of right.now) ∷ []) (view v)) }
+        WordAnd word.now (SpellsTerm (expr_text left.now) ∷ SpellsTerm (expr_text right.now) ∷ []) (view v)) }
 {
     let left = write_expr(alloc, left)?;
     let right = write_expr(alloc, right)?;

@@ -2,7 +2,7 @@ ghost use Rattle.std.specs.Prelude.{[], ◌∷◌, codes, IfOk};
 ghost use Rattle.serde_json.specs.Data.{Items, item};
 ghost use Rattle.serde_json.specs.View.{view};
 ghost use Rattle.sgt_model.specs.Syntax.{Block};
-ghost use Rattle.sgt_model.specs.Programs.{term_of, test_of, before, block_of};
+ghost use Rattle.sgt_model.specs.ProcedureTexts.{expr_text, cond_text, in_front, block_of};
 ghost use Rattle.sgt_proc_json.specs.Spelling.{WordAnd, Byte, Short, SpellsTerm, SpellsTest, Listed, SpellsBlock};
 
 use crate::write_cond::write_cond;
@@ -17,7 +17,7 @@ use std::alloc::Global;
 #[cycle(statement)]
 fn write_statement(alloc: Global, statement: &Statement) -> Result<Value, NoMemory>
     ensures { IfOk result (λ v. (b : Block) (items : Items) →
-        SpellsBlock b items → SpellsBlock (before statement.now b) (item (view v) items)) }
+        SpellsBlock b items → SpellsBlock (in_front statement.now b) (item (view v) items)) }
 {
     match statement {
         Statement::Look {
@@ -47,7 +47,7 @@ fn write_statement(alloc: Global, statement: &Statement) -> Result<Value, NoMemo
 /// The tree of a look.
 fn write_look(alloc: Global, reg: u8, table: u8, id: &Expr, absent: u16) -> Result<Value, NoMemory>
     ensures { IfOk result (λ v. WordAnd (codes "look")
-        (Byte reg ∷ Byte table ∷ SpellsTerm (term_of id.now) ∷ Short absent ∷ []) (view v)) }
+        (Byte reg ∷ Byte table ∷ SpellsTerm (expr_text id.now) ∷ Short absent ∷ []) (view v)) }
 {
     let id = write_expr(alloc, id)?;
     row_of_four(
@@ -69,7 +69,7 @@ fn write_find(
     absent: &Expr,
 ) -> Result<Value, NoMemory>
     ensures { IfOk result (λ v. WordAnd (codes "find")
-        (Byte reg ∷ Byte table ∷ SpellsTerm (term_of id.now) ∷ SpellsTerm (term_of absent.now) ∷ []) (view v)) }
+        (Byte reg ∷ Byte table ∷ SpellsTerm (expr_text id.now) ∷ SpellsTerm (expr_text absent.now) ∷ []) (view v)) }
 {
     let id = write_expr(alloc, id)?;
     let absent = write_expr(alloc, absent)?;
@@ -86,7 +86,7 @@ fn write_find(
 /// The tree of a put.
 fn write_put(alloc: Global, table: u8, id: &Expr, value: &Expr) -> Result<Value, NoMemory>
     ensures { IfOk result (λ v. WordAnd (codes "put")
-        (Byte table ∷ SpellsTerm (term_of id.now) ∷ SpellsTerm (term_of value.now) ∷ []) (view v)) }
+        (Byte table ∷ SpellsTerm (expr_text id.now) ∷ SpellsTerm (expr_text value.now) ∷ []) (view v)) }
 {
     let id = write_expr(alloc, id)?;
     let value = write_expr(alloc, value)?;
@@ -96,7 +96,7 @@ fn write_put(alloc: Global, table: u8, id: &Expr, value: &Expr) -> Result<Value,
 /// The tree of a Let.
 fn write_let(alloc: Global, reg: u8, value: &Expr) -> Result<Value, NoMemory>
     ensures { IfOk result (λ v. WordAnd (codes "let")
-        (Byte reg ∷ SpellsTerm (term_of value.now) ∷ []) (view v)) }
+        (Byte reg ∷ SpellsTerm (expr_text value.now) ∷ []) (view v)) }
 {
     let value = write_expr(alloc, value)?;
     row_of_two(alloc, "let", write_byte(reg), value)
@@ -113,7 +113,7 @@ fn write_ask(alloc: Global, code: u16) -> Result<Value, NoMemory>
 fn write_if(alloc: Global, cond: &Cond, yes: Value, no: Value) -> Result<Value, NoMemory>
     ensures { IfOk result (λ v. (ys ns : Block) →
         Listed (SpellsBlock ys) (view yes) → Listed (SpellsBlock ns) (view no) →
-        WordAnd (codes "if") (SpellsTest (test_of cond.now) ∷ Listed (SpellsBlock ys) ∷ Listed (SpellsBlock ns) ∷ []) (view v)) }
+        WordAnd (codes "if") (SpellsTest (cond_text cond.now) ∷ Listed (SpellsBlock ys) ∷ Listed (SpellsBlock ns) ∷ []) (view v)) }
 {
     let cond = write_cond(alloc, cond)?;
     row_of_three(alloc, "if", cond, yes, no)
@@ -121,7 +121,7 @@ fn write_if(alloc: Global, cond: &Cond, yes: Value, no: Value) -> Result<Value, 
 
 /// The tree of an answer.
 fn write_answer(alloc: Global, value: &Expr) -> Result<Value, NoMemory>
-    ensures { IfOk result (λ v. WordAnd (codes "answer") (SpellsTerm (term_of value.now) ∷ []) (view v)) }
+    ensures { IfOk result (λ v. WordAnd (codes "answer") (SpellsTerm (expr_text value.now) ∷ []) (view v)) }
 {
     let value = write_expr(alloc, value)?;
     row_of_one(alloc, "answer", value)

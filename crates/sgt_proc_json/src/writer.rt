@@ -1,6 +1,6 @@
 ghost use Rattle.std.specs.Prelude.{◌≡◌, Ok, IfOk};
 ghost use Rattle.serde_json.specs.View.{view};
-ghost use Rattle.sgt_model.specs.Programs.{program_of};
+ghost use Rattle.sgt_model.specs.ProcedureTexts.{procedure_text};
 ghost use Rattle.sgt_proc_json.specs.Spelling.{Spells};
 ghost use Rattle.sgt_proc_json.specs.Readings.{reading};
 
@@ -16,8 +16,8 @@ use std::alloc::Global;
 ///
 /// `NoMemory` where a growth was refused.
 pub fn write(alloc: Global, procedure: &Procedure) -> Result<Value, NoMemory>
-    ensures spells { IfOk result (λ v. Spells (program_of procedure.now) (view v)) }
-    ensures reads_back { IfOk result (λ v. reading (view v) ≡ Ok (program_of procedure.now)) }
+    ensures spells { IfOk result (λ v. Spells (procedure_text procedure.now) (view v)) }
+    ensures reads_back { IfOk result (λ v. reading (view v) ≡ Ok (procedure_text procedure.now)) }
 {
     let tree = write_items(alloc, procedure)?;
     Ok(tree)
@@ -25,7 +25,7 @@ pub fn write(alloc: Global, procedure: &Procedure) -> Result<Value, NoMemory>
 
 /// The tree of the count of arguments and the statements.
 fn write_items(alloc: Global, procedure: &Procedure) -> Result<Value, NoMemory>
-    ensures { IfOk result (λ v. Spells (program_of procedure.now) (view v)) }
+    ensures { IfOk result (λ v. Spells (procedure_text procedure.now) (view v)) }
 {
     let body = write_block(alloc, &procedure.body)?;
     Ok(Value::Array(vec![in alloc; write_byte(procedure.args), body]?))

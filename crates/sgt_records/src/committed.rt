@@ -1,6 +1,6 @@
 ghost use Rattle.std.specs.Prelude.{◌≡◌, true, IfSome, IfOk, OnOk};
 ghost use Rattle.sgt_model.specs.Numbers.{IsValue};
-ghost use Rattle.sgt_model.specs.Contents.{Key as K, put_in};
+ghost use Rattle.sgt_model.specs.Contents.{Key, put_in};
 ghost use Rattle.sgt_model.specs.Databases.{contents_of, IsByKey};
 ghost use Rattle.sgt_model.specs.StoredValues.{HoldValues};
 ghost use Rattle.std.proofs.Props.{props};
@@ -23,7 +23,7 @@ pub struct Committed {
 impl Committed {
     /// The values of a database.
     pub fn of(alloc: Global, opening: &Database) -> Result<Committed, NoMemory>
-        ensures { IfOk result (λ c. (k : K) → settled_in c.records k ≡ contents_of opening.now k) }
+        ensures { IfOk result (λ c. (k : Key) → settled_in c.records k ≡ contents_of opening.now k) }
     {
         let mut records = BTreeMap::new(alloc);
         for (key, value) in opening.rows() {
@@ -45,7 +45,7 @@ impl Committed {
 
     /// Makes sure that the key has a record.
     pub fn reserve(&mut self, key: Key) -> Result<(), NoMemory>
-        ensures same { (k : K) → settled_in self.new.records k ≡ settled_in self.old.records k }
+        ensures same { (k : Key) → settled_in self.new.records k ≡ settled_in self.old.records k }
         ensures kept { KeepsRecords self.old.records self.new.records }
         ensures ready { OnOk result (has_record self.new.records key ≡ true) }
     {
@@ -59,7 +59,7 @@ impl Committed {
     pub fn put(&mut self, key: Key, value: i64)
         requires ready { has_record self.old.records key ≡ true }
         requires in_range { IsValue value }
-        ensures put { (k : K) → settled_in self.new.records k
+        ensures put { (k : Key) → settled_in self.new.records k
             ≡ put_in (settled_in self.old.records) key value k }
         ensures kept { KeepsRecords self.old.records self.new.records }
     {
@@ -71,7 +71,7 @@ impl Committed {
     /// Puts t's values among the pending writes in their records. This takes no memory.
     pub fn settle(&mut self, writes: &[Write], t: Tid)
         requires pending { ArePending self.old.records writes.now }
-        ensures settled { (k : K) → settled_in self.new.records k
+        ensures settled { (k : Key) → settled_in self.new.records k
             ≡ settled_with t writes.now (settled_in self.old.records) k }
         ensures kept { KeepsRecords self.old.records self.new.records }
     {
@@ -84,7 +84,7 @@ impl Committed {
 
     /// All values, by key.
     pub fn all(&self, alloc: Global) -> Result<Database, NoMemory>
-        ensures values { IfOk result (λ d. (k : K) → contents_of d k ≡ settled_in self.now.records k) }
+        ensures values { IfOk result (λ d. (k : Key) → contents_of d k ≡ settled_in self.now.records k) }
         ensures by_key { IfOk result IsByKey }
     {
         let mut values = Database::empty(alloc);

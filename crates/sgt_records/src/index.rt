@@ -3,7 +3,7 @@ ghost use Rattle.std.specs.Option.{option_or};
 ghost use Rattle.slab.specs.Slab.{HasRoomFor};
 ghost use Rattle.std.proofs.Props.{props};
 ghost use Rattle.sgt_model.specs.Numbers.{IsValue};
-ghost use Rattle.sgt_model.specs.Contents.{Key as K, key_eq};
+ghost use Rattle.sgt_model.specs.Contents.{Key, key_eq};
 ghost use Rattle.sgt_model.specs.Databases.{contents_of, IsByKey};
 ghost use Rattle.sgt_model.specs.Chains.{chain_without, write_last, value_in, writes_in};
 ghost use Rattle.sgt_records.specs.Tops.{top_of, value_of_top};
@@ -32,8 +32,8 @@ pub struct Index {
 impl Index {
     /// The values of a database, with nothing written above them.
     pub fn of(alloc: Global, opening: &Database) -> Result<Index, NoMemory>
-        ensures chain { IfOk result (λ i. (k : K) → key_chain (record_in i.table) i.chains k ≡ []) }
-        ensures settled { IfOk result (λ i. (k : K) → committed_of (record_in i.table) k ≡ contents_of opening.now k) }
+        ensures chain { IfOk result (λ i. (k : Key) → key_chain (record_in i.table) i.chains k ≡ []) }
+        ensures settled { IfOk result (λ i. (k : Key) → committed_of (record_in i.table) k ≡ contents_of opening.now k) }
     {
         let mut table = Table::new(alloc);
         for (key, value) in opening.rows() {
@@ -69,11 +69,11 @@ impl Index {
 
     /// Makes sure that the key has a record, takes room for one more chain, and tells the record's index.
     pub fn reserve(&mut self, key: Key) -> Result<usize, NoMemory>
-        ensures chain { (k : K) → key_chain (record_in self.new.table) self.new.chains k
+        ensures chain { (k : Key) → key_chain (record_in self.new.table) self.new.chains k
             ≡ key_chain (record_in self.old.table) self.old.chains k }
-        ensures settled { (k : K) → committed_of (record_in self.new.table) k ≡ committed_of (record_in self.old.table) k }
+        ensures settled { (k : Key) → committed_of (record_in self.new.table) k ≡ committed_of (record_in self.old.table) k }
         ensures index { IfOk result (λ index. index_in self.new.table key ≡ Some index) }
-        ensures stay { (k : K) (p : ℕ) → index_in self.old.table k ≡ Some p → index_in self.new.table k ≡ Some p }
+        ensures stay { (k : Key) (p : ℕ) → index_in self.old.table k ≡ Some p → index_in self.new.table k ≡ Some p }
         ensures room { OnOk result (HasRoomFor self.new.chains 1) }
     {
         self.chains.reserve(1)?;
@@ -92,10 +92,10 @@ impl Index {
         requires room { writes_in t (key_chain (record_in self.old.table) self.old.chains key) ≡ false
             → length (key_chain (record_in self.old.table) self.old.chains key) < 32 }
         ensures again { result ≡ writes_in t (key_chain (record_in self.old.table) self.old.chains key) }
-        ensures chain { (k : K) → key_chain (record_in self.new.table) self.new.chains k
+        ensures chain { (k : Key) → key_chain (record_in self.new.table) self.new.chains k
             ≡ cond (key_eq key k) (write_last t value (key_chain (record_in self.old.table) self.old.chains k))
             (key_chain (record_in self.old.table) self.old.chains k) }
-        ensures settled { (k : K) → committed_of (record_in self.new.table) k ≡ committed_of (record_in self.old.table) k }
+        ensures settled { (k : Key) → committed_of (record_in self.new.table) k ≡ committed_of (record_in self.old.table) k }
         ensures indices { self.new.table.indices ≡ self.old.table.indices }
     {
         let Record { committed, written } = self.table.at(key, index);
@@ -107,10 +107,10 @@ impl Index {
     /// Takes t's value out of the chain of a key whose record has this index.
     pub fn undo(&mut self, t: Tid, key: Key, index: usize)
         requires index { index_in self.old.table key ≡ Some index }
-        ensures chain { (k : K) → key_chain (record_in self.new.table) self.new.chains k
+        ensures chain { (k : Key) → key_chain (record_in self.new.table) self.new.chains k
             ≡ cond (key_eq key k) (chain_without t (key_chain (record_in self.old.table) self.old.chains k))
             (key_chain (record_in self.old.table) self.old.chains k) }
-        ensures settled { (k : K) → committed_of (record_in self.new.table) k ≡ committed_of (record_in self.old.table) k }
+        ensures settled { (k : Key) → committed_of (record_in self.new.table) k ≡ committed_of (record_in self.old.table) k }
         ensures indices { self.new.table.indices ≡ self.old.table.indices }
     {
         let Record { committed, written } = self.table.at(key, index);
@@ -121,10 +121,10 @@ impl Index {
     /// Takes t's value out of the chain of a key whose record has this index, and makes it the committed one.
     pub fn settle(&mut self, t: Tid, key: Key, index: usize)
         requires index { index_in self.old.table key ≡ Some index }
-        ensures chain { (k : K) → key_chain (record_in self.new.table) self.new.chains k
+        ensures chain { (k : Key) → key_chain (record_in self.new.table) self.new.chains k
             ≡ cond (key_eq key k) (chain_without t (key_chain (record_in self.old.table) self.old.chains k))
             (key_chain (record_in self.old.table) self.old.chains k) }
-        ensures settled { (k : K) → committed_of (record_in self.new.table) k
+        ensures settled { (k : Key) → committed_of (record_in self.new.table) k
             ≡ cond (key_eq key k)
             (option_or (value_in t (key_chain (record_in self.old.table) self.old.chains k)) (committed_of (record_in self.old.table) k))
             (committed_of (record_in self.old.table) k) }
@@ -139,10 +139,10 @@ impl Index {
     /// Takes t's values out of the chains of the keys that it has written.
     pub fn undo_all(&mut self, writes: &[LiveWrite], t: Tid)
         requires indices { TellIndices (index_in self.old.table) writes.now }
-        ensures chain { (k : K) → key_chain (record_in self.new.table) self.new.chains k
+        ensures chain { (k : Key) → key_chain (record_in self.new.table) self.new.chains k
             ≡ cond (is_live t k writes.now) (chain_without t (key_chain (record_in self.old.table) self.old.chains k))
             (key_chain (record_in self.old.table) self.old.chains k) }
-        ensures settled { (k : K) → committed_of (record_in self.new.table) k ≡ committed_of (record_in self.old.table) k }
+        ensures settled { (k : Key) → committed_of (record_in self.new.table) k ≡ committed_of (record_in self.old.table) k }
         ensures indices { self.new.table.indices ≡ self.old.table.indices }
     {
         for write in writes {
@@ -155,10 +155,10 @@ impl Index {
     /// Takes t's values out of the chains of the keys that it has written, and makes them the committed ones.
     pub fn settle_all(&mut self, writes: &[LiveWrite], t: Tid)
         requires indices { TellIndices (index_in self.old.table) writes.now }
-        ensures chain { (k : K) → key_chain (record_in self.new.table) self.new.chains k
+        ensures chain { (k : Key) → key_chain (record_in self.new.table) self.new.chains k
             ≡ cond (is_live t k writes.now) (chain_without t (key_chain (record_in self.old.table) self.old.chains k))
             (key_chain (record_in self.old.table) self.old.chains k) }
-        ensures settled { (k : K) → committed_of (record_in self.new.table) k
+        ensures settled { (k : Key) → committed_of (record_in self.new.table) k
             ≡ cond (is_live t k writes.now)
             (option_or (value_in t (key_chain (record_in self.old.table) self.old.chains k)) (committed_of (record_in self.old.table) k))
             (committed_of (record_in self.old.table) k) }
@@ -173,7 +173,7 @@ impl Index {
 
     /// The committed values, by key.
     pub fn all(&self, alloc: Global) -> Result<Database, NoMemory>
-        ensures values { IfOk result (λ d. (k : K) → contents_of d k ≡ committed_of (record_in self.now.table) k) }
+        ensures values { IfOk result (λ d. (k : Key) → contents_of d k ≡ committed_of (record_in self.now.table) k) }
         ensures by_key { IfOk result IsByKey }
     {
         let mut values = Database::empty(alloc);

@@ -2,7 +2,7 @@ ghost use Rattle.std.specs.Prelude.{◌≡◌, ℕ, ℤ, ◌<◌, false, cond, l
 ghost use Rattle.std.specs.List.{last_or};
 ghost use Rattle.std.specs.Option.{option_or};
 ghost use Rattle.sgt_model.specs.Numbers.{IsValue};
-ghost use Rattle.sgt_model.specs.Contents.{Key as K, key_eq};
+ghost use Rattle.sgt_model.specs.Contents.{Key, key_eq};
 ghost use Rattle.sgt_model.specs.Databases.{contents_of, IsByKey};
 ghost use Rattle.sgt_model.specs.Chains.{chain_without, write_last, value_in, writes_in};
 ghost use Rattle.sgt_model.specs.ChainOrder.{IsFirstIn, IsLastIn};
@@ -27,8 +27,8 @@ pub trait Records: Drop + Send {
 
     /// The records of a database, with no write pending. `NoMemory` where a growth was refused.
     fn build(alloc: Global, opening: &Database) -> Result<Self, NoMemory>
-        ensures chain { IfOk result (λ r. (k : K) → chain r k ≡ []) }
-        ensures settled { IfOk result (λ r. (k : K) → settled r k ≡ contents_of opening.now k) };
+        ensures chain { IfOk result (λ r. (k : Key) → chain r k ≡ []) }
+        ensures settled { IfOk result (λ r. (k : Key) → settled r k ≡ contents_of opening.now k) };
 
     /// What a look at the key finds: the last write that is not undone, committed or not.
     fn top(&self, key: Key) -> Top
@@ -38,8 +38,8 @@ pub trait Records: Drop + Send {
 
     /// Takes the room that the next write of the key needs. `NoMemory` where a growth was refused.
     fn reserve(&mut self, key: Key) -> Result<(), NoMemory>
-        ensures chain { (k : K) → chain self.new k ≡ chain self.old k }
-        ensures settled { (k : K) → settled self.new k ≡ settled self.old k }
+        ensures chain { (k : Key) → chain self.new k ≡ chain self.old k }
+        ensures settled { (k : Key) → settled self.new k ≡ settled self.old k }
         ensures ready { OnOk result (is_ready self.new key) };
 
     /// Writes t's value, from `LEAST` to `MOST`, above all others of the key. It replaces t's earlier one, which nobody
@@ -50,21 +50,21 @@ pub trait Records: Drop + Send {
         requires last { IsLastIn t (chain self.old key) }
         requires room { writes_in t (chain self.old key) ≡ false
             → length (chain self.old key) < 32 }
-        ensures chain { (k : K) → chain self.new k
+        ensures chain { (k : Key) → chain self.new k
             ≡ cond (key_eq key k) (write_last t value (chain self.old k)) (chain self.old k) }
-        ensures settled { (k : K) → settled self.new k ≡ settled self.old k };
+        ensures settled { (k : Key) → settled self.new k ≡ settled self.old k };
 
     /// Makes the values of t, each the first of its chain, the committed ones. This takes no memory.
     fn settle(&mut self, t: Tid)
-        requires first { (k : K) → IsFirstIn t (chain self.old k) }
-        ensures chain { (k : K) → chain self.new k ≡ chain_without t (chain self.old k) }
-        ensures settled { (k : K) → settled self.new k
+        requires first { (k : Key) → IsFirstIn t (chain self.old k) }
+        ensures chain { (k : Key) → chain self.new k ≡ chain_without t (chain self.old k) }
+        ensures settled { (k : Key) → settled self.new k
             ≡ option_or (value_in t (chain self.old k)) (settled self.old k) };
 
     /// Takes the values of t out of every chain. All else stays, also what was written over them. This takes no memory.
     fn undo(&mut self, t: Tid)
-        ensures chain { (k : K) → chain self.new k ≡ chain_without t (chain self.old k) }
-        ensures settled { (k : K) → settled self.new k ≡ settled self.old k };
+        ensures chain { (k : Key) → chain self.new k ≡ chain_without t (chain self.old k) }
+        ensures settled { (k : Key) → settled self.new k ≡ settled self.old k };
 
     /// The committed value of the key, or none.
     fn committed(&self, key: Key) -> Option<i64>
@@ -73,11 +73,11 @@ pub trait Records: Drop + Send {
 
     /// The committed values, by key. `NoMemory` where a growth was refused.
     fn all(&self, alloc: Global) -> Result<Database, NoMemory>
-        ensures values { IfOk result (λ d. (k : K) → contents_of d k ≡ settled self.now k) }
+        ensures values { IfOk result (λ d. (k : Key) → contents_of d k ≡ settled self.now k) }
         ensures by_key { IfOk result IsByKey };
 
     /// In a chain each writer stands once, at most 32 do, and what each wrote is a value.
-    ghost are_chains: { (r : Self) (k : K) → IsChain (chain r k) };
+    ghost are_chains: { (r : Self) (k : Key) → IsChain (chain r k) };
 
     /// The committed values are values.
     ghost hold_values: { (r : Self) → HoldValues (settled r) };

@@ -17,7 +17,7 @@ use Rattle.sgt_model.specs.FallsIn.{FallsIn}
 use Rattle.sgt_model.specs.declared.kind.Kind.{Kind}
 use Rattle.sgt_model.specs.declared.reply.Cause.TheVariants as cause
 use Rattle.sgt_model.specs.Blocks.{Blocks}
-use Rattle.sgt_model.specs.CallEffects.{Undo, AbortsIn, AbortsByCycleIn}
+use Rattle.sgt_model.specs.CallEffects.{Undo, AbortEffect, CycleAbortEffect}
 use Rattle.sgt_model.specs.Soundness.{Sound}
 use Rattle.sgt_model.proofs.Facts.{member_from}
 use Rattle.sgt_model.proofs.Removals.{removes_then}
@@ -132,9 +132,9 @@ undone t why fell items i before after same all falls drops = record {
 
 -- an access that is blocked is rejected, by an abort with that walk
 pub refuses : (t : ℕ) (k : Key) (kind : Kind) (rest walk : List ℕ) (before : State) (r : Reply) (after : State) → walk ≡ t ∷ rest
-    → Blocks before t k kind rest → AbortsIn t (cause.Cycle walk) before r after → AbortsByCycleIn t k kind before r after
+    → Blocks before t k kind rest → AbortEffect t (cause.Cycle walk) before r after → CycleAbortEffect t k kind before r after
 refuses t k kind rest walk before r after is blocks aborts = record {
   rest = rest;
   blocks = blocks;
-  aborts = subst (λ w. AbortsIn t (cause.Cycle w) before r after) is aborts;
+  aborts = subst (λ w. AbortEffect t (cause.Cycle w) before r after) is aborts;
 }

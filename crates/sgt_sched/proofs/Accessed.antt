@@ -175,7 +175,7 @@ module _ {R A G : Type 0} {chain : R → Key → List (ℕ × ℤ)} {settled : R
         accesses = list_is;
         settled = settled_is;
         fates = λ u. refl;
-        starts = refl;
+        start_count = refl;
         left = λ u h. ap left_kept (progress_at-changed t u change before.live h);
       }
 

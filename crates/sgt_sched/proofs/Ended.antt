@@ -92,7 +92,7 @@ module _ {R A G : Type 0} {chain : R → Key → List (ℕ × ℤ)} {settled : R
     accesses = list_is ∙ filter-same _ _ (list before.accesses) (λ (a : ListedAccess). ap not (nat_eq-swap a.by t));
     chain = λ k. chain_is k ∙ filter-same _ _ (chain before.records k) (λ (w : ℕ × ℤ). ap not (nat_eq-swap w.0 t));
     read_from = λ u v. (unread-left t before.read_from u v, λ h. unread-kept t before.read_from u v h.0 h.1 h.2);
-    starts = length-set before.fates t (Some f);
+    start_count = length-set before.fates t (Some f);
     left = λ u g. ap left_kept (progress_at-without t u before.live g);
   }
 

@@ -7,7 +7,7 @@ use Rattle.std.specs.List.{list_any}
 use Rattle.std.proofs.lemmas.Bool.{true≢false, eq-eqb}
 use Rattle.std.proofs.lemmas.List.{length-append}
 use Rattle.sgt_model.specs.declared.limits.Asks.TheVariants.{AtStep, AtCommit}
-use Rattle.sgt_model.specs.declared.limits.Asks.{Asks as When}
+use Rattle.sgt_model.specs.declared.limits.Asks.{Asks}
 use Rattle.sgt_model.specs.declared.event.Event.{Event}
 use Rattle.sgt_model.specs.declared.event.Event.TheVariants.{Start, Step, Commit, Quit}
 use Rattle.sgt_model.specs.declared.limits.Limits.{Limits}
@@ -15,14 +15,14 @@ use Rattle.sgt_model.specs.declared.reply.Fate.{Fate}
 use Rattle.sgt_model.specs.declared.reply.Reply.{Reply}
 use Rattle.sgt_model.specs.declared.reply.Reply.TheVariants as reply
 use Rattle.sgt_model.specs.StartReply.{args_fit, room_reply, taken_reply}
-use Rattle.sgt_model.specs.Traces.{Next, Looks, Puts, Ends, Asks}
+use Rattle.sgt_model.specs.Traces.{Next, Looks, Puts, Ends, Raises}
 use Rattle.sgt_model.specs.Settings.{Rules, takes}
-use Rattle.sgt_model.specs.Syntax.{Program}
+use Rattle.sgt_model.specs.Syntax.{ProcedureText}
 use Rattle.sgt_model.specs.Left.{next_left}
 use Rattle.sgt_model.specs.State.{State}
 use Rattle.sgt_model.specs.Walks.{Member}
 use Rattle.sgt_model.specs.Changes.{Removes}
-use Rattle.sgt_model.specs.CallEffects.{Stays, IfOpen, AbortsIn, StepOn, CommitOn, CallEffect, StartOn, Undo, AskedStepOn, AskedCommitOn}
+use Rattle.sgt_model.specs.CallEffects.{Stays, IfOpen, AbortEffect, StepOn, CommitOn, CallEffect, StartOn, Undo, RaisedStepOn, RaisedCommitOn}
 use Rattle.sgt_sched.specs.Steps.{IsUnended}
 use Rattle.sgt_model.specs.Questions.{is_ending}
 use Rattle.sgt_sched.specs.Endings.{StepEnds, CommitEnds, EndsOne, EndsWhere, Counts, AtItsStep, AtItsCommit, IsFirst}
@@ -33,37 +33,37 @@ quiet r answer X is isnt none = ((λ x. absurd (none x)), (λ _. ap is_ending is
 loud : (r answer : Reply) (X : Type 0) → r ≡ answer → is_ending answer ≡ true → X → EndsWhere r X
 loud r answer X is so x = ((λ _. ap is_ending is ∙ so), (λ none. absurd (none x)))
 
-asked_step_agrees : (asks : When) (t code : ℕ) (c : State) (r : Reply) (after : State) → AskedStepOn asks t code c r after
+asked_step_agrees : (asks : Asks) (t code : ℕ) (c : State) (r : Reply) (after : State) → RaisedStepOn asks t code c r after
     → EndsWhere r (AtItsStep asks)
 asked_step_agrees AtStep t code c r after x = loud r _ _ x.reply refl tt
 asked_step_agrees AtCommit t code c r after x = quiet r _ _ x.reply refl (λ e. e)
 
-asked_commit_agrees : (asks : When) (t code : ℕ) (c : State) (r : Reply) (after : State) → AskedCommitOn asks t code c r after
+asked_commit_agrees : (asks : Asks) (t code : ℕ) (c : State) (r : Reply) (after : State) → RaisedCommitOn asks t code c r after
     → EndsWhere r (AtItsCommit asks × IsFirst t c)
 asked_commit_agrees AtStep t code c r after x = quiet r _ _ x.reply refl (λ e. e.0)
 asked_commit_agrees AtCommit t code c r after (inl x) = quiet r _ _ x.stays.reply refl (λ free. free.1 x.on x.least.pair)
 asked_commit_agrees AtCommit t code c r after (inr x) = loud r _ _ x.reply refl (tt, x.first)
 
-step_agrees : (asks : When) (t : ℕ) (n : Next) (c : State) (r : Reply) (after : State) → StepOn asks t n c r after
+step_agrees : (asks : Asks) (t : ℕ) (n : Next) (c : State) (r : Reply) (after : State) → StepOn asks t n c r after
     → EndsWhere r (StepEnds asks t n c)
 step_agrees asks t (Looks k) c r after (inl x) = loud r _ _ x.aborts.reply refl (x.rest, x.blocks)
 step_agrees asks t (Looks k) c r after (inr x) = quiet r _ _ x.reply refl (λ b. x.free b.0 b.1)
 step_agrees asks t (Puts k v) c r after (inl x) = loud r _ _ x.aborts.reply refl (x.rest, x.blocks)
 step_agrees asks t (Puts k v) c r after (inr x) = quiet r _ _ x.reply refl (λ b. x.free b.0 b.1)
 step_agrees asks t (Ends answers) c r after x = quiet r _ _ x.reply refl (λ e. e)
-step_agrees asks t (Asks code) c r after x = asked_step_agrees asks t code c r after x
+step_agrees asks t (Raises code) c r after x = asked_step_agrees asks t code c r after x
 
-commit_agrees : (asks : When) (t : ℕ) (n : Next) (c : State) (r : Reply) (after : State) → CommitOn asks t n c r after
+commit_agrees : (asks : Asks) (t : ℕ) (n : Next) (c : State) (r : Reply) (after : State) → CommitOn asks t n c r after
     → EndsWhere r (CommitEnds asks t n c)
 commit_agrees asks t (Ends answers) c r after (inl x) = quiet r _ _ x.stays.reply refl (λ free. free x.on x.least.pair)
 commit_agrees asks t (Ends answers) c r after (inr x) = loud r _ _ x.reply refl x.first
 commit_agrees asks t (Looks k) c r after x = quiet r _ _ x.reply refl (λ e. e)
 commit_agrees asks t (Puts k v) c r after x = quiet r _ _ x.reply refl (λ e. e)
-commit_agrees asks t (Asks code) c r after x = asked_commit_agrees asks t code c r after x
+commit_agrees asks t (Raises code) c r after x = asked_commit_agrees asks t code c r after x
 
 -- of one that was started and has not ended, by what is done to it; else nothing ends
 open_agrees : (t : ℕ) (c : State) (r : Reply) (after : State) (X E : Type 0) → (X → EndsWhere r E) → (b : Bool) (o : Option Fate)
-    → nat_lt t c.starts ≡ b → c.fates t ≡ o → IfOpen b o c r after X → EndsWhere r (IsUnended c t × E)
+    → nat_lt t c.start_count ≡ b → c.fates t ≡ o → IfOpen b o c r after X → EndsWhere r (IsUnended c t × E)
 open_agrees t c r after X E agree false o e f x = quiet r _ _ x.reply refl (λ u. true≢false (sym u.0.begun ∙ e))
 open_agrees t c r after X E agree true (Some fate) e f x = quiet r _ _ x.reply refl
     (λ u. let q : Some fate ≡ None = sym f ∙ u.0.unended in cc)
@@ -92,13 +92,13 @@ start_quiet limits begun living (Some count) args = fits (args_fit count args) w
 pub replies_agree : (rules : Rules) (event : Event) (c : State) (r : Reply) (after : State) → CallEffect rules event c r after
     → EndsWhere r (EndsOne rules.limits.asks event c)
 replies_agree rules (Start p args) c r after x = quiet r _ _ x.reply
-    (start_quiet rules.limits c.starts (length c.live) (takes rules p) args) (λ e. e)
+    (start_quiet rules.limits c.start_count (length c.live) (takes rules p) args) (λ e. e)
 replies_agree rules (Step t) c r after x = open_agrees t c r after _ (StepEnds rules.limits.asks t (next_left (c.left t)) c)
-    (step_agrees rules.limits.asks t (next_left (c.left t)) c r after) (nat_lt t c.starts) (c.fates t) refl refl x
+    (step_agrees rules.limits.asks t (next_left (c.left t)) c r after) (nat_lt t c.start_count) (c.fates t) refl refl x
 replies_agree rules (Commit t) c r after x = open_agrees t c r after _ (CommitEnds rules.limits.asks t (next_left (c.left t)) c)
-    (commit_agrees rules.limits.asks t (next_left (c.left t)) c r after) (nat_lt t c.starts) (c.fates t) refl refl x
+    (commit_agrees rules.limits.asks t (next_left (c.left t)) c r after) (nat_lt t c.start_count) (c.fates t) refl refl x
 replies_agree rules (Quit t) c r after x =
-    let a = open_agrees t c r after _ (Unit {0}) (λ y. loud r _ _ (y.reply) refl tt) (nat_lt t c.starts) (c.fates t) refl refl x in
+    let a = open_agrees t c r after _ (Unit {0}) (λ y. loud r _ _ (y.reply) refl tt) (nat_lt t c.start_count) (c.fates t) refl refl x in
     ((λ u. a.0 (u, tt)), (λ none. a.1 (λ u. none u.0)))
 
 -- a test of whether an event ends a live transaction, of an event that is this one: it tells the reply
@@ -116,7 +116,7 @@ pub never : {X : Type 0} → (X → ⊥) → IsTrue false ↔ X
 never none = ((λ e. absurd (true≢false (sym e))), (λ x. absurd (none x)))
 
 -- a test of whether a step, or a commit, ends a live transaction, by what its procedure does next
-module _ (asks : When) (t : ℕ) (c : State) (n : Next) (next : n ≡ next_left (c.left t)) (live : IsUnended c t) (b : Bool) where
+module _ (asks : Asks) (t : ℕ) (c : State) (n : Next) (next : n ≡ next_left (c.left t)) (live : IsUnended c t) (b : Bool) where
   pub step_ends_by : IsTrue b ↔ StepEnds asks t n c → IsTrue b ↔ EndsOne asks (Step t) c
   step_ends_by exact = (
     (λ e. (live, subst (λ m. StepEnds asks t m c) next (exact.0 e))),
@@ -176,49 +176,49 @@ undo_count : (t : ℕ) (why : _) (fell : List ℕ) (r : Reply) (before after : S
 undo_count t why fell r before after m x = removed_count _ t r before after m
     (ap (λ b. b || list_any (λ v. nat_eq v t) fell) (eq-eqb t t refl)) x.drops.removes
 
-abort_count : (t : ℕ) (why : _) (r : Reply) (before after : State) → Member t before.live → AbortsIn t why before r after
+abort_count : (t : ℕ) (why : _) (r : Reply) (before after : State) → Member t before.live → AbortEffect t why before r after
     → Counts r before after
 abort_count t why r before after m x = undo_count t why x.fell r before after m x.undo
 
-asked_step_count : (asks : When) (t code : ℕ) (before : State) (r : Reply) (after : State) → Member t before.live
-    → AskedStepOn asks t code before r after → Counts r before after
+asked_step_count : (asks : Asks) (t code : ℕ) (before : State) (r : Reply) (after : State) → Member t before.live
+    → RaisedStepOn asks t code before r after → Counts r before after
 asked_step_count AtStep t code before r after m x = abort_count t _ r before after m x
 asked_step_count AtCommit t code before r after m x = stays_count _ r before after refl x
 
-step_count : (asks : When) (t : ℕ) (n : Next) (before : State) (r : Reply) (after : State) → Member t before.live
+step_count : (asks : Asks) (t : ℕ) (n : Next) (before : State) (r : Reply) (after : State) → Member t before.live
     → StepOn asks t n before r after → Counts r before after
 step_count asks t (Looks k) before r after m (inl x) = abort_count t _ r before after m x.aborts
 step_count asks t (Looks k) before r after m (inr x) = same_count r _ before after x.reply refl x.looks.notes.live
 step_count asks t (Puts k v) before r after m (inl x) = abort_count t _ r before after m x.aborts
 step_count asks t (Puts k v) before r after m (inr x) = same_count r _ before after x.reply refl x.stores.notes.live
 step_count asks t (Ends answers) before r after m x = stays_count _ r before after refl x
-step_count asks t (Asks code) before r after m x = asked_step_count asks t code before r after m x
+step_count asks t (Raises code) before r after m x = asked_step_count asks t code before r after m x
 
-asked_commit_count : (asks : When) (t code : ℕ) (before : State) (r : Reply) (after : State) → Member t before.live
-    → AskedCommitOn asks t code before r after → Counts r before after
+asked_commit_count : (asks : Asks) (t code : ℕ) (before : State) (r : Reply) (after : State) → Member t before.live
+    → RaisedCommitOn asks t code before r after → Counts r before after
 asked_commit_count AtStep t code before r after m x = stays_count _ r before after refl x
 asked_commit_count AtCommit t code before r after m (inl x) = stays_count _ r before after refl x.stays
 asked_commit_count AtCommit t code before r after m (inr x) = undo_count t _ x.fell r before after m x.undo
 
-commit_count : (asks : When) (t : ℕ) (n : Next) (before : State) (r : Reply) (after : State) → Member t before.live
+commit_count : (asks : Asks) (t : ℕ) (n : Next) (before : State) (r : Reply) (after : State) → Member t before.live
     → CommitOn asks t n before r after → Counts r before after
 commit_count asks t (Ends answers) before r after m (inl x) = stays_count _ r before after refl x.stays
 commit_count asks t (Ends answers) before r after m (inr x) = removed_count _ t r before after m (eq-eqb t t refl) x.settles.removes
 commit_count asks t (Looks k) before r after m x = stays_count _ r before after refl x
 commit_count asks t (Puts k v) before r after m x = stays_count _ r before after refl x
-commit_count asks t (Asks code) before r after m x = asked_commit_count asks t code before r after m x
+commit_count asks t (Raises code) before r after m x = asked_commit_count asks t code before r after m x
 
 open_count : (t : ℕ) (before : State) (r : Reply) (after : State) (X : Type 0) → (IsUnended before t → X → Counts r before after)
-    → (b : Bool) (o : Option Fate) → nat_lt t before.starts ≡ b → before.fates t ≡ o → IfOpen b o before r after X → Counts r before after
+    → (b : Bool) (o : Option Fate) → nat_lt t before.start_count ≡ b → before.fates t ≡ o → IfOpen b o before r after X → Counts r before after
 open_count t before r after X count false o e f x = stays_count _ r before after refl x
 open_count t before r after X count true (Some fate) e f x = stays_count _ r before after refl x
 open_count t before r after X count true None e f x = count (record { begun = e; unended = f }) x
 
-start_count : (p : Option Program) (args : List _) (before : State) (r : Reply) (after : State) → is_ending r ≡ false
+start_count : (p : Option ProcedureText) (args : List _) (before : State) (r : Reply) (after : State) → is_ending r ≡ false
     → StartOn p args before r after → Counts r before after
 start_count p args before (reply.Started t) after isnt x = record {
   most = subst (λ l. length l ≤ length before.live + 1) (sym x.live)
-      (omega (arith, length-append before.live (before.starts ∷ [])));
+      (omega (arith, length-append before.live (before.start_count ∷ [])));
   fewer = λ e. absurd (true≢false (sym e));
 }
 start_count p args before r after isnt x = same_count r r before after refl isnt (ap (λ (c : State). c.live) x)
@@ -227,12 +227,12 @@ start_count p args before r after isnt x = same_count r r before after refl isnt
 pub call_counts : (rules : Rules) (event : Event) (before : State) (r : Reply) (after : State)
     → ((t : ℕ) → IsUnended before t → Member t before.live) → CallEffect rules event before r after → Counts r before after
 call_counts rules (Start p args) before r after live x = start_count (rules.procedures p) args before r after
-    (ap is_ending x.reply ∙ start_quiet rules.limits before.starts (length before.live) (takes rules p) args) x.does
+    (ap is_ending x.reply ∙ start_quiet rules.limits before.start_count (length before.live) (takes rules p) args) x.does
 call_counts rules (Step t) before r after live x = open_count t before r after _
-    (λ u. step_count rules.limits.asks t (next_left (before.left t)) before r after (live t u)) (nat_lt t before.starts) (before.fates t)
+    (λ u. step_count rules.limits.asks t (next_left (before.left t)) before r after (live t u)) (nat_lt t before.start_count) (before.fates t)
     refl refl x
 call_counts rules (Commit t) before r after live x = open_count t before r after _
-    (λ u. commit_count rules.limits.asks t (next_left (before.left t)) before r after (live t u)) (nat_lt t before.starts) (before.fates t)
+    (λ u. commit_count rules.limits.asks t (next_left (before.left t)) before r after (live t u)) (nat_lt t before.start_count) (before.fates t)
     refl refl x
 call_counts rules (Quit t) before r after live x = open_count t before r after _ (λ u. abort_count t _ r before after (live t u))
-    (nat_lt t before.starts) (before.fates t) refl refl x
+    (nat_lt t before.start_count) (before.fates t) refl refl x

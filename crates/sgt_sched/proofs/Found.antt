@@ -5,7 +5,7 @@ use Rattle.std.proofs.lemmas.Option.{slice_get_read}
 use Rattle.std.proofs.lemmas.Bool.{lt-ltb, ltb-true}
 use Rattle.sgt_model.specs.Contents.{Key}
 use Rattle.sgt_model.specs.AccessList.{ListedAccess}
-use Rattle.sgt_model.specs.Syntax.{Program}
+use Rattle.sgt_model.specs.Syntax.{ProcedureText}
 use Rattle.sgt_sched.specs.LiveProgress.{Progress}
 use Rattle.sgt_sched.specs.LiveList.{has_number, progress_at}
 use Rattle.sgt_sched.specs.SchedulerView.{SchedulerView, IsAlong, IsKept, state_of}
@@ -32,7 +32,7 @@ module _ {R A G : Type 0} {chain : R → Key → List (ℕ × ℤ)} {settled : R
   no_fate node = let u = (kept.unended t).0 node in slice_get_read p.fates _ t None refl u.0 (sym u.1)
 
   -- and goes along its procedure
-  pub goes_along : (programs : List Program) (r : ℕ × Progress) → nodes p.graph t ≡ true → programs ≡ p.procedures
+  pub goes_along : (programs : List ProcedureText) (r : ℕ × Progress) → nodes p.graph t ≡ true → programs ≡ p.procedures
       → r ≡ (t, progress_at p.live t) → IsAlong programs r.1
   goes_along programs r node same is = subst₂ IsAlong (sym same) (ap (λ (x : ℕ × Progress). x.1) (sym is)) (kept.along t node)
 

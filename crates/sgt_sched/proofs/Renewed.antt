@@ -90,7 +90,7 @@ module _ {R A G : Type 0} {chain : R → Key → List (ℕ × ℤ)} {settled : R
     settled = λ k. refl;
     read_from = no_reads _ (λ u t r. no_node u (kept.sound.read_nodes u t r).0);
     fates = λ t. refl;
-    starts = refl;
+    start_count = refl;
   }
 
   -- the same with other records, in which no write is pending
@@ -138,5 +138,5 @@ module _ {R A G : Type 0} {chain : R → Key → List (ℕ × ℤ)} {settled : R
       settled = is;
       read_from = renewed_new.read_from;
       fates = renewed_new.fates;
-      starts = renewed_new.starts;
+      start_count = renewed_new.start_count;
     }

@@ -9,7 +9,7 @@ use Rattle.sgt_model.specs.Walks.{Member, AtMost, Rising}
 use Rattle.sgt_model.specs.AccessList.{ListedAccess}
 use Rattle.sgt_sched.specs.LiveProgress.{Progress, left_kept}
 use Rattle.sgt_model.specs.declared.limits.Limits.{Limits}
-use Rattle.sgt_model.specs.Syntax.{Program}
+use Rattle.sgt_model.specs.Syntax.{ProcedureText}
 use Rattle.sgt_model.specs.Settings.{rules_from, takes}
 use Rattle.sgt_model.specs.LiveLeft.{left_if}
 use Rattle.sgt_model.specs.declared.reply.Reply.TheVariants as reply
@@ -24,7 +24,7 @@ use Rattle.sgt_sched.specs.SchedulerView.{SchedulerView, fate_at, rules_of, stat
 use Rattle.sgt_sched.proofs.Lists.{numbers-added, progress_at-added, progress_at-new, fate_at-added, fate_at-past, rising-added}
 
 -- a start that is let in names a procedure
-named : (programs : List Program) (procedure : ℕ) (limits : Limits) (begun living t : ℕ) (args : List ℤ)
+named : (programs : List ProcedureText) (procedure : ℕ) (limits : Limits) (begun living t : ℕ) (args : List ℤ)
     → reply.Started t ≡ taken_reply limits begun living (takes (rules_from programs limits) procedure) args → procedure < length programs
 named [] zero limits begun living t args e = absurd (cc)
 named [] (suc n) limits begun living t args e = absurd (cc)
@@ -34,11 +34,11 @@ named (p ∷ rest) (suc n) limits begun living t args e = let r = named rest n l
 -- the same, by the parts and their state
 pub is_named : {R A G : Type 0} (p : SchedulerView R A G) (c : State) (procedure t : ℕ) (args : List ℤ)
     → reply.Started t ≡ start_answer (rules_of p) c procedure args → procedure < length p.procedures
-is_named p c procedure t args is = named p.procedures procedure p.limits c.starts (length c.live) t args is
+is_named p c procedure t args is = named p.procedures procedure p.limits c.start_count (length c.live) t args is
 
 module _ {R A G : Type 0} {chain : R → Key → List (ℕ × ℤ)} {settled : R → Key → Option ℤ} {list : A → List ListedAccess}
     {nodes : G → ℕ → Bool} {pairs : G → ℕ → ℕ → Bool} {before : SchedulerView R A G} (kept : IsKept chain settled list nodes pairs before)
-    (procedure : ℕ) (program : Program) (args : List ℤ) (named : slice_get before.procedures procedure ≡ Some program) (graph : G)
+    (procedure : ℕ) (program : ProcedureText) (args : List ℤ) (named : slice_get before.procedures procedure ≡ Some program) (graph : G)
     (nodes_are : (u : ℕ) → nodes graph u ≡ (nodes before.graph u || nat_eq u (length before.fates)))
     (pairs_are : (u v : ℕ) → pairs graph u v ≡ pairs before.graph u v) where
   -- the parts afterwards
@@ -60,9 +60,9 @@ module _ {R A G : Type 0} {chain : R → Key → List (ℕ × ℤ)} {settled : R
       ((kept.sound.listed (length before.fates)).1 m)
 
   -- the state starts it
-  pub starts : Starts (left_if (slice_get before.procedures procedure) args) (state_of chain settled list nodes pairs before)
+  pub start_count : Starts (left_if (slice_get before.procedures procedure) args) (state_of chain settled list nodes pairs before)
       (state_of chain settled list nodes pairs after_start)
-  starts = record {
+  start_count = record {
     live = numbers-added before.live (length before.fates) (started procedure program args);
     nodes = nodes_are;
     pairs = pairs_are;
@@ -71,7 +71,7 @@ module _ {R A G : Type 0} {chain : R → Key → List (ℕ × ℤ)} {settled : R
     settled = λ k. refl;
     read_from = λ u v. ((λ h. h), (λ h. h));
     fates = fate_at-added before.fates;
-    starts = length-append before.fates (None ∷ []);
+    start_count = length-append before.fates (None ∷ []);
     left = λ u h. ap left_kept (progress_at-added before.live (length before.fates) u (started procedure program args) h);
     own_left = ap left_kept (progress_at-new before.live (length before.fates) (started procedure program args) not_live)
         ∙ sym (ap (λ p. left_if p args) named);
@@ -84,8 +84,8 @@ module _ {R A G : Type 0} {chain : R → Key → List (ℕ × ℤ)} {settled : R
     in_range = kept.in_range;
     begun = omega (arith, length-append before.fates (None ∷ []));
     sound = sound_starts before.limits.live _ _ kept.sound (left_if (slice_get before.procedures procedure) args)
-        (few before.live room) starts;
-    rising = subst Rising (sym starts.live) (rising-added (length before.fates) (numbers before.live) kept.rising
+        (few before.live room) start_count;
+    rising = subst Rising (sym start_count.live) (rising-added (length before.fates) (numbers before.live) kept.rising
         (λ u m. kept.sound.begun u ((kept.sound.listed u).1 m)));
     unended = λ u. (
       (λ h. elim (or_cases (nodes before.graph u) (nat_eq u (length before.fates)) (sym (nodes_are u) ∙ h))
@@ -142,7 +142,7 @@ module _ {R A G : Type 0} {chain : R → Key → List (ℕ × ℤ)} {settled : R
 
 module _ {R A G : Type 0} {chain : R → Key → List (ℕ × ℤ)} {settled : R → Key → Option ℤ} {list : A → List ListedAccess}
     {nodes : G → ℕ → Bool} {pairs : G → ℕ → ℕ → Bool} {before : SchedulerView R A G} (kept : IsKept chain settled list nodes pairs before)
-    (procedure : ℕ) (program : Program) (args : List ℤ) (t : ℕ) (next : t ≡ length before.fates) where
+    (procedure : ℕ) (program : ProcedureText) (args : List ℤ) (t : ℕ) (next : t ≡ length before.fates) where
   -- the next number is no node
   pub start_new : nodes before.graph t ≡ false
   start_new = false_from_ne_true (nodes before.graph t)
@@ -190,7 +190,7 @@ module _ {R A G : Type 0} {chain : R → Key → List (ℕ × ℤ)} {settled : R
       (state_of chain settled list nodes pairs p)) same (
         kept_start kept procedure program args named graph nodes_now pairs_are
             (subst (λ n. n < before.limits.live) (length-map before.live _) room) more,
-        starts kept procedure program args named graph
+        start_count kept procedure program args named graph
             nodes_now pairs_are,
       ) where
         nodes_now : (u : ℕ) → nodes graph u ≡ (nodes before.graph u || nat_eq u (length before.fates))

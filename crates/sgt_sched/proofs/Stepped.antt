@@ -6,7 +6,7 @@ use Rattle.sgt_records.specs.declared.records.Records.{Ghosts as RecordsGhosts}
 use Rattle.sgt_access.specs.declared.accesses.Accesses.{Ghosts as AccessesGhosts}
 use Rattle.sgt_graph.specs.declared.graph.Graph.{Ghosts as GraphGhosts}
 use Rattle.sgt_model.specs.declared.errors.NoMemory.{NoMemory}
-use Rattle.sgt_model.specs.declared.limits.Asks.{Asks as When}
+use Rattle.sgt_model.specs.declared.limits.Asks.{Asks}
 use Rattle.sgt_model.specs.declared.event.Event.{Event}
 use Rattle.sgt_model.specs.declared.reply.Fate.{Fate}
 use Rattle.sgt_model.specs.declared.reply.Reply.{Reply}
@@ -38,14 +38,14 @@ not_live true (Some f) before r X told = record { reply = told; same = refl }
 not_live true None before r X told = absurd told
 
 -- a step, by what comes next
-pub steps_on : (asks : When) (t : ℕ) (before : State) (r : Reply) (after : State) (n : Next) → nat_lt t before.starts ≡ true
+pub steps_on : (asks : Asks) (t : ℕ) (before : State) (r : Reply) (after : State) (n : Next) → nat_lt t before.start_count ≡ true
     → before.fates t ≡ None
     → n ≡ next_left (before.left t) → StepOn asks t n before r after → StepEffect asks t before r after
 steps_on asks t before r after n begun none next done = if_unended _ _ before r after _ begun none
     (subst (λ m. StepOn asks t m before r after) next done)
 
 -- a commit, by what comes next
-pub commits_on : (asks : When) (t : ℕ) (before : State) (r : Reply) (after : State) (n : Next) → nat_lt t before.starts ≡ true
+pub commits_on : (asks : Asks) (t : ℕ) (before : State) (r : Reply) (after : State) (n : Next) → nat_lt t before.start_count ≡ true
     → before.fates t ≡ None
     → n ≡ next_left (before.left t) → CommitOn asks t n before r after → CommitEffect asks t before r after
 commits_on asks t before r after n begun none next done = if_unended _ _ before r after _ begun none

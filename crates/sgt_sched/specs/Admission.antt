@@ -10,8 +10,8 @@ use Rattle.sgt_sched.specs.Briefs.{Unplaced}
 
 -- t is the next number, and the limits have room for it
 pub record HasRoom (limits : Limits) (c : State) (t : ℕ) : Type 0 where
-  pub next : t ≡ c.starts
-  pub begins : c.starts < limits.begins
+  pub next : t ≡ c.start_count
+  pub begins : c.start_count < limits.begins
   pub live : length c.live < limits.live
 
 -- with this number, for which there is room; or the start is answered so, and does nothing

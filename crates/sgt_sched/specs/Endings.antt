@@ -1,7 +1,7 @@
 -- How transactions end: which events end one, and what the end of one does to the state.
 use Rattle.std.specs.Prelude.{◌≡◌, ℕ, ◌+◌, ◌≤◌, true, false, cond, nat_eq, List, length, Some}
 use Rattle.sgt_model.specs.declared.limits.Asks.TheVariants.{AtStep, AtCommit}
-use Rattle.sgt_model.specs.declared.limits.Asks.{Asks as When}
+use Rattle.sgt_model.specs.declared.limits.Asks.{Asks}
 use Rattle.sgt_model.specs.declared.event.Event.{Event}
 use Rattle.sgt_model.specs.declared.event.Event.TheVariants.{Start, Step, Commit, Quit}
 use Rattle.sgt_model.specs.declared.kind.Kind.{Kind}
@@ -10,13 +10,13 @@ use Rattle.sgt_model.specs.declared.reply.Cause.TheVariants as cause
 use Rattle.sgt_model.specs.declared.reply.Fate.{Fate}
 use Rattle.sgt_model.specs.declared.reply.Reply.{Reply}
 use Rattle.sgt_model.specs.Contents.{Key}
-use Rattle.sgt_model.specs.Traces.{Next, Looks, Puts, Ends, Asks}
+use Rattle.sgt_model.specs.Traces.{Next, Looks, Puts, Ends, Raises}
 use Rattle.sgt_model.specs.Left.{next_left}
 use Rattle.sgt_model.specs.Questions.{is_ending}
 use Rattle.sgt_model.specs.State.{State}
 use Rattle.sgt_model.specs.Blocks.{Blocks}
 use Rattle.sgt_model.specs.Changes.{Removes}
-use Rattle.sgt_model.specs.CallEffects.{AbortsIn, CallEffect}
+use Rattle.sgt_model.specs.CallEffects.{AbortEffect, CallEffect}
 use Rattle.sgt_model.specs.Settings.{Rules}
 use Rattle.sgt_model.specs.Walks.{Member}
 use Rattle.sgt_cycle.specs.Walk.{IsWalk}
@@ -30,19 +30,19 @@ pub record EndsAborted (t : ℕ) (fate : Fate) (before after : State) : Type 0 w
 
 -- t is aborted, as a walk leads from it to one of these
 abbrev pub AbortsByWalk : ℕ → List ℕ → State → Reply → State → Type 0
-AbortsByWalk t targets before r after = (walk : List ℕ) × IsWalk before.pairs t targets walk × AbortsIn t (cause.Cycle walk) before r after
+AbortsByWalk t targets before r after = (walk : List ℕ) × IsWalk before.pairs t targets walk × AbortEffect t (cause.Cycle walk) before r after
 
 -- some walk blocks the access
 abbrev pub IsBlocked : State → ℕ → Key → Kind → Type 0
 IsBlocked c t k kind = (rest : List ℕ) × Blocks c t k kind rest
 
 -- an ask is answered at the step
-abbrev pub AtItsStep : When → Type 0
+abbrev pub AtItsStep : Asks → Type 0
 AtItsStep AtStep = Unit {0}
 AtItsStep AtCommit = ⊥
 
 -- an ask is answered at the commit
-abbrev pub AtItsCommit : When → Type 0
+abbrev pub AtItsCommit : Asks → Type 0
 AtItsCommit AtStep = ⊥
 AtItsCommit AtCommit = Unit {0}
 
@@ -52,22 +52,22 @@ IsFirst t c = (u : ℕ) → c.pairs u t ≡ true → ⊥
 
 -- a step ends t, which is live, by what its procedure does next: it asks, and asks are answered at the step, or it wants an
 -- access that is blocked
-abbrev pub StepEnds : When → ℕ → Next → State → Type 0
+abbrev pub StepEnds : Asks → ℕ → Next → State → Type 0
 StepEnds asks t (Looks k) c = IsBlocked c t k Look
 StepEnds asks t (Puts k v) c = IsBlocked c t k Store
 StepEnds asks t (Ends answers) c = ⊥
-StepEnds asks t (Asks code) c = AtItsStep asks
+StepEnds asks t (Raises code) c = AtItsStep asks
 
 -- a commit ends t, which is live, by what its procedure does next: t has no predecessor, and its procedure is at its end, or it
 -- asks, and asks are answered at the commit
-abbrev pub CommitEnds : When → ℕ → Next → State → Type 0
+abbrev pub CommitEnds : Asks → ℕ → Next → State → Type 0
 CommitEnds asks t (Looks k) c = ⊥
 CommitEnds asks t (Puts k v) c = ⊥
 CommitEnds asks t (Ends answers) c = IsFirst t c
-CommitEnds asks t (Asks code) c = AtItsCommit asks × IsFirst t c
+CommitEnds asks t (Raises code) c = AtItsCommit asks × IsFirst t c
 
 -- the event ends a live transaction, where asks are answered then
-abbrev pub EndsOne : When → Event → State → Type 0
+abbrev pub EndsOne : Asks → Event → State → Type 0
 EndsOne asks (Start p args) c = ⊥
 EndsOne asks (Step t) c = IsUnended c t × StepEnds asks t (next_left (c.left t)) c
 EndsOne asks (Commit t) c = IsUnended c t × CommitEnds asks t (next_left (c.left t)) c

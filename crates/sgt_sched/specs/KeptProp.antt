@@ -8,9 +8,9 @@ use Rattle.sgt_model.proofs.OneReply.{rising_below, rising_rest}
 use Rattle.sgt_model.specs.declared.limits.Limits.{Limits}
 use Rattle.sgt_model.specs.declared.reply.Fate.{Fate}
 use Rattle.sgt_model.specs.Bounds.{AreInRange}
-use Rattle.sgt_model.specs.Codes.{coded_program}
+use Rattle.sgt_model.specs.Codes.{coded_procedure}
 use Rattle.sgt_model.specs.Contents.{Key}
-use Rattle.sgt_model.specs.Syntax.{Program}
+use Rattle.sgt_model.specs.Syntax.{ProcedureText}
 use Rattle.sgt_model.specs.Walks.{Rising, Member}
 use Rattle.sgt_model.specs.AccessList.{ListedAccess}
 use Rattle.sgt_model.specs.ChainOrder.{EachAfter, InOrder}
@@ -39,8 +39,8 @@ range_prop limits = Prim.hlevel props
 fate_code : Coded (Option Fate)
 fate_code = Prim.hlevel codes
 
-program_code : Coded (Option Program)
-program_code = Prim.hlevel (codes, coded_program)
+procedure_code : Coded (Option ProcedureText)
+procedure_code = Prim.hlevel (codes, coded_procedure)
 
 Rising-prop : (l : List ℕ) → IsProp (Rising l)
 Rising-prop [] = Unit-prop
@@ -90,5 +90,5 @@ module _ {R A G : Type 0} {chain : R → Key → List (ℕ × ℤ)} {settled : R
       (λ h. ×_prop (lt_prop _ _) (Coded-set fate_code _ _) ((a.unended t).0 h) ((b.unended t).0 h) i),
       (λ h. bool_prop _ _ ((a.unended t).1 h) ((b.unended t).1 h) i),
     );
-    along = λ t h. Coded-set program_code _ _ (a.along t h) (b.along t h) i;
+    along = λ t h. Coded-set procedure_code _ _ (a.along t h) (b.along t h) i;
   }

@@ -1,6 +1,6 @@
 -- The live transactions with how far each has come, as a list.
 use Rattle.std.specs.Prelude.{ℕ, ℤ, Bool, not, cond, nat_eq, List, [], ◌∷◌, map, filter, Option}
-use Rattle.sgt_model.specs.Syntax.{Program, empty}
+use Rattle.sgt_model.specs.Syntax.{ProcedureText, empty}
 use Rattle.sgt_model.specs.Left.{left_at_start, after_look, after_store}
 use Rattle.sgt_sched.specs.LiveProgress.{Progress}
 
@@ -13,7 +13,7 @@ abbrev pub has_number : ℕ → ℕ × Progress → Bool
 has_number t r = nat_eq r.0 t
 
 -- the progress of a procedure that was just started
-abbrev pub started : ℕ → Program → List ℤ → Progress
+abbrev pub started : ℕ → ProcedureText → List ℤ → Progress
 started procedure program args = record { procedure = procedure; cursor = (program, left_at_start program args) }
 
 -- how far t has come

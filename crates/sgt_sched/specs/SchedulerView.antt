@@ -4,7 +4,7 @@ use Rattle.sgt_model.specs.declared.limits.Limits.{Limits}
 use Rattle.sgt_model.specs.declared.reply.Fate.{Fate}
 use Rattle.sgt_model.specs.Bounds.{AreInRange}
 use Rattle.sgt_model.specs.Contents.{Key}
-use Rattle.sgt_model.specs.Syntax.{Program}
+use Rattle.sgt_model.specs.Syntax.{ProcedureText}
 use Rattle.sgt_model.specs.Settings.{Rules, rules_from}
 use Rattle.sgt_model.specs.Walks.{Rising}
 use Rattle.sgt_model.specs.AccessList.{ListedAccess}
@@ -16,7 +16,7 @@ use Rattle.sgt_sched.specs.LiveList.{numbers, progress_at}
 -- the procedures and limits, the three layers, the live transactions with their progress, who read from whom (source and
 -- reader), and of each started transaction how it ended, if it did
 pub record SchedulerView (R A G : Type 0) : Type 0 where
-  pub procedures : List Program
+  pub procedures : List ProcedureText
   pub limits : Limits
   pub records : R
   pub accesses : A
@@ -26,7 +26,7 @@ pub record SchedulerView (R A G : Type 0) : Type 0 where
   pub fates : List (Option Fate)
 
 -- of these parts
-abbrev pub view : {R A G : Type 0} → List Program → Limits → R → A → G → List (ℕ × Progress) → List (ℕ × ℕ) → List (Option Fate)
+abbrev pub view : {R A G : Type 0} → List ProcedureText → Limits → R → A → G → List (ℕ × Progress) → List (ℕ × ℕ) → List (Option Fate)
     → SchedulerView R A G
 view procedures limits records accesses graph live read_from fates = record {
   procedures = procedures;
@@ -48,7 +48,7 @@ abbrev pub fate_at : List (Option Fate) → ℕ → Option Fate
 fate_at fates t = slice_index_or fates t None
 
 -- a transaction goes along one of these procedures, which its number names
-abbrev pub IsAlong : List Program → Progress → Type 0
+abbrev pub IsAlong : List ProcedureText → Progress → Type 0
 IsAlong programs c = slice_get programs c.procedure ≡ Some c.cursor.0
 
 -- by what the layers tell: of records the chain and the committed value of each key, of accesses their list, of a graph its
@@ -66,7 +66,7 @@ module _ {R A G : Type 0} (chain : R → Key → List (ℕ × ℤ)) (settled : R
     settled = settled p.records;
     read_from = p.read_from;
     fates = fate_at p.fates;
-    starts = length p.fates;
+    start_count = length p.fates;
     left = λ t. left_kept (progress_at p.live t);
   }
 

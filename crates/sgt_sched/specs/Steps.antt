@@ -19,11 +19,11 @@ IsNotLiveBy true None r = ⊥
 
 -- t is not live in the state, and an event of it is answered so
 abbrev pub IsNotLive : State → ℕ → Reply → Type 0
-IsNotLive c t r = IsNotLiveBy (nat_lt t c.starts) (c.fates t) r
+IsNotLive c t r = IsNotLiveBy (nat_lt t c.start_count) (c.fates t) r
 
 -- t was started, and has not ended
 pub record IsUnended (c : State) (t : ℕ) : Type 0 where
-  pub begun : nat_lt t c.starts ≡ true
+  pub begun : nat_lt t c.start_count ≡ true
   pub unended : c.fates t ≡ None
 
 -- the reads, source and reader, without those from t or by t

@@ -1,5 +1,5 @@
 ghost use Rattle.std.specs.Prelude.{◌≡◌, ◌≢◌};
-ghost use Rattle.sgt_model.specs.declared.reply.Reply.{Reply as Answer};
+ghost use Rattle.sgt_model.specs.declared.reply.Reply.{Reply};
 ghost use Rattle.sgt_sched.specs.declared.brief.Brief.TheVariants.{Placed};
 ghost use Rattle.sgt_sched.specs.Briefs.{in_full};
 
@@ -40,7 +40,7 @@ impl Brief {
     #[inline(always)]
     pub fn short(&self) -> Reply
         requires { self.now ≢ Placed }
-        ensures { (out : Answer) → result ≡ in_full self.now out }
+        ensures { (out : Reply) → result ≡ in_full self.now out }
     {
         match self {
             Brief::Started(t) => Reply::Started(*t),

@@ -19,13 +19,13 @@ pub struct Live {
 impl Model for Live {
     ghost use Rattle.std.specs.Coded.{codes};
     ghost use Rattle.std.specs.Prelude.{ℕ, List};
-    ghost use Rattle.sgt_model.specs.Codes.{coded_program};
+    ghost use Rattle.sgt_model.specs.Codes.{coded_procedure};
     ghost use Rattle.sgt_proc.specs.Codes.{coded_left};
     ghost use Rattle.sgt_sched.specs.LiveProgress.{Progress};
 
     ghost Value = { List (ℕ × Progress) };
 
-    ghost coded = { Prim.hlevel (codes, coded_program, coded_left) };
+    ghost coded = { Prim.hlevel (codes, coded_procedure, coded_left) };
 
     ghost view = { λ l. l.running.items };
 }

@@ -21,13 +21,13 @@ pub struct Running {
 impl Model for Running {
     ghost use Rattle.std.specs.Coded.{codes};
     ghost use Rattle.std.specs.Prelude.{ℕ};
-    ghost use Rattle.sgt_model.specs.Codes.{coded_program};
+    ghost use Rattle.sgt_model.specs.Codes.{coded_procedure};
     ghost use Rattle.sgt_proc.specs.Codes.{coded_left};
     ghost use Rattle.sgt_sched.specs.LiveProgress.{Progress};
 
     ghost Value = { ℕ × Progress };
 
-    ghost coded = { Prim.hlevel (codes, coded_program, coded_left) };
+    ghost coded = { Prim.hlevel (codes, coded_procedure, coded_left) };
 
     ghost view = { λ r. (
       r.tid,

@@ -1,6 +1,6 @@
 ghost use Rattle.std.specs.Prelude.{◌≡◌, true, length, position, Result, Ok, Err, Some, IfOk, OnErr, IfSome, IsSome, IsTrue, ◌↔◌};
 ghost use Rattle.std.specs.Result.{IsOk};
-ghost use Rattle.sgt_model.specs.declared.reply.Reply.{Reply as Answer};
+ghost use Rattle.sgt_model.specs.declared.reply.Reply.{Reply};
 ghost use Rattle.sgt_model.specs.AccessList.{is_listed};
 ghost use Rattle.sgt_model.specs.Bounds.{AreInRange};
 ghost use Rattle.sgt_model.specs.CallEffects.{CallEffect};
@@ -116,7 +116,7 @@ impl<R: Records, A: Accesses, G: Graph> Sched<R, A, G> {
     /// is true take no memory.
     pub fn ends(&self, event: &Event) -> bool
         ensures exact { IsTrue result ↔ EndsOne (asks_of self.now) event.now (state self.now) }
-        ensures replies { (r : Answer) (after : State)
+        ensures replies { (r : Reply) (after : State)
             → CallEffect (rules_of self.now) event.now (state self.now) r after
             → is_ending r ≡ result }
     {

@@ -10,7 +10,7 @@ use Rattle.sgt_model.specs.declared.reply.Reply.TheVariants as reply
 use Rattle.sgt_model.specs.Contents.{Key, Contents}
 use Rattle.sgt_model.specs.Settings.{Setting, Rules, rules_from, setting}
 use Rattle.sgt_model.specs.StoredValues.{HoldValues, CommittedAreValues}
-use Rattle.sgt_model.specs.Syntax.{Program}
+use Rattle.sgt_model.specs.Syntax.{ProcedureText}
 use Rattle.sgt_model.specs.Laws.{HeadlineHolds}
 use Rattle.sgt_model.specs.Legality.{Legal}
 use Rattle.sgt_model.specs.Replay.{RunResult, folded, told_in, told}
@@ -146,7 +146,7 @@ module _ (headline : HeadlineHolds) where
     rules-stay : (s : Setting) (answers : List Answer) → LegalRun s answers → (part_of s answers).setting.rules ≡ s.rules
     rules-stay s answers legal = ap (λ (t : Setting). t.rules) (chain s answers legal)
 
-    module _ (others : List Program) (limits : Limits) where
+    module _ (others : List ProcedureText) (limits : Limits) where
       same-setting : (s : Setting) (answers : List Answer) → s.rules ≡ rules_from (procedures ++ others) limits → LegalRun s answers
           → (part_of s answers).setting ≡ setting (part_of s answers).setting.opening (procedures ++ others) limits
       same-setting s answers is legal =

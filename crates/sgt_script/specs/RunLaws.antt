@@ -4,7 +4,7 @@ use Rattle.sgt_model.specs.declared.reply.Reply.{Reply}
 use Rattle.sgt_model.specs.declared.reply.Reply.TheVariants as reply
 use Rattle.sgt_model.specs.Walks.{Acyclic}
 use Rattle.sgt_model.specs.Pairs.{Pair}
-use Rattle.sgt_model.specs.Replay.{RunResult, GaveAnswers, AskedCode, Folded, folded, IsSerializable}
+use Rattle.sgt_model.specs.Replay.{RunResult, GaveAnswers, AskedCode, Folded, folded, ReplayAgrees}
 use Rattle.sgt_model.specs.Contents.{Contents}
 use Rattle.sgt_model.specs.Settings.{Setting}
 use Rattle.sgt_model.specs.Aborts.{AbortsHaveCause}
@@ -109,7 +109,7 @@ pub record IsSerialText (run : Execution) (out : List ℕ) (end : End) : Type 0 
 
 -- the parts of the headline, for a part of a run; and the bank's arithmetic
 pub record PartLaws (p : Part) : Type 0 where
-  pub replay : IsSerializable p.setting p.past
+  pub replay : ReplayAgrees p.setting p.past
   pub no_cycle : Acyclic (Pair p.past)
   pub causes : AbortsHaveCause p.setting p.past
   pub order : CommitsInOrder p.past

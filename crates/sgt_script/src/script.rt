@@ -1,6 +1,6 @@
 ghost use Rattle.std.specs.Prelude.{◌≡◌, ◌≢◌, ℕ, List, Option, false, IfOk, IfErr, OnOk, OnErr, IfSome, IsSome, IsNone, Err, Ok, Some, None, ◌⊎◌, [], ◌∷◌, ◌++◌, ◌+◌, ◌^◌, ◌<◌, ◌≤◌};
 ghost use Rattle.std.specs.Io.KnownBytes.{Appends, Consumes};
-ghost use Rattle.sgt_model.specs.declared.entry.Entry.{Entry as Filed};
+ghost use Rattle.sgt_model.specs.declared.entry.Entry.{Entry};
 ghost use Rattle.sgt_model.specs.Legality.{Legal};
 ghost use Rattle.sgt_engine.specs.EngineView.{setting_of};
 ghost use Rattle.sgt_input.specs.Lines.{has_break};
@@ -78,7 +78,7 @@ fn answer_event(
     text: &mut Vec<u8>,
 ) -> Result<(), NoMemory>
     ensures setting { setting_of engine.new ≡ setting_of engine.old }
-    ensures answered { OnOk result ((entry : Filed) × (engine.new.past ≡ entry ∷ engine.old.past)
+    ensures answered { OnOk result ((entry : Entry) × (engine.new.past ≡ entry ∷ engine.old.past)
         × (entry.event ≡ event)
         × (text.new.items ≡ text.old.items ++ answer_text telling (Replied entry))) }
     ensures legal { Legal (setting_of engine.new) engine.new.past }

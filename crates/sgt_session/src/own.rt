@@ -2,7 +2,7 @@ ghost use Rattle.std.specs.Prelude.{◌≡◌, ◌+◌, ◌<◌, ◌≤◌, ℕ,
 ghost use Rattle.std.specs.Result.{IsOk};
 ghost use Rattle.std.specs.Vec.{vec_len, vec_capacity};
 ghost use Rattle.sgt_model.specs.declared.event.Event.TheVariants.{Quit};
-ghost use Rattle.sgt_model.specs.declared.reply.Reply.{Reply as Answer};
+ghost use Rattle.sgt_model.specs.declared.reply.Reply.{Reply};
 ghost use Rattle.sgt_model.specs.Questions.{started_in, over_in};
 ghost use Rattle.sgt_session.specs.Own.{with_one, open_without, open_by, is_open, room_needed};
 
@@ -24,8 +24,8 @@ pub fn make_receipt_room(
     ensures own { own.new.items ≡ own.old.items }
     ensures ends { vec_len own.new ≤ receipts.new.room }
     ensures receipt { OnOk result (0 < receipts.new.room) }
-    ensures room { OnOk result ((r : Answer) → 1 + length (open_by own.old.items event.now r) ≤ receipts.new.room) }
-    ensures started { OnOk result ((r : Answer) →
+    ensures room { OnOk result ((r : Reply) → 1 + length (open_by own.old.items event.now r) ≤ receipts.new.room) }
+    ensures started { OnOk result ((r : Reply) →
         length (with_one (started_in event.now r) own.old.items) ≤ vec_capacity own.new) }
     ensures quits { (t : ℕ) → event.now ≡ Quit t → is_open t own.old.items ≡ true → IsOk result }
 {

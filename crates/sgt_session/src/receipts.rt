@@ -2,8 +2,8 @@
 ghost use Rattle.std.specs.Prelude.{◌≡◌, ◌+◌, ◌≤◌, ◌<◌, ◌^◌, ◌↔◌, [], ◌∷◌, ◌++◌, List, length, reverse, IsTrue, Some, OnOk, slice_get};
 ghost use Rattle.std.specs.Result.{IsOk};
 ghost use Rattle.std.specs.Option.{option_map};
-ghost use Rattle.sgt_model.specs.declared.entry.Entry.{Entry as E};
-ghost use Rattle.sgt_session.specs.declared.receipt.Receipt.{Receipt as Told};
+ghost use Rattle.sgt_model.specs.declared.entry.Entry.{Entry};
+ghost use Rattle.sgt_session.specs.declared.receipt.Receipt.{Receipt};
 ghost use Rattle.sgt_session.specs.Receipts.{receipt_of, entry_of};
 
 use crate::receipt::Receipt;
@@ -96,7 +96,7 @@ impl Receipts {
     /// The number of the receipt at a place.
     fn number(&self, place: usize) -> u64
         requires { place < length self.now.receipts }
-        ensures { option_map (λ (r : Told). r.number) (slice_get self.now.receipts place) ≡ Some result }
+        ensures { option_map (λ (r : Receipt). r.number) (slice_get self.now.receipts place) ≡ Some result }
     {
         self.numbers[place]
     }
@@ -124,7 +124,7 @@ impl Receipts {
     /// The newest receipt, of some.
     pub fn last(&self) -> Receipt
         requires { 0 < length self.now.receipts }
-        ensures { (rs : List Told) (r : Told) → self.now.receipts ≡ rs ++ r ∷ [] → result ≡ r }
+        ensures { (rs : List Receipt) (r : Receipt) → self.now.receipts ≡ rs ++ r ∷ [] → result ≡ r }
     {
         self.at(self.len() - 1)
     }
@@ -132,7 +132,7 @@ impl Receipts {
     /// The number of the newest receipt, of some.
     pub fn last_number(&self) -> u64
         requires { 0 < length self.now.receipts }
-        ensures { (rs : List Told) (r : Told) → self.now.receipts ≡ rs ++ r ∷ [] → result ≡ r.number }
+        ensures { (rs : List Receipt) (r : Receipt) → self.now.receipts ≡ rs ++ r ∷ [] → result ≡ r.number }
     {
         self.number(self.len() - 1)
     }
@@ -140,7 +140,7 @@ impl Receipts {
     /// The entry of the newest receipt, of some, read where it stands.
     pub fn last_entry(&self) -> EntryRef<'_>
         requires { 0 < length self.now.receipts }
-        ensures { (rs : List Told) (r : Told) → self.now.receipts ≡ rs ++ r ∷ [] → result ≡ entry_of r }
+        ensures { (rs : List Receipt) (r : Receipt) → self.now.receipts ≡ rs ++ r ∷ [] → result ≡ entry_of r }
     {
         self.entry(self.len() - 1)
     }
@@ -184,7 +184,7 @@ impl Receipts {
     pub(crate) fn file_newest(&mut self, history: &History)
         requires room { 0 < self.old.room }
         requires some { 0 < length history.now.entries }
-        ensures filed { (e : E) (past : List E) → reverse history.now.entries ≡ e ∷ past
+        ensures filed { (e : Entry) (past : List Entry) → reverse history.now.entries ≡ e ∷ past
             → self.new.receipts ≡ self.old.receipts ++ receipt_of (length past) e ∷ [] }
         ensures room { self.new.room + 1 ≡ self.old.room }
     {

@@ -5,7 +5,7 @@ ghost use Rattle.sgt_model.specs.declared.event.Event.TheVariants.{Quit};
 ghost use Rattle.sgt_model.specs.Fates.{live};
 ghost use Rattle.sgt_model.specs.Legality.{Legal, LegalReply};
 ghost use Rattle.sgt_engine.specs.EngineView.{setting_of, with_entry};
-ghost use Rattle.sgt_session.specs.declared.receipt.Receipt.{Receipt as Told};
+ghost use Rattle.sgt_session.specs.declared.receipt.Receipt.{Receipt};
 
 use crate::named::Named;
 use crate::receipts::Receipts;
@@ -29,12 +29,12 @@ pub struct Round<N: Named, R: Records, A: Accesses, G: Graph> {
 impl<N: Named, R: Records, A: Accesses, G: Graph> Model for Round<N, R, A, G> {
     ghost use Rattle.std.specs.Coded.{codes};
     ghost use Rattle.std.specs.Prelude.{◌≡◌, length};
-    ghost use Rattle.sgt_model.specs.Codes.{coded_program};
+    ghost use Rattle.sgt_model.specs.Codes.{coded_procedure};
     ghost use Rattle.sgt_engine.specs.EngineView.{EngineView, setting_of};
 
     ghost Value = { EngineView };
 
-    ghost coded = { Prim.hlevel (codes, coded_program) };
+    ghost coded = { Prim.hlevel (codes, coded_procedure) };
 
     ghost view = { λ r. r.engine };
 
@@ -62,7 +62,7 @@ impl<N: Named, R: Records, A: Accesses, G: Graph> Round<N, R, A, G> {
     ) -> Result<(), NoMemory>
         requires part { 0 < mine.old.parts }
         requires room { 0 < receipts.old.room }
-        ensures filed { OnOk result ((r : Told) × (r.event ≡ event) × (r.number ≡ length self.old.past)
+        ensures filed { OnOk result ((r : Receipt) × (r.event ≡ event) × (r.number ≡ length self.old.past)
             × (self.new ≡ with_entry r.event r.reply self.old)
             × LegalReply (setting_of self.old) self.old.past r.event r.reply
             × (receipts.new.receipts ≡ receipts.old.receipts ++ r ∷ [])) }

@@ -3,9 +3,9 @@ use Rattle.std.proofs.Common.{◌≡◌, refl, subst, ◌∙◌, ap, ℕ, zero, 
 use Rattle.std.specs.Prelude.{int_lt, IfSome}
 use Rattle.sgt_model.specs.Numbers.{IsValue, is_value}
 use Rattle.sgt_model.specs.Contents.{Key, Contents, put_in}
-use Rattle.sgt_model.specs.Syntax.{Program}
-use Rattle.sgt_model.specs.Runs.{Run, looks, puts, asks, Outcome, Asked, serial}
-use Rattle.sgt_model.specs.Meaning.{is, over, both, compared, wrong, with_value, with_test, if_found, run_with}
+use Rattle.sgt_model.specs.Syntax.{ProcedureText}
+use Rattle.sgt_model.specs.Runs.{Run, looks, puts, raises, Outcome, Asked, serial}
+use Rattle.sgt_model.specs.Meaning.{is, over, both, compared, wrong, with_value, with_condition, if_found, run_with}
 use Rattle.sgt_smallbank.specs.Texts.{balance, deposit_checking, transact_saving, amalgamate, write_check}
 use Rattle.sgt_smallbank.specs.Tables.{saving, checking}
 use Rattle.sgt_model.specs.StoredValues.{HoldValues}
@@ -37,7 +37,7 @@ put_zero fits k rest m last e then = rw e then
 
 -- a code asked where a test holds
 ask_step : (test : Bool) (code : ℕ) (rest : Run) (m : Contents) (next : Outcome) → serial rest m ≡ next
-    → serial (cond test (asks code) rest) m ≡ refused_if test code next
+    → serial (cond test (raises code) rest) m ≡ refused_if test code next
 ask_step true code rest m next then = refl
 ask_step false code rest m next then = then
 
@@ -52,7 +52,7 @@ range_step : (z : ℤ) (go : ℤ → Run) (m : Contents) (next : ℤ → Outcome
 range_step z go m next then = ranged (is_value z) z go m next (then z)
 
 tested : (fits : Bool) (z y : ℤ) (ys ns : Run) (m : Contents) (f g : Outcome) → serial ys m ≡ f → serial ns m ≡ g
-    → serial (with_test (compared int_lt (cond fits (is z) over) (is y)) ys ns) m ≡ cond fits (cond (int_lt z y) f g) (Asked 1000)
+    → serial (with_condition (compared int_lt (cond fits (is z) over) (is y)) ys ns) m ≡ cond fits (cond (int_lt z y) f g) (Asked 1000)
 tested true z y ys ns m f g is_f is_g = which (int_lt z y)
   where
     which : (b : Bool) → serial (cond b ys ns) m ≡ cond b f g
@@ -62,7 +62,7 @@ tested false z y ys ns m f g is_f is_g = refl
 
 -- a number that is to be a value, compared with another
 test_step : (z y : ℤ) (ys ns : Run) (m : Contents) (f g : Outcome) → serial ys m ≡ f → serial ns m ≡ g
-    → serial (with_test (compared int_lt (cond (is_value z) (is z) over) (is y)) ys ns) m ≡ cond (is_value z)
+    → serial (with_condition (compared int_lt (cond (is_value z) (is z) over) (is y)) ys ns) m ≡ cond (is_value z)
     (cond (int_lt z y) f g) (Asked 1000)
 test_step z = tested (is_value z) z
 
@@ -168,7 +168,7 @@ module _ (m : Contents) (hold : HoldValues m) where
   write_check_is (a ∷ b ∷ d ∷ rest) count values = absurd (omega arith)
 
 -- the law, from what it says of each
-along : (n : ℕ) (q p : Program) (args : List ℤ) (m : Contents) → Some q ≡ Some p
+along : (n : ℕ) (q p : ProcedureText) (args : List ℤ) (m : Contents) → Some q ≡ Some p
     → (length args ≡ q.args → serial (run_with q args) m ≡ bank n args m) → length args ≡ p.args
     → serial (run_with p args) m ≡ bank n args m
 along n q p args m same of_q = let e : q ≡ p = cc in subst (λ r. length args ≡ r.args → serial (run_with r args) m ≡ bank n args m) e of_q

@@ -3,11 +3,11 @@ use Rattle.std.proofs.Common.{◌≡◌, ◌≢◌, refl, ℕ, zero, suc, ◌<�
 use Rattle.std.specs.Prelude.{nat_le}
 use Rattle.std.proofs.lemmas.Bool.{or_parts}
 use Rattle.std.proofs.lemmas.Bool.Decides.{nat_tests}
-use Rattle.sgt_model.specs.Syntax.{Program}
+use Rattle.sgt_model.specs.Syntax.{ProcedureText}
 use Rattle.sgt_model.specs.Ways.{onto}
 use Rattle.sgt_model.specs.Ways as way
 use Rattle.sgt_proc.specs.declared.flaw.Flaw.TheVariants.{HighRegister, UnsetRegister, NoArgument, HighTable, TooLong, TooDeep, ManyAnswers, BadCode, ManyArguments, BadLiteral}
-use Rattle.sgt_proc.specs.Flaws.{in_block, high_register, no_argument, high_table, bad_code, bad_literal, uses_unset, most_answers, size, depth, terms_depth, IsFlawless}
+use Rattle.sgt_proc.specs.Flaws.{in_block, high_register, no_argument, high_table, bad_code, bad_literal, uses_unset, most_answers, size, depth, exprs_depth, IsFlawless}
 use Rattle.sgt_smallbank.specs.Texts.{balance, deposit_checking, transact_saving, amalgamate, write_check}
 
 -- the test holds of some number below this one
@@ -23,13 +23,13 @@ none_below (suc n) test none k below holds =
     grind (arith, parts.0, none_below n test parts.1 k)
 
 -- what the ten tests of a text come to, where it has no flaw
-pub record PassesTests (p : Program) : Type 0 where
+pub record PassesTests (p : ProcedureText) : Type 0 where
   pub registers : in_block high_register p.body ≡ false
   pub set_first : some_below 16 (λ r. uses_unset r (onto p.body way.end)) ≡ false
   pub arguments : in_block (no_argument p.args) p.body ≡ false
   pub tables : in_block high_table p.body ≡ false
   pub short : nat_le (size p.body) 64 ≡ true
-  pub shallow : nat_le (max (depth p.body) (terms_depth p.body)) 16 ≡ true
+  pub shallow : nat_le (max (depth p.body) (exprs_depth p.body)) 16 ≡ true
   pub few_answers : nat_le (most_answers (onto p.body way.end)) 8 ≡ true
   pub codes : in_block bad_code p.body ≡ false
   pub few_arguments : nat_le p.args 4 ≡ true
@@ -41,7 +41,7 @@ not_both b is_not is_so = cc
 not_over : (n most : ℕ) → nat_le n most ≡ true → most < n → ⊥
 not_over n most fits over = grind (arith, nat_tests, fits)
 
-tests_tell : (p : Program) → PassesTests p → IsFlawless p
+tests_tell : (p : ProcedureText) → PassesTests p → IsFlawless p
 tests_tell p t HighRegister h = not_both _ t.registers h
 tests_tell p t UnsetRegister h = none_below 16 (λ r. uses_unset r (onto p.body way.end)) t.set_first h.0 h.1.0 h.1.1
 tests_tell p t NoArgument h = not_both _ t.arguments h

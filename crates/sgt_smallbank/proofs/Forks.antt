@@ -6,11 +6,11 @@ use Rattle.sgt_model.specs.declared.procedure.Statement.{Statement}
 use Rattle.sgt_model.specs.declared.procedure.Statement.TheVariants.{If}
 use Rattle.sgt_model.specs.declared.procedure.Cond.{Cond}
 use Rattle.sgt_model.specs.Syntax.{Block, choose}
-use Rattle.sgt_model.specs.Programs.{test_of, before, block_of}
+use Rattle.sgt_model.specs.ProcedureTexts.{cond_text, in_front, block_of}
 use Rattle.sgt_model.proofs.Texts.{before_if}
 
 -- an If whose branches have these statements
 pub before_branches : (c : Cond) (first second : Vec Statement Global) (xs ys : List Statement) → first.items ≡ xs
-    → second.items ≡ ys → (rest : Block) → before (If c first second) rest ≡ choose (test_of c) (block_of xs) (block_of ys) rest
+    → second.items ≡ ys → (rest : Block) → in_front (If c first second) rest ≡ choose (cond_text c) (block_of xs) (block_of ys) rest
 before_branches c first second xs ys is_first is_second rest = before_if c first second rest
-    ∙ (λ i. choose (test_of c) (block_of (is_first i)) (block_of (is_second i)) rest)
+    ∙ (λ i. choose (cond_text c) (block_of (is_first i)) (block_of (is_second i)) rest)

@@ -10,7 +10,7 @@ use Rattle.sgt_model.specs.declared.reply.Reply.{Reply}
 use Rattle.sgt_model.specs.declared.reply.Reply.TheVariants as reply
 use Rattle.sgt_model.specs.Numbers.{IsValue, is_value}
 use Rattle.sgt_model.specs.Contents.{Key, key_eq, Contents, put_in}
-use Rattle.sgt_model.specs.Syntax.{Program}
+use Rattle.sgt_model.specs.Syntax.{ProcedureText}
 use Rattle.sgt_model.specs.Runs.{Outcome, Done, Asked, serial, contents_after}
 use Rattle.sgt_model.specs.Meaning.{run_with}
 use Rattle.sgt_model.specs.Settings.{Setting, run_if}
@@ -32,12 +32,12 @@ use Rattle.sgt_smallbank.proofs.Banks.{serial_is_bank}
 -- ---- one transaction that was committed or refused
 
 -- the bank's procedures stand first
-pub record IsOneOf (others : List Program) (n : ℕ) : Type 0 where
-  pub program : Program
+pub record IsOneOf (others : List ProcedureText) (n : ℕ) : Type 0 where
+  pub program : ProcedureText
   pub of_bank : slice_get procedures n ≡ Some program
   pub of_all : slice_get (procedures ++ others) n ≡ Some program
 
-one_of_five : (others : List Program) (n : ℕ) → n < 5 → IsOneOf others n
+one_of_five : (others : List ProcedureText) (n : ℕ) → n < 5 → IsOneOf others n
 one_of_five others zero below = record { program = balance; of_bank = refl; of_all = refl }
 one_of_five others (suc zero) below = record { program = deposit_checking; of_bank = refl; of_all = refl }
 one_of_five others (suc (suc zero)) below = record { program = transact_saving; of_bank = refl; of_all = refl }
@@ -62,7 +62,7 @@ first_same : (r q : RunResult) (rs qs : List RunResult) → r ∷ rs ≡ q ∷ q
 first_same r q rs qs e = cc
 
 module _ (replay_is_serial : ReplayIsSerial) (admitted : CommittedAreAdmitted) (hold_values : ReplaysHoldValues)
-    (opening : Contents) (others : List Program) (limits : Limits) (hold : HoldValues opening) where
+    (opening : Contents) (others : List ProcedureText) (limits : Limits) (hold : HoldValues opening) where
   abbrev the_setting : Setting
   the_setting = bank_setting opening others limits
 
@@ -73,7 +73,7 @@ module _ (replay_is_serial : ReplayIsSerial) (admitted : CommittedAreAdmitted) (
       let m : Contents = (run_in_turn the_setting before).last in
       let one = one_of_five others c.procedure below in
       let count : length c.args ≡ one.program.args =
-      sym (same_count one.program.args (length c.args) (sym (ap (λ o. option_map (λ (p : Program). p.args) o) one.of_all)
+      sym (same_count one.program.args (length c.args) (sym (ap (λ o. option_map (λ (p : ProcedureText). p.args) o) one.of_all)
       ∙ fits.known)) in
       let runs : serial (run_of the_setting.rules c) m ≡ serial (run_with one.program c.args) m =
       ap (λ o. serial (run_if o c.args) m) one.of_all in

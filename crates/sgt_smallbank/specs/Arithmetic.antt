@@ -4,7 +4,7 @@ use Rattle.std.specs.Prelude.{◌≡◌, ℕ, zero, suc, ℤ, pos, ◌+ℤ◌, �
 use Rattle.std.specs.Ordering.{int_eq}
 use Rattle.sgt_model.specs.Numbers.{IsValue, is_value}
 use Rattle.sgt_model.specs.Contents.{Key, Contents, put_in}
-use Rattle.sgt_model.specs.Syntax.{Program}
+use Rattle.sgt_model.specs.Syntax.{ProcedureText}
 use Rattle.sgt_model.specs.Runs.{Outcome, Done, Asked, serial}
 use Rattle.sgt_model.specs.Meaning.{run_with}
 use Rattle.sgt_model.specs.StoredValues.{HoldValues}
@@ -100,4 +100,4 @@ bank n args m = Asked 0
 -- each of the five procedures, run at once over contents that hold values, with as many values as it takes, does what the
 -- bank's arithmetic says of its number
 abbrev pub SerialIsBank : Type 0
-SerialIsBank = (n : ℕ) (p : Program) (args : List ℤ) (m : Contents) → slice_get procedures n ≡ Some p → length args ≡ p.args → All IsValue args → HoldValues m → serial (run_with p args) m ≡ bank n args m
+SerialIsBank = (n : ℕ) (p : ProcedureText) (args : List ℤ) (m : Contents) → slice_get procedures n ≡ Some p → length args ≡ p.args → All IsValue args → HoldValues m → serial (run_with p args) m ≡ bank n args m

@@ -6,7 +6,7 @@ use Rattle.sgt_model.specs.declared.event.Event.{Event}
 use Rattle.sgt_model.specs.declared.reply.Reply.{Reply}
 use Rattle.sgt_model.specs.declared.reply.Reply.TheVariants as reply
 use Rattle.sgt_model.specs.Contents.{Contents}
-use Rattle.sgt_model.specs.Syntax.{Program}
+use Rattle.sgt_model.specs.Syntax.{ProcedureText}
 use Rattle.sgt_model.specs.Runs.{Done, Asked}
 use Rattle.sgt_model.specs.Settings.{Setting, setting}
 use Rattle.sgt_model.specs.Legality.{Legal}
@@ -51,12 +51,12 @@ CommitsAreBank s [] = Unit {0}
 CommitsAreBank s (e ∷ past) = CommitsAreBank s past × CommitIsBank s past e.event e.reply
 
 -- the setting that has the bank's procedures, and behind them these
-abbrev pub bank_setting : Contents → List Program → Limits → Setting
+abbrev pub bank_setting : Contents → List ProcedureText → Limits → Setting
 bank_setting opening others limits = setting opening (procedures ++ others) limits
 
 -- where the opening holds values, so it is in every legal history
 abbrev pub ReplayIsBank : Type 0
-ReplayIsBank = (opening : Contents) (others : List Program) (limits : Limits) (past : List Entry) → HoldValues opening → Legal (bank_setting opening others limits) past → CommitsAreBank (bank_setting opening others limits) past
+ReplayIsBank = (opening : Contents) (others : List ProcedureText) (limits : Limits) (past : List Entry) → HoldValues opening → Legal (bank_setting opening others limits) past → CommitsAreBank (bank_setting opening others limits) past
 
 -- what accounts without a fault open holds values
 abbrev pub OpeningsHoldValues : Type 0

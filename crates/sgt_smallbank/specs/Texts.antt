@@ -1,9 +1,9 @@
 -- The texts of the five procedures. Tables are 0 (customers by name), 1 (savings by customer) and 2 (checkings by customer).
 use Rattle.std.specs.Prelude.{pos, List, [], ◌∷◌}
-use Rattle.sgt_model.specs.Syntax.{Block, Program, num, arg, reg, sum, diff, less, equal, empty, look, put, save, ask, choose, answer}
+use Rattle.sgt_model.specs.Syntax.{Block, ProcedureText, num, arg, reg, sum, diff, less, equal, empty, look, put, save, ask, choose, answer}
 
 -- the sum of the saving and the checking of a name's customer. An unknown name asks 1, and a balance that is not there 5
-abbrev pub balance : Program
+abbrev pub balance : ProcedureText
 balance = record {
   args = 1;
   body =
@@ -15,7 +15,7 @@ balance = record {
 }
 
 -- an amount is added to the checking of a name's customer. A negative amount asks 2, first of all
-abbrev pub deposit_checking : Program
+abbrev pub deposit_checking : ProcedureText
 deposit_checking = record {
   args = 2;
   body =
@@ -29,7 +29,7 @@ deposit_checking = record {
 }
 
 -- an amount is added to the saving of a name's customer. A saving that would be negative asks 3
-abbrev pub transact_saving : Program
+abbrev pub transact_saving : ProcedureText
 transact_saving = record {
   args = 2;
   body =
@@ -44,7 +44,7 @@ transact_saving = record {
 
 -- all that the first name's customer has goes to the checking of the second name's customer. A name with itself asks 4,
 -- first of all
-abbrev pub amalgamate : Program
+abbrev pub amalgamate : ProcedureText
 amalgamate = record {
   args = 2;
   body =
@@ -73,7 +73,7 @@ charge =
 
 -- an amount is taken from the checking of a name's customer, and 100 more where saving and checking together are smaller
 -- than it. A negative amount asks 2, first of all
-abbrev pub write_check : Program
+abbrev pub write_check : ProcedureText
 write_check = record {
   args = 2;
   body =
@@ -88,5 +88,5 @@ write_check = record {
 }
 
 -- the five, each by its number
-abbrev pub procedures : List Program
+abbrev pub procedures : List ProcedureText
 procedures = balance ∷ deposit_checking ∷ transact_saving ∷ amalgamate ∷ write_check ∷ []

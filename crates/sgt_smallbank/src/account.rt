@@ -1,5 +1,5 @@
 ghost use Rattle.std.specs.Prelude.{◌≡◌, ◌≢◌, ◌↔◌, [], All, None, IsSome, IfSome, OnOk, OnErr, IfOk, IfErr};
-ghost use Rattle.sgt_model.specs.Contents.{Key as K};
+ghost use Rattle.sgt_model.specs.Contents.{Key};
 ghost use Rattle.sgt_model.specs.Databases.{contents_of};
 ghost use Rattle.sgt_smallbank.specs.Accounts.{name_key, saving_key, checking_key, with_account, opened, IsInRange, has_name, has_customer, fault_behind, fault_of, AreRefused};
 
@@ -29,7 +29,7 @@ pub struct Account {
 /// customer. All accounts are tested, each against all before it, before the first growth: memory is wanting only where no
 /// account has a fault.
 pub fn opening(alloc: Global, accounts: &[Account]) -> Result<Database, BadOpening>
-    ensures contents { IfOk result (λ database. (k : K) → contents_of database k ≡ opened accounts.now k) }
+    ensures contents { IfOk result (λ database. (k : Key) → contents_of database k ≡ opened accounts.now k) }
     ensures no_fault { OnOk result (fault_of accounts.now ≡ None) }
     ensures refused { IfErr result (AreRefused accounts.now) }
 {
@@ -97,7 +97,7 @@ fn has_customer(accounts: &[Account], customer: i64) -> bool
 /// The database with the rows of these accounts.
 fn database_of(alloc: Global, accounts: &[Account]) -> Result<Database, NoMemory>
     requires { All IsInRange accounts.now }
-    ensures contents { IfOk result (λ database. (k : K) → contents_of database k ≡ opened accounts.now k) }
+    ensures contents { IfOk result (λ database. (k : Key) → contents_of database k ≡ opened accounts.now k) }
     ensures some { OnErr result (accounts.now ≢ []) }
 {
     let mut database = Database::empty(alloc);
@@ -111,7 +111,7 @@ fn database_of(alloc: Global, accounts: &[Account]) -> Result<Database, NoMemory
 fn put_rows(database: &mut Database, account: &Account) -> Result<(), NoMemory>
     requires { IsInRange account.now }
     ensures { OnOk result
-        ((k : K) → contents_of database.new k ≡ with_account (contents_of database.old) account.now k) }
+        ((k : Key) → contents_of database.new k ≡ with_account (contents_of database.old) account.now k) }
 {
     let Some((name, saving, checking)) = keys(account) else {
         unreachable!();

@@ -1,5 +1,5 @@
 ghost use Rattle.std.specs.Prelude.{◌≡◌, IfOk};
-ghost use Rattle.sgt_model.specs.Programs.{program_of};
+ghost use Rattle.sgt_model.specs.ProcedureTexts.{procedure_text};
 ghost use Rattle.sgt_smallbank.specs.Texts.{amalgamate};
 
 use crate::statements::{
@@ -13,7 +13,7 @@ use std::alloc::Global;
 /// Amalgamate(from, to): moves all that the customer of the first name has, saving and checking, to the checking of the
 /// customer of the second name, and answers how much that is.
 pub(crate) fn amalgamate(alloc: Global) -> Result<Procedure, NoMemory>
-    ensures { IfOk result (λ p. program_of p ≡ amalgamate) }
+    ensures { IfOk result (λ p. procedure_text p ≡ amalgamate) }
 {
     let mut body = Vec::with_capacity(alloc, 12)?;
     let refusal = alone(alloc, ask(SAME_NAME))?;

@@ -1,5 +1,5 @@
 ghost use Rattle.std.specs.Prelude.{◌≡◌, IfOk};
-ghost use Rattle.sgt_model.specs.Programs.{program_of};
+ghost use Rattle.sgt_model.specs.ProcedureTexts.{procedure_text};
 ghost use Rattle.sgt_smallbank.specs.Texts.{balance};
 
 use crate::statements::{answer, look_up_balance, look_up_customer, sum_of};
@@ -9,7 +9,7 @@ use std::alloc::Global;
 
 /// Balance(name): the sum of the saving and the checking of the name's customer.
 pub(crate) fn balance(alloc: Global) -> Result<Procedure, NoMemory>
-    ensures { IfOk result (λ p. program_of p ≡ balance) }
+    ensures { IfOk result (λ p. procedure_text p ≡ balance) }
 {
     let mut body = Vec::with_capacity(alloc, 4)?;
     body.push_reserved(look_up_customer(0, 0));

@@ -1,5 +1,5 @@
 ghost use Rattle.std.specs.Prelude.{◌≡◌, IfOk};
-ghost use Rattle.sgt_model.specs.Programs.{program_of};
+ghost use Rattle.sgt_model.specs.ProcedureTexts.{procedure_text};
 ghost use Rattle.sgt_smallbank.specs.Texts.{deposit_checking};
 
 use crate::statements::{
@@ -13,7 +13,7 @@ use std::alloc::Global;
 /// DepositChecking(name, amount): adds the amount, which may not be negative, to the checking of the name's customer, and
 /// answers the new checking.
 pub(crate) fn deposit_checking(alloc: Global) -> Result<Procedure, NoMemory>
-    ensures { IfOk result (λ p. program_of p ≡ deposit_checking) }
+    ensures { IfOk result (λ p. procedure_text p ≡ deposit_checking) }
 {
     let mut body = Vec::with_capacity(alloc, 6)?;
     let refusal = alone(alloc, ask(NEGATIVE_AMOUNT))?;

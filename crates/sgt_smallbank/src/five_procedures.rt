@@ -1,5 +1,5 @@
 ghost use Rattle.std.specs.Prelude.{◌≡◌, IfOk, vec_len};
-ghost use Rattle.sgt_model.specs.Programs.{program_of};
+ghost use Rattle.sgt_model.specs.ProcedureTexts.{procedure_text};
 ghost use Rattle.sgt_proc.specs.Flaws.{IsFlawless};
 ghost use Rattle.sgt_smallbank.specs.Texts.{procedures};
 
@@ -32,8 +32,8 @@ pub fn procedures(alloc: Global) -> Result<Vec<Checked>, NoMemory>
 
 /// The procedure, which has no flaw, as one that may run.
 fn checked(procedure: Procedure) -> Checked
-    requires { IsFlawless (program_of procedure) }
-    ensures { result ≡ program_of procedure }
+    requires { IsFlawless (procedure_text procedure) }
+    ensures { result ≡ procedure_text procedure }
 {
     match check(procedure) {
         Ok(checked) => checked,

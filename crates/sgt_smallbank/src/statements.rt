@@ -1,6 +1,6 @@
 //! The statements and expressions that the five procedures are made of.
 ghost use Rattle.std.specs.Prelude.{◌≡◌, [], ◌∷◌, IfOk};
-ghost use Rattle.sgt_model.specs.Programs.{term_of, test_of, before, block_of};
+ghost use Rattle.sgt_model.specs.ProcedureTexts.{expr_text, cond_text, in_front, block_of};
 ghost use Rattle.sgt_model.specs.Syntax.{Block, empty, choose, sum, diff};
 
 use crate::tables::{ACCOUNT, NO_BALANCE, UNKNOWN_NAME};
@@ -72,7 +72,7 @@ pub(crate) fn ask(code: u16) -> Statement
 
 /// Goes through the branch where the condition holds, and else does nothing.
 pub(crate) fn only_where(alloc: Global, cond: Cond, yes: Vec<Statement>) -> Statement
-    ensures { (rest : Block) → before result rest ≡ choose (test_of cond) (block_of yes.items) empty rest }
+    ensures { (rest : Block) → in_front result rest ≡ choose (cond_text cond) (block_of yes.items) empty rest }
 {
     Statement::If {
         cond,
@@ -83,7 +83,7 @@ pub(crate) fn only_where(alloc: Global, cond: Cond, yes: Vec<Statement>) -> Stat
 
 /// The sum of the two.
 pub(crate) fn sum_of(alloc: Global, left: Expr, right: Expr) -> Result<Expr, NoMemory>
-    ensures { IfOk result (λ e. term_of e ≡ sum (term_of left) (term_of right)) }
+    ensures { IfOk result (λ e. expr_text e ≡ sum (expr_text left) (expr_text right)) }
 {
     let left = Box::new(alloc, left)?;
     let right = Box::new(alloc, right)?;
@@ -92,7 +92,7 @@ pub(crate) fn sum_of(alloc: Global, left: Expr, right: Expr) -> Result<Expr, NoM
 
 /// The first less the second.
 pub(crate) fn difference_of(alloc: Global, left: Expr, right: Expr) -> Result<Expr, NoMemory>
-    ensures { IfOk result (λ e. term_of e ≡ diff (term_of left) (term_of right)) }
+    ensures { IfOk result (λ e. expr_text e ≡ diff (expr_text left) (expr_text right)) }
 {
     let left = Box::new(alloc, left)?;
     let right = Box::new(alloc, right)?;

@@ -1,5 +1,5 @@
 ghost use Rattle.std.specs.Prelude.{◌≡◌, IfOk};
-ghost use Rattle.sgt_model.specs.Programs.{program_of};
+ghost use Rattle.sgt_model.specs.ProcedureTexts.{procedure_text};
 ghost use Rattle.sgt_smallbank.specs.Texts.{transact_saving};
 
 use crate::statements::{
@@ -13,7 +13,7 @@ use std::alloc::Global;
 /// TransactSaving(name, amount): adds the amount to the saving of the name's customer, which may not become negative, and
 /// answers the new saving. A negative amount is a withdrawal.
 pub(crate) fn transact_saving(alloc: Global) -> Result<Procedure, NoMemory>
-    ensures { IfOk result (λ p. program_of p ≡ transact_saving) }
+    ensures { IfOk result (λ p. procedure_text p ≡ transact_saving) }
 {
     let mut body = Vec::with_capacity(alloc, 6)?;
     body.push_reserved(look_up_customer(0, 0));

@@ -1,5 +1,5 @@
 ghost use Rattle.std.specs.Prelude.{◌≡◌, IfOk, pos};
-ghost use Rattle.sgt_model.specs.Programs.{term_of, before, program_of};
+ghost use Rattle.sgt_model.specs.ProcedureTexts.{expr_text, in_front, procedure_text};
 ghost use Rattle.sgt_smallbank.specs.Texts.{charge, write_check};
 ghost use Rattle.sgt_model.specs.Syntax.{Block, num, arg, reg, diff};
 
@@ -14,7 +14,7 @@ use std::alloc::Global;
 /// WriteCheck(name, amount): takes the amount, which may not be negative, from the checking of the name's customer, and 100
 /// cents more where saving and checking together are smaller than it, and answers the new checking, which may be negative.
 pub(crate) fn write_check(alloc: Global) -> Result<Procedure, NoMemory>
-    ensures { IfOk result (λ p. program_of p ≡ write_check) }
+    ensures { IfOk result (λ p. procedure_text p ≡ write_check) }
 {
     let mut body = Vec::with_capacity(alloc, 7)?;
     let refusal = alone(alloc, ask(NEGATIVE_AMOUNT))?;
@@ -31,7 +31,7 @@ pub(crate) fn write_check(alloc: Global) -> Result<Procedure, NoMemory>
 
 /// Sets register 3 to the checking less the amount, and less the penalty too where the amount is not covered.
 fn charge(alloc: Global) -> Result<Statement, NoMemory>
-    ensures { IfOk result (λ s. (rest : Block) → before s rest ≡ charge rest) }
+    ensures { IfOk result (λ s. (rest : Block) → in_front s rest ≡ charge rest) }
 {
     let yes = alone(alloc, set_register(3, less_penalty(alloc)?))?;
     let left = difference_of(alloc, Expr::Reg(2), Expr::Arg(1))?;
@@ -43,7 +43,7 @@ fn charge(alloc: Global) -> Result<Statement, NoMemory>
 
 /// The checking less the amount and the penalty.
 fn less_penalty(alloc: Global) -> Result<Expr, NoMemory>
-    ensures { IfOk result (λ e. term_of e ≡ diff (diff (reg 2) (arg 1)) (num (pos 100))) }
+    ensures { IfOk result (λ e. expr_text e ≡ diff (diff (reg 2) (arg 1)) (num (pos 100))) }
 {
     let left = difference_of(alloc, Expr::Reg(2), Expr::Arg(1))?;
     difference_of(alloc, left, Expr::Num(PENALTY))

@@ -3,14 +3,14 @@
 ghost use Rattle.sgt_textbook.specs.Laws.{AreCommitOrdered, AreRecoverable, AreSerializable, CommitOrdersAreSerial, EdgesArePairs, KeysCanBeNumbered, ReadsAgree, SomeCascade};
 
 use sgt_classes::commit_ordered_are_serializable;
-use sgt_model::{commits_in_line, commits_in_order};
+use sgt_model::{commit_order_is_total, commits_in_order};
 
 /// The textbook's history of a legal one is commit ordered: where operations of two committed transactions conflict, the
 /// transaction of the earlier one commits first (Durner and Neumann, ICDE 2019).
 pub fn legal_are_commit_ordered()
     ensures { AreCommitOrdered }
 {
-    commits_in_line();
+    commit_order_is_total();
     commits_in_order();
 }
 
@@ -28,7 +28,7 @@ pub fn legal_are_serializable()
 pub fn legal_are_recoverable()
     ensures { AreRecoverable }
 {
-    commits_in_line();
+    commit_order_is_total();
     commits_in_order();
 }
 
@@ -49,7 +49,7 @@ pub fn reads_agree()
 pub fn commit_orders_are_serial()
     ensures { CommitOrdersAreSerial }
 {
-    commits_in_line();
+    commit_order_is_total();
     commits_in_order();
 }
 

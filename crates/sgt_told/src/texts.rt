@@ -1,10 +1,10 @@
 //! Replies and faults as text.
 ghost use Rattle.std.specs.Prelude.{◌≡◌, ◌≢◌, ◌≤◌, ◌↔◌, ◌++◌, List, ℕ, IsTrue, OnOk, IfOk, codes, take};
-ghost use Rattle.sgt_model.specs.declared.reply.Reply.{Reply as Answer};
+ghost use Rattle.sgt_model.specs.declared.reply.Reply.{Reply};
 ghost use Rattle.std.specs.Fmt.{decimal};
 ghost use Rattle.sgt_format.specs.Decimals.{each_item};
 ghost use Rattle.sgt_format.specs.ReplyText.{reply_text};
-ghost use Rattle.sgt_format.specs.declared.errors.OpeningError.{OpeningError as Error};
+ghost use Rattle.sgt_format.specs.declared.errors.OpeningError.{OpeningError};
 ghost use Rattle.sgt_told.specs.Faults.{IsFaultTold};
 ghost use Rattle.sgt_told.specs.Texts.{IsFaultKind, IsWritten, fault_text, place_text, text_by};
 ghost use Rattle.sgt_told.specs.ToldReplies.{Tells};
@@ -22,8 +22,8 @@ use std::alloc::{AllocError, Global};
 ///
 /// `BAD_CALL` where the fields tell no reply; `NO_MEMORY`.
 pub fn write_reply_text(alloc: Global, told: &Told, text: &mut [u8], length: &mut u64) -> u32
-    ensures text { (r : Answer) → Tells told.now r → result ≡ 0 → IsWritten (reply_text r) text.old text.new length.new }
-    ensures bad_call { (result ≡ 5) ↔ ((r : Answer) → ¬ Tells told.now r) }
+    ensures text { (r : Reply) → Tells told.now r → result ≡ 0 → IsWritten (reply_text r) text.old text.new length.new }
+    ensures bad_call { (result ≡ 5) ↔ ((r : Reply) → ¬ Tells told.now r) }
     ensures statuses { result ≢ 5 → result ≤ 1 }
     ensures unwritten { result ≢ 0 → (text.new ≡ text.old) × (length.new ≡ length.old) }
 {
@@ -45,7 +45,7 @@ pub fn write_reply_text(alloc: Global, told: &Told, text: &mut [u8], length: &mu
 /// `BAD_CALL` where the kind is no fault's; `NO_MEMORY`.
 #[tactic(auto, using(crate::proofs::Writings::fault_words))]
 pub fn write_fault_text(alloc: Global, fault: &Fault, text: &mut [u8], length: &mut u64) -> u32
-    ensures text { (e : Error) → IsFaultTold fault.now e → result ≡ 0 → IsWritten (fault_text e) text.old text.new length.new }
+    ensures text { (e : OpeningError) → IsFaultTold fault.now e → result ≡ 0 → IsWritten (fault_text e) text.old text.new length.new }
     ensures bad_call { (result ≡ 5) ↔ (¬ IsFaultKind fault.now.kind) }
     ensures statuses { result ≢ 5 → result ≤ 1 }
     ensures unwritten { result ≢ 0 → (text.new ≡ text.old) × (length.new ≡ length.old) }

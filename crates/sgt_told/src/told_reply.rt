@@ -1,6 +1,6 @@
 //! Which reply the fields of one say.
 ghost use Rattle.std.specs.Prelude.{◌≡◌, ◌≤◌, take, Some, IfSome};
-ghost use Rattle.sgt_model.specs.declared.reply.Reply.{Reply as Answer};
+ghost use Rattle.sgt_model.specs.declared.reply.Reply.{Reply};
 ghost use Rattle.sgt_told.specs.Told.{IsCauseTold, IsFateTold, IsFoundTold};
 ghost use Rattle.sgt_told.specs.ToldReplies.{Tells, IsCause, IsFate, code_in, key_in, found_in, cause_in, fate_in, looked_in, reply_in};
 
@@ -11,7 +11,7 @@ use sgt_model::{Answers, Cause, Fate, Key, Reply, Tid, Tids};
 #[tactic(auto, using(crate::proofs::Readings::reply_reads))]
 pub fn told_reply(told: &Told) -> Option<Reply>
     ensures tells { IfSome result (Tells told.now) }
-    ensures only { (r : Answer) → Tells told.now r → result ≡ Some r }
+    ensures only { (r : Reply) → Tells told.now r → result ≡ Some r }
 {
     read_reply(told)
 }

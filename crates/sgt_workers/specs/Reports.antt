@@ -6,7 +6,7 @@ use Rattle.sgt_model.specs.Contents.{Key}
 use Rattle.sgt_model.specs.Databases.{contents_of, IsByKey}
 use Rattle.sgt_model.specs.Legality.{Legal}
 use Rattle.sgt_model.specs.Pairs.{Pair}
-use Rattle.sgt_model.specs.Replay.{folded, IsSerializable}
+use Rattle.sgt_model.specs.Replay.{folded, ReplayAgrees}
 use Rattle.sgt_model.specs.Settings.{Setting}
 use Rattle.sgt_model.specs.Values.{settled}
 use Rattle.sgt_model.specs.Walks.{Acyclic}
@@ -24,7 +24,7 @@ pub record IsReportOf {N : Type 0} (s : Setting) (jobs : List Job) (workers trie
   pub values : (k : Key) → contents_of r.database k ≡ settled s.opening (reverse r.history.entries) k
   pub replayed : (k : Key) → contents_of r.database k ≡ (folded s (reverse r.history.entries)).last k
   pub by_key : IsByKey r.database
-  pub replay : IsSerializable s (reverse r.history.entries)
+  pub replay : ReplayAgrees s (reverse r.history.entries)
   pub no_cycle : Acyclic (Pair (reverse r.history.entries))
   pub causes : AbortsHaveCause s (reverse r.history.entries)
   pub order : CommitsInOrder (reverse r.history.entries)

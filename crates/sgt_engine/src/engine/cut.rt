@@ -1,11 +1,11 @@
 ghost use Rattle.std.specs.Prelude.{◌≡◌, Err, IfOk, OnOk, OnErr, ◌↔◌, reverse};
 ghost use Rattle.sgt_model.specs.Aborts.{AbortsHaveCause};
 ghost use Rattle.sgt_model.specs.CommitOrder.{CommitsInOrder};
-ghost use Rattle.sgt_model.specs.Contents.{Key as K};
+ghost use Rattle.sgt_model.specs.Contents.{Key};
 ghost use Rattle.sgt_model.specs.Databases.{contents_of, IsByKey};
 ghost use Rattle.sgt_model.specs.Legality.{Legal};
 ghost use Rattle.sgt_model.specs.Pairs.{Pair};
-ghost use Rattle.sgt_model.specs.Replay.{folded, IsSerializable};
+ghost use Rattle.sgt_model.specs.Replay.{folded, ReplayAgrees};
 ghost use Rattle.sgt_model.specs.Walks.{Acyclic};
 ghost use Rattle.sgt_engine.specs.Cuts.{GoesOn, NobodyLive};
 ghost use Rattle.sgt_engine.specs.EngineView.{setting_of};
@@ -56,11 +56,11 @@ impl<R: Records, A: Accesses, G: Graph> Engine<R, A, G> {
         ensures past { IfOk result (λ p. p.opening ≡ self.old.opening) }
         ensures entries { IfOk result (λ p. reverse p.history.entries ≡ self.old.past) }
         ensures goes_on { OnOk result (GoesOn self.old self.new) }
-        ensures replayed { OnOk result ((k : K) →
+        ensures replayed { OnOk result ((k : Key) →
             contents_of self.new.opening k ≡ (folded (setting_of self.old) self.old.past).last k) }
         ensures by_key { OnOk result (IsByKey self.new.opening) }
         ensures legal { IfOk result (λ p. Legal (setting_of self.old) (reverse p.history.entries)) }
-        ensures replay { IfOk result (λ p. IsSerializable (setting_of self.old) (reverse p.history.entries)) }
+        ensures replay { IfOk result (λ p. ReplayAgrees (setting_of self.old) (reverse p.history.entries)) }
         ensures no_cycle { IfOk result (λ p. Acyclic (Pair (reverse p.history.entries))) }
         ensures causes { IfOk result (λ p. AbortsHaveCause (setting_of self.old) (reverse p.history.entries)) }
         ensures order { IfOk result (λ p. CommitsInOrder (reverse p.history.entries)) }

@@ -1,6 +1,6 @@
 //! More rows in the opening database.
 ghost use Rattle.std.specs.Prelude.{◌≡◌, ◌≢◌, ◌↔◌, true, false, [], None, Err, IsSome, IfOk, IfErr, OnOk, OnErr};
-ghost use Rattle.sgt_model.specs.Contents.{Key as K, put_in};
+ghost use Rattle.sgt_model.specs.Contents.{Key, put_in};
 ghost use Rattle.sgt_model.specs.Databases.{contents_of, HasValues};
 ghost use Rattle.sgt_model.specs.Numbers.{IsValue};
 ghost use Rattle.sgt_engine.specs.Puts.{AreNew, AreRefused, DoNotFit, PutsRows, with_rows};
@@ -67,7 +67,7 @@ impl<R: Records, A: Accesses, G: Graph> Engine<R, A, G> {
     fn opening_with(&self, alloc: Global, rows: &[(Key, i64)]) -> Result<Database, PutError>
         requires begins { self.now.past ≡ [] }
         requires in_range { HasValues rows.now }
-        ensures contents { IfOk result (λ d. (k : K) →
+        ensures contents { IfOk result (λ d. (k : Key) →
             contents_of d k ≡ with_rows (contents_of self.now.opening) rows.now k) }
         ensures new { OnOk result (AreNew (contents_of self.now.opening) rows.now) }
         ensures refused { IfErr result (DoNotFit (contents_of self.now.opening) rows.now) }
@@ -82,7 +82,7 @@ impl<R: Records, A: Accesses, G: Graph> Engine<R, A, G> {
 // Puts rows in, one after another, as long as they are new.
 fn put_rows(database: &mut Database, rows: &[(Key, i64)]) -> Result<(), PutError>
     requires in_range { HasValues rows.now }
-    ensures contents { OnOk result ((k : K) →
+    ensures contents { OnOk result ((k : Key) →
         contents_of database.new k ≡ with_rows (contents_of database.old) rows.now k) }
     ensures new { OnOk result (AreNew (contents_of database.old) rows.now) }
     ensures refused { IfErr result (DoNotFit (contents_of database.old) rows.now) }
@@ -98,7 +98,7 @@ fn put_rows(database: &mut Database, rows: &[(Key, i64)]) -> Result<(), PutError
 // Puts a row in, and answers whether it is new: where its key has a value, nothing changes.
 fn put_row(database: &mut Database, row: &(Key, i64)) -> Result<bool, NoMemory>
     requires in_range { IsValue row.now.1 }
-    ensures put { IfOk result (λ new. new ≡ true → (k : K) →
+    ensures put { IfOk result (λ new. new ≡ true → (k : Key) →
         contents_of database.new k ≡ put_in (contents_of database.old) row.now.0 row.now.1 k) }
     ensures new { IfOk result (λ new. new ≡ true → contents_of database.old row.now.0 ≡ None) }
     ensures taken { IfOk result (λ new. new ≡ false → IsSome (contents_of database.old row.now.0)) }

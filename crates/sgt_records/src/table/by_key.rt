@@ -1,6 +1,6 @@
 //! The records by key, or by an index that was found before.
 ghost use Rattle.std.specs.Prelude.{◌≡◌, ℕ, None, Some, cond, IfOk, OnOk, OnErr};
-ghost use Rattle.sgt_model.specs.Contents.{Key as K, key_eq};
+ghost use Rattle.sgt_model.specs.Contents.{Key, key_eq};
 ghost use Rattle.sgt_records.specs.declared.written.Written.TheVariants.{Nothing};
 ghost use Rattle.sgt_records.specs.Tables.{index_in, record_in};
 
@@ -14,7 +14,7 @@ use std::collections::BTreeMap;
 impl Table {
     /// No records. This takes no memory.
     pub fn new(alloc: Global) -> Table
-        ensures { (k : K) → record_in result k ≡ None }
+        ensures { (k : Key) → record_in result k ≡ None }
     {
         Table {
             indices: BTreeMap::new(alloc),
@@ -50,7 +50,7 @@ impl Table {
     /// Puts a record in the place of the key's, which has this index.
     pub fn put(&mut self, _key: Key, index: usize, given: Record)
         requires { index_in self.old _key ≡ Some index }
-        ensures put { (k : K) → record_in self.new k ≡ cond (key_eq _key k) (Some given) (record_in self.old k) }
+        ensures put { (k : Key) → record_in self.new k ≡ cond (key_eq _key k) (Some given) (record_in self.old k) }
         ensures indices { self.new.indices ≡ self.old.indices }
     {
         self.records[index] = given;
@@ -59,12 +59,12 @@ impl Table {
     /// Adds a record, which is the key's from now on, with a committed value, or none, and nothing written above it. It tells the
     /// record's index. `NoMemory` where a growth was refused.
     pub fn add(&mut self, key: Key, committed: Option<i64>) -> Result<usize, NoMemory>
-        ensures added { OnOk result ((k : K) → record_in self.new k
+        ensures added { OnOk result ((k : Key) → record_in self.new k
             ≡ cond (key_eq key k) (Some (record { committed = committed; written = Nothing })) (record_in self.old k)) }
         ensures index { IfOk result (λ index. index_in self.new key ≡ Some index) }
         ensures stay { index_in self.old key ≡ None
-            → (k : K) (p : ℕ) → index_in self.old k ≡ Some p → index_in self.new k ≡ Some p }
-        ensures unchanged { OnErr result ((k : K) → record_in self.new k ≡ record_in self.old k) }
+            → (k : Key) (p : ℕ) → index_in self.old k ≡ Some p → index_in self.new k ≡ Some p }
+        ensures unchanged { OnErr result ((k : Key) → record_in self.new k ≡ record_in self.old k) }
     {
         let index = self.records.len();
         self.records.reserve(1)?;

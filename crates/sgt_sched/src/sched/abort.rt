@@ -1,6 +1,6 @@
 //! Aborts, which a step, a commit or a quit comes to.
 ghost use Rattle.std.specs.Prelude.{◌≡◌, true};
-ghost use Rattle.sgt_model.specs.CallEffects.{AbortsIn, Undo};
+ghost use Rattle.sgt_model.specs.CallEffects.{AbortEffect, Undo};
 ghost use Rattle.sgt_model.specs.FallsIn.{FallsIn};
 ghost use Rattle.sgt_sched.specs.Briefs.{InBrief};
 ghost use Rattle.sgt_sched.specs.Endings.{EndsAborted};
@@ -20,7 +20,7 @@ impl<R: Records, A: Accesses, G: Graph> Sched<R, A, G> {
     // Aborts a live transaction, and those that have read from it with it.
     pub(super) fn abort(&mut self, t: Tid, cause: Cause, out: &mut Reply) -> Brief
         requires live { (state self.old).nodes t ≡ true }
-        ensures { Turns (InBrief (AbortsIn t cause) out.new) self.old result self.new }
+        ensures { Turns (InBrief (AbortEffect t cause) out.new) self.old result self.new }
     {
         let fell = self.undo(t, &cause);
         *out = Reply::Aborted { cause, fell };

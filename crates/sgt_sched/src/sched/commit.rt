@@ -2,7 +2,7 @@
 ghost use Rattle.std.specs.Prelude.{◌≡◌, ℕ, true, false, IsTrue, ◌↔◌};
 ghost use Rattle.sgt_model.specs.declared.event.Event.TheVariants.{Commit};
 ghost use Rattle.sgt_model.specs.CallEffects.{CommitEffect, CommitOn, CommitsIn, RefusesIn};
-ghost use Rattle.sgt_model.specs.Traces.{Asks as AsksNext};
+ghost use Rattle.sgt_model.specs.Traces.{Raises};
 ghost use Rattle.sgt_sched.specs.Briefs.{InBrief};
 ghost use Rattle.sgt_sched.specs.Endings.{EndsOne};
 ghost use Rattle.sgt_sched.specs.Scheduler.{state, asks_of, Turns};
@@ -41,7 +41,7 @@ impl<R: Records, A: Accesses, G: Graph> Sched<R, A, G> {
                 Some(first) => Brief::Waits(first),
                 None => self.finish_commit(t, answers, out),
             },
-            Some(Next::Asks(code)) => self.commit_asked(t, code, out),
+            Some(Next::Raises(code)) => self.commit_asked(t, code, out),
             Some(_) => Brief::NotEnded,
             None => self.answer_not_live(t, out),
         }
@@ -51,7 +51,7 @@ impl<R: Records, A: Accesses, G: Graph> Sched<R, A, G> {
     #[inline(never)]
     fn commit_asked(&mut self, t: Tid, code: u16, out: &mut Reply) -> Brief
         requires live { (state self.old).nodes t ≡ true }
-        ensures { Turns (InBrief (CommitOn (asks_of self.old) t (AsksNext code)) out.new) self.old result self.new }
+        ensures { Turns (InBrief (CommitOn (asks_of self.old) t (Raises code)) out.new) self.old result self.new }
     {
         match self.limits.asks {
             Asks::AtStep => Brief::NotEnded,
@@ -92,7 +92,7 @@ impl<R: Records, A: Accesses, G: Graph> Sched<R, A, G> {
     {
         match self.next(t) {
             Some(Next::Ends(_)) => decide(&self.graph, t).is_none(),
-            Some(Next::Asks(_)) => match self.limits.asks {
+            Some(Next::Raises(_)) => match self.limits.asks {
                 Asks::AtStep => false,
                 Asks::AtCommit => decide(&self.graph, t).is_none(),
             },

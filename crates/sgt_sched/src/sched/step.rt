@@ -5,7 +5,7 @@ ghost use Rattle.sgt_model.specs.declared.event.Event.TheVariants.{Step};
 ghost use Rattle.sgt_model.specs.declared.kind.Kind.TheVariants.{Look, Store};
 ghost use Rattle.sgt_model.specs.CallEffects.{StepEffect, StepOn, MakesLook, MakesStore};
 ghost use Rattle.sgt_model.specs.Numbers.{IsValue};
-ghost use Rattle.sgt_model.specs.Traces.{Looks, Puts, Asks as AsksNext};
+ghost use Rattle.sgt_model.specs.Traces.{Looks, Puts, Raises};
 ghost use Rattle.sgt_model.specs.Walks.{Member};
 ghost use Rattle.sgt_cycle.specs.Walk.{NoWalk};
 ghost use Rattle.sgt_sched.specs.Briefs.{InBrief, Unplaced};
@@ -55,7 +55,7 @@ impl<R: Records, A: Accesses, G: Graph> Sched<R, A, G> {
             Next::Look(key) => self.look(t, index, key, out),
             Next::Put(key, value) => self.store(t, index, key, value, out),
             Next::Ends(_) => Ok(Brief::Ended),
-            Next::Asks(code) => Ok(self.step_asked(t, code, out)),
+            Next::Raises(code) => Ok(self.step_asked(t, code, out)),
         }
     }
 
@@ -217,7 +217,7 @@ impl<R: Records, A: Accesses, G: Graph> Sched<R, A, G> {
     #[inline(never)]
     fn step_asked(&mut self, t: Tid, code: u16, out: &mut Reply) -> Brief
         requires live { (state self.old).nodes t ≡ true }
-        ensures { Turns (InBrief (StepOn (asks_of self.old) t (AsksNext code)) out.new) self.old result self.new }
+        ensures { Turns (InBrief (StepOn (asks_of self.old) t (Raises code)) out.new) self.old result self.new }
     {
         match self.limits.asks {
             Asks::AtStep => self.abort(t, Cause::Asked(code), out),
@@ -236,7 +236,7 @@ impl<R: Records, A: Accesses, G: Graph> Sched<R, A, G> {
             Next::Look(key) => self.is_blocked(t, key, Kind::Look),
             Next::Put(key, _) => self.is_blocked(t, key, Kind::Store),
             Next::Ends(_) => false,
-            Next::Asks(_) => match self.limits.asks {
+            Next::Raises(_) => match self.limits.asks {
                 Asks::AtStep => true,
                 Asks::AtCommit => false,
             },

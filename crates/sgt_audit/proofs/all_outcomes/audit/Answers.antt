@@ -1,7 +1,7 @@
 use Rattle.std.proofs.Common.{◌≡◌, ◌↔◌, ℕ, ◌<◌, IsTrue, sym, subst, ◌∙◌, reverse, length, arith}
 use Rattle.std.specs.List.{All, AllZip, flat_map}
 use Rattle.std.proofs.lemmas.Bool.{false≢true}
-use Rattle.sgt_model.specs.Fates.{starts}
+use Rattle.sgt_model.specs.Fates.{start_count}
 use Rattle.sgt_model.specs.Walks.{Distinct}
 use Rattle.sgt_audit.specs.Lives.{AreLives}
 use Rattle.sgt_audit.specs.Outcomes.{OutcomeStands}
@@ -18,7 +18,7 @@ none_twice-requires g c =
     let named : c.deref-2.result.now ≡ flat_map (transactions_of h) c.args.outcomes.now = c.deref-2.ensures.value
     ∙ c.in_ok-transactions.ensures in
     let are : AreLives (reverse h) c.in_ok-lives.lives.items = c.in_ok-lives.ensures in
-    let count : starts (reverse h) ≡ c.len.result = omega (arith, are.counted, c.in_ok-lives.lives.ok.0, c.len.ensures) in
+    let count : start_count (reverse h) ≡ c.len.result = omega (arith, are.counted, c.in_ok-lives.lives.ok.0, c.len.ensures) in
     subst (All (λ t. t < c.len.result)) (sym named)
     (subst (λ (n : ℕ). All (λ t. t < n) (flat_map (transactions_of h) c.args.outcomes.now)) count all)
 

@@ -10,10 +10,10 @@ use Rattle.sgt_audit.proofs.lives.add_entry.Goals as goal
 
 pub returns-then-is_start : goal.returns-then-is_start
 returns-then-is_start c s past reply_legal legal number are =
-    let starts = started_some c.args.entry.now.reply (sym c.is_start.ensures ∙ c.if-is_start.true) in
+    let start_count = started_some c.args.entry.now.reply (sym c.is_start.ensures ∙ c.if-is_start.true) in
     let after : AreLives (c.args.entry.now ∷ past) (with_started c.args.number c.args.entry.now.event c.args.lives.now.items) =
     subst (λ n. AreLives (c.args.entry.now ∷ past) (with_started n c.args.entry.now.event c.args.lives.now.items)) number
-    (lives_started_by s past c.args.entry.now c.args.lives.now.items starts.0 legal reply_legal starts.1 are) in
+    (lives_started_by s past c.args.entry.now c.args.lives.now.items start_count.0 legal reply_legal start_count.1 are) in
     on_ok_weaker c.add_started.result (λ is. subst (AreLives (c.args.entry.now ∷ past)) (sym is) after)
     (rw c.event.ensures at c.add_started.ensures)
 

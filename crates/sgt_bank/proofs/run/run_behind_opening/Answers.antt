@@ -2,7 +2,7 @@ use Rattle.std.proofs.Common.{ap, subst, ◌∙◌}
 use Rattle.std.specs.Prelude.{reverse}
 use Rattle.sgt_model.specs.Settings.{Setting}
 use Rattle.sgt_model.specs.Legality.{Legal}
-use Rattle.sgt_model.specs.Replay.{folded, IsSerializable}
+use Rattle.sgt_model.specs.Replay.{folded, ReplayAgrees}
 use Rattle.sgt_model.specs.Aborts.{AbortsHaveCause}
 use Rattle.sgt_bank.proofs.Reported.{each-run}
 use Rattle.sgt_bank.proofs.run.run_behind_opening.Goals as goal
@@ -16,7 +16,7 @@ returns-in-Ok-clause-report g c =
       legal = subst (λ (s : Setting). Legal s past) same ran.legal;
       stand = ran.outcomes;
       each = each-run c.in-Ok.report.outcomes.items c.args.workers c.requires.workers.0 ran.outcomes.counts.untaken;
-      replay = subst (λ (s : Setting). IsSerializable s past) same ran.replay;
+      replay = subst (λ (s : Setting). ReplayAgrees s past) same ran.replay;
       no_cycle = ran.no_cycle;
       causes = subst (λ (s : Setting). AbortsHaveCause s past) same ran.causes;
       order = ran.order;

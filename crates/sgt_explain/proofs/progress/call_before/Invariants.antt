@@ -1,13 +1,13 @@
 use Rattle.std.proofs.Common.{◌≡◌, ℕ, ◌<◌, ◌≤◌, None, length}
 use Rattle.sgt_model.specs.Progress.{call_of}
-use Rattle.sgt_explain.specs.Places.{before}
+use Rattle.sgt_explain.specs.Places.{entries_before}
 use Rattle.sgt_explain.specs.Calls.{placed_call}
 use Rattle.sgt_explain.proofs.progress.call_before.Given as goal
 
 abbrev pub invariant-loop-at : goal.invariant-loop-at
 invariant-loop-at l = record {
   within : l.at ≤ length l.history.entries;
-  none_since : call_of (before l.history.entries l.fn.place) l.t ≡ call_of (before l.history.entries l.at) l.t;
+  none_since : call_of (entries_before l.history.entries l.fn.place) l.t ≡ call_of (entries_before l.history.entries l.at) l.t;
   none : (n : ℕ) → l.at ≤ n → n < l.fn.place → placed_call l.history.entries l.t n ≡ None;
 }
 

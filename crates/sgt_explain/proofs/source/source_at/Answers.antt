@@ -1,5 +1,5 @@
 use Rattle.std.proofs.Common.{rules, refl}
-use Rattle.sgt_explain.specs.Places.{before, placed_access}
+use Rattle.sgt_explain.specs.Places.{entries_before, placed_access}
 use Rattle.sgt_model.specs.Accesses.{Access}
 use Rattle.sgt_explain.proofs.NewestStores.{look_is, looks_from, looks_from_one}
 use Rattle.sgt_explain.proofs.source.source_at.Goals as goal
@@ -15,7 +15,7 @@ returns-clause-told c =
           c.args.reader (search rules) (search rules) (search rules);
       reads = (
         search rules,
-        looks_from (before entries c.args.place) (placed_access entries c.args.place)
+        looks_from (entries_before entries c.args.place) (placed_access entries c.args.place)
             made
             c.args.reader c.in_ok-source.source (search rules) (search rules) (search rules) c.in_ok-source.ensures,
       );
@@ -26,6 +26,6 @@ returns-clause-some c =
     let entries = c.args.history.now.entries in
     let made : Access = record { by = c.made.inside.by; key = c.made.inside.key; kind = c.made.inside.kind; value = c.made.inside.value } in
     λ v reads.
-    looks_from_one (before entries c.args.place) (placed_access entries c.args.place)
+    looks_from_one (entries_before entries c.args.place) (placed_access entries c.args.place)
     made
     c.args.reader c.in_ok-source.source v (search rules) c.in_ok-source.ensures reads.1

@@ -1,12 +1,12 @@
 use Rattle.std.proofs.Common.{◌≡◌, ◌≤◌}
 use Rattle.sgt_model.specs.Fates.{fate_of}
-use Rattle.sgt_explain.specs.Places.{before}
+use Rattle.sgt_explain.specs.Places.{entries_before}
 use Rattle.sgt_explain.proofs.writers.is_aborted.Given as goal
 
 abbrev pub invariant-loop-place : goal.invariant-loop-place
 invariant-loop-place l = record {
   within : l.place ≤ l.end;
-  none_since : fate_of (before l.history.entries l.end) l.t ≡ fate_of (before l.history.entries l.place) l.t;
+  none_since : fate_of (entries_before l.history.entries l.end) l.t ≡ fate_of (entries_before l.history.entries l.place) l.t;
 }
 
 abbrev pub decreases-loop-place : goal.decreases-loop-place

@@ -1,6 +1,6 @@
 use Rattle.std.proofs.Common.{rules, ◌≤◌, not, length, ap, sym, ◌∙◌}
 use Rattle.sgt_model.specs.Fates.{aborted}
-use Rattle.sgt_explain.specs.Places.{before}
+use Rattle.sgt_explain.specs.Places.{entries_before}
 use Rattle.sgt_explain.proofs.NewestStores.{by_of, writer_found, writer_skipped, no_writer}
 use Rattle.sgt_explain.proofs.writers.newest_writer.Goals as goal
 
@@ -8,7 +8,7 @@ pub returns-then-not-is_aborted : goal.returns-then-not-is_aborted
 returns-then-not-is_aborted c =
     let within : c.loop-place.place ≤ length c.args.history.now.entries = search rules in
     writer_found c.args.history.now.entries c.loop-place.place c.args.key
-    (λ v. not (aborted (before c.args.history.now.entries c.args.end) v)) c.in-Some.writer (search rules) within c.in-Some.ensures
+    (λ v. not (aborted (entries_before c.args.history.now.entries c.args.end) v)) c.in-Some.writer (search rules) within c.in-Some.ensures
     (search rules)
     ∙ ap by_of (sym c.loop-place.invariant.none_since)
 
@@ -19,7 +19,7 @@ loop-place-preserved-else-not-is_aborted c =
       within = search rules;
       none_since = c.loop-place.invariant.none_since
           ∙ writer_skipped c.args.history.now.entries c.loop-place.place c.args.key
-          (λ v. not (aborted (before c.args.history.now.entries c.args.end) v)) c.in-Some.writer (search rules) within c.in-Some.ensures
+          (λ v. not (aborted (entries_before c.args.history.now.entries c.args.end) v)) c.in-Some.writer (search rules) within c.in-Some.ensures
           (search rules);
     }
 
@@ -30,5 +30,5 @@ loop-place-preserved c =
       within = search rules;
       none_since = c.loop-place.invariant.none_since
           ∙ no_writer c.args.history.now.entries c.loop-place.place c.args.key
-          (λ v. not (aborted (before c.args.history.now.entries c.args.end) v)) (search rules) within (search rules);
+          (λ v. not (aborted (entries_before c.args.history.now.entries c.args.end) v)) (search rules) within (search rules);
     }

@@ -1,5 +1,5 @@
 use Rattle.std.proofs.Common.{◌≡◌, ◌≤◌, length, min, take}
-use Rattle.sgt_model.specs.Programs.{block_of}
+use Rattle.sgt_model.specs.ProcedureTexts.{block_of}
 use Rattle.sgt_model.specs.Ways.{Way, onto}
 use Rattle.sgt_proc.specs.Flaws.{most_answers}
 use Rattle.sgt_proc.proofs.answers.+answers.Given as goal

@@ -1,5 +1,5 @@
 use Rattle.std.proofs.Common.{◌≡◌, min, max, drop}
-use Rattle.sgt_model.specs.Programs.{block_of}
+use Rattle.sgt_model.specs.ProcedureTexts.{block_of}
 use Rattle.sgt_proc.specs.Flaws.{depth}
 use Rattle.sgt_proc.proofs.depths.+depth.Given as goal
 

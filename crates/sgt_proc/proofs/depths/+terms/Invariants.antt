@@ -1,8 +1,8 @@
 use Rattle.std.proofs.Common.{◌≡◌, min, max, drop}
-use Rattle.sgt_model.specs.Programs.{block_of}
-use Rattle.sgt_proc.specs.Flaws.{terms_depth}
+use Rattle.sgt_model.specs.ProcedureTexts.{block_of}
+use Rattle.sgt_proc.specs.Flaws.{exprs_depth}
 use Rattle.sgt_proc.proofs.depths.+terms.Given as goal
 
 abbrev pub invariant-terms_depth-loop-statement : goal.invariant-terms_depth-loop-statement
 invariant-terms_depth-loop-statement l =
-    min 17 (terms_depth (block_of l.statements)) ≡ max l.deepest (min 17 (terms_depth (block_of (drop l.statement-index l.statements))))
+    min 17 (exprs_depth (block_of l.statements)) ≡ max l.deepest (min 17 (exprs_depth (block_of (drop l.statement-index l.statements))))

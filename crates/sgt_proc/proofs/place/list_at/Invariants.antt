@@ -1,5 +1,5 @@
 use Rattle.std.proofs.Common.{◌≡◌, drop}
-use Rattle.sgt_model.specs.Programs.{block_of}
+use Rattle.sgt_model.specs.ProcedureTexts.{block_of}
 use Rattle.sgt_proc.specs.Paths.{inner}
 use Rattle.sgt_proc.proofs.place.list_at.Given as goal
 

@@ -1,6 +1,6 @@
 use Rattle.std.proofs.Common.{rules, ap, sym, ◌∙◌, arith}
 use Rattle.std.proofs.lemmas.List.{take_all}
-use Rattle.sgt_model.specs.Programs.{before, block_of}
+use Rattle.sgt_model.specs.ProcedureTexts.{in_front, block_of}
 use Rattle.sgt_model.specs.Syntax.{empty}
 use Rattle.sgt_model.specs.Ways.{onto}
 use Rattle.sgt_proc.specs.Flaws.{uses_unset}
@@ -19,7 +19,7 @@ is_live-loop-ahead-preserved t c = record {
   within = omega (arith, c.loop-ahead.invariant.within);
   so_far = λ rest e.
       let h = c.loop-ahead.invariant.so_far rest e in (
-        onto (before c.index-statements-ahead.result empty) h.0,
+        onto (in_front c.index-statements-ahead.result empty) h.0,
         (
           h.1.0 ∙ onto_ahead c.args.statements.now c.loop-ahead.ahead _ c.index-statements-ahead.result h.0 (omega arith)
               (omega (arith, c.loop-ahead.invariant.within)) c.index-statements-ahead.is,

@@ -1,5 +1,5 @@
 use Rattle.std.proofs.Common.{◌≡◌, ◌≤◌, length, take}
-use Rattle.sgt_model.specs.Programs.{block_of}
+use Rattle.sgt_model.specs.ProcedureTexts.{block_of}
 use Rattle.sgt_model.specs.Ways.{Way, onto}
 use Rattle.sgt_proc.specs.Flaws.{uses_unset}
 use Rattle.sgt_proc.proofs.registers.+live.Given as goal

@@ -1,5 +1,5 @@
 use Rattle.std.proofs.Common.{◌≡◌, ℕ, ◌<◌, false}
-use Rattle.sgt_model.specs.Programs.{block_of}
+use Rattle.sgt_model.specs.ProcedureTexts.{block_of}
 use Rattle.sgt_model.specs.Ways.{onto, end}
 use Rattle.sgt_proc.specs.Flaws.{uses_unset}
 use Rattle.sgt_proc.proofs.registers.uses_unset.Given as goal

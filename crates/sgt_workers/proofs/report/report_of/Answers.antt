@@ -6,7 +6,7 @@ use Rattle.sgt_model.specs.CommitOrder.{CommitsInOrder}
 use Rattle.sgt_model.specs.Databases.{contents_of}
 use Rattle.sgt_model.specs.Legality.{Legal}
 use Rattle.sgt_model.specs.Pairs.{Pair}
-use Rattle.sgt_model.specs.Replay.{folded, IsSerializable}
+use Rattle.sgt_model.specs.Replay.{folded, ReplayAgrees}
 use Rattle.sgt_model.specs.Values.{settled}
 use Rattle.sgt_model.specs.Walks.{Acyclic}
 use Rattle.sgt_engine.specs.EngineView.{setting_of}
@@ -32,7 +32,7 @@ returns-clause-report g c =
       values = λ k. subst (λ l. contents_of c.in-Ok.database k ≡ settled s.opening l k) is (c.in-Ok.ensures.values k);
       replayed = λ k. subst (λ l. contents_of c.in-Ok.database k ≡ (folded s l).last k) is (c.in-Ok.ensures.replayed k);
       by_key = c.in-Ok.ensures.by_key;
-      replay = subst (λ l. IsSerializable s l) is past.replay;
+      replay = subst (λ l. ReplayAgrees s l) is past.replay;
       no_cycle = subst (λ l. Acyclic (Pair l)) is past.no_cycle;
       causes = subst (λ l. AbortsHaveCause s l) is past.causes;
       order = subst (λ l. CommitsInOrder l) is past.order;

@@ -1,5 +1,5 @@
 use Rattle.std.proofs.Common.{◌≤◌, arith, sym, subst}
-use Rattle.sgt_model.specs.Programs.{block_of}
+use Rattle.sgt_model.specs.ProcedureTexts.{block_of}
 use Rattle.sgt_proc.specs.declared.flaw.Flaw.TheVariants.{TooLong, TooDeep}
 use Rattle.sgt_proc.specs.Flaws.{depth, size}
 use Rattle.sgt_proc.proofs.checked.Checked.advance.Goals as goal

@@ -1,5 +1,5 @@
 use Rattle.std.proofs.Common.{arith, subst, None}
-use Rattle.sgt_model.specs.Traces.{Ends, Asks}
+use Rattle.sgt_model.specs.Traces.{Ends, Raises}
 use Rattle.sgt_proc.specs.declared.next.Next.TheVariants.{Look}
 use Rattle.sgt_proc.specs.Nexts.{seen}
 use Rattle.sgt_proc.specs.Flaws.{IsFlawless}
@@ -25,7 +25,7 @@ returns-in-Ends-clause-next c =
 pub returns-in-Asks-clause-next : goal.returns-in-Asks-clause-next
 returns-in-Asks-clause-next c =
     next_stays_on c.args.self.now c.args.args.now c.args.read.now c.loop.used c.loop.counter c.loop.cursor c.loop.invariant
-    (Asks c.in-Asks.code) c.args.made c.in-Asks.ensures.next tt (omega (arith, c.loop-test.true))
+    (Raises c.in-Asks.code) c.args.made c.in-Asks.ensures.next tt (omega (arith, c.loop-test.true))
 
 pub loop-preserved : goal.loop-preserved
 loop-preserved c = elim c.match-next.branch [

@@ -1,7 +1,7 @@
 use Rattle.std.proofs.Common.{rules, ◌≡◌, sym, ap, ◌∙◌, ◌+◌, subst, Some, w64}
 use Rattle.std.proofs.lemmas.Int.{to_z-of_z}
 use mir.Val.{SFits}
-use Rattle.sgt_model.specs.Syntax.{Program}
+use Rattle.sgt_model.specs.Syntax.{ProcedureText}
 use Rattle.sgt_model.specs.Left.{Left, after_look, reached}
 use Rattle.sgt_proc.specs.declared.place.Stop.{Stop}
 use Rattle.sgt_proc.specs.Places.{with_found_in, reached_at}
@@ -30,5 +30,5 @@ returns-in-Some c =
     ap (λ l. (c.self.inside.procedure.value, l)) (moved
     ∙ ap (λ (s : Stop). after_look (Some c.in-Some.found) (left_behind c.self.inside.procedure.value.body c.self.inside.behind.value s))
     (sym c.in-Look.is))
-    ∙ (ap (λ (w : Program × Left). (w.0, after_look (Some c.in-Some.found) w.1)) c.self.view_is
+    ∙ (ap (λ (w : ProcedureText × Left). (w.0, after_look (Some c.in-Some.found) w.1)) c.self.view_is
     ∙ ap (λ v. (c.args.self.now.0, after_look v c.args.self.now.1)) (sym c.in-Some.is))

@@ -1,5 +1,5 @@
 use Rattle.std.proofs.Common.{◌≡◌, sym, ap, ◌∙◌, subst}
-use Rattle.sgt_model.specs.Syntax.{Program}
+use Rattle.sgt_model.specs.Syntax.{ProcedureText}
 use Rattle.sgt_model.specs.Left.{Left, after_store, reached}
 use Rattle.sgt_proc.specs.declared.place.Stop.{Stop}
 use Rattle.sgt_proc.specs.Places.{reached_at}
@@ -16,4 +16,4 @@ returns-in-Put c =
     c.in-Put.field-1 c.of.result.value c.advance-self-inside.result same c.of.ensures c.advance-self-inside.ensures.stops.found in
     ap (λ l. (c.self.inside.procedure.value, l)) (moved
     ∙ ap (λ (s : Stop). after_store (left_behind c.self.inside.procedure.value.body c.self.inside.behind.value s)) (sym c.in-Put.is))
-    ∙ ap (λ (w : Program × Left). (w.0, after_store w.1)) c.self.view_is
+    ∙ ap (λ (w : ProcedureText × Left). (w.0, after_store w.1)) c.self.view_is

@@ -1,5 +1,5 @@
 use Rattle.std.proofs.Common.{◌≡◌, drop}
-use Rattle.sgt_model.specs.Programs.{block_of}
+use Rattle.sgt_model.specs.ProcedureTexts.{block_of}
 use Rattle.sgt_proc.specs.Flaws.{in_block}
 use Rattle.sgt_proc.specs.NumberFlaws.{is_bad}
 use Rattle.sgt_proc.proofs.numbers.Rule.+text.Given as goal

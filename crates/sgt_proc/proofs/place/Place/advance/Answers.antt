@@ -1,7 +1,7 @@
 use Rattle.std.proofs.Common.{rules, ◌<◌, ◌+◌, refl, sym, ap, ◌∙◌, subst, ◌≤◌, length, get_or, arith}
 use Rattle.std.proofs.lemmas.Bool.{true≢false}
 use Rattle.arrayvec.specs.ArrayVec.{ArrayVec}
-use Rattle.sgt_model.specs.Programs.{block_of}
+use Rattle.sgt_model.specs.ProcedureTexts.{block_of}
 use Rattle.sgt_proc.specs.Paths.{inner, IsPath}
 use Rattle.sgt_proc.proofs.PathTexts.{path_less}
 use Rattle.sgt_proc.proofs.Stepped.{at_statement, at_few, at_room, out_step, end_here, none_left}

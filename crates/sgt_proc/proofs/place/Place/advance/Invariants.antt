@@ -1,5 +1,5 @@
 use Rattle.std.proofs.Common.{◌≡◌}
-use Rattle.sgt_model.specs.Programs.{block_of}
+use Rattle.sgt_model.specs.ProcedureTexts.{block_of}
 use Rattle.sgt_proc.specs.Places.{IsIn, reach_from, distance}
 use Rattle.sgt_proc.proofs.place.Place.advance.Given as goal
 

@@ -8,24 +8,24 @@ use Rattle.sgt_model.specs.declared.reply.Reply.TheVariants as reply
 use Rattle.sgt_model.specs.declared.limits.Limits.{Limits}
 use Rattle.sgt_model.specs.Settings.{rules_from}
 use Rattle.sgt_model.specs.StartReply.{args_fit, room_reply, start_reply, taken_reply}
-use Rattle.sgt_model.specs.Syntax.{Program}
+use Rattle.sgt_model.specs.Syntax.{ProcedureText}
 use Rattle.sgt_sched.specs.LiveProgress.{Progress}
 use Rattle.sgt_sched.proofs.sched.Sched.admit.Goals as goal
 
 -- what a start is told, by what is looked up
-module _ (limits : Limits) (begun living p : ℕ) (args : List ℤ) (programs read : List Program) (at : ℕ) (same : read ≡ programs)
+module _ (limits : Limits) (begun living p : ℕ) (args : List ℤ) (programs read : List ProcedureText) (at : ℕ) (same : read ≡ programs)
     (here : at ≡ p) where
   told_unnamed : length read ≤ at → reply.NoProcedure ≡ start_reply (rules_from programs limits) begun living p args
-  told_unnamed past = ap (λ o. taken_reply limits begun living (option_map (λ (q : Program). q.args) o) args)
+  told_unnamed past = ap (λ o. taken_reply limits begun living (option_map (λ (q : ProcedureText). q.args) o) args)
       (sym (slice_get_past read at past) ∙ ap (λ l. slice_get l at) same ∙ ap (slice_get programs) here)
 
-  module _ (program : Program) (count : ℕ) (is : program ≡ get_or read at program) (below : at < length read)
+  module _ (program : ProcedureText) (count : ℕ) (is : program ≡ get_or read at program) (below : at < length read)
       (counted : count ≡ program.args) where
     told_named : (fit : Bool) → fit ≡ args_fit count args
         → cond fit (room_reply limits begun living) reply.BadArgs ≡ start_reply (rules_from programs limits) begun living p args
     told_named fit fits = ap (λ b. cond b (room_reply limits begun living) reply.BadArgs)
         (fits ∙ ap (λ n. args_fit n args) counted)
-        ∙ ap (λ o. taken_reply limits begun living (option_map (λ (q : Program). q.args) o) args)
+        ∙ ap (λ o. taken_reply limits begun living (option_map (λ (q : ProcedureText). q.args) o) args)
         (sym (slice_get_read read _ at program refl below is) ∙ ap (λ l. slice_get l at) same ∙ ap (slice_get programs) here)
 
     told_room : true ≡ args_fit count args → (spent full : Bool)

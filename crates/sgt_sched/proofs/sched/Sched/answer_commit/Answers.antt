@@ -1,5 +1,5 @@
 use Rattle.std.proofs.Common.{refl, inr, ap, sym, ◌∙◌}
-use Rattle.sgt_model.specs.Traces.{Asks, Ends}
+use Rattle.sgt_model.specs.Traces.{Raises, Ends}
 use Rattle.sgt_proc.specs.Nexts.{seen}
 use Rattle.sgt_sched.specs.Briefs.{in_full}
 use Rattle.sgt_sched.specs.Scheduler.{state}
@@ -10,7 +10,7 @@ pub returns-in-Some-Asks : goal.returns-in-Some-Asks
 returns-in-Some-Asks g c = record {
   turn = in_brief
       (commits_on c.args.self.now.limits.asks c.args.t (state c.args.self.now) (in_full c.commit_asked.result c.commit_asked.new.out) _
-      (Asks c.in-Some-Asks.code) (c.in-Some-Asks.ensures.unended.0 refl).begun (c.in-Some-Asks.ensures.unended.0 refl).unended
+      (Raises c.in-Some-Asks.code) (c.in-Some-Asks.ensures.unended.0 refl).begun (c.in-Some-Asks.ensures.unended.0 refl).unended
       (ap seen (sym c.in-Some-Asks.field-0-is) ∙ c.in-Some-Asks.ensures.next)) c.commit_asked.ensures.turn;
   kept = c.commit_asked.ensures.kept;
 }

@@ -2,7 +2,7 @@ use Rattle.std.proofs.Common.{rules, refl, ap, sym, subst, ◌∙◌, w64, to_z,
 use Rattle.std.proofs.lemmas.Int.{to_z-of_z}
 use Rattle.std.proofs.lemmas.Result.{IfOk-weaker}
 use Rattle.sgt_model.specs.declared.reply.Reply.TheVariants as reply
-use Rattle.sgt_model.specs.Traces.{Puts, Ends, Asks}
+use Rattle.sgt_model.specs.Traces.{Puts, Ends, Raises}
 use Rattle.sgt_sched.specs.Briefs.{in_full}
 use Rattle.sgt_proc.specs.Nexts.{seen}
 use Rattle.sgt_sched.proofs.Stepped.{steps_on, in_brief, not_live}
@@ -50,7 +50,7 @@ pub returns-in-Asks-clause-done : goal.returns-in-Asks-clause-done
 returns-in-Asks-clause-done g c = record {
   done = in_brief
       (steps_on c.args.self.now.limits.asks c.args.t (state c.args.self.now) (in_full c.step_asked.result c.step_asked.new.out) _
-      (Asks c.in-Asks.code)
+      (Raises c.in-Asks.code)
       (c.in-Some.ensures.unended.0 refl).begun (c.in-Some.ensures.unended.0 refl).unended
       (ap seen (sym c.in-Asks.is) ∙ c.next_at-next.ensures.next)) c.step_asked.ensures.turn;
   refused = tt;

@@ -28,7 +28,7 @@ returns g c = record {
     settled = c.in_ok-build.ensures.settled;
     read_from = c.new-2.ensures.items;
     fates = λ t. ap (λ l. fate_at l t) c.new-3.ensures;
-    starts = ap length c.new-3.ensures;
+    start_count = ap length c.new-3.ensures;
   };
   procedures = refl;
   limits = refl;
