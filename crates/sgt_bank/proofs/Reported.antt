@@ -20,7 +20,7 @@ use Rattle.sgt_jobs.specs.Inputs.{InputAsks, LinesAsk}
 use Rattle.sgt_assembly.specs.Openings.{opened_setting, OpenedIsBank}
 use Rattle.sgt_bank.specs.Banks.{HasRun, AreRun, IsHistory, IsRecords, IsReport, IsRun}
 use Rattle.sgt_textbook.specs.Laws.{AreCommitOrdered, AreSerializable, AreRecoverable}
-use Rattle.sgt_transcript.specs.Transcripts.{TranscriptsSpellTextbooks, transcript}
+use Rattle.sgt_notation.specs.Transcripts.{TranscriptsSpellTextbooks, transcript}
 use Rattle.sgt_bank.proofs.SerialTexts.{text-same}
 use Rattle.sgt_bank.specs.Reports.{report_text}
 

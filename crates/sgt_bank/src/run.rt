@@ -4,7 +4,7 @@ ghost use Rattle.sgt_assembly.specs.Openings.{opened_setting};
 ghost use Rattle.sgt_input.specs.Ends.{IsOfInput};
 ghost use Rattle.sgt_workers.specs.Banks.{engine_setting, AreWorkers, AreTries, AreLimitsFor, AreJobs};
 ghost use Rattle.sgt_jobs.specs.Inputs.{InputFails, IsOfText};
-ghost use Rattle.sgt_transcript.specs.Transcripts.{transcript};
+ghost use Rattle.sgt_notation.specs.Transcripts.{transcript};
 ghost use Rattle.sgt_bank.specs.Banks.{AreRun, IsHistory, IsReport, IsRun};
 
 use crate::gate::OpenGate;
@@ -17,7 +17,7 @@ use sgt_model::NoMemory;
 use sgt_assembly::{SgtAccesses, SgtGraph, SgtRecords, all_procedures, opened_is_bank};
 use sgt_input::{Fault, Sink, Source, write_all};
 use sgt_textbook::{legal_are_commit_ordered, legal_are_recoverable, legal_are_serializable};
-use sgt_transcript::{append_transcript, transcripts_spell_textbooks};
+use sgt_notation::{append_transcript, transcripts_spell_textbooks};
 use sgt_workers::{Bank, Gate, PoolError, Report, run};
 use std::alloc::Global;
 use std::convert::Infallible;

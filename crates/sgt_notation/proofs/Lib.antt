@@ -5,3 +5,5 @@ pub mod ItemNumbers
 pub mod Ends
 pub mod OneMore
 pub mod Letters
+pub mod OperationLines
+pub mod WrittenOperations

@@ -2,3 +2,4 @@ pub mod Words
 pub mod Spellings
 pub mod Readings
 pub mod Numbering
+pub mod Transcripts

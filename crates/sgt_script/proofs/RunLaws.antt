@@ -22,7 +22,7 @@ use Rattle.sgt_format.specs.ReplyText.{text}
 use Rattle.sgt_input.specs.Lines.{Ending, cut}
 use Rattle.sgt_input.specs.Ends.{End}
 use Rattle.sgt_textbook.specs.Laws.{AreCommitOrdered, AreSerializable, AreRecoverable, TextbookLaws}
-use Rattle.sgt_transcript.specs.Transcripts.{TranscriptsSpellTextbooks, cut_comment, operations_text, transcript}
+use Rattle.sgt_notation.specs.Transcripts.{TranscriptsSpellTextbooks, cut_comment, operations_text, transcript}
 use Rattle.sgt_script.specs.declared.telling.Telling.{Telling}
 use Rattle.sgt_script.specs.declared.telling.Telling.TheVariants.{Replies, Operations, Records}
 use Rattle.sgt_script.specs.Parts.{Answer, Replied, WasCut, StillLive, LegalRun, Part, answer_text, answers_text, cut_off, left_by, part_of, parts_of}

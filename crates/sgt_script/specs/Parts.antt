@@ -9,7 +9,7 @@ use Rattle.sgt_engine.specs.Cuts.{NobodyLive, setting_behind}
 use Rattle.sgt_engine.specs.EngineView.{EngineView, setting_of}
 use Rattle.sgt_format.specs.ReplyText.{text}
 use Rattle.sgt_format.specs.CutText.{cut_text, still_live_text}
-use Rattle.sgt_transcript.specs.Transcripts.{operations_text, cut_comment}
+use Rattle.sgt_notation.specs.Transcripts.{operations_text, cut_comment}
 use Rattle.sgt_script.specs.declared.telling.Telling.{Telling}
 use Rattle.sgt_script.specs.declared.telling.Telling.TheVariants.{Replies, Operations, Records}
 use Rattle.sgt_format.specs.declared.script_line.ScriptLine.{ScriptLine}

@@ -11,7 +11,7 @@ use Rattle.sgt_model.specs.Aborts.{AbortsHaveCause}
 use Rattle.sgt_model.specs.CommitOrder.{CommitsInOrder}
 use Rattle.sgt_smallbank.specs.Replays.{CommitsAreBank}
 use Rattle.sgt_textbook.specs.Laws.{TextbookLaws}
-use Rattle.sgt_transcript.specs.Transcripts.{TranscriptsSpellTextbooks, cut_comment, transcript}
+use Rattle.sgt_notation.specs.Transcripts.{TranscriptsSpellTextbooks, cut_comment, transcript}
 use Rattle.sgt_format.specs.ReplyText.{text}
 use Rattle.sgt_input.specs.Ends.{End}
 use Rattle.sgt_script.specs.declared.telling.Telling.TheVariants.{Replies}

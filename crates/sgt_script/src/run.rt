@@ -16,7 +16,7 @@ use sgt_assembly::opened_hold_values;
 use sgt_smallbank::replay_is_bank;
 use sgt_input::{Fault, Sink, Source};
 use sgt_textbook::{legal_are_commit_ordered, legal_are_recoverable, legal_are_serializable};
-use sgt_transcript::transcripts_spell_textbooks;
+use sgt_notation::transcripts_spell_textbooks;
 use std::alloc::Global;
 
 /// Runs a script on the program's engine: line 1 opens, the record lines behind it put records into the opening database, each

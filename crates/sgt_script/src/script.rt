@@ -23,7 +23,7 @@ use sgt_format::{
 use sgt_model::{Entry, Event, NoMemory, histories_go_on, some_reply_is_legal};
 use sgt_assembly::{SgtEngine, open_engine};
 use sgt_input::{Fault, Lines, Sink, Source, at_line, opening_of, read_records, write_all};
-use sgt_transcript::{append_cut_comment, append_operations};
+use sgt_notation::{append_cut_comment, append_operations};
 use std::alloc::Global;
 
 /// What the next line asks for, if there is one.

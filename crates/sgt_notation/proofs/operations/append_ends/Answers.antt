@@ -1,7 +1,7 @@
 use Rattle.std.proofs.Common.{rules, take}
-use Rattle.sgt_transcript.specs.Transcripts.{end_lines}
-use Rattle.sgt_transcript.proofs.Lines.{still_begins}
-use Rattle.sgt_transcript.proofs.operations.append_ends.Goals as goal
+use Rattle.sgt_notation.specs.Transcripts.{end_lines}
+use Rattle.sgt_notation.proofs.OperationLines.{still_begins}
+use Rattle.sgt_notation.proofs.operations.append_ends.Goals as goal
 
 pub returns-in_err-append_line-clause-err : goal.returns-in_err-append_line-clause-err
 returns-in_err-append_line-clause-err c =

@@ -13,7 +13,7 @@ use Rattle.sgt_classes.specs.declared.operation.Action.TheVariants as action
 use Rattle.sgt_notation.specs.Spellings.{bracketed, spelling, text_at}
 use Rattle.sgt_textbook.specs.Textbook.{each_does, named, operations_in, operations_of, stepping, textbook}
 use Rattle.sgt_format.specs.Decimals.{key_text}
-use Rattle.sgt_transcript.specs.Transcripts.{NamesKey, NamesKeys, TranscriptsSpellTextbooks, access_lines, end_lines, operations_text, spelled_lines, transcript}
+use Rattle.sgt_notation.specs.Transcripts.{NamesKey, NamesKeys, TranscriptsSpellTextbooks, access_lines, end_lines, operations_text, spelled_lines, transcript}
 
 -- accesses, where the item has the key's text
 reads : (items : List (List ℕ)) (x : ℕ) (k : Key) (ts : List ℕ) → text_at items x ≡ key_text k

@@ -8,7 +8,7 @@ use Rattle.std.specs.Fmt.{decimal, signed_decimal}
 use Rattle.sgt_model.specs.Contents.{Key}
 use Rattle.sgt_notation.specs.Spellings.{bracketed}
 use Rattle.sgt_format.specs.Decimals.{key_text}
-use Rattle.sgt_transcript.specs.Transcripts.{access_lines}
+use Rattle.sgt_notation.specs.Transcripts.{access_lines}
 
 -- an item in brackets behind a text, in pieces
 item-pieces : (a lb tb sl id rb : List ℕ) → a ++ (lb ++ (tb ++ sl ++ id) ++ rb) ≡ a ++ lb ++ tb ++ sl ++ id ++ rb

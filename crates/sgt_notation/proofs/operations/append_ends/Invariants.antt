@@ -1,6 +1,6 @@
 use Rattle.std.proofs.Common.{◌≡◌, ◌++◌, take}
-use Rattle.sgt_transcript.specs.Transcripts.{end_lines}
-use Rattle.sgt_transcript.proofs.operations.append_ends.Given as goal
+use Rattle.sgt_notation.specs.Transcripts.{end_lines}
+use Rattle.sgt_notation.proofs.operations.append_ends.Given as goal
 
 -- those so far have ended
 abbrev pub invariant-loop-t : goal.invariant-loop-t

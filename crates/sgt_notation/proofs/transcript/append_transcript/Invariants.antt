@@ -1,6 +1,6 @@
 use Rattle.std.proofs.Common.{◌≡◌, ◌++◌, take, reverse}
-use Rattle.sgt_transcript.specs.Transcripts.{transcript}
-use Rattle.sgt_transcript.proofs.transcript.append_transcript.Given as goal
+use Rattle.sgt_notation.specs.Transcripts.{transcript}
+use Rattle.sgt_notation.proofs.transcript.append_transcript.Given as goal
 
 -- the entries so far are told
 abbrev pub invariant-loop-place : goal.invariant-loop-place

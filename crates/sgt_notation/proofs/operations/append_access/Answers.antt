@@ -1,8 +1,8 @@
 use Rattle.std.proofs.Common.{rules, ap, ◌≡◌, ◌∙◌, ◌++◌, OnOk, Ok}
 use Rattle.sgt_textbook.specs.Textbook.{stepping}
-use Rattle.sgt_transcript.specs.Transcripts.{access_lines}
-use Rattle.sgt_transcript.proofs.Lines.{access_line}
-use Rattle.sgt_transcript.proofs.operations.append_access.Goals as goal
+use Rattle.sgt_notation.specs.Transcripts.{access_lines}
+use Rattle.sgt_notation.proofs.OperationLines.{access_line}
+use Rattle.sgt_notation.proofs.operations.append_access.Goals as goal
 
 pub returns-clause-ok : goal.returns-clause-ok
 returns-clause-ok c =

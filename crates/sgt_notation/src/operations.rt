@@ -1,9 +1,10 @@
+//! The operations that an event with its reply is, as text.
 ghost use Rattle.std.specs.Prelude.{◌≡◌, ◌++◌, take, OnOk, OnErr, vec_len, codes};
 ghost use Rattle.std.specs.Fmt.{decimal};
 ghost use Rattle.sgt_notation.specs.Spellings.{bracketed};
 ghost use Rattle.sgt_format.specs.Decimals.{key_text};
 ghost use Rattle.sgt_textbook.specs.Textbook.{named, stepping};
-ghost use Rattle.sgt_transcript.specs.Transcripts.{access_lines, end_lines, operations_text, cut_comment};
+ghost use Rattle.sgt_notation.specs.Transcripts.{access_lines, end_lines, operations_text, cut_comment};
 
 use sgt_format::{append_number, append_numbered};
 use sgt_model::{Event, Key, NoMemory, Reply, Tid, Tids};

@@ -1,5 +1,6 @@
+//! The operations of a whole history of the engine, as text.
 ghost use Rattle.std.specs.Prelude.{◌≡◌, ◌++◌, reverse, OnOk};
-ghost use Rattle.sgt_transcript.specs.Transcripts.{transcript};
+ghost use Rattle.sgt_notation.specs.Transcripts.{transcript};
 
 use crate::operations::append_operations;
 use sgt_log::History;
