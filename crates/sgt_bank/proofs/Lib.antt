@@ -1,2 +1,5 @@
 pub mod Reported
 pub mod SerialTexts
+pub mod Takings
+pub mod Beginnings
+pub mod NextCalls

@@ -16,7 +16,7 @@ use Rattle.sgt_format.specs.declared.opening.Opening.{Opening}
 use Rattle.sgt_format.specs.declared.record_line.RecordLine.{RecordLine}
 use Rattle.sgt_dispatch.specs.declared.job.Job.{Job}
 use Rattle.sgt_input.specs.Lines.{Ending, cut}
-use Rattle.sgt_jobs.specs.Inputs.{InputAsks, LinesAsk}
+use Rattle.sgt_bank.specs.Inputs.{InputAsks, LinesAsk}
 use Rattle.sgt_assembly.specs.Openings.{opened_setting, OpenedIsBank}
 use Rattle.sgt_bank.specs.Banks.{HasRun, AreRun, IsHistory, IsRecords, IsReport, IsRun}
 use Rattle.sgt_textbook.specs.Laws.{AreCommitOrdered, AreSerializable, AreRecoverable}

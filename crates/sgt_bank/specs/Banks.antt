@@ -21,7 +21,7 @@ use Rattle.sgt_audit.specs.declared.outcome.Outcome.TheVariants as outcome
 use Rattle.sgt_audit.specs.AllOutcomes.{OutcomesStand}
 use Rattle.sgt_textbook.specs.Laws.{TextbookLaws}
 use Rattle.sgt_notation.specs.Transcripts.{TranscriptsSpellTextbooks, transcript}
-use Rattle.sgt_jobs.specs.Inputs.{InputAsks}
+use Rattle.sgt_bank.specs.Inputs.{InputAsks}
 use Rattle.sgt_bank.specs.Reports.{report_text}
 use Rattle.sgt_bank.specs.SerialText.{serial_text}
 

@@ -1,7 +1,7 @@
 ghost use Rattle.std.specs.Prelude.{◌≡◌, ◌≢◌, ℕ, List, IfErr, IfSome, Err, Ok, take, ◌+◌, ◌^◌, ◌<◌, ◌≤◌};
 ghost use Rattle.std.specs.Io.KnownBytes.{Appends};
 ghost use Rattle.sgt_workers.specs.Banks.{AreWorkers, AreTries};
-ghost use Rattle.sgt_jobs.specs.Inputs.{InputFails, IsOfText};
+ghost use Rattle.sgt_bank.specs.Inputs.{InputFails, IsOfText};
 ghost use Rattle.sgt_bank.specs.Banks.{IsReport};
 
 use crate::run::report_run;

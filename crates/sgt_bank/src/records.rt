@@ -2,7 +2,7 @@ ghost use Rattle.std.specs.Prelude.{◌≡◌, ◌≢◌, ℕ, List, IfOk, IfErr
 ghost use Rattle.std.specs.Io.KnownBytes.{Appends};
 ghost use Rattle.sgt_workers.specs.Banks.{AreWorkers, AreTries};
 ghost use Rattle.sgt_format.specs.RecordText.{record_lines};
-ghost use Rattle.sgt_jobs.specs.Inputs.{InputFails, IsOfText};
+ghost use Rattle.sgt_bank.specs.Inputs.{InputFails, IsOfText};
 ghost use Rattle.sgt_bank.specs.Banks.{IsRecords};
 
 use crate::gate::OpenGate;

@@ -3,16 +3,16 @@ ghost use Rattle.std.specs.Io.KnownBytes.{Appends};
 ghost use Rattle.sgt_assembly.specs.Openings.{opened_setting};
 ghost use Rattle.sgt_input.specs.Ends.{IsOfInput};
 ghost use Rattle.sgt_workers.specs.Banks.{engine_setting, AreWorkers, AreTries, AreLimitsFor, AreJobs};
-ghost use Rattle.sgt_jobs.specs.Inputs.{InputFails, IsOfText};
+ghost use Rattle.sgt_bank.specs.Inputs.{InputFails, IsOfText};
 ghost use Rattle.sgt_notation.specs.Transcripts.{transcript};
 ghost use Rattle.sgt_bank.specs.Banks.{AreRun, IsHistory, IsReport, IsRun};
 
 use crate::gate::OpenGate;
+use crate::input::read_input;
 use crate::report::report_text;
 use sgt_dispatch::Job;
 use sgt_log::History;
 use sgt_format::Opening;
-use sgt_jobs::read_input;
 use sgt_model::NoMemory;
 use sgt_assembly::{SgtAccesses, SgtGraph, SgtRecords, all_procedures, opened_is_bank};
 use sgt_input::{Fault, Sink, Source, write_all};

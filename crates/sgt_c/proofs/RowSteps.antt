@@ -5,21 +5,21 @@ use Rattle.std.proofs.lemmas.List.Elements.{All-head, All-push, All-tail}
 use Rattle.std.proofs.lemmas.List.{take_all, take_more, take_more_set, drop-set-lt, map-set, length-map, drop-drop}
 use Rattle.sgt_model.specs.Contents.{Key, Contents, key_eq, put_in}
 use Rattle.sgt_model.specs.Databases.{HasValues, Row}
-use Rattle.sgt_c.specs.declared.rows.Row.{Row as CRow}
+use Rattle.sgt_c.specs.declared.rows.SgtRow.{SgtRow}
 use Rattle.sgt_c.specs.Rows.{IsRow, row_of, with_rows}
 
 -- ---- rows put in
 
 -- a row that nothing is said of
-abbrev pub none : CRow
+abbrev pub none : SgtRow
 none = record { table = 0; spare = 0; number = pos 0; value = pos 0 }
 
-with_rows-append : (contents : Contents) (rows : List CRow) (s : CRow)
+with_rows-append : (contents : Contents) (rows : List SgtRow) (s : SgtRow)
     → with_rows contents (rows ++ s ∷ []) ≡ put_in (with_rows contents rows) (row_of s).0 s.value
 with_rows-append contents [] s = refl
 with_rows-append contents (r ∷ rows) s = with_rows-append (put_in contents (row_of r).0 r.value) rows s
 
-pub rows_next : (before after contents : Contents) (rows : List CRow) (i : ℕ) (d : CRow) → i < length rows
+pub rows_next : (before after contents : Contents) (rows : List SgtRow) (i : ℕ) (d : SgtRow) → i < length rows
     → ((k : Key) → before k ≡ with_rows contents (take i rows) k)
     → ((k : Key) → after k ≡ put_in before (row_of (get_or rows i d)).0 (get_or rows i d).value k)
     → (k : Key) → after k ≡ with_rows contents (take (i + 1) rows) k
@@ -32,7 +32,7 @@ rows_next before after contents rows i d within same put k =
 -- ---- rows told
 
 -- one row more is told
-pub tell_row : (to : List CRow) (rows : List Row) (i : ℕ) (d : Row) (x : CRow) → i < length to → i < length rows
+pub tell_row : (to : List SgtRow) (rows : List Row) (i : ℕ) (d : Row) (x : SgtRow) → i < length to → i < length rows
     → row_of x ≡ get_or rows i d
     → take i (map row_of to) ≡ take i rows → take (i + 1) (map row_of (set to i x)) ≡ take (i + 1) rows
 tell_row to rows i d x room within is told =
@@ -42,22 +42,22 @@ tell_row to rows i d x room within is told =
     ∙ sym (take_more rows i d within)
 
 -- and those behind it are as they were
-pub rest_row : (to before : List CRow) (i : ℕ) (x : CRow) → drop i to ≡ drop i before → drop (i + 1) (set to i x) ≡ drop (i + 1) before
+pub rest_row : (to before : List SgtRow) (i : ℕ) (x : SgtRow) → drop i to ≡ drop i before → drop (i + 1) (set to i x) ≡ drop (i + 1) before
 rest_row to before i x same =
     drop-set-lt (i + 1) to i x (omega arith) ∙ sym (drop-drop 1 i to) ∙ ap (drop 1) same ∙ drop-drop 1 i before
 
 -- ---- rows in their ranges
 
 -- one more
-pub ranged_next : (rows : List CRow) (i : ℕ) (d : CRow) → i < length rows → IsRow (get_or rows i d) → All IsRow (take i rows)
+pub ranged_next : (rows : List SgtRow) (i : ℕ) (d : SgtRow) → i < length rows → IsRow (get_or rows i d) → All IsRow (take i rows)
     → All IsRow (take (i + 1) rows)
 ranged_next rows i d within good so_far = rw (take_more rows i d within) (All-push IsRow (take i rows) (get_or rows i d) so_far good)
 
 -- all of them
-pub all_ranged : (rows : List CRow) (i : ℕ) → length rows ≤ i → All IsRow (take i rows) → All IsRow rows
+pub all_ranged : (rows : List SgtRow) (i : ℕ) → length rows ≤ i → All IsRow (take i rows) → All IsRow rows
 all_ranged rows i behind so_far = subst (All IsRow) (take_all i rows behind) so_far
 
 -- their values are values
-pub ranged_values : (rows : List CRow) → All IsRow rows → HasValues (map row_of rows)
+pub ranged_values : (rows : List SgtRow) → All IsRow rows → HasValues (map row_of rows)
 ranged_values [] all = tt
 ranged_values (s ∷ rows) all = ((All-head IsRow s rows all).1, ranged_values rows (All-tail IsRow s rows all))

@@ -12,9 +12,9 @@ use Rattle.sgt_model.specs.Questions.{is_ending}
 use Rattle.sgt_model.specs.Replay.{ReplayAgrees}
 use Rattle.sgt_model.specs.Walks.{Acyclic}
 use Rattle.sgt_engine.specs.EngineView.{EngineView, setting_of, with_entry}
-use Rattle.sgt_handle.specs.declared.held.Held.{Held}
-use Rattle.sgt_told.specs.declared.told.Told.{Told}
-use Rattle.sgt_told.specs.Told.{IsTold}
+use Rattle.sgt_c.specs.declared.held.Held.{Held}
+use Rattle.sgt_c.specs.declared.reply_struct.SgtReply.{SgtReply}
+use Rattle.sgt_c.specs.ReplyStructs.{HoldsReply}
 
 -- the history is legal, and each part of the headline holds of it
 abbrev pub Headline : EngineView → Type 0
@@ -25,12 +25,12 @@ Headline e = Legal (setting_of e) e.past
     × CommitsInOrder e.past
 
 -- the event was answered by this reply, which is legal and told, and both are one entry more
-abbrev pub AnsweredBy : Event → EngineView → Option Held → Told → Reply → Type 0
+abbrev pub AnsweredBy : Event → EngineView → Option Held → SgtReply → Reply → Type 0
 AnsweredBy event e new told r = (new ≡ Some (record { engine = with_entry event r e }))
-    × LegalReply (setting_of e) e.past event r × IsTold told r × Headline (with_entry event r e)
+    × LegalReply (setting_of e) e.past event r × HoldsReply told r × Headline (with_entry event r e)
 
 -- the same of some reply
-abbrev pub Answered : Event → Option Held → Option Held → Told → Type 0
+abbrev pub Answered : Event → Option Held → Option Held → SgtReply → Type 0
 Answered event None new told = ⊥
 Answered event (Some h) new told = (r : Reply) × AnsweredBy event h.engine new told r
 

@@ -10,7 +10,7 @@ use Rattle.sgt_engine.specs.Cuts.{GoesOn, NobodyLive}
 use Rattle.sgt_engine.specs.EngineView.{EngineView, setting_of}
 use Rattle.sgt_c.specs.declared.cutting.Uncut.{Uncut}
 use Rattle.sgt_c.specs.declared.cutting.Uncut.TheVariants.{StillLive, NoMemory}
-use Rattle.sgt_handle.specs.declared.held.Held.{Held}
+use Rattle.sgt_c.specs.declared.held.Held.{Held}
 use Rattle.sgt_c.specs.Calls.{Headline}
 
 -- no committed value changes

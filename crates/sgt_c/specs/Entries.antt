@@ -1,20 +1,20 @@
 -- Which entry of the history was told.
 use Rattle.std.specs.Prelude.{◌≡◌, ℕ, ◌≤◌, length, reverse, slice_get, Option, Some, None}
 use Rattle.sgt_model.specs.declared.entry.Entry.{Entry}
-use Rattle.sgt_handle.specs.declared.held.Held.{Held}
-use Rattle.sgt_told.specs.declared.asked.Asked.{Asked}
-use Rattle.sgt_told.specs.declared.told.Told.{Told}
-use Rattle.sgt_told.specs.Asked.{IsAsked}
-use Rattle.sgt_told.specs.Told.{IsTold}
+use Rattle.sgt_c.specs.declared.held.Held.{Held}
+use Rattle.sgt_c.specs.declared.event_struct.SgtEvent.{SgtEvent}
+use Rattle.sgt_c.specs.declared.reply_struct.SgtReply.{SgtReply}
+use Rattle.sgt_c.specs.EventStructs.{HoldsEvent}
+use Rattle.sgt_c.specs.ReplyStructs.{HoldsReply}
 
 -- both parts of the entry are told
-abbrev pub IsEntryTold : Asked → Told → Entry → Type 0
-IsEntryTold asked told e = IsAsked asked e.event × IsTold told e.reply
+abbrev pub HoldsEntry : SgtEvent → SgtReply → Entry → Type 0
+HoldsEntry asked told e = HoldsEvent asked e.event × HoldsReply told e.reply
 
 -- the entry at a place of the history, oldest first, is told
-abbrev pub TellsEntry : Option Held → ℕ → Asked → Told → Type 0
-TellsEntry None place asked told = ⊥
-TellsEntry (Some h) place asked told = (e : Entry) × (slice_get (reverse h.engine.past) place ≡ Some e) × IsEntryTold asked told e
+abbrev pub ReturnsEntry : Option Held → ℕ → SgtEvent → SgtReply → Type 0
+ReturnsEntry None place asked told = ⊥
+ReturnsEntry (Some h) place asked told = (e : Entry) × (slice_get (reverse h.engine.past) place ≡ Some e) × HoldsEntry asked told e
 
 -- there is a history, and it ends before the place
 abbrev pub HasNoEntry : Option Held → ℕ → Type 0

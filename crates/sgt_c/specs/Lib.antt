@@ -1,3 +1,12 @@
+-- the structs of C, and what their fields say
+pub mod ReplyStructs
+pub mod ReplyReadings
+pub mod EventStructs
+pub mod FaultStructs
+pub mod BufferTexts
+-- the handle
+pub mod SlotOwnership
+-- what the calls do
 pub mod Entries
 pub mod Calls
 pub mod Rows

@@ -7,9 +7,9 @@ use Rattle.sgt_format.specs.declared.errors.OpeningError.{OpeningError}
 use Rattle.sgt_format.specs.declared.opening.Opening.{Opening}
 use Rattle.sgt_format.specs.Openings.{Opens, Refuses}
 use Rattle.sgt_assembly.specs.Openings.{opened_setting}
-use Rattle.sgt_told.specs.declared.fault.Fault.{Fault}
-use Rattle.sgt_c.specs.declared.rows.Row.{Row as CRow}
-use Rattle.sgt_told.specs.Faults.{IsFaultTold}
+use Rattle.sgt_c.specs.declared.fault_struct.SgtFault.{SgtFault}
+use Rattle.sgt_c.specs.declared.rows.SgtRow.{SgtRow}
+use Rattle.sgt_c.specs.FaultStructs.{HoldsFault}
 use Rattle.sgt_c.specs.Rows.{with_rows}
 
 -- the engine starts from what the bytes spell, with an empty history
@@ -17,15 +17,15 @@ abbrev pub OpenedAs : List ℕ → EngineView → Type 0
 OpenedAs bytes e = (o : Opening) × Opens 1 bytes o × (setting_of e ≡ opened_setting o) × (e.past ≡ [])
 
 -- the opening, but for its database, which holds what its accounts and then these rows put in
-abbrev pub WithRows : Opening → List CRow → Opening → Type 0
+abbrev pub WithRows : Opening → List SgtRow → Opening → Type 0
 WithRows o rows o' = (o'.limits ≡ o.limits) × (o'.procedures ≡ o.procedures)
     × ((k : Key) → contents_of o'.database k ≡ with_rows (contents_of o.database) rows k)
 
 -- the engine starts from what the bytes spell and these rows, with an empty history
-abbrev pub OpenedWith : List ℕ → List CRow → EngineView → Type 0
+abbrev pub OpenedWith : List ℕ → List SgtRow → EngineView → Type 0
 OpenedWith bytes rows e = (o o' : Opening) × Opens 1 bytes o × WithRows o rows o'
     × (setting_of e ≡ opened_setting o') × (e.past ≡ [])
 
 -- the bytes spell no opening, for the reason that is told
-abbrev pub RefusedAs : List ℕ → Fault → Type 0
-RefusedAs bytes told = (e : OpeningError) × Refuses 1 bytes e × IsFaultTold told e
+abbrev pub RefusedAs : List ℕ → SgtFault → Type 0
+RefusedAs bytes told = (e : OpeningError) × Refuses 1 bytes e × HoldsFault told e

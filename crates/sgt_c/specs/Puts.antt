@@ -7,17 +7,17 @@ use Rattle.sgt_engine.specs.EngineView.{EngineView}
 use Rattle.sgt_engine.specs.Puts.{PutsRows, IsTaken, with_procedure}
 use Rattle.sgt_format.specs.ProcedureLines.{SpellsProcedure, RefusesProcedure}
 use Rattle.sgt_format.specs.declared.errors.OpeningError.{OpeningError}
-use Rattle.sgt_told.specs.declared.fault.Fault.{Fault}
-use Rattle.sgt_handle.specs.declared.held.Held.{Held}
+use Rattle.sgt_c.specs.declared.fault_struct.SgtFault.{SgtFault}
+use Rattle.sgt_c.specs.declared.held.Held.{Held}
 use Rattle.sgt_c.specs.declared.procedures.Unadded.{Unadded}
 use Rattle.sgt_c.specs.declared.procedures.Unadded.TheVariants.{Begun, TooMany, Refused}
-use Rattle.sgt_c.specs.declared.rows.Row.{Row as CRow}
-use Rattle.sgt_told.specs.Faults.{IsFaultTold}
+use Rattle.sgt_c.specs.declared.rows.SgtRow.{SgtRow}
+use Rattle.sgt_c.specs.FaultStructs.{HoldsFault}
 use Rattle.sgt_c.specs.Rows.{IsRow, row_of}
 
 -- the rows before this one are in their ranges, and this one is not
-pub record IsFirstBad (rows : List CRow) (index : ℕ) : Type 0 where
-  pub row : CRow
+pub record IsFirstBad (rows : List SgtRow) (index : ℕ) : Type 0 where
+  pub row : SgtRow
   pub at : slice_get rows index ≡ Some row
   pub before : All IsRow (take index rows)
   pub bad : ¬ IsRow row
@@ -28,13 +28,13 @@ HasBegun None = ⊥
 HasBegun (Some h) = h.engine.past ≢ []
 
 -- the engine opens with these rows, which are new, and is else as it was
-abbrev pub Put : Option Held → List CRow → Option Held → Type 0
+abbrev pub Put : Option Held → List SgtRow → Option Held → Type 0
 Put None rows new = ⊥
 Put (Some h) rows None = ⊥
 Put (Some h) rows (Some h') = PutsRows h.engine (map row_of rows) h'.engine
 
 -- the rows before this one are new, and behind them its key has a value
-abbrev pub IsTakenIn : Option Held → List CRow → ℕ → Type 0
+abbrev pub IsTakenIn : Option Held → List SgtRow → ℕ → Type 0
 IsTakenIn None rows index = ⊥
 IsTakenIn (Some h) rows index = IsTaken (contents_of h.engine.opening) (map row_of rows) index
 
@@ -64,6 +64,6 @@ HasNoNumber None = ⊥
 HasNoNumber (Some h) = (h.engine.past ≡ []) × (2 ^ 16 ≤ length h.engine.procedures)
 
 -- the text spells no procedure, for the reason that is told of the number that it was to have
-abbrev pub IsTextRefused : Option Held → List ℕ → Fault → Type 0
+abbrev pub IsTextRefused : Option Held → List ℕ → SgtFault → Type 0
 IsTextRefused None text told = ⊥
-IsTextRefused (Some h) text told = (e : OpeningError) × RefusesProcedure (length h.engine.procedures) text e × IsFaultTold told e
+IsTextRefused (Some h) text told = (e : OpeningError) × RefusesProcedure (length h.engine.procedures) text e × HoldsFault told e

@@ -7,19 +7,19 @@ use Rattle.sgt_model.specs.Replay.{folded}
 use Rattle.sgt_model.specs.Values.{settled}
 use Rattle.sgt_engine.specs.EngineView.{EngineView, setting_of}
 use Rattle.sgt_engine.specs.Puts.{with_rows as with_keyed}
-use Rattle.sgt_handle.specs.declared.held.Held.{Held}
-use Rattle.sgt_c.specs.declared.rows.Row.{Row as CRow}
+use Rattle.sgt_c.specs.declared.held.Held.{Held}
+use Rattle.sgt_c.specs.declared.rows.SgtRow.{SgtRow}
 
 -- the table is none over 7, and both numbers are values
-abbrev pub IsRow : CRow → Type 0
+abbrev pub IsRow : SgtRow → Type 0
 IsRow s = ((s.table ≤ 7) × IsValue s.number) × IsValue s.value
 
 -- the key and the value
-abbrev pub row_of : CRow → Row
+abbrev pub row_of : SgtRow → Row
 row_of s = ((s.table, s.number), s.value)
 
 -- contents with these rows put in, one after another
-abbrev pub with_rows : Contents → List CRow → Contents
+abbrev pub with_rows : Contents → List SgtRow → Contents
 with_rows contents rows = with_keyed contents (map row_of rows)
 
 -- rows by key, from the first on whose key does not come before this one
@@ -28,8 +28,8 @@ rows_from k [] = []
 rows_from k (r ∷ rows) = cond (key_lt r.0 k) (rows_from k rows) (r ∷ rows)
 
 -- as many of the rows are told as there is room for, from the first on
-abbrev pub AreRowsTold : List CRow → List Row → Type 0
-AreRowsTold to rows = take (length rows) (map row_of to) ≡ take (length to) rows
+abbrev pub HoldRows : List SgtRow → List Row → Type 0
+HoldRows to rows = take (length rows) (map row_of to) ≡ take (length to) rows
 
 -- the rows are the committed database, by key, which is also what the replay leaves
 abbrev pub IsCommitted : EngineView → List Row → Type 0
@@ -38,7 +38,7 @@ IsCommitted e rows = IsByKey rows
     × ((k : Key) → contents_of rows k ≡ (folded (setting_of e) e.past).last k)
 
 -- the committed database is told from a key on, and how many rows that has
-abbrev pub TellsRows : Option Held → Key → List CRow → ℕ → Type 0
-TellsRows None key to count = ⊥
-TellsRows (Some h) key to count = (rows : List Row) × IsCommitted h.engine rows
-    × AreRowsTold to (rows_from key rows) × (count ≡ length (rows_from key rows))
+abbrev pub ReturnsRows : Option Held → Key → List SgtRow → ℕ → Type 0
+ReturnsRows None key to count = ⊥
+ReturnsRows (Some h) key to count = (rows : List Row) × IsCommitted h.engine rows
+    × HoldRows to (rows_from key rows) × (count ≡ length (rows_from key rows))

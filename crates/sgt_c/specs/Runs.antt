@@ -8,10 +8,10 @@ use Rattle.sgt_model.specs.declared.reply.Reply.{Reply}
 use Rattle.sgt_model.specs.declared.reply.Reply.TheVariants as reply
 use Rattle.sgt_model.specs.Fates.{is_start, live}
 use Rattle.sgt_engine.specs.EngineView.{EngineView, with_entry}
-use Rattle.sgt_handle.specs.declared.held.Held.{Held}
-use Rattle.sgt_told.specs.declared.told.Told.{Told}
+use Rattle.sgt_c.specs.declared.held.Held.{Held}
+use Rattle.sgt_c.specs.declared.reply_struct.SgtReply.{SgtReply}
 use Rattle.sgt_c.specs.Calls.{Headline}
-use Rattle.sgt_told.specs.Told.{IsTold}
+use Rattle.sgt_c.specs.ReplyStructs.{HoldsReply}
 
 -- the engine with so many entries more, newest first
 abbrev pub with_entries : List Entry → EngineView → EngineView
@@ -61,11 +61,11 @@ IsNumberTold None told = Unit {0}
 IsNumberTold (Some t) told = told ≡ t
 
 -- the run is in the history, its last reply is told, and each part of the headline holds
-abbrev pub Ran : Event → Option Held → Option Held → ℕ → Told → Type 0
+abbrev pub Ran : Event → Option Held → Option Held → ℕ → SgtReply → Type 0
 Ran start None new tid told = ⊥
 Ran start (Some h) None tid told = ⊥
 Ran start (Some h) (Some h') tid told = (started : Option ℕ) × (last : Reply) × Runs start started last h.engine h'.engine
-    × IsNumberTold started tid × IsTold told last × Headline h'.engine
+    × IsNumberTold started tid × HoldsReply told last × Headline h'.engine
 
 -- the transaction made some steps, and is live
 abbrev pub StopsLive : ℕ → EngineView → EngineView → Type 0

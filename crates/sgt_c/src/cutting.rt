@@ -4,9 +4,10 @@ ghost use Rattle.sgt_model.specs.Fates.{live_ones};
 ghost use Rattle.sgt_engine.specs.Cuts.{NobodyLive};
 ghost use Rattle.sgt_c.specs.Cuts.{Cut, IsCut, IsSomeoneLive, IsTooEarly, TellsLive};
 
-use sgt_handle::{Handle, Held};
+use crate::handle::Handle;
+use crate::held::Held;
+use crate::status;
 use sgt_assembly::SgtEngine;
-use sgt_told::status;
 use std::alloc::Global;
 
 /// Forgets the history up to now, where nobody is live: the engine goes on from the committed database as one that was just

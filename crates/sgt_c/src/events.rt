@@ -9,9 +9,11 @@ ghost use Rattle.sgt_engine.specs.EngineView.{setting_of};
 ghost use Rattle.sgt_model.specs.declared.event.Event.TheVariants.{Start, Step, Commit, Quit};
 ghost use Rattle.sgt_c.specs.Calls.{Answered, EndsSucceed, QuitsSucceed};
 
-use sgt_handle::{Handle, Held};
+use crate::handle::Handle;
+use crate::held::Held;
+use crate::reply_struct::{SgtReply, write_reply};
+use crate::status;
 use sgt_model::{Args, Event, NoMemory, Tid};
-use sgt_told::{Told, status, tell};
 use std::alloc::Global;
 
 /// Starts a transaction that runs the procedure of this number with these arguments.
@@ -23,17 +25,17 @@ pub extern "C" fn sgt_start(
     engine: &mut Handle,
     procedure: u16,
     args: &[i64],
-    told: &mut Told,
+    reply: &mut SgtReply,
 ) -> u32
-    ensures ok { result ≡ 0 → Answered (Start procedure args.now) engine.old.slot.held engine.new.slot.held told.new }
+    ensures ok { result ≡ 0 → Answered (Start procedure args.now) engine.old.slot.held engine.new.slot.held reply.new }
     ensures unchanged { result ≢ 0 → engine.new.slot.held ≡ engine.old.slot.held }
-    ensures untold { result ≢ 0 → told.new ≡ told.old }
+    ensures unwritten { result ≢ 0 → reply.new ≡ reply.old }
     ensures bad_call { (result ≡ 5) ↔ (4 < length args.now) }
     ensures closed { (result ≡ 2) ↔ ((length args.now ≤ 4) × (engine.old.slot.held ≡ None)) }
     ensures statuses { result ≢ 5 → result ≤ 2 }
 {
     match Args::from_slice(args) {
-        Some(args) => ask(alloc, engine, Event::Start { procedure, args }, told),
+        Some(args) => ask(alloc, engine, Event::Start { procedure, args }, reply),
         None => status::BAD_CALL,
     }
 }
@@ -42,52 +44,52 @@ pub extern "C" fn sgt_start(
 ///
 /// `NO_MEMORY`; `CLOSED`.
 #[unsafe(no_mangle)]
-pub extern "C" fn sgt_step(alloc: Global, engine: &mut Handle, t: u32, told: &mut Told) -> u32
-    ensures ok { result ≡ 0 → Answered (Step t) engine.old.slot.held engine.new.slot.held told.new }
+pub extern "C" fn sgt_step(alloc: Global, engine: &mut Handle, t: u32, reply: &mut SgtReply) -> u32
+    ensures ok { result ≡ 0 → Answered (Step t) engine.old.slot.held engine.new.slot.held reply.new }
     ensures unchanged { result ≢ 0 → engine.new.slot.held ≡ engine.old.slot.held }
-    ensures untold { result ≢ 0 → told.new ≡ told.old }
+    ensures unwritten { result ≢ 0 → reply.new ≡ reply.old }
     ensures closed { (result ≡ 2) ↔ (engine.old.slot.held ≡ None) }
     ensures ends { EndsSucceed (Step t) engine.old.slot.held result }
     ensures statuses { result ≤ 2 }
 {
-    ask(alloc, engine, Event::Step(Tid(t)), told)
+    ask(alloc, engine, Event::Step(Tid(t)), reply)
 }
 
 /// Commits the transaction.
 ///
 /// `NO_MEMORY`; `CLOSED`.
 #[unsafe(no_mangle)]
-pub extern "C" fn sgt_commit(alloc: Global, engine: &mut Handle, t: u32, told: &mut Told) -> u32
-    ensures ok { result ≡ 0 → Answered (Commit t) engine.old.slot.held engine.new.slot.held told.new }
+pub extern "C" fn sgt_commit(alloc: Global, engine: &mut Handle, t: u32, reply: &mut SgtReply) -> u32
+    ensures ok { result ≡ 0 → Answered (Commit t) engine.old.slot.held engine.new.slot.held reply.new }
     ensures unchanged { result ≢ 0 → engine.new.slot.held ≡ engine.old.slot.held }
-    ensures untold { result ≢ 0 → told.new ≡ told.old }
+    ensures unwritten { result ≢ 0 → reply.new ≡ reply.old }
     ensures closed { (result ≡ 2) ↔ (engine.old.slot.held ≡ None) }
     ensures ends { EndsSucceed (Commit t) engine.old.slot.held result }
     ensures statuses { result ≤ 2 }
 {
-    ask(alloc, engine, Event::Commit(Tid(t)), told)
+    ask(alloc, engine, Event::Commit(Tid(t)), reply)
 }
 
 /// Quits the transaction: it is aborted. Where it is live, this succeeds.
 ///
 /// `NO_MEMORY`; `CLOSED`.
 #[unsafe(no_mangle)]
-pub extern "C" fn sgt_quit(alloc: Global, engine: &mut Handle, t: u32, told: &mut Told) -> u32
-    ensures ok { result ≡ 0 → Answered (Quit t) engine.old.slot.held engine.new.slot.held told.new }
+pub extern "C" fn sgt_quit(alloc: Global, engine: &mut Handle, t: u32, reply: &mut SgtReply) -> u32
+    ensures ok { result ≡ 0 → Answered (Quit t) engine.old.slot.held engine.new.slot.held reply.new }
     ensures unchanged { result ≢ 0 → engine.new.slot.held ≡ engine.old.slot.held }
-    ensures untold { result ≢ 0 → told.new ≡ told.old }
+    ensures unwritten { result ≢ 0 → reply.new ≡ reply.old }
     ensures closed { (result ≡ 2) ↔ (engine.old.slot.held ≡ None) }
     ensures quits { QuitsSucceed (Quit t) engine.old.slot.held result }
     ensures statuses { result ≤ 2 }
 {
-    ask(alloc, engine, Event::Quit(Tid(t)), told)
+    ask(alloc, engine, Event::Quit(Tid(t)), reply)
 }
 
 /// Takes an event, answers it, and tells the reply.
-fn ask(alloc: Global, engine: &mut Handle, event: Event, told: &mut Told) -> u32
-    ensures ok { result ≡ 0 → Answered event engine.old.slot.held engine.new.slot.held told.new }
+fn ask(alloc: Global, engine: &mut Handle, event: Event, reply: &mut SgtReply) -> u32
+    ensures ok { result ≡ 0 → Answered event engine.old.slot.held engine.new.slot.held reply.new }
     ensures unchanged { result ≢ 0 → engine.new.slot.held ≡ engine.old.slot.held }
-    ensures untold { result ≢ 0 → told.new ≡ told.old }
+    ensures unwritten { result ≢ 0 → reply.new ≡ reply.old }
     ensures closed { (result ≡ 2) ↔ (engine.old.slot.held ≡ None) }
     ensures ends { EndsSucceed event engine.old.slot.held result }
     ensures quits { QuitsSucceed event engine.old.slot.held result }
@@ -95,7 +97,7 @@ fn ask(alloc: Global, engine: &mut Handle, event: Event, told: &mut Told) -> u32
 {
     match engine.take(alloc) {
         Some(mut held) => {
-            let answered = answer(&mut held, event, told);
+            let answered = answer(&mut held, event, reply);
             engine.put(held);
             match answered {
                 Ok(()) => status::OK,
@@ -107,9 +109,9 @@ fn ask(alloc: Global, engine: &mut Handle, event: Event, told: &mut Told) -> u32
 }
 
 /// Takes an event, answers it, and tells the reply.
-fn answer(held: &mut Held, event: Event, told: &mut Told) -> Result<(), NoMemory>
-    ensures ok { OnOk result (Answered event (Some held.old) (Some held.new) told.new) }
-    ensures unchanged { OnErr result ((held.new ≡ held.old) × (told.new ≡ told.old)) }
+fn answer(held: &mut Held, event: Event, reply: &mut SgtReply) -> Result<(), NoMemory>
+    ensures ok { OnOk result (Answered event (Some held.old) (Some held.new) reply.new) }
+    ensures unchanged { OnErr result ((held.new ≡ held.old) × (reply.new ≡ reply.old)) }
     ensures ends { (r : Reply) → LegalReply (setting_of held.old.engine) held.old.engine.past event r
         → is_ending r ≡ true
         → IsOk result }
@@ -117,7 +119,7 @@ fn answer(held: &mut Held, event: Event, told: &mut Told) -> Result<(), NoMemory
 {
     held.engine.answer(event)?;
     match held.engine.last_reply() {
-        Some(reply) => tell(told, reply),
+        Some(last) => write_reply(reply, last),
         None => unreachable!(),
     }
     Ok(())

@@ -1,10 +1,12 @@
 //! The history: how many entries it has, what they say, and the room for more.
 ghost use Rattle.std.specs.Prelude.{◌≡◌, ◌≢◌, ◌≤◌, ◌↔◌, None, IfSome, length};
-ghost use Rattle.sgt_c.specs.Entries.{TellsEntry, HasNoEntry};
+ghost use Rattle.sgt_c.specs.Entries.{ReturnsEntry, HasNoEntry};
 
-use sgt_handle::Handle;
+use crate::event_struct::{SgtEvent, write_event};
+use crate::handle::Handle;
+use crate::reply_struct::{SgtReply, write_reply};
+use crate::status;
 use sgt_model::NoMemory;
-use sgt_told::{Asked, Told, status, tell, tell_event};
 use std::alloc::Global;
 
 /// How many events were answered since the opening.
@@ -34,15 +36,15 @@ pub extern "C" fn sgt_entry(
     alloc: Global,
     engine: &mut Handle,
     place: u64,
-    asked: &mut Asked,
-    told: &mut Told,
+    event: &mut SgtEvent,
+    reply: &mut SgtReply,
 ) -> u32
-    ensures told { result ≡ 0 → TellsEntry engine.old.slot.held place asked.new told.new }
+    ensures returned { result ≡ 0 → ReturnsEntry engine.old.slot.held place event.new reply.new }
     ensures none { (result ≡ 4) ↔ HasNoEntry engine.old.slot.held place }
     ensures closed { (result ≡ 2) ↔ (engine.old.slot.held ≡ None) }
     ensures statuses { result ≢ 0 → result ≢ 2 → result ≡ 4 }
-    ensures unasked { result ≢ 0 → asked.new ≡ asked.old }
-    ensures untold { result ≢ 0 → told.new ≡ told.old }
+    ensures event_unwritten { result ≢ 0 → event.new ≡ event.old }
+    ensures unwritten { result ≢ 0 → reply.new ≡ reply.old }
     ensures same { engine.new.slot.held ≡ engine.old.slot.held }
 {
     let Some(held) = engine.take(alloc) else {
@@ -52,8 +54,8 @@ pub extern "C" fn sgt_entry(
     engine.put(held);
     match entry {
         Some(entry) => {
-            tell_event(asked, &entry.event);
-            tell(told, &entry.reply);
+            write_event(event, &entry.event);
+            write_reply(reply, &entry.reply);
             status::OK
         }
         None => status::NONE,

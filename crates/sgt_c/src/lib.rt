@@ -1,21 +1,36 @@
 //! The engine of the program, to be called from C and from languages that call C: a static library.
 //!
-//! C keeps an engine in a handle, `Handle` of `sgt_handle`, which is all zero bytes before `sgt_open` and behind `sgt_close`. Each call answers a
-//! status, and what an event was answered is written into a `Told` of `sgt_told`. A refusal such as `full` or `waits` is a reply, and no
-//! status. The contracts say of the engine in the handle what `Engine` says of itself. There is no lock and no thread: a caller
-//! with threads puts one lock around each call.
+//! C keeps an engine in a handle, [`Handle`], which is all zero bytes before `sgt_open` and after `sgt_close`. Each call returns a
+//! status, and writes the reply to an event into an [`SgtReply`], the `sgt_reply` of `sgt.h`. A refusal such as `full` or `waits` is a
+//! reply, and no status. The contracts say of the engine in the handle what `Engine` says of itself. There is no lock and no
+//! thread: a caller with threads puts one lock around each call.
 //!
-//! It reads no line but an opening and a procedure, and hands out no memory. The header for C, and what a caller owes, stand in `bindings/sgt.h`.
+//! It reads no line but an opening and a procedure, and hands out no memory. The header for C, and what a caller owes, stand in
+//! `bindings/sgt.h`.
 //!
 //! ```
 //! let mut engine = Handle::closed(alloc);
-//! sgt_open(alloc, &mut engine, opening, &mut fault);       // 0
-//! sgt_start(alloc, &mut engine, 1, &[1, 100], &mut told);  // 0, and told.kind is 1: started
-//! sgt_step(alloc, &mut engine, told.tid, &mut told);       // 0, and told.kind is 8: read
+//! sgt_open(alloc, &mut engine, opening, &mut fault);        // 0
+//! sgt_start(alloc, &mut engine, 1, &[1, 100], &mut reply);  // 0, and reply.kind is 1: started
+//! sgt_step(alloc, &mut engine, reply.tid, &mut reply);      // 0, and reply.kind is 8: read
 //! sgt_close(alloc, &mut engine);
 //! ```
 #![tactic(auto)]
 
+// The structs of C, and how they are written and read.
+mod buffer_text;
+mod event_struct;
+mod fault_struct;
+mod reply_reading;
+mod reply_struct;
+mod status;
+
+// The handle.
+mod handle;
+mod held;
+mod slot;
+
+// The calls.
 mod cutting;
 mod events;
 mod history;
@@ -27,3 +42,9 @@ mod reading;
 mod rows;
 mod run;
 mod texts;
+
+pub use event_struct::SgtEvent;
+pub use fault_struct::SgtFault;
+pub use handle::Handle;
+pub use reply_struct::SgtReply;
+pub use rows::SgtRow;

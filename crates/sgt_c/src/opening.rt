@@ -3,10 +3,12 @@ ghost use Rattle.std.specs.Prelude.{◌≡◌, ◌≢◌, ◌≤◌, ◌↔◌, 
 ghost use Rattle.sgt_format.specs.Openings.{Refuses};
 ghost use Rattle.sgt_c.specs.Openings.{OpenedAs, RefusedAs};
 
+use crate::fault_struct::{SgtFault, write_fault};
+use crate::handle::Handle;
+use crate::held::Held;
+use crate::status;
 use sgt_format::{OpeningError, read_opening};
-use sgt_handle::{Handle, Held};
 use sgt_assembly::open_engine;
-use sgt_told::{Fault, status, tell_fault};
 use std::alloc::Global;
 
 /// Opens an engine in a closed handle, of an opening's bytes as the first line of a script has them, without its end.
@@ -17,7 +19,7 @@ pub extern "C" fn sgt_open(
     alloc: Global,
     engine: &mut Handle,
     opening: &[u8],
-    fault: &mut Fault,
+    fault: &mut SgtFault,
 ) -> u32
     ensures opened { result ≡ 0 → IfSome engine.new.slot.held (λ h. OpenedAs opening.now h.engine) }
     ensures is_open { result ≡ 0 → IsSome engine.new.slot.held }
@@ -33,7 +35,7 @@ pub extern "C" fn sgt_open(
             engine.put(held);
             status::OK
         }
-        Err(error) => tell_fault(fault, &error),
+        Err(error) => write_fault(fault, &error),
     }
 }
 

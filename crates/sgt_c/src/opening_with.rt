@@ -5,11 +5,13 @@ ghost use Rattle.sgt_format.specs.Openings.{Refuses};
 ghost use Rattle.sgt_c.specs.Openings.{OpenedWith, RefusedAs};
 ghost use Rattle.sgt_c.specs.Rows.{IsRow};
 
-use crate::rows::{Row, are_rows, put_rows};
+use crate::fault_struct::{SgtFault, write_fault};
+use crate::handle::Handle;
+use crate::held::Held;
+use crate::rows::{SgtRow, are_rows, put_rows};
+use crate::status;
 use sgt_format::{OpeningError, read_opening};
-use sgt_handle::{Handle, Held};
 use sgt_assembly::open_engine;
-use sgt_told::{Fault, status, tell_fault};
 use std::alloc::Global;
 
 /// Opens an engine as `sgt_open` does, where these rows are put into the database that the opening's accounts make, one after
@@ -23,8 +25,8 @@ pub extern "C" fn sgt_open_with(
     alloc: Global,
     engine: &mut Handle,
     opening: &[u8],
-    rows: &[Row],
-    fault: &mut Fault,
+    rows: &[SgtRow],
+    fault: &mut SgtFault,
 ) -> u32
     ensures opened { result ≡ 0 → IfSome engine.new.slot.held (λ h. OpenedWith opening.now rows.now h.engine) }
     ensures is_open { result ≡ 0 → IsSome engine.new.slot.held }
@@ -44,12 +46,12 @@ pub extern "C" fn sgt_open_with(
             engine.put(held);
             status::OK
         }
-        Err(error) => tell_fault(fault, &error),
+        Err(error) => write_fault(fault, &error),
     }
 }
 
 /// The engine of the opening that these bytes spell, with these rows put into its database.
-fn make(alloc: Global, opening: &[u8], rows: &[Row]) -> Result<Box<Held>, OpeningError>
+fn make(alloc: Global, opening: &[u8], rows: &[SgtRow]) -> Result<Box<Held>, OpeningError>
     requires { All IsRow rows.now }
     ensures opened { IfOk result (λ h. OpenedWith opening.now rows.now h.value.engine) }
     ensures refused { IfErr result (Refuses 1 opening.now) }

@@ -2,10 +2,12 @@
 ghost use Rattle.std.specs.Prelude.{◌≡◌, ◌≢◌, ◌<◌, ◌≤◌, ◌↔◌, None, IfErr, IfOk, OnErr};
 ghost use Rattle.sgt_c.specs.Puts.{Added, HasBegun, HasNoNumber, IsAdded, IsRefusal, IsTextRefused};
 
+use crate::fault_struct::{SgtFault, write_fault};
+use crate::handle::Handle;
+use crate::held::Held;
+use crate::status;
 use sgt_engine::AddError;
 use sgt_format::{OpeningError, read_procedure_line};
-use sgt_handle::{Handle, Held};
-use sgt_told::{Fault, status, tell_fault};
 use std::alloc::Global;
 
 /// Adds the procedure that a text spells, as one of an opening's list, behind the others, where the history is empty. Its number is
@@ -19,7 +21,7 @@ pub extern "C" fn sgt_procedure(
     engine: &mut Handle,
     text: &[u8],
     number: &mut u16,
-    fault: &mut Fault,
+    fault: &mut SgtFault,
 ) -> u32
     ensures added { result ≡ 0 → Added engine.old.slot.held text.now engine.new.slot.held number.new }
     ensures unchanged { result ≢ 0 → engine.new.slot.held ≡ engine.old.slot.held }
@@ -29,7 +31,7 @@ pub extern "C" fn sgt_procedure(
     ensures refused { 16 ≤ result → (result ≡ fault.new.kind) × IsTextRefused engine.old.slot.held text.now fault.new }
     ensures statuses { result < 16 → result ≢ 7 → result ≢ 9 → result ≤ 2 }
     ensures kept { result ≢ 0 → number.new ≡ number.old }
-    ensures untold { result ≢ 1 → result < 16 → fault.new ≡ fault.old }
+    ensures unwritten { result ≢ 1 → result < 16 → fault.new ≡ fault.old }
 {
     let Some(mut held) = engine.take(alloc) else {
         return status::CLOSED;
@@ -43,7 +45,7 @@ pub extern "C" fn sgt_procedure(
         }
         Err(Unadded::Begun) => status::BEGUN,
         Err(Unadded::TooMany) => status::TOO_MANY,
-        Err(Unadded::Refused(error)) => tell_fault(fault, &error),
+        Err(Unadded::Refused(error)) => write_fault(fault, &error),
     }
 }
 

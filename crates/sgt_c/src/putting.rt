@@ -6,11 +6,12 @@ ghost use Rattle.sgt_engine.specs.Puts.{AreRefused, PutsRows};
 ghost use Rattle.sgt_c.specs.Puts.{HasBegun, IsFirstBad, IsTakenIn, Put};
 ghost use Rattle.sgt_c.specs.Rows.{IsRow, row_of};
 
+use crate::handle::Handle;
+use crate::held::Held;
 use crate::rows::Row;
+use crate::status;
 use sgt_engine::PutError;
-use sgt_handle::{Handle, Held};
 use sgt_model::{Key, NoMemory, is_value};
-use sgt_told::status;
 use std::alloc::Global;
 
 /// Puts rows into the opening database, where the history is empty: values at keys that have none. So an engine is opened on the
@@ -20,7 +21,7 @@ use std::alloc::Global;
 /// where there is a history; `TAKEN` where the key of a row has a value, or that of a row before it: the place of the first such
 /// row is written to `at`; `NO_MEMORY`.
 #[unsafe(no_mangle)]
-pub extern "C" fn sgt_put(alloc: Global, engine: &mut Handle, rows: &[Row], at: &mut u64) -> u32
+pub extern "C" fn sgt_put(alloc: Global, engine: &mut Handle, rows: &[SgtRow], at: &mut u64) -> u32
     ensures put { result ≡ 0 → Put engine.old.slot.held rows.now engine.new.slot.held }
     ensures unchanged { result ≢ 0 → engine.new.slot.held ≡ engine.old.slot.held }
     ensures bad_call { (result ≡ 5) ↔ (¬ All IsRow rows.now) }
@@ -52,7 +53,7 @@ pub extern "C" fn sgt_put(alloc: Global, engine: &mut Handle, rows: &[Row], at: 
 }
 
 /// Puts rows into the opening database of an engine.
-fn put(alloc: Global, held: &mut Held, rows: &[Row]) -> Result<(), PutError>
+fn put(alloc: Global, held: &mut Held, rows: &[SgtRow]) -> Result<(), PutError>
     requires { All IsRow rows.now }
     ensures put { OnOk result (PutsRows held.old.engine (map row_of rows.now) held.new.engine) }
     ensures begun { (result ≡ Err PutError.Begun) ↔ (held.old.engine.past ≢ []) }
@@ -67,7 +68,7 @@ fn put(alloc: Global, held: &mut Held, rows: &[Row]) -> Result<(), PutError>
 }
 
 /// The place of the first row that is out of its range.
-fn first_bad(rows: &[Row]) -> Option<usize>
+fn first_bad(rows: &[SgtRow]) -> Option<usize>
     ensures all { IsNone result ↔ All IsRow rows.now }
     ensures first { IfSome result (IsFirstBad rows.now) }
 {
@@ -79,14 +80,14 @@ fn first_bad(rows: &[Row]) -> Option<usize>
     None
 }
 
-fn is_row(row: &Row) -> bool
+fn is_row(row: &SgtRow) -> bool
     ensures { IsTrue result ↔ IsRow row.now }
 {
     row.table <= 7 && is_value(row.number) && is_value(row.value)
 }
 
 /// The rows as keys with their values.
-fn keyed(alloc: Global, rows: &[Row]) -> Result<Vec<(Key, i64)>, NoMemory>
+fn keyed(alloc: Global, rows: &[SgtRow]) -> Result<Vec<(Key, i64)>, NoMemory>
     requires { All IsRow rows.now }
     ensures rows { IfOk result (λ keyed. keyed.items ≡ map row_of rows.now) }
     ensures values { IfOk result (λ keyed. HasValues keyed.items) }
@@ -98,7 +99,7 @@ fn keyed(alloc: Global, rows: &[Row]) -> Result<Vec<(Key, i64)>, NoMemory>
     Ok(keyed)
 }
 
-fn keyed_row(row: &Row) -> (Key, i64)
+fn keyed_row(row: &SgtRow) -> (Key, i64)
     requires { IsRow row.now }
     ensures { result ≡ row_of row.now }
 {

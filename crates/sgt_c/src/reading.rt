@@ -6,9 +6,9 @@ ghost use Rattle.sgt_model.specs.Replay.{folded};
 ghost use Rattle.sgt_model.specs.Values.{settled};
 ghost use Rattle.sgt_engine.specs.EngineView.{setting_of};
 
-use sgt_handle::Handle;
+use crate::handle::Handle;
+use crate::status;
 use sgt_model::Key;
-use sgt_told::status;
 use std::alloc::Global;
 
 /// The committed value of a record: the last one that a committed transaction stored, else the opening's.

@@ -4,17 +4,17 @@ ghost use Rattle.std.specs.List.{All};
 ghost use Rattle.sgt_model.specs.Contents.{Key, put_in};
 ghost use Rattle.sgt_model.specs.Databases.{contents_of};
 ghost use Rattle.sgt_model.specs.Numbers.{IsValue};
-ghost use Rattle.sgt_c.specs.Rows.{AreRowsTold, IsRow, TellsRows, row_of, rows_from, with_rows};
+ghost use Rattle.sgt_c.specs.Rows.{HoldRows, IsRow, ReturnsRows, row_of, rows_from, with_rows};
 
-use sgt_handle::Handle;
+use crate::handle::Handle;
+use crate::status;
 use sgt_model::{Database, Key, NoMemory, is_value};
-use sgt_told::status;
 use std::alloc::Global;
 
 /// A record and its value, for C.
 #[repr(C)]
 #[derive(Clone, Copy)]
-pub struct Row {
+pub struct SgtRow {
     pub table: u32,
     pub spare: u32,
     pub number: i64,
@@ -31,16 +31,16 @@ pub extern "C" fn sgt_rows(
     engine: &mut Handle,
     table: u8,
     number: i64,
-    rows: &mut [Row],
+    rows: &mut [SgtRow],
     count: &mut u64,
 ) -> u32
-    ensures told { result ≡ 0 → TellsRows engine.old.slot.held (table, number) rows.new count.new }
+    ensures returned { result ≡ 0 → ReturnsRows engine.old.slot.held (table, number) rows.new count.new }
     ensures rest { drop count.new rows.new ≡ drop count.new rows.old }
     ensures room { length rows.new ≡ length rows.old }
     ensures bad_call { (result ≡ 5) ↔ (¬ ((table ≤ 7) × IsValue number)) }
     ensures closed { (result ≡ 2) ↔ (((table ≤ 7) × IsValue number) × (engine.old.slot.held ≡ None)) }
     ensures statuses { result ≢ 5 → result ≤ 2 }
-    ensures untold { result ≢ 0 → (rows.new ≡ rows.old) × (count.new ≡ count.old) }
+    ensures unwritten { result ≢ 0 → (rows.new ≡ rows.old) × (count.new ≡ count.old) }
     ensures same { engine.new.slot.held ≡ engine.old.slot.held }
 {
     let Some(key) = Key::new(table, number) else {
@@ -54,7 +54,7 @@ pub extern "C" fn sgt_rows(
     match database {
         Ok(database) => {
             let from_key = rows_from(database.rows(), key);
-            tell_rows(rows, from_key);
+            write_rows(rows, from_key);
             *count = from_key.len() as u64;
             status::OK
         }
@@ -74,8 +74,8 @@ fn rows_from(rows: &[(Key, i64)], key: Key) -> &[(Key, i64)]
 }
 
 /// Writes rows for C, as many as there is room for, and leaves the rest.
-fn tell_rows(to: &mut [Row], rows: &[(Key, i64)])
-    ensures told { AreRowsTold to.new rows.now }
+fn write_rows(to: &mut [SgtRow], rows: &[(Key, i64)])
+    ensures returned { HoldRows to.new rows.now }
     ensures rest { drop (length rows.now) to.new ≡ drop (length rows.now) to.old }
     ensures room { length to.new ≡ length to.old }
 {
@@ -85,11 +85,11 @@ fn tell_rows(to: &mut [Row], rows: &[(Key, i64)])
     }
 }
 
-fn told_row(row: &(Key, i64)) -> Row
+fn told_row(row: &(Key, i64)) -> SgtRow
     ensures { row_of result ≡ row.now }
 {
     let (key, value) = *row;
-    Row {
+    SgtRow {
         table: key.table() as u32,
         spare: 0,
         number: key.id(),
@@ -98,7 +98,7 @@ fn told_row(row: &(Key, i64)) -> Row
 }
 
 /// Whether all are in their ranges: tables up to 7, and numbers and values that are values.
-pub fn are_rows(rows: &[Row]) -> bool
+pub fn are_rows(rows: &[SgtRow]) -> bool
     ensures { IsTrue result ↔ All IsRow rows.now }
 {
     rows.iter().all(|row| row.table <= 7 && is_value(row.number) && is_value(row.value))
@@ -109,7 +109,7 @@ pub fn are_rows(rows: &[Row]) -> bool
 /// # Errors
 ///
 /// `NoMemory` where a growth was refused.
-pub fn put_rows(database: &mut Database, rows: &[Row]) -> Result<(), NoMemory>
+pub fn put_rows(database: &mut Database, rows: &[SgtRow]) -> Result<(), NoMemory>
     requires { All IsRow rows.now }
     ensures { OnOk result ((k : Key) → contents_of database.new k ≡ with_rows (contents_of database.old) rows.now k) }
 {
@@ -119,7 +119,7 @@ pub fn put_rows(database: &mut Database, rows: &[Row]) -> Result<(), NoMemory>
     Ok(())
 }
 
-fn put_row(database: &mut Database, row: &Row) -> Result<(), NoMemory>
+fn put_row(database: &mut Database, row: &SgtRow) -> Result<(), NoMemory>
     requires { IsRow row.now }
     ensures { OnOk result ((k : Key) →
         contents_of database.new k ≡ put_in (contents_of database.old) (row_of row.now).0 row.now.value k) }

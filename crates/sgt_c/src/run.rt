@@ -6,10 +6,11 @@ ghost use Rattle.sgt_model.specs.Fates.{live};
 ghost use Rattle.sgt_engine.specs.EngineView.{with_entry};
 ghost use Rattle.sgt_c.specs.Runs.{Ran, GaveUp, Runs, GivesUp, RunsOn, StepsOn, StopsLive, is_access, is_end};
 
-use sgt_handle::Handle;
+use crate::handle::Handle;
+use crate::reply_struct::{SgtReply, write_reply};
+use crate::status;
 use sgt_model::{Args, Event, NoMemory, Reply, Tid};
 use sgt_assembly::SgtEngine;
-use sgt_told::{Told, status, tell};
 use std::alloc::Global;
 
 /// Runs a procedure from its start to its commit, for a caller whose transactions need not run side by side. The last reply is
@@ -25,14 +26,14 @@ pub extern "C" fn sgt_run(
     procedure: u16,
     args: &[i64],
     tid: &mut u32,
-    told: &mut Told,
+    reply: &mut SgtReply,
 ) -> u32
     ensures ran { result ≡ 0 →
-        Ran (Start procedure args.now) engine.old.slot.held engine.new.slot.held tid.new told.new }
+        Ran (Start procedure args.now) engine.old.slot.held engine.new.slot.held tid.new reply.new }
     ensures gave_up { result ≡ 1 →
         GaveUp (Start procedure args.now) engine.old.slot.held engine.new.slot.held }
     ensures unchanged { 2 ≤ result → engine.new.slot.held ≡ engine.old.slot.held }
-    ensures untold { result ≢ 0 → (tid.new ≡ tid.old) × (told.new ≡ told.old) }
+    ensures unwritten { result ≢ 0 → (tid.new ≡ tid.old) × (reply.new ≡ reply.old) }
     ensures bad_call { (result ≡ 5) ↔ (4 < length args.now) }
     ensures closed { (result ≡ 2) ↔ ((length args.now ≤ 4) × (engine.old.slot.held ≡ None)) }
     ensures statuses { result ≢ 5 → result ≤ 2 }
@@ -51,7 +52,7 @@ pub extern "C" fn sgt_run(
             if let Some(t) = started {
                 *tid = t.0;
             }
-            tell(told, &last);
+            write_reply(reply, &last);
             status::OK
         }
         Err(NoMemory) => status::NO_MEMORY,

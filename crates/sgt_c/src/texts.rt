@@ -3,11 +3,13 @@ ghost use Rattle.std.specs.Prelude.{◌≡◌, ◌≢◌, ◌≤◌, ◌↔◌};
 ghost use Rattle.sgt_model.specs.declared.reply.Reply.{Reply};
 ghost use Rattle.sgt_format.specs.ReplyText.{reply_text};
 ghost use Rattle.sgt_format.specs.declared.errors.OpeningError.{OpeningError};
-ghost use Rattle.sgt_told.specs.Faults.{IsFaultTold};
-ghost use Rattle.sgt_told.specs.Texts.{IsFaultKind, IsWritten, fault_text};
-ghost use Rattle.sgt_told.specs.ToldReplies.{Tells};
+ghost use Rattle.sgt_c.specs.FaultStructs.{HoldsFault};
+ghost use Rattle.sgt_c.specs.BufferTexts.{IsFaultKind, IsWritten, fault_text};
+ghost use Rattle.sgt_c.specs.ReplyReadings.{HoldsValidReply};
 
-use sgt_told::{Fault, Told, write_fault_text, write_reply_text};
+use crate::buffer_text::{write_fault_text, write_reply_text};
+use crate::fault_struct::SgtFault;
+use crate::reply_struct::SgtReply;
 use std::alloc::Global;
 
 /// The text of a reply, as a script's line has it, without the line's end. It is written whole where there is room for it, and
@@ -17,16 +19,16 @@ use std::alloc::Global;
 #[unsafe(no_mangle)]
 pub extern "C" fn sgt_reply_text(
     alloc: Global,
-    told: &Told,
+    reply: &SgtReply,
     text: &mut [u8],
     length: &mut u64,
 ) -> u32
-    ensures text { (r : Reply) → Tells told.now r → result ≡ 0 → IsWritten (reply_text r) text.old text.new length.new }
-    ensures bad_call { (result ≡ 5) ↔ ((r : Reply) → ¬ Tells told.now r) }
+    ensures text { (r : Reply) → HoldsValidReply reply.now r → result ≡ 0 → IsWritten (reply_text r) text.old text.new length.new }
+    ensures bad_call { (result ≡ 5) ↔ ((r : Reply) → ¬ HoldsValidReply reply.now r) }
     ensures statuses { result ≢ 5 → result ≤ 1 }
     ensures unwritten { result ≢ 0 → (text.new ≡ text.old) × (length.new ≡ length.old) }
 {
-    write_reply_text(alloc, told, text, length)
+    write_reply_text(alloc, reply, text, length)
 }
 
 /// The text of a fault, as the program tells one of line 1. It is written whole where there is room for it, and else not at
@@ -36,11 +38,11 @@ pub extern "C" fn sgt_reply_text(
 #[unsafe(no_mangle)]
 pub extern "C" fn sgt_fault_text(
     alloc: Global,
-    fault: &Fault,
+    fault: &SgtFault,
     text: &mut [u8],
     length: &mut u64,
 ) -> u32
-    ensures text { (e : OpeningError) → IsFaultTold fault.now e → result ≡ 0 → IsWritten (fault_text e) text.old text.new length.new }
+    ensures text { (e : OpeningError) → HoldsFault fault.now e → result ≡ 0 → IsWritten (fault_text e) text.old text.new length.new }
     ensures bad_call { (result ≡ 5) ↔ (¬ IsFaultKind fault.now.kind) }
     ensures statuses { result ≢ 5 → result ≤ 1 }
     ensures unwritten { result ≢ 0 → (text.new ≡ text.old) × (length.new ≡ length.old) }

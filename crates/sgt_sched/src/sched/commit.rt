@@ -41,7 +41,7 @@ impl<R: Records, A: Accesses, G: Graph> Sched<R, A, G> {
                 Some(first) => Brief::Waits(first),
                 None => self.finish_commit(t, answers, out),
             },
-            Some(Next::Raises(code)) => self.commit_asked(t, code, out),
+            Some(Next::Asks(code)) => self.commit_asked(t, code, out),
             Some(_) => Brief::NotEnded,
             None => self.answer_not_live(t, out),
         }
@@ -92,7 +92,7 @@ impl<R: Records, A: Accesses, G: Graph> Sched<R, A, G> {
     {
         match self.next(t) {
             Some(Next::Ends(_)) => decide(&self.graph, t).is_none(),
-            Some(Next::Raises(_)) => match self.limits.asks {
+            Some(Next::Asks(_)) => match self.limits.asks {
                 Asks::AtStep => false,
                 Asks::AtCommit => decide(&self.graph, t).is_none(),
             },

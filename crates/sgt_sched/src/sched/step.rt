@@ -55,7 +55,7 @@ impl<R: Records, A: Accesses, G: Graph> Sched<R, A, G> {
             Next::Look(key) => self.look(t, index, key, out),
             Next::Put(key, value) => self.store(t, index, key, value, out),
             Next::Ends(_) => Ok(Brief::Ended),
-            Next::Raises(code) => Ok(self.step_asked(t, code, out)),
+            Next::Asks(code) => Ok(self.step_asked(t, code, out)),
         }
     }
 
@@ -236,7 +236,7 @@ impl<R: Records, A: Accesses, G: Graph> Sched<R, A, G> {
             Next::Look(key) => self.is_blocked(t, key, Kind::Look),
             Next::Put(key, _) => self.is_blocked(t, key, Kind::Store),
             Next::Ends(_) => false,
-            Next::Raises(_) => match self.limits.asks {
+            Next::Asks(_) => match self.limits.asks {
                 Asks::AtStep => true,
                 Asks::AtCommit => false,
             },

@@ -1,0 +1,64 @@
+-- What an input of a bank asks for, and what its first fault is.
+use Rattle.std.specs.Prelude.{◌≡◌, ◌≢◌, ◌⊎◌, ℕ, List, [], ◌∷◌, Ok, Err}
+use Rattle.sgt_format.specs.Openings.{Refuses}
+use Rattle.sgt_format.specs.FilledOpenings.{OpensWith, RefusesRecord, behind_records, leading_records, number_behind}
+use Rattle.sgt_format.specs.declared.opening.Opening.{Opening}
+use Rattle.sgt_format.specs.declared.errors.OpeningError.{OpeningError}
+use Rattle.sgt_format.specs.declared.errors.OpeningError.TheVariants as opening_error
+use Rattle.sgt_dispatch.specs.declared.job.Job.{Job}
+use Rattle.sgt_input.specs.declared.fault.Fault.{Fault}
+use Rattle.sgt_input.specs.declared.fault.Fault.TheVariants as fault
+use Rattle.sgt_input.specs.Lines.{Ending, cut}
+use Rattle.sgt_input.specs.Ends.{IsOfInput, fault_of_opening, no_opening}
+use Rattle.sgt_input.specs.Spelled.{spelled, end_of}
+use Rattle.sgt_bank.specs.Jobs.{job_at, numbered}
+
+-- line 1 and the record lines behind it open, with room for each worker, and each line behind those asks for a job
+pub record IsInput (workers : ℕ) (line : List ℕ) (later : List (List ℕ)) (ending : Ending) (opening : Opening) (jobs : List Job) : Type 0 where
+  pub opens : OpensWith workers line (leading_records later) opening
+  pub jobs_are : jobs ≡ numbered 0 (spelled (job_at (number_behind later)) (number_behind later) (behind_records later))
+  pub no_fault : end_of (job_at (number_behind later)) (number_behind later) (behind_records later) ending ≡ Ok tt
+
+-- so it is with these lines: the first of them is line 1
+abbrev pub LinesAsk : ℕ → List (List ℕ) → Ending → Opening → List Job → Type 0
+LinesAsk workers [] ending opening jobs = ⊥
+LinesAsk workers (line ∷ later) ending opening jobs = IsInput workers line later ending opening jobs
+
+-- these bytes ask for these jobs behind this opening
+abbrev pub InputAsks : ℕ → List ℕ → Opening → List Job → Type 0
+InputAsks workers bytes opening jobs = LinesAsk workers (cut bytes).given (cut bytes).ending opening jobs
+
+-- line 1 is refused as an opening, with this fault
+pub record OpeningIsRefused (workers : ℕ) (line : List ℕ) (f : Fault) : Type 0 where
+  pub error : OpeningError
+  pub refuses : Refuses workers line error
+  pub known : error ≢ opening_error.NoMemory
+  pub fault_is : f ≡ fault_of_opening error
+
+-- line 1 opens, and a record line behind it can't be put, with this fault
+pub record RecordIsRefused (workers : ℕ) (line : List ℕ) (later : List (List ℕ)) (f : Fault) : Type 0 where
+  pub bad : ℕ
+  pub refuses : RefusesRecord workers line (leading_records later) bad
+  pub fault_is : f ≡ fault.BadRecord bad
+
+-- line 1 and the record lines behind it open, and the first fault behind them is this one
+pub record IsBehind (workers : ℕ) (line : List ℕ) (later : List (List ℕ)) (ending : Ending) (f : Fault) : Type 0 where
+  pub opening : Opening
+  pub opens : OpensWith workers line (leading_records later) opening
+  pub ends : end_of (job_at (number_behind later)) (number_behind later) (behind_records later) ending ≡ Err f
+
+-- the first fault of these lines
+abbrev pub LinesFail : ℕ → List (List ℕ) → Ending → Fault → Type 0
+LinesFail workers [] ending f = no_opening ending ≡ Err f
+LinesFail workers (line ∷ later) ending f =
+    OpeningIsRefused workers line f ⊎ RecordIsRefused workers line later f ⊎ IsBehind workers line later ending f
+
+-- the first fault of these bytes
+abbrev pub InputFails : ℕ → List ℕ → Fault → Type 0
+InputFails workers bytes f = LinesFail workers (cut bytes).given (cut bytes).ending f
+
+-- a fault of the input, and not of what runs it
+abbrev pub IsOfText : Fault → Type 0
+IsOfText fault.Spawn = ⊥
+IsOfText fault.Mismatch = ⊥
+IsOfText f = IsOfInput f

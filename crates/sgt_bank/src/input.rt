@@ -1,0 +1,44 @@
+ghost use Rattle.std.specs.Prelude.{◌≡◌, ◌≢◌, IfOk, IfErr, IfSome, Err, ◌+◌, ◌^◌, ◌<◌, ◌≤◌};
+ghost use Rattle.sgt_workers.specs.Banks.{AreLimitsFor, AreJobs};
+ghost use Rattle.sgt_bank.specs.Inputs.{InputAsks, InputFails};
+ghost use Rattle.sgt_input.specs.Ends.{IsOfInput};
+
+use crate::jobs::read_jobs;
+use sgt_dispatch::Job;
+use sgt_format::Opening;
+use sgt_input::{Fault, Lines, Source, opening_of, read_records};
+use std::alloc::Global;
+
+/// What an input asks for: its opening, which lets as many be live as there are workers, with the records behind it, and its jobs.
+///
+/// # Errors
+///
+/// The first fault of the input; and `Reading` and `NoMemory`.
+pub fn read_input<S: Source>(
+    alloc: Global,
+    source: &mut S,
+    workers: u32,
+) -> Result<(Opening, Vec<Job>), Fault>
+    requires { S.failures source.old + 1 < 2 ^ 64 }
+    ensures input { IfOk result (λ input. IfSome (S.rest source.old) (λ bytes.
+        InputAsks workers bytes input.0 input.1.items)) }
+    ensures limits { IfOk result (λ input. AreLimitsFor workers input.0.limits) }
+    ensures numbered { IfOk result (λ input. AreJobs input.1.items) }
+    ensures fault { IfErr result (λ f. IsOfInput f → IfSome (S.rest source.old) (λ bytes.
+        InputFails workers bytes f)) }
+    ensures bounded { S.given source.new ≤ S.given source.old + 16777217 }
+    ensures writing { result ≢ Err Fault.Writing }
+    ensures well { result ≢ Err Fault.Reading →
+        S.failures source.new ≡ S.failures source.old }
+    ensures failed { result ≡ Err Fault.Reading →
+        S.failures source.new ≡ S.failures source.old + 1 }
+{
+    let mut lines = Lines::new(alloc)?;
+    if !lines.next_line(source)? {
+        return Err(Fault::NoOpening);
+    }
+    let opening = opening_of(alloc, workers, &lines)?;
+    let opening = read_records(alloc, &mut lines, source, opening)?;
+    let jobs = read_jobs(alloc, &mut lines, source)?;
+    Ok((opening, jobs))
+}

@@ -1,0 +1,52 @@
+-- What a handle holds may go to another thread. It is proved part by part, each up to its own fields, since one search through
+-- the whole does not come to its end.
+use denote.RattleType.{RattleType}
+use denote.Param.Send.{IsSend, sendable}
+use Rattle.std.proofs.Crossing.{crosses}
+use Rattle.sgt_model.proofs.procedure.Expr.TheLaws.TheKnot as expr
+use Rattle.sgt_model.proofs.procedure.Statement.TheLaws.TheKnot as statement
+use Rattle.sgt_log.proofs.history.History.TheSendSync as history
+use Rattle.sgt_log.proofs.short_entry.ShortEntry.TheSendSync as short_entry
+use Rattle.sgt_log.specs.contracts.history.History as History
+use Rattle.sgt_model.proofs.reply.Reply.TheSendSync as reply
+use Rattle.sgt_model.specs.contracts.database.Database as Database
+use Rattle.sgt_records.specs.declared.records.Records as records
+use Rattle.sgt_access.specs.declared.accesses.Accesses as accesses
+use Rattle.sgt_graph.specs.declared.graph.Graph as graph
+use Rattle.sgt_records.proofs.slab_records.SlabRecords.TheSendSync as slabs
+use Rattle.sgt_access.specs.contracts.per_key.PerKey as PerKey
+use Rattle.sgt_graph.specs.contracts.bit_graph.BitGraph as BitGraph
+use Rattle.sgt_sched.specs.contracts.fates.Fates as Fates
+use Rattle.sgt_sched.specs.contracts.live.Live as Live
+use Rattle.sgt_sched.specs.contracts.sched.Sched as Sched
+use Rattle.sgt_engine.specs.contracts.engine.Engine as Engine
+use Rattle.sgt_c.specs.contracts.held.Held as Held
+
+live_send : IsSend (Live.the_field).row
+live_send = search (sendable, crosses, expr.crosses, statement.crosses) depth 40
+
+fates_send : IsSend (Fates.the_field).row
+fates_send = search (sendable, crosses) depth 40
+
+database_send : IsSend (Database.the_field).row
+database_send = search (sendable, crosses) depth 40
+
+history_send : IsSend (History.the_field).row
+history_send = search (sendable, crosses, short_entry.the_field_send, history.the_send) depth 40
+
+module _ (R A G : RattleType) (r : records.Ghosts R.Denot) (a : accesses.Ghosts A.Denot) (g : graph.Ghosts G.Denot) where
+  sched_send : IsSend R → IsSend A → IsSend G → IsSend (Sched.the_field R A G r a g).row
+  sched_send sr sa sg = search (sendable, crosses, expr.crosses, statement.crosses, live_send, fates_send) depth 40
+
+  engine_send : IsSend R → IsSend A → IsSend G → IsSend (Engine.the_field R A G r a g).row
+  engine_send sr sa sg = let s = sched_send sr sa sg in search (sendable, crosses, history_send, reply.the_field_send, database_send) depth
+      40
+
+per_key_send : IsSend (PerKey.the_field).row
+per_key_send = search (sendable, crosses) depth 40
+
+bit_graph_send : IsSend (BitGraph.the_field).row
+bit_graph_send = search (sendable, crosses) depth 40
+
+pub held_send : IsSend Held.the_row
+held_send = let e = engine_send in search (sendable, slabs.the_field_send, per_key_send, bit_graph_send, e) depth 40

@@ -1,0 +1,50 @@
+ghost use Rattle.std.specs.Prelude.{◌≡◌, take};
+ghost use Rattle.sgt_model.specs.declared.event.Event.TheVariants as event;
+ghost use Rattle.sgt_c.specs.EventStructs.{HoldsEvent};
+
+use sgt_model::{Args, Event};
+
+/// What was into of the engine, for C. `kind` says which of the other fields are of this event.
+#[repr(C)]
+#[derive(Drop)]
+pub struct SgtEvent {
+    pub kind: u32,
+    /// The transaction, of all but a start.
+    pub tid: u32,
+    /// Of a start: the number of the procedure, and how many there are of `arg`.
+    pub procedure: u32,
+    pub args: u32,
+    pub arg: [i64; 4],
+}
+
+/// Writes an event for C.
+pub fn write_event(into: &mut SgtEvent, event: &Event)
+    ensures { HoldsEvent into.new event.now }
+{
+    match event {
+        Event::Start { procedure, args } => {
+            into.kind = 1;
+            into.procedure = *procedure as u32;
+            into.args = write_args(&mut into.arg, args);
+        }
+        Event::Step(t) => write_named(into, 2, t.0),
+        Event::Commit(t) => write_named(into, 3, t.0),
+        Event::Quit(t) => write_named(into, 4, t.0),
+    }
+}
+
+fn write_named(into: &mut SgtEvent, kind: u32, t: u32)
+    ensures kind { into.new.kind ≡ kind }
+    ensures tid { into.new.tid ≡ t }
+{
+    into.kind = kind;
+    into.tid = t;
+}
+
+fn write_args(to: &mut [i64; 4], args: &Args) -> u32
+    ensures { take result to.new ≡ args.now }
+{
+    let count = args.len();
+    to[..count].copy_from_slice(args.as_slice());
+    count as u32
+}

@@ -1,0 +1,71 @@
+ghost use Rattle.std.specs.Prelude.{◌≡◌, ◌≤◌, length, take};
+ghost use Rattle.sgt_c.specs.FaultStructs.{HoldsFault};
+
+use crate::status;
+use sgt_format::OpeningError;
+use sgt_proc_json::Place;
+
+/// Why an opening was refused. `kind` is the status, and says which of the other fields are of this fault.
+#[repr(C)]
+#[derive(Drop)]
+pub struct SgtFault {
+    pub kind: u32,
+    /// Of an account's fault its number, from 1 to 3; of a flaw its number, from 1 to 10.
+    pub number: u32,
+    /// The number of the procedure, from 5 on.
+    pub procedure: u64,
+    /// How many positions of `place` there are, and `spare`, which is nothing.
+    pub depth: u32,
+    pub spare: u32,
+    /// The place in the procedure's text: positions from the top, counted from 0.
+    pub place: [u64; 128],
+}
+
+/// Writes a fault for C, and answers its status.
+pub fn write_fault(into: &mut SgtFault, error: &OpeningError) -> u32
+    ensures status { result ≡ into.new.kind }
+    ensures fault { HoldsFault into.new error.now }
+{
+    match error {
+        OpeningError::NotJson => into.kind = status::NOT_JSON,
+        OpeningError::BadLine => into.kind = status::BAD_LINE,
+        OpeningError::BadLimits => into.kind = status::BAD_LIMITS,
+        OpeningError::BadOpening(fault) => {
+            into.kind = status::BAD_OPENING;
+            into.number = fault.number() as u32;
+        }
+        OpeningError::ProcShape(procedure, place) => {
+            into.kind = status::PROC_SHAPE;
+            into.procedure = *procedure;
+            into.depth = write_place(&mut into.place, place);
+        }
+        OpeningError::ProcFlaw(procedure, flaw) => {
+            into.kind = status::PROC_FLAW;
+            into.procedure = *procedure;
+            into.number = flaw.number() as u32;
+        }
+        OpeningError::NoMemory => into.kind = status::NO_MEMORY,
+    }
+    into.kind
+}
+
+/// Writes the positions of a place, and answers how many there are: 128, which is as many as a place keeps, or fewer.
+fn write_place(to: &mut [u64; 128], place: &Place) -> u32
+    ensures { take result to.new ≡ take 128 place.now }
+{
+    let positions = first_128(place.as_slice());
+    let count = positions.len();
+    to[..count].copy_from_slice(positions);
+    count as u32
+}
+
+fn first_128(positions: &[u64]) -> &[u64]
+    ensures first { result.now ≡ take 128 positions.now }
+    ensures few { length result.now ≤ 128 }
+{
+    if positions.len() <= 128 {
+        positions
+    } else {
+        &positions[..128]
+    }
+}

@@ -1,0 +1,153 @@
+ghost use Rattle.std.specs.Prelude.{◌≡◌, take};
+ghost use Rattle.sgt_model.specs.declared.reply.Reply.TheVariants as reply;
+ghost use Rattle.sgt_c.specs.ReplyStructs.{HoldsReply, HoldsCause};
+
+use sgt_model::{Answers, Cause, Fate, Key, Reply, Tids};
+
+/// What an event was answered, for C. `kind` says which of the other fields are of this reply.
+#[repr(C)]
+#[derive(Drop)]
+pub struct SgtReply {
+    pub kind: u32,
+    /// Of an abort, or of how a transaction is over: 1 a cycle, 2 a code, 3 a quit; 4 a fall, and 0 a commit.
+    pub cause: u32,
+    /// The transaction that was started, that is waited for, or whose abort began the fall.
+    pub tid: u32,
+    pub code: u32,
+    pub table: u32,
+    /// Whether a look found a value: 1 or 0.
+    pub found: u32,
+    pub number: i64,
+    pub value: i64,
+    /// How many there are of `answer`, of `walk` and of `fell`; and `spare`, which is nothing.
+    pub answers: u32,
+    pub walked: u32,
+    pub fallen: u32,
+    pub spare: u32,
+    pub answer: [i64; 8],
+    pub walk: [u32; 32],
+    pub fell: [u32; 32],
+}
+
+/// Writes a reply for C.
+pub fn write_reply(into: &mut SgtReply, reply: &Reply)
+    ensures { HoldsReply into.new reply.now }
+{
+    match reply {
+        Reply::Started(t) => write_tid(into, 1, t.0),
+        Reply::NoProcedure => into.kind = 2,
+        Reply::BadArgs => into.kind = 3,
+        Reply::Spent => into.kind = 4,
+        Reply::Full => into.kind = 5,
+        Reply::Unknown => into.kind = 6,
+        Reply::Over(fate) => write_over(into, fate),
+        Reply::Looked { key, value } => write_looked(into, *key, *value),
+        Reply::Wrote { key, value } => {
+            into.kind = 9;
+            write_record(into, *key, *value);
+        }
+        Reply::Ended => into.kind = 10,
+        Reply::NotEnded => into.kind = 11,
+        Reply::Waits(first) => write_tid(into, 12, first.0),
+        Reply::Committed(answers) => {
+            into.kind = 13;
+            into.answers = write_answers(&mut into.answer, answers);
+        }
+        Reply::Aborted { cause, fell } => {
+            into.kind = 14;
+            write_cause(into, cause);
+            into.fallen = write_tids(&mut into.fell, fell);
+        }
+        Reply::Refused { code, fell } => {
+            into.kind = 15;
+            into.code = *code as u32;
+            into.fallen = write_tids(&mut into.fell, fell);
+        }
+    }
+}
+
+fn write_tid(into: &mut SgtReply, kind: u32, t: u32)
+    ensures kind { into.new.kind ≡ kind }
+    ensures tid { into.new.tid ≡ t }
+{
+    into.kind = kind;
+    into.tid = t;
+}
+
+fn write_record(into: &mut SgtReply, key: Key, value: i64)
+    ensures kind { into.new.kind ≡ into.old.kind }
+    ensures found { into.new.found ≡ into.old.found }
+    ensures table { into.new.table ≡ key.0 }
+    ensures number { into.new.number ≡ key.1 }
+    ensures value { into.new.value ≡ value }
+{
+    into.table = key.table() as u32;
+    into.number = key.id();
+    into.value = value;
+}
+
+fn write_looked(into: &mut SgtReply, key: Key, value: Option<i64>)
+    ensures { HoldsReply into.new (reply.Looked key value) }
+{
+    into.kind = 8;
+    match value {
+        Some(value) => {
+            into.found = 1;
+            write_record(into, key, value);
+        }
+        None => {
+            into.found = 0;
+            write_record(into, key, 0);
+        }
+    }
+}
+
+fn write_over(into: &mut SgtReply, fate: &Fate)
+    ensures { HoldsReply into.new (reply.Over fate.now) }
+{
+    into.kind = 7;
+    match fate {
+        Fate::Committed => into.cause = 0,
+        Fate::Aborted(cause) => write_cause(into, cause),
+        Fate::Fell(first) => {
+            into.cause = 4;
+            into.tid = first.0;
+        }
+    }
+}
+
+fn write_cause(into: &mut SgtReply, cause: &Cause)
+    ensures cause { HoldsCause into.new cause.now }
+    ensures kind { into.new.kind ≡ into.old.kind }
+{
+    match cause {
+        Cause::Cycle(walk) => {
+            into.cause = 1;
+            into.walked = write_tids(&mut into.walk, walk);
+        }
+        Cause::Asked(code) => {
+            into.cause = 2;
+            into.code = *code as u32;
+        }
+        Cause::Quit => into.cause = 3,
+    }
+}
+
+fn write_answers(to: &mut [i64; 8], answers: &Answers) -> u32
+    ensures { take result to.new ≡ answers.now }
+{
+    let count = answers.len();
+    to[..count].copy_from_slice(answers.as_slice());
+    count as u32
+}
+
+fn write_tids(to: &mut [u32; 32], tids: &Tids) -> u32
+    ensures { take result to.new ≡ tids.now }
+{
+    let count = tids.len();
+    for i in 0..count {
+        let t = tids.as_slice()[i];
+        to[i] = t.0;
+    }
+    count as u32
+}
