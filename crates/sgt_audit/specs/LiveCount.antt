@@ -13,15 +13,4 @@ abbrev pub count_ended : Reply → ℕ
 count_ended (reply.Committed answers) = 1
 count_ended (reply.Aborted why fell) = length fell + 1
 count_ended (reply.Refused code fell) = length fell + 1
-count_ended (reply.Started u) = 0
-count_ended reply.NoProcedure = 0
-count_ended reply.BadArgs = 0
-count_ended reply.Spent = 0
-count_ended reply.Full = 0
-count_ended reply.Unknown = 0
-count_ended (reply.Over ended) = 0
-count_ended (reply.Looked k v) = 0
-count_ended (reply.Wrote k v) = 0
-count_ended reply.Ended = 0
-count_ended reply.NotEnded = 0
-count_ended (reply.Waits u) = 0
+count_ended _ = 0

@@ -29,19 +29,7 @@ code_words cause.Quit = []
 abbrev pub ask_words : Reply → List ℕ
 ask_words (reply.Aborted why fell) = code_words why
 ask_words (reply.Refused code fell) = asked_text code
-ask_words (reply.Started u) = []
-ask_words reply.NoProcedure = []
-ask_words reply.BadArgs = []
-ask_words reply.Spent = []
-ask_words reply.Full = []
-ask_words reply.Unknown = []
-ask_words (reply.Over ended) = []
-ask_words (reply.Looked k v) = []
-ask_words (reply.Wrote k v) = []
-ask_words reply.Ended = []
-ask_words reply.NotEnded = []
-ask_words (reply.Waits u) = []
-ask_words (reply.Committed answers) = []
+ask_words _ = []
 
 -- a refused start, with the number of its reply
 abbrev pub refusal_words : Reply → List ℕ

@@ -33,20 +33,7 @@ result_at s history n = result_words (slice_get (serial_results s history) (told
 -- the reply refuses a transaction at its commit
 abbrev pub is_refused : Reply → Bool
 is_refused (reply.Refused code fell) = true
-is_refused (reply.Started u) = false
-is_refused reply.NoProcedure = false
-is_refused reply.BadArgs = false
-is_refused reply.Spent = false
-is_refused reply.Full = false
-is_refused reply.Unknown = false
-is_refused (reply.Over ended) = false
-is_refused (reply.Looked k v) = false
-is_refused (reply.Wrote k v) = false
-is_refused reply.Ended = false
-is_refused reply.NotEnded = false
-is_refused (reply.Waits u) = false
-is_refused (reply.Committed answers) = false
-is_refused (reply.Aborted why fell) = false
+is_refused _ = false
 
 -- the words of an ask: of one that entry n refused at its commit, what the serial run gives it; of one that was aborted at its
 -- step, which no serial run has, what it was told

@@ -19,20 +19,7 @@ placed_access entries place = option_and_then access_of (slice_get entries place
 -- the walk of an abort by a cycle; of another reply, none
 abbrev pub cycle_in : Reply → List ℕ
 cycle_in (reply.Aborted why fell) = walk_of why
-cycle_in (reply.Started u) = []
-cycle_in reply.NoProcedure = []
-cycle_in reply.BadArgs = []
-cycle_in reply.Spent = []
-cycle_in reply.Full = []
-cycle_in reply.Unknown = []
-cycle_in (reply.Over ended) = []
-cycle_in (reply.Looked k v) = []
-cycle_in (reply.Wrote k v) = []
-cycle_in reply.Ended = []
-cycle_in reply.NotEnded = []
-cycle_in (reply.Waits u) = []
-cycle_in (reply.Committed answers) = []
-cycle_in (reply.Refused code fell) = []
+cycle_in _ = []
 
 -- what an entry has, and nothing where there is none
 abbrev pub listed_by : (Entry → List ℕ) → Option Entry → List ℕ

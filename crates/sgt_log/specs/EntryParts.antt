@@ -38,37 +38,13 @@ fate_walk _ = []
 abbrev pub walk_in : Reply → List ℕ
 walk_in (reply.Over f) = fate_walk f
 walk_in (reply.Aborted c fell) = walk_of c
-walk_in (reply.Started u) = []
-walk_in reply.NoProcedure = []
-walk_in reply.BadArgs = []
-walk_in reply.Spent = []
-walk_in reply.Full = []
-walk_in reply.Unknown = []
-walk_in (reply.Looked k v) = []
-walk_in (reply.Wrote k v) = []
-walk_in reply.Ended = []
-walk_in reply.NotEnded = []
-walk_in (reply.Waits u) = []
-walk_in (reply.Committed answers) = []
-walk_in (reply.Refused code fell) = []
+walk_in _ = []
 
 -- those that fall with the transaction that the reply ends
 abbrev pub fell_in : Reply → List ℕ
 fell_in (reply.Aborted c fell) = fell
 fell_in (reply.Refused code fell) = fell
-fell_in (reply.Started u) = []
-fell_in reply.NoProcedure = []
-fell_in reply.BadArgs = []
-fell_in reply.Spent = []
-fell_in reply.Full = []
-fell_in reply.Unknown = []
-fell_in (reply.Over f) = []
-fell_in (reply.Looked k v) = []
-fell_in (reply.Wrote k v) = []
-fell_in reply.Ended = []
-fell_in reply.NotEnded = []
-fell_in (reply.Waits u) = []
-fell_in (reply.Committed answers) = []
+fell_in _ = []
 
 -- the answers of a commit
 abbrev pub answers_in : Reply → List ℤ
@@ -86,21 +62,7 @@ committed_in _ = None
 abbrev pub is_by_cycle : Reply → Bool
 is_by_cycle (reply.Aborted (cause.Cycle walk) fell) = true
 is_by_cycle (reply.Aborted (cause.Asked code) fell) = false
-is_by_cycle (reply.Aborted cause.Quit fell) = false
-is_by_cycle (reply.Started u) = false
-is_by_cycle reply.NoProcedure = false
-is_by_cycle reply.BadArgs = false
-is_by_cycle reply.Spent = false
-is_by_cycle reply.Full = false
-is_by_cycle reply.Unknown = false
-is_by_cycle (reply.Over f) = false
-is_by_cycle (reply.Looked k v) = false
-is_by_cycle (reply.Wrote k v) = false
-is_by_cycle reply.Ended = false
-is_by_cycle reply.NotEnded = false
-is_by_cycle (reply.Waits u) = false
-is_by_cycle (reply.Committed answers) = false
-is_by_cycle (reply.Refused code fell) = false
+is_by_cycle _ = false
 
 -- the transaction ended by a fall
 abbrev pub is_fall : Fate → Bool
@@ -116,19 +78,7 @@ tells_fall _ = false
 abbrev pub is_access : Reply → Bool
 is_access (reply.Looked k v) = true
 is_access (reply.Wrote k v) = true
-is_access (reply.Started u) = false
-is_access reply.NoProcedure = false
-is_access reply.BadArgs = false
-is_access reply.Spent = false
-is_access reply.Full = false
-is_access reply.Unknown = false
-is_access (reply.Over f) = false
-is_access reply.Ended = false
-is_access reply.NotEnded = false
-is_access (reply.Waits u) = false
-is_access (reply.Committed answers) = false
-is_access (reply.Aborted c fell) = false
-is_access (reply.Refused code fell) = false
+is_access _ = false
 
 -- it tells that the procedure is at its end
 abbrev pub is_at_end : Reply → Bool

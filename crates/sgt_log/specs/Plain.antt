@@ -20,16 +20,10 @@ is_plain_reply (short_reply.Committed answers) = false
 is_plain_reply (short_reply.Aborted c fell) = false
 is_plain_reply (short_reply.Refused code fell) = false
 is_plain_reply (short_reply.Started t) = true
-is_plain_reply short_reply.NoProcedure = true
-is_plain_reply short_reply.BadArgs = true
-is_plain_reply short_reply.Spent = true
-is_plain_reply short_reply.Full = true
-is_plain_reply short_reply.Unknown = true
 is_plain_reply (short_reply.Looked k v) = true
 is_plain_reply (short_reply.Wrote k v) = true
-is_plain_reply short_reply.Ended = true
-is_plain_reply short_reply.NotEnded = true
 is_plain_reply (short_reply.Waits t) = true
+is_plain_reply short__ = true
 
 -- both are
 abbrev pub is_plain : ShortEntry → Bool

@@ -55,19 +55,7 @@ CauseHolds s past _ _ = ⊥
 abbrev pub ReplyIsJustified : Setting → List Entry → Event → Reply → Type 0
 ReplyIsJustified s past event (reply.Aborted why fell) = CauseHolds s past event why × Falls past (subject event) fell
 ReplyIsJustified s past event (reply.Refused code fell) = (next_of s past (subject event) ≡ Raises code) × Falls past (subject event) fell
-ReplyIsJustified s past event (reply.Started u) = Unit {0}
-ReplyIsJustified s past event reply.NoProcedure = Unit {0}
-ReplyIsJustified s past event reply.BadArgs = Unit {0}
-ReplyIsJustified s past event reply.Spent = Unit {0}
-ReplyIsJustified s past event reply.Full = Unit {0}
-ReplyIsJustified s past event reply.Unknown = Unit {0}
-ReplyIsJustified s past event (reply.Over ended) = Unit {0}
-ReplyIsJustified s past event (reply.Looked k v) = Unit {0}
-ReplyIsJustified s past event (reply.Wrote k v) = Unit {0}
-ReplyIsJustified s past event reply.Ended = Unit {0}
-ReplyIsJustified s past event reply.NotEnded = Unit {0}
-ReplyIsJustified s past event (reply.Waits u) = Unit {0}
-ReplyIsJustified s past event (reply.Committed answers) = Unit {0}
+ReplyIsJustified s past event _ = Unit {0}
 
 -- so has each abort of a history
 abbrev pub AbortsHaveCause : Setting → List Entry → Type 0

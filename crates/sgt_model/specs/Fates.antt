@@ -47,18 +47,7 @@ abbrev pub ending_in : Event → Reply → ℕ → Option Fate
 ending_in event (reply.Committed answers) t = cond (concerns event t) (Some fate.Committed) None
 ending_in event (reply.Aborted why fell) t = undone_in event why fell t
 ending_in event (reply.Refused code fell) t = undone_in event (cause.Asked code) fell t
-ending_in event (reply.Started u) t = None
-ending_in event reply.NoProcedure t = None
-ending_in event reply.BadArgs t = None
-ending_in event reply.Spent t = None
-ending_in event reply.Full t = None
-ending_in event reply.Unknown t = None
-ending_in event (reply.Over ended) t = None
-ending_in event (reply.Looked k v) t = None
-ending_in event (reply.Wrote k v) t = None
-ending_in event reply.Ended t = None
-ending_in event reply.NotEnded t = None
-ending_in event (reply.Waits u) t = None
+ending_in event _ t = None
 
 -- how a transaction ended, if it did
 abbrev pub fate_of : List Entry → ℕ → Option Fate

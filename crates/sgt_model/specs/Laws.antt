@@ -58,19 +58,7 @@ LooksAgree now t (e ∷ older) = LooksAgree now t older × LookAgrees now t olde
 abbrev pub CommitAgrees : Setting → List Entry → Event → Reply → Type 0
 CommitAgrees s past event (reply.Committed answers) = LooksAgree (settled s.opening past) (subject event) past
 CommitAgrees s past event (reply.Refused code fell) = LooksAgree (settled s.opening past) (subject event) past
-CommitAgrees s past event (reply.Started u) = Unit {0}
-CommitAgrees s past event reply.NoProcedure = Unit {0}
-CommitAgrees s past event reply.BadArgs = Unit {0}
-CommitAgrees s past event reply.Spent = Unit {0}
-CommitAgrees s past event reply.Full = Unit {0}
-CommitAgrees s past event reply.Unknown = Unit {0}
-CommitAgrees s past event (reply.Over ended) = Unit {0}
-CommitAgrees s past event (reply.Looked k v) = Unit {0}
-CommitAgrees s past event (reply.Wrote k v) = Unit {0}
-CommitAgrees s past event reply.Ended = Unit {0}
-CommitAgrees s past event reply.NotEnded = Unit {0}
-CommitAgrees s past event (reply.Waits u) = Unit {0}
-CommitAgrees s past event (reply.Aborted why fell) = Unit {0}
+CommitAgrees s past event _ = Unit {0}
 
 -- so it is at each entry
 abbrev pub CommitsAgree : Setting → List Entry → Type 0
@@ -86,19 +74,7 @@ LooksAgreeAtCommit = InEach CommitsAgree
 abbrev pub SourcesAreCommitted : Setting → List Entry → Event → Reply → Type 0
 SourcesAreCommitted s past event (reply.Committed answers) = (u : ℕ) → ReadFrom past (subject event) u → committed past u ≡ true
 SourcesAreCommitted s past event (reply.Refused code fell) = (u : ℕ) → ReadFrom past (subject event) u → committed past u ≡ true
-SourcesAreCommitted s past event (reply.Started u) = Unit {0}
-SourcesAreCommitted s past event reply.NoProcedure = Unit {0}
-SourcesAreCommitted s past event reply.BadArgs = Unit {0}
-SourcesAreCommitted s past event reply.Spent = Unit {0}
-SourcesAreCommitted s past event reply.Full = Unit {0}
-SourcesAreCommitted s past event reply.Unknown = Unit {0}
-SourcesAreCommitted s past event (reply.Over ended) = Unit {0}
-SourcesAreCommitted s past event (reply.Looked k v) = Unit {0}
-SourcesAreCommitted s past event (reply.Wrote k v) = Unit {0}
-SourcesAreCommitted s past event reply.Ended = Unit {0}
-SourcesAreCommitted s past event reply.NotEnded = Unit {0}
-SourcesAreCommitted s past event (reply.Waits u) = Unit {0}
-SourcesAreCommitted s past event (reply.Aborted why fell) = Unit {0}
+SourcesAreCommitted s past event _ = Unit {0}
 
 -- so it is at each entry
 abbrev pub AllSourcesAreCommitted : Setting → List Entry → Type 0

@@ -28,17 +28,7 @@ refuses_start reply.NoProcedure = true
 refuses_start reply.BadArgs = true
 refuses_start reply.Spent = true
 refuses_start reply.Full = true
-refuses_start (reply.Started u) = false
-refuses_start reply.Unknown = false
-refuses_start (reply.Over ended) = false
-refuses_start (reply.Looked k v) = false
-refuses_start (reply.Wrote k v) = false
-refuses_start reply.Ended = false
-refuses_start reply.NotEnded = false
-refuses_start (reply.Waits u) = false
-refuses_start (reply.Committed answers) = false
-refuses_start (reply.Aborted why fell) = false
-refuses_start (reply.Refused code fell) = false
+refuses_start _ = false
 
 -- it tells a commit to wait
 abbrev pub is_wait : Reply → Bool
@@ -53,60 +43,20 @@ is_commit _ = false
 -- it aborts one whose procedure asked a code, at the step or at the commit
 abbrev pub is_ask : Reply → Bool
 is_ask (reply.Aborted (cause.Asked code) fell) = true
-is_ask (reply.Aborted (cause.Cycle walk) fell) = false
-is_ask (reply.Aborted cause.Quit fell) = false
 is_ask (reply.Refused code fell) = true
-is_ask (reply.Started u) = false
-is_ask reply.NoProcedure = false
-is_ask reply.BadArgs = false
-is_ask reply.Spent = false
-is_ask reply.Full = false
-is_ask reply.Unknown = false
-is_ask (reply.Over ended) = false
-is_ask (reply.Looked k v) = false
-is_ask (reply.Wrote k v) = false
-is_ask reply.Ended = false
-is_ask reply.NotEnded = false
-is_ask (reply.Waits u) = false
-is_ask (reply.Committed answers) = false
+is_ask _ = false
 
 -- it aborts one that its caller quit
 abbrev pub is_quit : Reply → Bool
 is_quit (reply.Aborted cause.Quit fell) = true
-is_quit (reply.Aborted (cause.Asked code) fell) = false
-is_quit (reply.Aborted (cause.Cycle walk) fell) = false
-is_quit (reply.Started u) = false
-is_quit reply.NoProcedure = false
-is_quit reply.BadArgs = false
-is_quit reply.Spent = false
-is_quit reply.Full = false
-is_quit reply.Unknown = false
-is_quit (reply.Over ended) = false
-is_quit (reply.Looked k v) = false
-is_quit (reply.Wrote k v) = false
-is_quit reply.Ended = false
-is_quit reply.NotEnded = false
-is_quit (reply.Waits u) = false
-is_quit (reply.Committed answers) = false
-is_quit (reply.Refused code fell) = false
+is_quit _ = false
 
 -- it ends a live transaction, by a commit or an abort
 abbrev pub is_ending : Reply → Bool
 is_ending (reply.Committed answers) = true
 is_ending (reply.Aborted why fell) = true
 is_ending (reply.Refused code fell) = true
-is_ending (reply.Started u) = false
-is_ending reply.NoProcedure = false
-is_ending reply.BadArgs = false
-is_ending reply.Spent = false
-is_ending reply.Full = false
-is_ending reply.Unknown = false
-is_ending (reply.Over ended) = false
-is_ending (reply.Looked k v) = false
-is_ending (reply.Wrote k v) = false
-is_ending reply.Ended = false
-is_ending reply.NotEnded = false
-is_ending (reply.Waits u) = false
+is_ending _ = false
 
 -- as the reply to a step or a commit, it tells that their transaction has ended, now or before
 abbrev pub tells_end : Reply → Bool
@@ -114,17 +64,7 @@ tells_end (reply.Over fate) = true
 tells_end (reply.Committed answers) = true
 tells_end (reply.Aborted why fell) = true
 tells_end (reply.Refused code fell) = true
-tells_end (reply.Started u) = false
-tells_end reply.NoProcedure = false
-tells_end reply.BadArgs = false
-tells_end reply.Spent = false
-tells_end reply.Full = false
-tells_end reply.Unknown = false
-tells_end (reply.Looked k v) = false
-tells_end (reply.Wrote k v) = false
-tells_end reply.Ended = false
-tells_end reply.NotEnded = false
-tells_end (reply.Waits u) = false
+tells_end _ = false
 
 -- an event with its reply
 

@@ -6,7 +6,6 @@ use Rattle.sgt_model.specs.declared.entry.Entry.{Entry}
 use Rattle.sgt_model.specs.declared.kind.Kind.{Kind}
 use Rattle.sgt_model.specs.Contents.{Key}
 use Rattle.sgt_model.specs.Fates.{live}
-use Rattle.sgt_model.specs.Values.{visible}
 use Rattle.sgt_model.specs.Closes.{Closes}
 use Rattle.sgt_model.specs.Settings.{Setting}
 use Rattle.sgt_model.specs.Progress.{next_of}
@@ -16,7 +15,6 @@ use Rattle.sgt_model.specs.Laws.{InEach}
 use Rattle.sgt_model.specs.State.{State}
 use Rattle.sgt_model.specs.StateAfter.{IsStateAfter}
 use Rattle.sgt_model.specs.Blocks.{Blocks}
-use Rattle.sgt_model.specs.Found.{found}
 use Rattle.sgt_model.specs.CallEffects.{CallEffect}
 use Rattle.sgt_model.specs.Soundness.{Sound}
 use Rattle.sgt_model.specs.NewState.{IsNew}
@@ -40,10 +38,6 @@ NewIsEmpty = (s : Setting) (c : State) → IsNew s.opening c → IsStateAfter s 
 -- the verdict on an access of a live transaction is the closing walk's: the same lists
 abbrev pub VerdictsAgree : Type 0
 VerdictsAgree = InEachState (λ s past c. (t : ℕ) (k : Key) (kind : Kind) (rest : List ℕ) → live past t ≡ true → Blocks c t k kind rest ↔ Closes past t k kind rest)
-
--- a look finds the visible value
-abbrev pub FoundIsVisible : Type 0
-FoundIsVisible = InEachState (λ s past c. (k : Key) → found c k ≡ visible s.opening past k)
 
 -- what a live transaction does next is what the state says of what is left of it
 abbrev pub NextsAgree : Type 0

@@ -46,19 +46,7 @@ run_in_turn s (c ∷ before) = with_outcome (serial (run_of s.rules c) (run_in_t
 abbrev pub told_call_in : List Entry → Event → Reply → List Call
 told_call_in past event (reply.Committed answers) = call_of past (subject event) ∷ []
 told_call_in past event (reply.Refused code fell) = call_of past (subject event) ∷ []
-told_call_in past event (reply.Started u) = []
-told_call_in past event reply.NoProcedure = []
-told_call_in past event reply.BadArgs = []
-told_call_in past event reply.Spent = []
-told_call_in past event reply.Full = []
-told_call_in past event reply.Unknown = []
-told_call_in past event (reply.Over ended) = []
-told_call_in past event (reply.Looked k v) = []
-told_call_in past event (reply.Wrote k v) = []
-told_call_in past event reply.Ended = []
-told_call_in past event reply.NotEnded = []
-told_call_in past event (reply.Waits u) = []
-told_call_in past event (reply.Aborted why fell) = []
+told_call_in past event _ = []
 
 -- the calls of the committed and refused transactions, the last reply first
 abbrev pub told_calls : List Entry → List Call
@@ -74,19 +62,7 @@ folded s past = run_in_turn s (told_calls past)
 abbrev pub told_in : Reply → List RunResult
 told_in (reply.Committed answers) = GaveAnswers answers ∷ []
 told_in (reply.Refused code fell) = AskedCode code ∷ []
-told_in (reply.Started u) = []
-told_in reply.NoProcedure = []
-told_in reply.BadArgs = []
-told_in reply.Spent = []
-told_in reply.Full = []
-told_in reply.Unknown = []
-told_in (reply.Over ended) = []
-told_in (reply.Looked k v) = []
-told_in (reply.Wrote k v) = []
-told_in reply.Ended = []
-told_in reply.NotEnded = []
-told_in (reply.Waits u) = []
-told_in (reply.Aborted why fell) = []
+told_in _ = []
 
 -- what the committed and refused transactions were told, the last reply first
 abbrev pub told : List Entry → List RunResult

@@ -27,18 +27,7 @@ abbrev pub ReplyNamesAtMost : ℕ → Reply → Type 0
 ReplyNamesAtMost most (reply.Aborted why fell) = CauseNamesAtMost most why × (length fell < most)
 ReplyNamesAtMost most (reply.Refused code fell) = length fell < most
 ReplyNamesAtMost most (reply.Over ended) = FateNamesAtMost most ended
-ReplyNamesAtMost most (reply.Started u) = Unit {0}
-ReplyNamesAtMost most reply.NoProcedure = Unit {0}
-ReplyNamesAtMost most reply.BadArgs = Unit {0}
-ReplyNamesAtMost most reply.Spent = Unit {0}
-ReplyNamesAtMost most reply.Full = Unit {0}
-ReplyNamesAtMost most reply.Unknown = Unit {0}
-ReplyNamesAtMost most (reply.Looked k v) = Unit {0}
-ReplyNamesAtMost most (reply.Wrote k v) = Unit {0}
-ReplyNamesAtMost most reply.Ended = Unit {0}
-ReplyNamesAtMost most reply.NotEnded = Unit {0}
-ReplyNamesAtMost most (reply.Waits u) = Unit {0}
-ReplyNamesAtMost most (reply.Committed answers) = Unit {0}
+ReplyNamesAtMost most _ = Unit {0}
 
 -- after a legal history no legal reply names more transactions than may be live at once
 abbrev pub RepliesNameFew : Type 0

@@ -1,4 +1,5 @@
-ghost use Rattle.std.specs.Prelude.{◌≡◌, [], None, OnOk, OnErr};
+//! A database as a plain map from keys to values.
+ghost use Rattle.std.specs.Prelude.{◌≡◌, [], true, false, None, IsSome, IfOk, OnOk, OnErr};
 ghost use Rattle.sgt_model.specs.Numbers.{IsValue};
 ghost use Rattle.sgt_model.specs.Contents.{Key, put_in};
 ghost use Rattle.sgt_model.specs.Databases.{contents_of, IsByKey, IsFound, IsRowIndex, HasValues};
@@ -60,6 +61,27 @@ impl Database {
             Err(at) => self.rows.insert(at, (key, value))?,
         }
         Ok(())
+    }
+
+    /// Adds a row where the key has none, and returns whether it did; where the key has a value, nothing changes. The value is from
+    /// `LEAST` to `MOST`. One search finds both. Only the row takes memory: where that is refused, nothing changes.
+    pub fn put_new(&mut self, key: Key, value: i64) -> Result<bool, NoMemory>
+        requires { IsValue value }
+        ensures put { IfOk result (λ new. new ≡ true → (k : Key) →
+            contents_of self.new k ≡ put_in (contents_of self.old) key value k) }
+        ensures new { IfOk result (λ new. new ≡ true → contents_of self.old key ≡ None) }
+        ensures taken { IfOk result (λ new. new ≡ false → IsSome (contents_of self.old key)) }
+        ensures kept { IfOk result (λ new. new ≡ false → self.new ≡ self.old) }
+        ensures err { OnErr result (self.new ≡ self.old) }
+        ensures by_key { IsByKey self.new }
+    {
+        match self.find(key) {
+            Ok(_) => Ok(false),
+            Err(at) => {
+                self.rows.insert(at, (key, value))?;
+                Ok(true)
+            }
+        }
     }
 
     // The index of the key's row, or else the one where it would stand.

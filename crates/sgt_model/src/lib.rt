@@ -80,7 +80,7 @@ pub use left::{left_goes_on, next_is_of_left};
 pub use limits::{Asks, Limits, MOST_BEGINS, MOST_LIVE};
 pub use procedure::{Cond, Expr, Procedure, Statement};
 pub use refinement::{
-    calls_simulate, found_is_visible, new_is_empty, nexts_agree, states_are_sound, verdicts_agree,
+    calls_simulate, new_is_empty, nexts_agree, states_are_sound, verdicts_agree,
 };
 pub use reply::{Cause, Fate, Reply};
 pub use tid::Tid;

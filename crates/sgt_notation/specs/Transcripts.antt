@@ -28,16 +28,7 @@ operations_text event (reply.Wrote k v) = access_lines (codes "w") k (stepping e
 operations_text event (reply.Committed answers) = end_lines (codes "c") (named event)
 operations_text event (reply.Aborted why fell) = end_lines (codes "a") (named event ++ fell)
 operations_text event (reply.Refused code fell) = end_lines (codes "a") (named event ++ fell)
-operations_text event (reply.Started u) = []
-operations_text event reply.NoProcedure = []
-operations_text event reply.BadArgs = []
-operations_text event reply.Spent = []
-operations_text event reply.Full = []
-operations_text event reply.Unknown = []
-operations_text event (reply.Over ended) = []
-operations_text event reply.Ended = []
-operations_text event reply.NotEnded = []
-operations_text event (reply.Waits u) = []
+operations_text event _ = []
 
 -- the transcript of entries, which stand newest first: the newest one's operations come last
 abbrev pub transcript : List Entry → List ℕ

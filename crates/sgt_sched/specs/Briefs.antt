@@ -26,17 +26,7 @@ HoldsLists (reply.Over f) = Unit {0}
 HoldsLists (reply.Committed answers) = Unit {0}
 HoldsLists (reply.Aborted why fell) = Unit {0}
 HoldsLists (reply.Refused code fell) = Unit {0}
-HoldsLists (reply.Started u) = ⊥
-HoldsLists reply.NoProcedure = ⊥
-HoldsLists reply.BadArgs = ⊥
-HoldsLists reply.Spent = ⊥
-HoldsLists reply.Full = ⊥
-HoldsLists reply.Unknown = ⊥
-HoldsLists (reply.Looked k v) = ⊥
-HoldsLists (reply.Wrote k v) = ⊥
-HoldsLists reply.Ended = ⊥
-HoldsLists reply.NotEnded = ⊥
-HoldsLists (reply.Waits u) = ⊥
+HoldsLists _ = ⊥
 
 -- the reply is placed only where it holds lists
 abbrev pub IsShort : Brief → Reply → Type 0

@@ -58,19 +58,7 @@ later_results (r ∷ results) = results
 abbrev pub results_left : List RunResult → Reply → List RunResult
 results_left results (reply.Committed answers) = later_results results
 results_left results (reply.Refused code fell) = later_results results
-results_left results (reply.Started t) = results
-results_left results reply.NoProcedure = results
-results_left results reply.BadArgs = results
-results_left results reply.Spent = results
-results_left results reply.Full = results
-results_left results reply.Unknown = results
-results_left results (reply.Over ended) = results
-results_left results (reply.Looked k v) = results
-results_left results (reply.Wrote k v) = results
-results_left results reply.Ended = results
-results_left results reply.NotEnded = results
-results_left results (reply.Waits t) = results
-results_left results (reply.Aborted why fell) = results
+results_left results _ = results
 
 -- ---- the serial run of all parts
 

@@ -42,16 +42,7 @@ operations_in number event (reply.Wrote k v) = each_does (action.Write (number k
 operations_in number event (reply.Committed answers) = each_does action.Commit (named event)
 operations_in number event (reply.Aborted why fell) = each_does action.Abort (named event ++ fell)
 operations_in number event (reply.Refused code fell) = each_does action.Abort (named event ++ fell)
-operations_in number event (reply.Started u) = []
-operations_in number event reply.NoProcedure = []
-operations_in number event reply.BadArgs = []
-operations_in number event reply.Spent = []
-operations_in number event reply.Full = []
-operations_in number event reply.Unknown = []
-operations_in number event (reply.Over ended) = []
-operations_in number event reply.Ended = []
-operations_in number event reply.NotEnded = []
-operations_in number event (reply.Waits u) = []
+operations_in number event _ = []
 
 -- the operations that an entry is
 abbrev pub operations_of : (Key → ℕ) → Entry → List Operation
@@ -65,20 +56,7 @@ textbook number (e ∷ past) = textbook number past ++ operations_of number e
 -- the transaction that commits by an event with this reply, alone, if one does
 abbrev pub committed_in : Event → Reply → List ℕ
 committed_in event (reply.Committed answers) = named event
-committed_in event (reply.Looked k v) = []
-committed_in event (reply.Wrote k v) = []
-committed_in event (reply.Aborted why fell) = []
-committed_in event (reply.Refused code fell) = []
-committed_in event (reply.Started u) = []
-committed_in event reply.NoProcedure = []
-committed_in event reply.BadArgs = []
-committed_in event reply.Spent = []
-committed_in event reply.Full = []
-committed_in event reply.Unknown = []
-committed_in event (reply.Over ended) = []
-committed_in event reply.Ended = []
-committed_in event reply.NotEnded = []
-committed_in event (reply.Waits u) = []
+committed_in event _ = []
 
 -- the committed transactions, in the order of their commits, the first one first
 abbrev pub commit_order : List Entry → List ℕ
