@@ -101,10 +101,9 @@ fn put_record(database: &mut Database, said: &RecordLine, number: u64) -> Result
     let Some(record) = said.record() else {
         return Err(Fault::BadRecord(number));
     };
-    if database.get(record.key).is_some() {
+    if !database.put_new(record.key, record.value)? {
         return Err(Fault::BadRecord(number));
     }
-    database.put(record.key, record.value)?;
     Ok(())
 }
 

@@ -104,9 +104,5 @@ fn put_row(database: &mut Database, row: &(Key, i64)) -> Result<bool, NoMemory>
     ensures taken { IfOk result (λ new. new ≡ false → IsSome (contents_of database.old row.now.0)) }
 {
     let (key, value) = *row;
-    if database.get(key).is_some() {
-        return Ok(false);
-    }
-    database.put(key, value)?;
-    Ok(true)
+    database.put_new(key, value)
 }
