@@ -1,7 +1,7 @@
 #!/usr/bin/env python3
-"""Compares the reports of `sgt check` with the book's definitions, as `textbook.py` beside this file has them.
+"""Compares the reports of `sgt check` with the book's definitions, as `helpers/textbook.py` has them.
 
-    tests/check crates/sgt/out/sgt
+    tests/check.py crates/sgt/out/sgt
 
 All histories of few operations are checked, up to the names of transactions and items; longer ones that are drawn; and some of up
 to a million operations, of which time and memory are told and not compared. Several programs run at once. The last line counts the
@@ -18,8 +18,8 @@ from concurrent.futures import ProcessPoolExecutor
 from itertools import chain, islice
 
 sys.dont_write_bytecode = True
-from cases import SECONDS, Differs, same, tell  # noqa: E402
-from textbook import ACCESSES, ENDS, History, LongHistory, Operation  # noqa: E402
+from helpers.cases import SECONDS, Differs, same, tell  # noqa: E402
+from helpers.textbook import ACCESSES, ENDS, History, LongHistory, Operation  # noqa: E402
 
 # All histories of so many transactions, items, accesses of each transaction and operations at most.
 FEW = ((2, 2, 2, 6), (3, 2, 1, 6), (3, 2, 4, 4))
