@@ -1,5 +1,7 @@
-use Rattle.std.proofs.Common.{rules, ◌≡◌, ◌∙◌, [], ◌∷◌, ◌++◌, length, ap, arith}
+use Rattle.std.proofs.Common.{rules, ◌≡◌, ◌∙◌, ◌&&◌, [], ◌∷◌, ◌++◌, length, ap, arith}
 use Rattle.std.proofs.lemmas.List.{length-append}
+use Rattle.sgt_model.specs.declared.entry.Entry.{Entry}
+use Rattle.sgt_model.specs.Questions.{is_wait}
 use Rattle.sgt_session.specs.Receipts.{entry_of}
 use Rattle.sgt_session.proofs.Owns.{noted, fits}
 use Rattle.sgt_session.proofs.session.Session.make_one.Goals as goal
@@ -27,8 +29,10 @@ invariant_of-self-2 g c =
 
 pub returns : goal.returns
 returns g c =
-    let filed = c.in_ok-apply.ensures.filed in (
+    let filed = c.in_ok-apply.ensures.filed in
+    let same : c.last_entry-entry.result ≡ entry_of filed.0 = c.last_entry-entry.ensures _ filed.0 filed.5 in (
       filed.0,
       filed.1,
       filed.5 ∙ ap (λ l. l ++ filed.0 ∷ []) (c.in_ok-make_receipt_room.ensures.receipts ∙ c.self.view_is),
+      c.end_hold-waited.ensures ∙ ap (λ (e : Entry). c.args.may_wait && is_wait e.reply) same,
     )
