@@ -199,8 +199,7 @@ def compare_with_orders(operations, text):
     line = text.splitlines()[1]
     is_yes = line.startswith("serializable yes:")
     same("whether an order gives an equivalent serial history", bool(orders), is_yes)
-    told = tuple(int(it) for it in line.split()[2:] if it != "none")
-    if is_yes and told not in orders:
+    if is_yes and tuple(int(it) for it in line.split()[2:] if it != "none") not in orders:
         raise Differs(f"the serial history in this order is not equivalent: {line!r}")
     return is_yes
 

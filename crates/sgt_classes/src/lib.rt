@@ -3,6 +3,9 @@
 //! A history is any list of operations, whoever recorded it. The definitions stand in `specs/` and speak of places in the
 //! list. The crate knows no engine and no scheduler, and reads no text: items and transactions are numbers.
 //!
+//! The laws of the classes are functions, and their contracts say them. `serializability_theorem` is the theorem of that chapter, by
+//! the book's own definition of serializable: the committed projection is conflict equivalent to a serial history.
+//!
 //! ```
 //! // w1[x] r2[x] c1: 2 reads what 1 has written, and 1 has not ended
 //! let history = [
@@ -37,10 +40,10 @@ pub use commit_order::{commit_order_violation, serial_commit_order};
 pub use conflicts::first_conflicts;
 pub use graph::{Edge, serialization_edges};
 pub use laws::{
-    avoiding_are_recoverable, commit_ordered_are_serializable, cycles_are_enough,
-    equivalence_laws, equivalent_are_view_equivalent, rigorous_are_strict,
-    serial_orders_are_enough, serial_runs_are_complete, serial_runs_read_alike,
-    serializability_theorem, strict_avoid_cascading_aborts,
+    avoiding_are_recoverable, commit_ordered_are_serializable, cycles_are_enough, equivalence_laws,
+    equivalent_are_view_equivalent, rigorous_are_strict, serial_orders_are_enough,
+    serial_runs_are_complete, serial_runs_read_alike, serializability_theorem,
+    strict_avoid_cascading_aborts,
 };
 pub use operation::{Action, Operation, Violation};
 pub use recoverable::recoverable_violation;

@@ -121,10 +121,14 @@ ends_last number s (e ∷ past) caused h i t a at ended =
     go rest (inl old) =
         let less = ended.1 in
         let within : ended.0 < length (textbook number past) = omega (arith, less, old.0) in
-        rest old.1 (ended.0, ended.1, elim (ended.2) [
-          | inl commits ↦ inl (still (textbook number past) (operations_of number e) ended.0 _ within commits)
-          | inr aborts ↦ inr (still (textbook number past) (operations_of number e) ended.0 _ within aborts)
-        ])
+        rest old.1 (
+          ended.0,
+          ended.1,
+          elim (ended.2) [
+            | inl commits ↦ inl (still (textbook number past) (operations_of number e) ended.0 _ within commits)
+            | inr aborts ↦ inr (still (textbook number past) (operations_of number e) ended.0 _ within aborts)
+          ],
+        )
     go rest (inr new) = elim (ended.2) [
       | inl commits ↦ elim (split_at (textbook number past) (operations_of number e) ended.0 _ commits) [
         | inl old ↦ live-not_committed past t (first new.0 new.2) (commit_committed number s past h.0 ended.0 t old.1)
