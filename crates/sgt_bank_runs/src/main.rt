@@ -26,7 +26,7 @@ use crate::accounts::{LIMITS, LIMITS_AT_COMMIT};
 use crate::banks::{Crew, run_input_bank};
 use crate::crowd::run_crowd;
 use crate::gates::{Gates, Plan};
-use crate::held::{each_outcome, one_gives_up, refusals, second_commits_first};
+use crate::held::{each_outcome, finish_together, one_gives_up, refusals, second_commits_first};
 use crate::leavers::{all_leave, deep_fall, leave_at_each_call};
 use crate::quits::run_quits;
 use crate::scripts::run_scripts;
@@ -64,6 +64,7 @@ fn run_named_bank<W: Print + Input + Threads + Wait + Sync>(
 /// The runs whose schedule is given, or does not matter.
 fn run_schedules<W: Print + Threads + Wait + Sync>(rt: &W, alloc: Global) -> io::Result<()> {
     second_commits_first(rt, alloc)?;
+    finish_together(rt, alloc)?;
     one_gives_up(rt, alloc, 1)?;
     one_gives_up(rt, alloc, 2)?;
     each_outcome(rt, alloc, LIMITS, 13)?;
