@@ -89,7 +89,7 @@ pub fn each_outcome<W: Threads + Wait + Sync + Print>(
     run(rt, alloc, limits, &jobs, crew, &gates, Printed::Counts)?;
     println!(rt; "told of {} jobs", gates.finished())?;
     for number in 0..jobs.len() {
-        match gates.told(number) {
+        match gates.finish_of(number) {
             Some((count, worker, finish)) => {
                 println!(rt; "job {number}: told {count} times, worker {worker}, {finish:?}")?;
             }
@@ -115,7 +115,7 @@ pub fn finish_together<W: Threads + Wait + Sync + Print>(
     };
     let gates = Gates::new(Plan::FinishTogether(2));
     run(rt, alloc, LIMITS, &jobs, crew, &gates, Printed::Counts)?;
-    let workers = match (gates.told(0), gates.told(1)) {
+    let workers = match (gates.finish_of(0), gates.finish_of(1)) {
         (Some(first), Some(second)) => first.1 != second.1,
         _ => false,
     };
