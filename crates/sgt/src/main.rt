@@ -32,11 +32,11 @@ use std::time::Clock;
 
 const VERSION: &str = "0.1.0";
 
-/// How many workers there are where the words name no number.
-const WORKERS: u32 = 4;
+/// How many workers there are where the words name no number, as `clap` takes it.
+const WORKERS: &str = "4";
 
-/// How many tries a job has where the words name no number.
-const TRIES: u32 = 100;
+/// How many tries a job has where the words name no number, as `clap` takes it.
+const TRIES: &str = "100";
 
 /// What is told of words that are no text, as `clap` would.
 const NO_TEXT: &str = "error: invalid UTF-8 was detected in one or more arguments
@@ -122,14 +122,14 @@ fn bank_options<'a>(alloc: Global) -> Result<Vec<Arg<'a>>, AllocError> {
         "workers",
         "How many jobs run at the same time, from 1 to 16",
         MOST_WORKERS,
-        "4",
+        WORKERS,
     ))?;
     options.push(number_option(
         alloc,
         "tries",
         "How often a job is tried before it is given up, from 1 to 1000",
         MOST_TRIES,
-        "100",
+        TRIES,
     ))?;
     add_run_options(
         alloc,
@@ -226,14 +226,14 @@ fn command<'a>(alloc: Global) -> Result<Command<'a>, AllocError> {
         .subcommands(subcommands)
 }
 
-/// A number of the options. `clap` gives it a default, and keeps it from 1 to the most.
-fn number(options: &ArgMatches<'_>, name: &str, default: u32, most: u32) -> u32
+/// A number of the options. `clap` gives it its default, so that it is there, and keeps it from 1 to the most.
+fn number(options: &ArgMatches<'_>, name: &str, most: u32) -> u32
     requires { 1 ≤ most }
     ensures { (1 ≤ result) × (result ≤ most) }
 {
     options
         .get_one::<u32>(name)
-        .unwrap_or(default)
+        .unwrap_or(1)
         .clamp(1, most)
 }
 
@@ -320,8 +320,8 @@ fn bank<R: Print + Eprint + Input + Clock + Threads + Wait + Sync>(
     stderr: Stderr,
     options: &ArgMatches<'_>,
 ) -> Result<(), Failure> {
-    let workers = number(options, "workers", WORKERS, MOST_WORKERS);
-    let tries = number(options, "tries", TRIES, MOST_TRIES);
+    let workers = number(options, "workers", MOST_WORKERS);
+    let tries = number(options, "tries", MOST_TRIES);
     if options.get_flag("explain") {
         return explained_bank(rt, alloc, stderr, workers, tries);
     }

@@ -1,7 +1,7 @@
 //! A bank of five accounts, and jobs for it.
 use crate::banks::{Crew, run_bank};
 use crate::gates::Gates;
-use crate::told::{Told, tell};
+use crate::printed::{Printed, print_report};
 use sgt_access::{Accesses, PerKey};
 use sgt_dispatch::Job;
 use sgt_format::Opening;
@@ -82,7 +82,7 @@ pub fn run_on<R: Records, A: Accesses, G: Graph, W: Threads + Wait + Sync>(
     run_bank::<R, A, G, W>(rt, alloc, opening, jobs, crew, gates)
 }
 
-/// The same over the bodies that the program uses. It tells this of the report, or why there is none.
+/// The same over the bodies that the program uses. It prints this of the report, or why there is none.
 pub fn run<W: Threads + Wait + Sync + Print>(
     rt: &W,
     alloc: Global,
@@ -90,10 +90,10 @@ pub fn run<W: Threads + Wait + Sync + Print>(
     jobs: &[Job],
     crew: Crew,
     gates: &Gates,
-    told: Told<'_>,
+    printed: Printed<'_>,
 ) -> io::Result<()> {
     match run_on::<SlabRecords, PerKey, BitGraph, W>(rt, alloc, limits, jobs, crew, gates) {
-        Ok(report) => tell(rt, alloc, &report, told),
+        Ok(report) => print_report(rt, alloc, &report, printed),
         Err(error) => println!(rt; "{error}"),
     }
 }

@@ -1,4 +1,4 @@
-//! A bank, run as `sgt bank` does, and told with its history: of each entry the line that asks for it in a script and the line
+//! A bank, run as `sgt bank` does, and printed with its history: of each entry the line that asks for it in a script and the line
 //! of its reply, and then the report.
 use crate::gates::Gates;
 use sgt_access::{Accesses, PerKey};
@@ -45,8 +45,8 @@ pub fn run_bank<R: Records, A: Accesses, G: Graph, W: Threads + Wait + Sync>(
     run::<R, A, G, Gates, W>(rt, alloc, bank, jobs, crew.workers, crew.tries, gates)
 }
 
-/// Runs the bank of standard input, and tells it. Where it has no report it tells why, in a line that begins with `no report`.
-pub fn tell_bank<W: Print + Input + Threads + Wait + Sync>(
+/// Runs the bank of standard input, and prints it. Where it has no report it prints why, in a line that begins with `no report`.
+pub fn run_input_bank<W: Print + Input + Threads + Wait + Sync>(
     rt: &W,
     alloc: Global,
     crew: Crew,
@@ -54,12 +54,12 @@ pub fn tell_bank<W: Print + Input + Threads + Wait + Sync>(
 ) -> io::Result<()> {
     let mut reader = Reader::new(rt.reader());
     match read_input(alloc, &mut reader, crew.workers) {
-        Ok((opening, jobs)) => tell_jobs(rt, alloc, opening, jobs.as_slice(), crew, gates),
+        Ok((opening, jobs)) => print_bank(rt, alloc, opening, jobs.as_slice(), crew, gates),
         Err(_) => Err(io::Error::from(ErrorKind::InvalidInput)),
     }
 }
 
-fn tell_jobs<W: Print + Threads + Wait + Sync>(
+fn print_bank<W: Print + Threads + Wait + Sync>(
     rt: &W,
     alloc: Global,
     opening: Opening,
@@ -86,10 +86,10 @@ fn text(alloc: Global, report: &Report<u64>) -> io::Result<Vec<u8>> {
         return Err(io::Error::from(ErrorKind::InvalidData));
     }
     let mut text = lines(alloc, &report.history)?;
-    let Ok(told) = report_text(alloc, &report.history, outcomes, &report.database) else {
+    let Ok(outcomes_text) = report_text(alloc, &report.history, outcomes, &report.database) else {
         return Err(io::Error::from(ErrorKind::OutOfMemory));
     };
-    text.extend_from_slice(told.as_slice())?;
+    text.extend_from_slice(outcomes_text.as_slice())?;
     Ok(text)
 }
 

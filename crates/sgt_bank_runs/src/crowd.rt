@@ -2,7 +2,7 @@
 use crate::accounts::{ACCOUNTS, AMALGAMATE, BALANCE, DEPOSIT_CHECKING, held, job, run, run_on};
 use crate::banks::Crew;
 use crate::gates::{Gates, Plan};
-use crate::told::Told;
+use crate::printed::Printed;
 use sgt_access::OneList;
 use sgt_dispatch::Job;
 use sgt_log::History;
@@ -19,8 +19,8 @@ use std::thread::Threads;
 /// How many jobs the crowd has.
 const JOBS: u32 = 1000;
 
-/// Runs sixteen workers on five accounts, and tells what they came to.
-pub fn tell_crowd<W: Threads + Wait + Sync + Print>(
+/// Runs sixteen workers on five accounts, and prints what they came to.
+pub fn run_crowd<W: Threads + Wait + Sync + Print>(
     rt: &W,
     alloc: Global,
     limits: Limits,
@@ -40,13 +40,13 @@ pub fn tell_crowd<W: Threads + Wait + Sync + Print>(
         jobs,
         crew,
         &gates,
-        Told::Compared { limits, jobs },
+        Printed::Compared { limits, jobs },
     )
 }
 
-/// Runs the jobs that were done by one worker over other bodies of the layers, in the order of their commits, and tells what the crowd
+/// Runs the jobs that were done by one worker over other bodies of the layers, in the order of their commits, and prints what the crowd
 /// came to and whether it is the same.
-pub fn tell_compared<W: Threads + Wait + Sync + Print>(
+pub fn run_compared<W: Threads + Wait + Sync + Print>(
     rt: &W,
     alloc: Global,
     limits: Limits,
@@ -54,10 +54,10 @@ pub fn tell_compared<W: Threads + Wait + Sync + Print>(
     crowd: &Report<u64>,
 ) -> io::Result<()> {
     let done = done_jobs(alloc, jobs, crowd)?;
-    tell_alone(rt, alloc, limits, done.as_slice(), crowd)
+    run_alone(rt, alloc, limits, done.as_slice(), crowd)
 }
 
-fn tell_alone<W: Threads + Wait + Sync + Print>(
+fn run_alone<W: Threads + Wait + Sync + Print>(
     rt: &W,
     alloc: Global,
     limits: Limits,
@@ -70,14 +70,14 @@ fn tell_alone<W: Threads + Wait + Sync + Print>(
     };
     let gates = Gates::new(Plan::Open);
     match run_on::<ListRecords, OneList, PairGraph, W>(rt, alloc, limits, done, crew, &gates) {
-        Ok(alone) => tell_same(rt, alloc, done.len(), crowd, &alone),
+        Ok(alone) => print_same(rt, alloc, done.len(), crowd, &alone),
         Err(error) => println!(rt; "{error}"),
     }
 }
 
-/// Tells how many jobs were done, what all customers hold at the end, and whether one worker leaves the same database and is told the
+/// Prints how many jobs were done, what all customers hold at the end, and whether one worker leaves the same database and is told the
 /// same answers.
-fn tell_same<W: Print>(
+fn print_same<W: Print>(
     rt: &W,
     alloc: Global,
     done: usize,

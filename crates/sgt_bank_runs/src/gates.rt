@@ -128,7 +128,7 @@ impl Gates {
 
     /// How often the job of this number was told to be finished, and at the last time by which worker and as what. Of jobs that
     /// are not noted nothing was told.
-    pub fn told(&self, job: usize) -> Option<(u64, u64, Finish)> {
+    pub fn finish_of(&self, job: usize) -> Option<(u64, u64, Finish)> {
         let note = self.notes.get(job)?;
         let count = note.count.load(Ordering::SeqCst);
         if count == 0 {

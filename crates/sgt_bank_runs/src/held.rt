@@ -3,7 +3,7 @@
 use crate::accounts::{BALANCE, DEPOSIT_CHECKING, LIMITS, TRANSACT_SAVING, WRITE_CHECK, job, run};
 use crate::banks::Crew;
 use crate::gates::{Gates, Plan};
-use crate::told::Told;
+use crate::printed::Printed;
 use sgt_dispatch::Job;
 use sgt_model::{Asks, Limits};
 use std::alloc::Global;
@@ -41,7 +41,7 @@ pub fn second_commits_first<W: Threads + Wait + Sync + Print>(
         tries: 100,
     };
     let gates = Gates::new(Plan::SecondFirst);
-    run(rt, alloc, LIMITS, &jobs, crew, &gates, Told::Order)
+    run(rt, alloc, LIMITS, &jobs, crew, &gates, Printed::Order)
 }
 
 /// Two checks of one customer, each of which reads what the other writes: one of them is aborted.
@@ -57,7 +57,7 @@ pub fn one_gives_up<W: Threads + Wait + Sync + Print>(
     ];
     let crew = Crew { workers: 2, tries };
     let gates = Gates::new(Plan::BothRead);
-    run(rt, alloc, LIMITS, &jobs, crew, &gates, Told::Counts)
+    run(rt, alloc, LIMITS, &jobs, crew, &gates, Printed::Counts)
 }
 
 /// A job that asks, two that are refused, one that is done, and two more.
@@ -86,10 +86,10 @@ pub fn each_outcome<W: Threads + Wait + Sync + Print>(
         tries: 100,
     };
     let gates = Gates::new(Plan::LeavesAt(calls));
-    run(rt, alloc, limits, &jobs, crew, &gates, Told::Counts)?;
+    run(rt, alloc, limits, &jobs, crew, &gates, Printed::Counts)?;
     println!(rt; "told of {} jobs", gates.finished())?;
     for number in 0..jobs.len() {
-        match gates.told(number) {
+        match gates.finish_of(number) {
             Some((count, worker, finish)) => {
                 println!(rt; "job {number}: told {count} times, worker {worker}, {finish:?}")?;
             }
@@ -114,8 +114,8 @@ pub fn finish_together<W: Threads + Wait + Sync + Print>(
         tries: 100,
     };
     let gates = Gates::new(Plan::FinishTogether(2));
-    run(rt, alloc, LIMITS, &jobs, crew, &gates, Told::Counts)?;
-    let workers = match (gates.told(0), gates.told(1)) {
+    run(rt, alloc, LIMITS, &jobs, crew, &gates, Printed::Counts)?;
+    let workers = match (gates.finish_of(0), gates.finish_of(1)) {
         (Some(first), Some(second)) => first.1 != second.1,
         _ => false,
     };
@@ -130,13 +130,13 @@ pub fn refusals<W: Threads + Wait + Sync + Print>(rt: &W, alloc: Global) -> io::
             workers: *workers,
             tries: *tries,
         };
-        tell_refusal(rt, alloc, *first, *live, crew)?;
+        run_refusal(rt, alloc, *first, *live, crew)?;
     }
     Ok(())
 }
 
 /// What a run of two jobs is refused for. Its first job has this number.
-fn tell_refusal<W: Threads + Wait + Sync + Print>(
+fn run_refusal<W: Threads + Wait + Sync + Print>(
     rt: &W,
     alloc: Global,
     first: u32,
@@ -150,5 +150,5 @@ fn tell_refusal<W: Threads + Wait + Sync + Print>(
         asks: Asks::AtStep,
     };
     let gates = Gates::new(Plan::Open);
-    run(rt, alloc, limits, &jobs, crew, &gates, Told::Report)
+    run(rt, alloc, limits, &jobs, crew, &gates, Printed::Report)
 }

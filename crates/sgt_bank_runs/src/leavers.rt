@@ -2,7 +2,7 @@
 use crate::accounts::{DEPOSIT_CHECKING, LIMITS, job, run};
 use crate::banks::Crew;
 use crate::gates::{Gates, Plan};
-use crate::told::Told;
+use crate::printed::Printed;
 use sgt_dispatch::Job;
 use std::alloc::{AllocError, Global};
 use std::io;
@@ -35,23 +35,23 @@ fn leaves_after<W: Threads + Wait + Sync + Print>(
         tries: 1,
     };
     let gates = Gates::new(Plan::LeavesAt(calls));
-    run(rt, alloc, LIMITS, &jobs, crew, &gates, Told::Leaver)
+    run(rt, alloc, LIMITS, &jobs, crew, &gates, Printed::Leaver)
 }
 
 /// Sixteen workers, of whom each reads what the one before it has written, and the first leaves.
 pub fn deep_fall<W: Threads + Wait + Sync + Print>(rt: &W, alloc: Global) -> io::Result<()> {
     println!(rt; "the first of sixteen leaves, and the others have read from it:")?;
-    tell_deposits(rt, alloc, 16, 16, &Gates::new(Plan::DeepFall(16)))
+    run_deposits(rt, alloc, 16, 16, &Gates::new(Plan::DeepFall(16)))
 }
 
 /// Four workers that leave before their first call.
 pub fn all_leave<W: Threads + Wait + Sync + Print>(rt: &W, alloc: Global) -> io::Result<()> {
     println!(rt; "all of four leave at once:")?;
-    tell_deposits(rt, alloc, 100, 4, &Gates::new(Plan::LeavesAt(0)))
+    run_deposits(rt, alloc, 100, 4, &Gates::new(Plan::LeavesAt(0)))
 }
 
 /// Tells what a run of deposits came to, and how its history ends.
-fn tell_deposits<W: Threads + Wait + Sync + Print>(
+fn run_deposits<W: Threads + Wait + Sync + Print>(
     rt: &W,
     alloc: Global,
     count: u32,
@@ -67,7 +67,7 @@ fn tell_deposits<W: Threads + Wait + Sync + Print>(
         jobs.as_slice(),
         crew,
         gates,
-        Told::Aborts,
+        Printed::Aborts,
     )
 }
 

@@ -1,11 +1,11 @@
-//! Runs banks on workers, as the test command and the measures in `bench` do, and tells what they look at from outside. Its first
+//! Runs banks on workers, as the test command and the measures in `bench` do, and prints what they look at from outside. Its first
 //! word says which run:
 //!
 //!     sgt_bank_runs bank WORKERS TRIES [SEED ODDS]    the bank of standard input; one call of so many makes its worker leave
 //!     sgt_bank_runs quit                              a session whose quit is refused all memory
 //!     sgt_bank_runs scripts                           the scripts of standard input, the length of each in four bytes before it
 //!
-//! Without a word it tells what has to come out of many runs whatever the schedule, and then the bank of standard input by one
+//! Without a word it prints what has to come out of many runs whatever the schedule, and then the bank of standard input by one
 //! worker; that stands in `stdout`. The first runs have gates, which hold each worker until the others have come to where they are
 //! wanted: so it is told here, and by no proof, that workers run side by side, that the lock is let go between two calls, and that
 //! the gate is asked. Then workers leave: one at each call of a job, the first of sixteen that have read from each other, and all at
@@ -18,18 +18,18 @@ mod crowd;
 mod gates;
 mod held;
 mod leavers;
+mod printed;
 mod quits;
 mod scripts;
-mod told;
 
 use crate::accounts::{LIMITS, LIMITS_AT_COMMIT};
-use crate::banks::{Crew, tell_bank};
-use crate::crowd::tell_crowd;
+use crate::banks::{Crew, run_input_bank};
+use crate::crowd::run_crowd;
 use crate::gates::{Gates, Plan};
 use crate::held::{each_outcome, finish_together, one_gives_up, refusals, second_commits_first};
 use crate::leavers::{all_leave, deep_fall, leave_at_each_call};
-use crate::quits::tell_quits;
-use crate::scripts::tell_scripts;
+use crate::quits::run_quits;
+use crate::scripts::run_scripts;
 use std::alloc::Global;
 use std::io::{Input, Print};
 use std::sync::Wait;
@@ -45,7 +45,7 @@ fn number(words: &[String], place: usize, other: u32) -> u32 {
 }
 
 /// Runs the bank of standard input by these words.
-fn tell_named_bank<W: Print + Input + Threads + Wait + Sync>(
+fn run_named_bank<W: Print + Input + Threads + Wait + Sync>(
     rt: &W,
     alloc: Global,
     words: &[String],
@@ -58,11 +58,11 @@ fn tell_named_bank<W: Print + Input + Threads + Wait + Sync>(
         seed: number(words, 4, 0),
         odds: number(words, 5, 0),
     };
-    tell_bank(rt, alloc, crew, &Gates::new(plan))
+    run_input_bank(rt, alloc, crew, &Gates::new(plan))
 }
 
-/// The runs whose schedule is told, or does not matter.
-fn tell_schedules<W: Print + Threads + Wait + Sync>(rt: &W, alloc: Global) -> io::Result<()> {
+/// The runs whose schedule is given, or does not matter.
+fn run_schedules<W: Print + Threads + Wait + Sync>(rt: &W, alloc: Global) -> io::Result<()> {
     second_commits_first(rt, alloc)?;
     finish_together(rt, alloc)?;
     one_gives_up(rt, alloc, 1)?;
@@ -73,38 +73,38 @@ fn tell_schedules<W: Print + Threads + Wait + Sync>(rt: &W, alloc: Global) -> io
     deep_fall(rt, alloc)?;
     all_leave(rt, alloc)?;
     refusals(rt, alloc)?;
-    tell_crowd(rt, alloc, LIMITS)?;
-    tell_crowd(rt, alloc, LIMITS_AT_COMMIT)
+    run_crowd(rt, alloc, LIMITS)?;
+    run_crowd(rt, alloc, LIMITS_AT_COMMIT)
 }
 
 /// The runs of the test command.
-fn tell_all<W: Print + Input + Threads + Wait + Sync>(rt: &W, alloc: Global) -> io::Result<()> {
-    tell_schedules(rt, alloc)?;
+fn run_all<W: Print + Input + Threads + Wait + Sync>(rt: &W, alloc: Global) -> io::Result<()> {
+    run_schedules(rt, alloc)?;
     let crew = Crew {
         workers: 1,
         tries: 100,
     };
-    tell_bank(rt, alloc, crew, &Gates::new(Plan::Open))
+    run_input_bank(rt, alloc, crew, &Gates::new(Plan::Open))
 }
 
 /// The run that these words name.
-fn tell<W: Print + Input + Threads + Wait + Sync>(
+fn run<W: Print + Input + Threads + Wait + Sync>(
     rt: &W,
     alloc: Global,
     words: &[String],
 ) -> io::Result<()> {
     let Some(word) = words.get(1) else {
-        return tell_all(rt, alloc);
+        return run_all(rt, alloc);
     };
     match word.as_str() {
-        "quit" => tell_quits(rt, alloc),
-        "scripts" => tell_scripts(rt, alloc),
-        _ => tell_named_bank(rt, alloc, words),
+        "quit" => run_quits(rt, alloc),
+        "scripts" => run_scripts(rt, alloc),
+        _ => run_named_bank(rt, alloc, words),
     }
 }
 
 fn main(rt: HostRuntime) -> io::Result<()> {
     let alloc = rt.alloc();
     let words: Vec<String> = env::args(&rt)?.collect(alloc)?;
-    tell(&rt, alloc, words.as_slice())
+    run(&rt, alloc, words.as_slice())
 }

@@ -84,9 +84,9 @@ fn start_many<N: Named, R: Records, A: Accesses, G: Graph, W: Wait>(
     session: &mut Session<N>,
 ) -> (u32, &'static str) {
     for started in 0..LIMITS.begins {
-        let told = call(rt, shared, session, balance());
-        if told != STARTED {
-            return (started, told);
+        let answer = call(rt, shared, session, balance());
+        if answer != STARTED {
+            return (started, answer);
         }
     }
     (LIMITS.begins, STARTED)
@@ -109,7 +109,7 @@ fn quit_many<N: Named, R: Records, A: Accesses, G: Graph, W: Wait>(
     quit
 }
 
-/// Shares the engine with one session, and tells what that is answered.
+/// Shares the engine with one session, and prints what that is answered.
 fn play<N: Named, R: Records, A: Accesses, G: Graph, W: Wait + Print>(
     rt: &W,
     alloc: Global,
@@ -122,38 +122,38 @@ fn play<N: Named, R: Records, A: Accesses, G: Graph, W: Wait + Print>(
     requires sessions { N.sessions ≡ 1 }
 {
     match Shared::<N, R, A, G>::new(alloc, engine, blank, 1).ok() {
-        Some((shared, mut sessions)) => tell_first(rt, &shared, sessions.as_mut_slice()),
+        Some((shared, mut sessions)) => run_first(rt, &shared, sessions.as_mut_slice()),
         None => Err(io::Error::from(ErrorKind::OutOfMemory)),
     }
 }
 
 /// Tells what the first of the sessions is answered.
-fn tell_first<N: Named, R: Records, A: Accesses, G: Graph, W: Wait + Print>(
+fn run_first<N: Named, R: Records, A: Accesses, G: Graph, W: Wait + Print>(
     rt: &W,
     shared: &Shared<N, R, A, G>,
     sessions: &mut [Session<N>],
 ) -> io::Result<()> {
     match sessions.first_mut() {
-        Some(session) => tell_session(rt, shared, session),
+        Some(session) => run_session(rt, shared, session),
         None => Err(io::Error::from(ErrorKind::Other)),
     }
 }
 
 /// Starts a transaction and quits it, and then starts and quits as many as it may.
-fn tell_session<N: Named, R: Records, A: Accesses, G: Graph, W: Wait + Print>(
+fn run_session<N: Named, R: Records, A: Accesses, G: Graph, W: Wait + Print>(
     rt: &W,
     shared: &Shared<N, R, A, G>,
     session: &mut Session<N>,
 ) -> io::Result<()> {
     println!(rt; "{}", call(rt, shared, session, balance()))?;
     println!(rt; "{}", call(rt, shared, session, Event::Quit(Tid(0))))?;
-    let (started, told) = start_many(rt, shared, session);
-    println!(rt; "{started} started, then {told}")?;
+    let (started, answer) = start_many(rt, shared, session);
+    println!(rt; "{started} started, then {answer}")?;
     println!(rt; "{} quit", quit_many(rt, shared, session, 1, started))
 }
 
 /// Tells what a session is answered that starts a transaction and quits it.
-pub fn tell_quits<W: Wait + Print>(rt: &W, alloc: Global) -> io::Result<()> {
+pub fn run_quits<W: Wait + Print>(rt: &W, alloc: Global) -> io::Result<()> {
     match new_engine(alloc) {
         Ok(engine) => play::<Brand, _, _, _, _>(rt, alloc, engine, Blank::new(1)),
         Err(_) => Err(io::Error::from(ErrorKind::OutOfMemory)),

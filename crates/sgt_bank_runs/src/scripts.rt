@@ -6,8 +6,8 @@ use std::alloc::{AllocError, Global};
 use std::io;
 use std::io::{Input, Print, Read, Write};
 
-/// What a script writes, and behind it a line that tells how it ended.
-fn told(alloc: Global, script: &[u8]) -> Result<Vec<u8>, AllocError> {
+/// What a script writes, and behind it a line that says how it ended.
+fn output_of(alloc: Global, script: &[u8]) -> Result<Vec<u8>, AllocError> {
     let mut reader = Reader::new(script);
     let mut writer = Writer::new(Vec::new(alloc));
     let ended = run_script(alloc, &mut reader, &mut writer);
@@ -16,7 +16,7 @@ fn told(alloc: Global, script: &[u8]) -> Result<Vec<u8>, AllocError> {
     Ok(text)
 }
 
-/// Adds the line that tells how a script ended.
+/// Adds the line that says how a script ended.
 fn append_end(
     alloc: Global,
     text: &mut Vec<u8>,
@@ -40,27 +40,27 @@ fn first(input: &[u8]) -> Option<(&[u8], &[u8])> {
     rest.split_at_checked(u32::from_be_bytes(*length) as usize)
 }
 
-/// Runs the scripts of standard input, one behind the other, and tells each.
-pub fn tell_scripts<R: Print + Input>(rt: &R, alloc: Global) -> io::Result<()> {
+/// Runs the scripts of standard input, one behind the other, and prints what each writes.
+pub fn run_scripts<R: Print + Input>(rt: &R, alloc: Global) -> io::Result<()> {
     let mut input = Vec::new(alloc);
     rt.reader().read_to_end(&mut input)?;
-    tell_each(rt, alloc, input.as_slice())
+    run_each(rt, alloc, input.as_slice())
 }
 
 /// Runs these scripts.
-fn tell_each<R: Print>(rt: &R, alloc: Global, scripts: &[u8]) -> io::Result<()> {
+fn run_each<R: Print>(rt: &R, alloc: Global, scripts: &[u8]) -> io::Result<()> {
     let mut rest = scripts;
     for _ in 0..scripts.len() {
         let Some((script, behind)) = first(rest) else {
             break;
         };
-        tell_script(rt, alloc, script)?;
+        print_script(rt, alloc, script)?;
         rest = behind;
     }
     Ok(())
 }
 
-fn tell_script<R: Print>(rt: &R, alloc: Global, script: &[u8]) -> io::Result<()> {
-    let text = told(alloc, script)?;
+fn print_script<R: Print>(rt: &R, alloc: Global, script: &[u8]) -> io::Result<()> {
+    let text = output_of(alloc, script)?;
     io::writer(rt).write_all(text.as_slice())
 }

@@ -5,7 +5,7 @@ use Rattle.std.proofs.lemmas.List.Elements.{All-head, All-push, All-tail}
 use Rattle.std.proofs.lemmas.List.{take_all, take_more, take_more_set, drop-set-lt, map-set, length-map, drop-drop}
 use Rattle.sgt_model.specs.Contents.{Key, Contents, key_eq, put_in}
 use Rattle.sgt_model.specs.Databases.{HasValues, Row}
-use Rattle.sgt_c.specs.declared.rows.SgtRow.{SgtRow}
+use Rattle.sgt_c.specs.declared.row_struct.SgtRow.{SgtRow}
 use Rattle.sgt_c.specs.Rows.{IsRow, row_of, with_rows}
 
 -- ---- rows put in

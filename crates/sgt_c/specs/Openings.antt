@@ -8,7 +8,7 @@ use Rattle.sgt_format.specs.declared.opening.Opening.{Opening}
 use Rattle.sgt_format.specs.Openings.{Opens, Refuses}
 use Rattle.sgt_assembly.specs.Openings.{opened_setting}
 use Rattle.sgt_c.specs.declared.fault_struct.SgtFault.{SgtFault}
-use Rattle.sgt_c.specs.declared.rows.SgtRow.{SgtRow}
+use Rattle.sgt_c.specs.declared.row_struct.SgtRow.{SgtRow}
 use Rattle.sgt_c.specs.FaultStructs.{HoldsFault}
 use Rattle.sgt_c.specs.Rows.{with_rows}
 

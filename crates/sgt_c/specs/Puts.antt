@@ -11,7 +11,7 @@ use Rattle.sgt_c.specs.declared.fault_struct.SgtFault.{SgtFault}
 use Rattle.sgt_c.specs.declared.held.Held.{Held}
 use Rattle.sgt_c.specs.declared.procedures.Unadded.{Unadded}
 use Rattle.sgt_c.specs.declared.procedures.Unadded.TheVariants.{Begun, TooMany, Refused}
-use Rattle.sgt_c.specs.declared.rows.SgtRow.{SgtRow}
+use Rattle.sgt_c.specs.declared.row_struct.SgtRow.{SgtRow}
 use Rattle.sgt_c.specs.FaultStructs.{HoldsFault}
 use Rattle.sgt_c.specs.Rows.{IsRow, row_of}
 

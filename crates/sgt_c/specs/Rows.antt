@@ -8,7 +8,7 @@ use Rattle.sgt_model.specs.Values.{settled}
 use Rattle.sgt_engine.specs.EngineView.{EngineView, setting_of}
 use Rattle.sgt_engine.specs.Puts.{with_rows as with_keyed}
 use Rattle.sgt_c.specs.declared.held.Held.{Held}
-use Rattle.sgt_c.specs.declared.rows.SgtRow.{SgtRow}
+use Rattle.sgt_c.specs.declared.row_struct.SgtRow.{SgtRow}
 
 -- the table is none over 7, and both numbers are values
 abbrev pub IsRow : SgtRow → Type 0

@@ -23,6 +23,7 @@ mod event_struct;
 mod fault_struct;
 mod reply_reading;
 mod reply_struct;
+mod row_struct;
 mod status;
 
 // The handle.
@@ -47,4 +48,4 @@ pub use event_struct::SgtEvent;
 pub use fault_struct::SgtFault;
 pub use handle::Handle;
 pub use reply_struct::SgtReply;
-pub use rows::SgtRow;
+pub use row_struct::SgtRow;

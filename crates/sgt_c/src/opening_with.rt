@@ -1,17 +1,20 @@
 //! Opening a handle on rows of the caller's.
-ghost use Rattle.std.specs.Prelude.{◌≡◌, ◌≢◌, ◌≤◌, ◌↔◌, None, IsSome, IfSome, IfOk, IfErr};
+ghost use Rattle.std.specs.Prelude.{◌≡◌, ◌≢◌, ◌≤◌, ◌↔◌, None, IsSome, IfSome, IfOk, IfErr, OnOk};
 ghost use Rattle.std.specs.List.{All};
+ghost use Rattle.sgt_model.specs.Contents.{Key};
+ghost use Rattle.sgt_model.specs.Databases.{contents_of};
 ghost use Rattle.sgt_format.specs.Openings.{Refuses};
 ghost use Rattle.sgt_c.specs.Openings.{OpenedWith, RefusedAs};
-ghost use Rattle.sgt_c.specs.Rows.{IsRow};
+ghost use Rattle.sgt_c.specs.Rows.{IsRow, with_rows};
 
 use crate::fault_struct::{SgtFault, write_fault};
 use crate::handle::Handle;
 use crate::held::Held;
-use crate::rows::{SgtRow, are_rows, put_rows};
+use crate::row_struct::{SgtRow, first_bad, keyed_row};
 use crate::status;
 use sgt_format::{OpeningError, read_opening};
 use sgt_assembly::open_engine;
+use sgt_model::{Database, NoMemory};
 use std::alloc::Global;
 
 /// Opens an engine as `sgt_open` does, where these rows are put into the database that the opening's accounts make, one after
@@ -38,7 +41,7 @@ pub extern "C" fn sgt_open_with(
     if engine.is_open {
         return status::OPEN;
     }
-    if !are_rows(rows) {
+    if first_bad(rows).is_some() {
         return status::BAD_CALL;
     }
     match make(alloc, opening, rows) {
@@ -60,4 +63,16 @@ fn make(alloc: Global, opening: &[u8], rows: &[SgtRow]) -> Result<Box<Held>, Ope
     put_rows(&mut opening.database, rows)?;
     let engine = open_engine(alloc, opening)?;
     Ok(Held::boxed(alloc, engine)?)
+}
+
+/// Puts rows into a database, one after another.
+fn put_rows(database: &mut Database, rows: &[SgtRow]) -> Result<(), NoMemory>
+    requires { All IsRow rows.now }
+    ensures { OnOk result ((k : Key) → contents_of database.new k ≡ with_rows (contents_of database.old) rows.now k) }
+{
+    for row in rows {
+        let (key, value) = keyed_row(row);
+        database.put(key, value)?;
+    }
+    Ok(())
 }

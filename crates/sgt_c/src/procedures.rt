@@ -8,6 +8,7 @@ use crate::held::Held;
 use crate::status;
 use sgt_engine::AddError;
 use sgt_format::{OpeningError, read_procedure_line};
+use sgt_model::NoMemory;
 use std::alloc::Global;
 
 /// Adds the procedure that a text spells, as one of an opening's list, behind the others, where the history is empty. Its number is
@@ -66,20 +67,18 @@ fn add(alloc: Global, held: &mut Held, text: &[u8]) -> Result<u16, Unadded>
     ensures refused { IfErr result (IsRefusal held.old.engine text.now) }
     ensures unchanged { OnErr result (held.new ≡ held.old) }
 {
-    if !held.engine.is_new() {
-        return Err(Unadded::Begun);
-    }
-    let number = held.engine.sched().procedure_count();
-    if number > u16::MAX as usize {
-        return Err(Unadded::TooMany);
-    }
-    let procedure = match read_procedure_line(alloc, number as u64, text) {
+    let number = match held.engine.next_number() {
+        Ok(number) => number,
+        Err(AddError::Begun) => return Err(Unadded::Begun),
+        Err(AddError::TooMany) => return Err(Unadded::TooMany),
+        Err(AddError::NoMemory) => unreachable!(),
+    };
+    let procedure = match read_procedure_line(alloc, u64::from(number), text) {
         Ok(procedure) => procedure,
         Err(error) => return Err(Unadded::Refused(error)),
     };
-    match held.engine.add_procedure(procedure) {
-        Ok(added) => Ok(added),
-        Err(AddError::NoMemory) => Err(Unadded::Refused(OpeningError::NoMemory)),
-        Err(AddError::Begun | AddError::TooMany) => unreachable!(),
+    match held.engine.add_at_start(procedure) {
+        Ok(()) => Ok(number),
+        Err(NoMemory) => Err(Unadded::Refused(OpeningError::NoMemory)),
     }
 }

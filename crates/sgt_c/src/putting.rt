@@ -1,5 +1,5 @@
 //! Putting the caller's rows into the opening database.
-ghost use Rattle.std.specs.Prelude.{◌≡◌, ◌≢◌, ◌≤◌, ◌↔◌, [], Err, None, IsNone, IfSome, IfErr, IfOk, OnOk, OnErr, IsTrue, map};
+ghost use Rattle.std.specs.Prelude.{◌≡◌, ◌≢◌, ◌≤◌, ◌↔◌, [], Err, None, IfErr, IfOk, OnOk, OnErr, map};
 ghost use Rattle.std.specs.List.{All};
 ghost use Rattle.sgt_model.specs.Databases.{HasValues};
 ghost use Rattle.sgt_engine.specs.Puts.{AreRefused, PutsRows};
@@ -8,10 +8,10 @@ ghost use Rattle.sgt_c.specs.Rows.{IsRow, row_of};
 
 use crate::handle::Handle;
 use crate::held::Held;
-use crate::rows::Row;
+use crate::row_struct::{SgtRow, first_bad, keyed_row};
 use crate::status;
 use sgt_engine::PutError;
-use sgt_model::{Key, NoMemory, is_value};
+use sgt_model::{Key, NoMemory};
 use std::alloc::Global;
 
 /// Puts rows into the opening database, where the history is empty: values at keys that have none. So an engine is opened on the
@@ -64,26 +64,7 @@ fn put(alloc: Global, held: &mut Held, rows: &[SgtRow]) -> Result<(), PutError>
         return Err(PutError::Begun);
     }
     let rows = keyed(alloc, rows)?;
-    held.engine.put(alloc, rows.as_slice())
-}
-
-/// The place of the first row that is out of its range.
-fn first_bad(rows: &[SgtRow]) -> Option<usize>
-    ensures all { IsNone result ↔ All IsRow rows.now }
-    ensures first { IfSome result (IsFirstBad rows.now) }
-{
-    for (index, row) in rows.iter().enumerate() {
-        if !is_row(row) {
-            return Some(index);
-        }
-    }
-    None
-}
-
-fn is_row(row: &SgtRow) -> bool
-    ensures { IsTrue result ↔ IsRow row.now }
-{
-    row.table <= 7 && is_value(row.number) && is_value(row.value)
+    held.engine.put_at_start(alloc, rows.as_slice())
 }
 
 /// The rows as keys with their values.
@@ -97,14 +78,4 @@ fn keyed(alloc: Global, rows: &[SgtRow]) -> Result<Vec<(Key, i64)>, NoMemory>
         keyed.push_reserved(keyed_row(row));
     }
     Ok(keyed)
-}
-
-fn keyed_row(row: &SgtRow) -> (Key, i64)
-    requires { IsRow row.now }
-    ensures { result ≡ row_of row.now }
-{
-    let Some(key) = Key::new(row.table as u8, row.number) else {
-        unreachable!();
-    };
-    (key, row.value)
 }

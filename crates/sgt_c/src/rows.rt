@@ -1,25 +1,13 @@
 //! The committed database, row by row.
-ghost use Rattle.std.specs.Prelude.{◌≡◌, ◌≢◌, ◌≤◌, ◌↔◌, IsTrue, None, OnOk, length, drop};
-ghost use Rattle.std.specs.List.{All};
-ghost use Rattle.sgt_model.specs.Contents.{Key, put_in};
-ghost use Rattle.sgt_model.specs.Databases.{contents_of};
+ghost use Rattle.std.specs.Prelude.{◌≡◌, ◌≢◌, ◌≤◌, ◌↔◌, None, length, drop};
 ghost use Rattle.sgt_model.specs.Numbers.{IsValue};
-ghost use Rattle.sgt_c.specs.Rows.{HoldRows, IsRow, ReturnsRows, row_of, rows_from, with_rows};
+ghost use Rattle.sgt_c.specs.Rows.{HoldRows, ReturnsRows, row_of, rows_from};
 
 use crate::handle::Handle;
+use crate::row_struct::SgtRow;
 use crate::status;
-use sgt_model::{Database, Key, NoMemory, is_value};
+use sgt_model::{Key, NoMemory};
 use std::alloc::Global;
-
-/// A record and its value, for C.
-#[repr(C)]
-#[derive(Clone, Copy)]
-pub struct SgtRow {
-    pub table: u32,
-    pub spare: u32,
-    pub number: i64,
-    pub value: i64,
-}
 
 /// The committed database from a key on, by table and then by number: into `rows` go the first of its rows, as many as there is
 /// room for, and into `count` how many there are. It goes once through all records, and takes memory for them meanwhile.
@@ -95,37 +83,4 @@ fn told_row(row: &(Key, i64)) -> SgtRow
         number: key.id(),
         value,
     }
-}
-
-/// Whether all are in their ranges: tables up to 7, and numbers and values that are values.
-pub fn are_rows(rows: &[SgtRow]) -> bool
-    ensures { IsTrue result ↔ All IsRow rows.now }
-{
-    rows.iter().all(|row| row.table <= 7 && is_value(row.number) && is_value(row.value))
-}
-
-/// Puts rows into a database, one after another.
-///
-/// # Errors
-///
-/// `NoMemory` where a growth was refused.
-pub fn put_rows(database: &mut Database, rows: &[SgtRow]) -> Result<(), NoMemory>
-    requires { All IsRow rows.now }
-    ensures { OnOk result ((k : Key) → contents_of database.new k ≡ with_rows (contents_of database.old) rows.now k) }
-{
-    for row in rows {
-        put_row(database, row)?;
-    }
-    Ok(())
-}
-
-fn put_row(database: &mut Database, row: &SgtRow) -> Result<(), NoMemory>
-    requires { IsRow row.now }
-    ensures { OnOk result ((k : Key) →
-        contents_of database.new k ≡ put_in (contents_of database.old) (row_of row.now).0 row.now.value k) }
-{
-    let Some(key) = Key::new(row.table as u8, row.number) else {
-        unreachable!();
-    };
-    database.put(key, row.value)
 }

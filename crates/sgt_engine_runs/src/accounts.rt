@@ -23,7 +23,7 @@ pub fn open<R: Records, A: Accesses, G: Graph>(
 }
 
 /// Tells that memory was wanting.
-pub fn tell_no_memory(rt: &impl Print) -> io::Result<()> {
+pub fn print_no_memory(rt: &impl Print) -> io::Result<()> {
     println!(rt; "no memory")
 }
 

@@ -2,7 +2,7 @@
 //! and when the last one has ended the history is cut off. Up to 8 transactions of SmallBank's five procedures are live,
 //! interleaved at random.
 
-use crate::accounts::{open, tell_no_memory, total};
+use crate::accounts::{open, print_no_memory, total};
 use crate::draws::Draws;
 use crate::events::start;
 use sgt_access::{Accesses, PerKey};
@@ -68,7 +68,7 @@ impl<'a, R: Records, A: Accesses, G: Graph> Clients<'a, R, A, G> {
 
     /// Tells how many events were sent, how often the history was cut off, the most entries that it has held, and what the accounts
     /// hold.
-    fn tell(&self, rt: &impl Print, sent: u64) -> io::Result<()> {
+    fn print(&self, rt: &impl Print, sent: u64) -> io::Result<()> {
         println!(rt;
             "events {sent} cuts {} most entries {} in all {}",
             self.cuts,
@@ -142,19 +142,19 @@ fn accounts(alloc: Global) -> Result<Vec<Account>, NoMemory> {
     Ok(accounts)
 }
 
-/// Sends so many events, and tells at each tenth of the way how far it has come.
-pub fn tell_endless(rt: &(impl AllocGlobal + Print), events: u64) -> io::Result<()> {
-    tell_endless_on::<SlabRecords, PerKey, BitGraph>(rt, events)
+/// Sends so many events, and prints at each tenth of the way how far it has come.
+pub fn run_endless(rt: &(impl AllocGlobal + Print), events: u64) -> io::Result<()> {
+    run_endless_on::<SlabRecords, PerKey, BitGraph>(rt, events)
 }
 
 /// The same over these bodies of the layers.
-fn tell_endless_on<R: Records, A: Accesses, G: Graph>(
+fn run_endless_on<R: Records, A: Accesses, G: Graph>(
     rt: &(impl AllocGlobal + Print),
     events: u64,
 ) -> io::Result<()> {
     match open_accounts::<R, A, G>(rt.alloc()) {
-        Some(mut engine) => tell_clients(rt, &mut engine, events),
-        None => tell_no_memory(rt),
+        Some(mut engine) => run_clients(rt, &mut engine, events),
+        None => print_no_memory(rt),
     }
 }
 
@@ -165,25 +165,25 @@ fn open_accounts<R: Records, A: Accesses, G: Graph>(alloc: Global) -> Option<Eng
 }
 
 /// Sends so many events to an engine that has answered nothing.
-fn tell_clients<R: Records, A: Accesses, G: Graph>(
+fn run_clients<R: Records, A: Accesses, G: Graph>(
     rt: &(impl AllocGlobal + Print),
     engine: &mut Engine<R, A, G>,
     events: u64,
 ) -> io::Result<()> {
     let mut clients = Clients::new(engine);
-    tell_tenths(rt, &mut clients, events)
+    run_tenths(rt, &mut clients, events)
 }
 
-fn tell_tenths<R: Records, A: Accesses, G: Graph>(
+fn run_tenths<R: Records, A: Accesses, G: Graph>(
     rt: &(impl AllocGlobal + Print),
     clients: &mut Clients<'_, R, A, G>,
     events: u64,
 ) -> io::Result<()> {
     for tenth in 1..=10u64 {
         if clients.send_all(rt.alloc(), events / 10).is_err() {
-            return tell_no_memory(rt);
+            return print_no_memory(rt);
         }
-        clients.tell(rt, tenth.wrapping_mul(events / 10))?;
+        clients.print(rt, tenth.wrapping_mul(events / 10))?;
     }
     Ok(())
 }

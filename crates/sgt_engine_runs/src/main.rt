@@ -4,7 +4,7 @@
 //!     sgt_engine_runs drawn                           10,000 events that are drawn, over other bodies of the layers too
 //!     sgt_engine_runs EVENTS                          so many events, in memory that does not grow with them
 //!
-//! Without a word it makes three of them one after another, `again`, `drawn` and one of 250,000 events. What these have to tell
+//! Without a word it makes three of them one after another, `again`, `drawn` and one of 250,000 events. What these have to print
 //! stands in `stdout`. Which event comes next in a drawn run is read off a number that a generator draws, and off who is live
 //! then. So it is the same each time, and one wrong reply changes what comes after it.
 #![tactic(auto)]
@@ -16,39 +16,39 @@ mod drawn;
 mod draws;
 mod endless;
 mod events;
+mod list_runs;
 mod refusals;
 mod row;
 mod run;
-mod told;
 
-use crate::endless::tell_endless;
-use crate::row::{Plan, tell_row};
+use crate::endless::run_endless;
+use crate::list_runs::run_drawn;
+use crate::row::{Plan, run_plan};
 use crate::run::Order;
-use crate::told::tell_drawn;
 use std::alloc::AllocGlobal;
 use std::io::Print;
 use std::{env, io};
 
-/// What the run tells that this word names.
-fn tell(rt: &(impl AllocGlobal + Print), word: &str) -> io::Result<()> {
+/// Makes the run that this word names.
+fn run_named(rt: &(impl AllocGlobal + Print), word: &str) -> io::Result<()> {
     match word {
-        "again" => tell_row(rt, Plan::Again),
-        "cut" => tell_row(rt, Plan::Cut),
-        "oldest" => tell_row(rt, Plan::Quit(Order::Oldest)),
-        "newest" => tell_row(rt, Plan::Quit(Order::Newest)),
-        "drawn" => tell_drawn(rt),
+        "again" => run_plan(rt, Plan::Again),
+        "cut" => run_plan(rt, Plan::Cut),
+        "oldest" => run_plan(rt, Plan::Quit(Order::Oldest)),
+        "newest" => run_plan(rt, Plan::Quit(Order::Newest)),
+        "drawn" => run_drawn(rt),
         _ => match word.parse::<u64>() {
-            Ok(events) => tell_endless(rt, events),
+            Ok(events) => run_endless(rt, events),
             Err(_) => println!(rt; "usage: sgt_engine_runs [again|oldest|newest|cut|drawn|EVENTS]"),
         },
     }
 }
 
 /// The runs of the test command.
-fn tell_all(rt: &(impl AllocGlobal + Print)) -> io::Result<()> {
-    tell_row(rt, Plan::Again)?;
-    tell_drawn(rt)?;
-    tell_endless(rt, 250_000)
+fn run_all(rt: &(impl AllocGlobal + Print)) -> io::Result<()> {
+    run_plan(rt, Plan::Again)?;
+    run_drawn(rt)?;
+    run_endless(rt, 250_000)
 }
 
 fn main(rt: HostRuntime) -> io::Result<()> {
@@ -56,7 +56,7 @@ fn main(rt: HostRuntime) -> io::Result<()> {
         return println!(rt; "no memory");
     };
     match words.nth(1) {
-        Some(word) => tell(&rt, word.as_str()),
-        None => tell_all(&rt),
+        Some(word) => run_named(&rt, word.as_str()),
+        None => run_all(&rt),
     }
 }

@@ -1,7 +1,7 @@
 //! The events of the row `two_level_cascade` on `Engine::apply`, made to be run where memory is refused, as `tests/growths` does.
-//! An event that is refused memory it tells, and whether the history, the committed values and who is live are as before.
+//! It prints which events are refused memory, and whether the history, the committed values and who is live are as before.
 
-use crate::accounts::{open, tell_no_memory};
+use crate::accounts::{open, print_no_memory};
 use crate::events::start;
 use crate::run::{Order, Run};
 use sgt_access::{Accesses, PerKey};
@@ -64,19 +64,19 @@ fn event_at(place: u32) -> Event {
     }
 }
 
-/// Runs the row by this plan, and tells its replies and then the committed values.
-pub fn tell_row(rt: &(impl AllocGlobal + Print), plan: Plan) -> io::Result<()> {
-    tell_row_on::<SlabRecords, PerKey, BitGraph>(rt, plan)
+/// Runs the row by this plan, and prints its replies and then the committed values.
+pub fn run_plan(rt: &(impl AllocGlobal + Print), plan: Plan) -> io::Result<()> {
+    run_plan_on::<SlabRecords, PerKey, BitGraph>(rt, plan)
 }
 
 /// The same over these bodies of the layers.
-fn tell_row_on<R: Records, A: Accesses, G: Graph>(
+fn run_plan_on<R: Records, A: Accesses, G: Graph>(
     rt: &(impl AllocGlobal + Print),
     plan: Plan,
 ) -> io::Result<()> {
     match open::<R, A, G>(rt.alloc(), &ACCOUNTS, LIMITS) {
         Some(mut engine) => run_row(rt, &mut engine, plan),
-        None => tell_no_memory(rt),
+        None => print_no_memory(rt),
     }
 }
 
@@ -88,7 +88,7 @@ fn run_row<R: Records, A: Accesses, G: Graph>(
 ) -> io::Result<()> {
     match Run::new(rt.alloc(), engine) {
         Ok(mut run) => carry_out(rt, &mut run, plan),
-        Err(NoMemory) => tell_no_memory(rt),
+        Err(NoMemory) => print_no_memory(rt),
     }
 }
 
@@ -102,7 +102,7 @@ fn carry_out<R: Records, A: Accesses, G: Graph>(
     if let Plan::Cut = plan {
         return cut_and_go_on(rt, run);
     }
-    run.tell_end(rt)
+    run.print_end(rt)
 }
 
 /// Applies the row's events, but none behind one that all who are live were quit for.
@@ -150,7 +150,7 @@ fn cut_and_go_on<R: Records, A: Accesses, G: Graph>(
         run.quit_all(rt, Order::Oldest)?;
         cut(rt, run)?;
     }
-    run.tell_end(rt)
+    run.print_end(rt)
 }
 
 /// Cuts the history off; once more where that was refused memory.

@@ -52,33 +52,33 @@ impl<'a, R: Records, A: Accesses, G: Graph> Run<'a, R, A, G> {
         })
     }
 
-    /// Applies an event and tells its reply. Where it was refused memory, that is told, and whether all is as before; and the
+    /// Applies an event and prints its reply. Where it was refused memory, it prints that, and whether all is as before; and the
     /// answer is false.
     pub fn apply(&mut self, rt: &impl Print, event: &Event) -> io::Result<bool> {
         let before = self.seen();
         match self.engine.apply(event.copied()) {
             Ok(reply) => {
-                self.tell(rt, &reply)?;
+                self.print(rt, &reply)?;
                 let event = event.copied();
                 self.answered.push(Entry { event, reply })?;
                 Ok(true)
             }
-            Err(NoMemory) => self.tell_refused(rt, "refused", &before),
+            Err(NoMemory) => self.print_refused(rt, "refused", &before),
         }
     }
 
-    /// Cuts the history off, and tells how many entries it had and whether they are those that were answered. Where it was
-    /// refused, that is told, and whether all is as before; and the answer is false.
+    /// Cuts the history off, and prints how many entries it had and whether they are those that were answered. Where it was
+    /// refused, it prints that, and whether all is as before; and the answer is false.
     pub fn cut(&mut self, rt: &(impl AllocGlobal + Print)) -> io::Result<bool> {
         let before = self.seen();
         match self.engine.cut(rt.alloc()) {
-            Ok(past) => self.tell_cut(rt, &past.history),
-            Err(error) => self.tell_refused(rt, word_for(error), &before),
+            Ok(past) => self.print_cut(rt, &past.history),
+            Err(error) => self.print_refused(rt, word_for(error), &before),
         }
     }
 
     /// Tells of a history that was cut off.
-    fn tell_cut(&mut self, rt: &impl Print, past: &History) -> io::Result<bool> {
+    fn print_cut(&mut self, rt: &impl Print, past: &History) -> io::Result<bool> {
         let is_whole = is_history(past, self.answered.as_slice());
         self.answered.clear();
         println!(rt; "cut {}: history {}", past.len(), verdict(is_whole))?;
@@ -86,7 +86,7 @@ impl<'a, R: Records, A: Accesses, G: Graph> Run<'a, R, A, G> {
     }
 
     /// Tells of what was refused whether all is as before.
-    fn tell_refused(&self, rt: &impl Print, refusal: &str, before: &Seen) -> io::Result<bool> {
+    fn print_refused(&self, rt: &impl Print, refusal: &str, before: &Seen) -> io::Result<bool> {
         let history = verdict(self.has_history());
         let seen = verdict(self.seen() == *before);
         println!(rt;
@@ -107,15 +107,15 @@ impl<'a, R: Records, A: Accesses, G: Graph> Run<'a, R, A, G> {
     }
 
     /// Tells the committed values, each with its record, and what is left.
-    pub fn tell_end(&self, rt: &impl Print) -> io::Result<()> {
+    pub fn print_end(&self, rt: &impl Print) -> io::Result<()> {
         for (table, id) in &RECORDS {
-            self.tell_record(rt, *table, *id)?;
+            self.print_record(rt, *table, *id)?;
         }
         let live = self.engine.sched().live_count();
         println!(rt; "{live} live\nhistory {}", verdict(self.has_history()))
     }
 
-    fn tell_record(&self, rt: &impl Print, table: u8, id: i64) -> io::Result<()> {
+    fn print_record(&self, rt: &impl Print, table: u8, id: i64) -> io::Result<()> {
         match self.committed(table, id) {
             Some(value) => println!(rt; "{table}/{id} {value}"),
             None => println!(rt; "{table}/{id} none"),
@@ -123,7 +123,7 @@ impl<'a, R: Records, A: Accesses, G: Graph> Run<'a, R, A, G> {
     }
 
     /// Tells a reply's line.
-    fn tell(&mut self, rt: &impl Print, reply: &Reply) -> io::Result<()> {
+    fn print(&mut self, rt: &impl Print, reply: &Reply) -> io::Result<()> {
         self.line.clear();
         match append_reply(&mut self.line, reply) {
             Ok(()) => io::writer(rt).write_all(self.line.as_slice()),

@@ -8,7 +8,7 @@ use std::alloc::Global;
 
 /// The tree of a line, or none where the line is no JSON.
 #[tactic(auto, using(crate::proofs::Views::tree_of_read, crate::proofs::Views::tree_of_refused))]
-pub(crate) fn read_tree(alloc: Global, line: &[u8]) -> Result<Option<Value>, NoMemory>
+pub fn read_tree(alloc: Global, line: &[u8]) -> Result<Option<Value>, NoMemory>
     ensures { IfOk result (λ tree. option_map view tree ≡ tree_of line.now) }
 {
     let Ok(text) = str::from_utf8(line) else {
@@ -26,7 +26,7 @@ pub(crate) fn read_tree(alloc: Global, line: &[u8]) -> Result<Option<Value>, NoM
 
 /// The items of a list.
 #[tactic(auto, using(crate::proofs::Views::listed_items))]
-pub(crate) fn items(tree: &Value) -> Option<&[Value]>
+pub fn items(tree: &Value) -> Option<&[Value]>
     ensures { option_map (λ items. map view items.now) result ≡ list (view tree.now) }
 {
     Some(tree.as_array()?.as_slice())

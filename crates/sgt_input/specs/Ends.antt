@@ -1,6 +1,5 @@
 -- How a run over an input ends.
 use Rattle.std.specs.Prelude.{ℕ, ⊤, Result, Ok, Err}
-use Rattle.sgt_proc.specs.Flaws.{number}
 use Rattle.sgt_smallbank.specs.Accounts.{number_of}
 use Rattle.sgt_format.specs.declared.errors.LineError.{LineError}
 use Rattle.sgt_format.specs.declared.errors.LineError.TheVariants as line_error
@@ -33,7 +32,7 @@ fault_of_opening opening_error.BadLine = fault.BadLine 1
 fault_of_opening opening_error.BadLimits = fault.BadLimits
 fault_of_opening (opening_error.BadOpening kind) = fault.BadOpening (number_of kind)
 fault_of_opening (opening_error.ProcShape n place) = fault.ProcShape n place
-fault_of_opening (opening_error.ProcFlaw n flaw) = fault.ProcFlaw n (number flaw)
+fault_of_opening (opening_error.ProcFlaw n flaw) = fault.ProcFlaw n flaw
 fault_of_opening opening_error.NoMemory = fault.NoMemory
 
 -- there is no line 1: it is too long, or the input is empty

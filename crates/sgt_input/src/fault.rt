@@ -2,6 +2,7 @@ ghost use Rattle.std.specs.Prelude.{◌≡◌};
 ghost use Rattle.sgt_input.specs.declared.fault.Fault.TheVariants as fault;
 
 use crate::misfit::Misfit;
+use sgt_proc::Flaw;
 use std::fmt;
 use thiserror::Error;
 
@@ -22,8 +23,8 @@ pub enum Fault {
     BadOpening(u8),
     /// The procedure of this number in the opening spells none, and its first misfit is at this place.
     ProcShape(u64, Misfit),
-    /// The procedure of this number in the opening has a flaw, and this is the number of the least.
-    ProcFlaw(u64, u8),
+    /// The procedure of this number in the opening has a flaw, and this is the least.
+    ProcFlaw(u64, Flaw),
     /// The line is longer than 65,536 bytes without its byte 10.
     LongLine(u64),
     /// The input is longer than 16,777,216 bytes.
@@ -94,7 +95,7 @@ impl fmt::Display for Fault {
         match self {
             Fault::BadOpening(kind) => write!(f, "{kind}"),
             Fault::ProcShape(number, place) => write!(f, "{number} shape {place}"),
-            Fault::ProcFlaw(number, flaw) => write!(f, "{number} flaw {flaw}"),
+            Fault::ProcFlaw(number, flaw) => write!(f, "{number} flaw {}", flaw.number()),
             _ => Ok(()),
         }
     }

@@ -26,7 +26,7 @@ pub fn opening_of(alloc: Global, least: u32, lines: &Lines) -> Result<Opening, F
             Ok(misfit) => Err(Fault::ProcShape(number, misfit)),
             Err(_) => Err(Fault::NoMemory),
         },
-        Err(OpeningError::ProcFlaw(number, flaw)) => Err(Fault::ProcFlaw(number, flaw.number())),
+        Err(OpeningError::ProcFlaw(number, flaw)) => Err(Fault::ProcFlaw(number, flaw)),
         Err(OpeningError::NoMemory) => Err(Fault::NoMemory),
     }
 }

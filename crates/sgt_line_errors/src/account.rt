@@ -1,6 +1,6 @@
 use crate::message::{Piece, told};
-use crate::tree::items;
 use serde_json::Value;
+use sgt_format::items;
 use sgt_model::{LEAST, MOST, NoMemory, is_value};
 use std::alloc::Global;
 

@@ -3,7 +3,7 @@ ghost use Rattle.sgt_line_errors.specs.FaultyLines.{line_of};
 
 use crate::account::account_fault;
 use crate::command::Command;
-use crate::flaw::{find_flaw, flaw_numbered};
+use crate::flaw::find_flaw;
 use crate::json_text::json_fault;
 use crate::limit::limit_fault;
 use crate::message::{Piece, told};
@@ -11,9 +11,10 @@ use crate::misfit::misfit;
 use crate::opening::opening_fault;
 use crate::record::record_fault;
 use crate::request::{event_fault, job_fault};
-use crate::tree::{items, tree_of};
 use serde_json::Value;
+use sgt_format::{items, read_tree};
 use sgt_model::NoMemory;
+use sgt_proc::Flaw;
 use sgt_smallbank::PROCEDURES;
 use sgt_input::Fault;
 use std::alloc::Global;
@@ -36,7 +37,7 @@ pub fn diagnose(
         Fault::NoOpening => told(alloc, &[Piece::Words("the input is empty")]),
         Fault::LongLine(_) => told(alloc, &[Piece::Words("a line has at most 65536 bytes")]),
         Fault::NotJson(_) => json_fault(alloc, line),
-        _ => match tree_of(alloc, line)? {
+        _ => match read_tree(alloc, line)? {
             Some(tree) => tree_fault(alloc, fault, command, &tree),
             None => Ok(None),
         },
@@ -85,14 +86,14 @@ fn misfit_fault(
     }
 }
 
-// What is wrong with the opening's procedure of this number, which has the flaw of this number.
+// What is wrong with the opening's procedure of this number, which has this flaw.
 fn flaw_fault(
     alloc: Global,
     number: u64,
     opening: &Value,
-    flaw: u8,
+    flaw: Flaw,
 ) -> Result<Option<String>, NoMemory> {
-    let (Some(tree), Some(flaw)) = (procedure(opening, number), flaw_numbered(flaw)) else {
+    let Some(tree) = procedure(opening, number) else {
         return Ok(None);
     };
     match find_flaw(alloc, tree, flaw)? {

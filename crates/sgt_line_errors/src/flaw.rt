@@ -1,29 +1,12 @@
 use crate::message::{Piece, message};
-use crate::search::{
-    DEEPEST, LAST_CODE, LAST_REGISTER, MOST_ANSWERS, MOST_ARGUMENTS, MOST_STATEMENTS, Search,
-};
-use crate::tree::items;
+use crate::search::Search;
 use serde_json::Value;
+use sgt_format::items;
 use sgt_model::{LAST_TABLE, NoMemory};
-use sgt_proc::Flaw;
+use sgt_proc::{
+    DEEPEST, Flaw, LAST_CODE, LAST_REGISTER, MOST_ANSWERS, MOST_ARGUMENTS, MOST_STATEMENTS,
+};
 use std::alloc::Global;
-
-/// The flaw of this number.
-pub(crate) fn flaw_numbered(number: u8) -> Option<Flaw> {
-    match number {
-        1 => Some(Flaw::HighRegister),
-        2 => Some(Flaw::UnsetRegister),
-        3 => Some(Flaw::NoArgument),
-        4 => Some(Flaw::HighTable),
-        5 => Some(Flaw::TooLong),
-        6 => Some(Flaw::TooDeep),
-        7 => Some(Flaw::ManyAnswers),
-        8 => Some(Flaw::BadCode),
-        9 => Some(Flaw::ManyArguments),
-        10 => Some(Flaw::BadLiteral),
-        _ => None,
-    }
-}
 
 /// A flaw that was found.
 #[derive(Drop)]
@@ -106,14 +89,14 @@ fn words_around(flaw: Flaw) -> (&'static str, &'static str) {
 // The most that the number of a flaw may be, where its text tells it, in a procedure that takes so many arguments.
 fn most(flaw: Flaw, arguments: i64) -> Option<i64> {
     match flaw {
-        Flaw::HighRegister => Some(LAST_REGISTER),
+        Flaw::HighRegister => Some(i64::from(LAST_REGISTER)),
         Flaw::NoArgument => Some(arguments),
         Flaw::HighTable => Some(i64::from(LAST_TABLE)),
-        Flaw::TooLong => Some(MOST_STATEMENTS),
-        Flaw::TooDeep => Some(DEEPEST),
-        Flaw::ManyAnswers => Some(MOST_ANSWERS),
-        Flaw::BadCode => Some(LAST_CODE),
-        Flaw::ManyArguments => Some(MOST_ARGUMENTS),
+        Flaw::TooLong => Some(i64::from(MOST_STATEMENTS)),
+        Flaw::TooDeep => Some(i64::from(DEEPEST)),
+        Flaw::ManyAnswers => Some(i64::from(MOST_ANSWERS)),
+        Flaw::BadCode => Some(i64::from(LAST_CODE)),
+        Flaw::ManyArguments => Some(i64::from(MOST_ARGUMENTS)),
         Flaw::UnsetRegister | Flaw::BadLiteral => None,
     }
 }

@@ -1,7 +1,8 @@
 use crate::message::{Piece, told, unexpected, unknown};
 use crate::part::{Part, is_known};
-use crate::tree::{items, word_of};
+use crate::tree::word_of;
 use serde_json::Value;
+use sgt_format::items;
 use sgt_model::NoMemory;
 use std::alloc::Global;
 

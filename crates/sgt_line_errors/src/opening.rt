@@ -1,8 +1,9 @@
 use crate::account::NAMES;
 use crate::limit::ordinal;
 use crate::message::{Piece, told, unexpected};
-use crate::tree::{first_not_whole, items};
+use crate::tree::first_not_whole;
 use serde_json::Value;
+use sgt_format::items;
 use sgt_model::NoMemory;
 use std::alloc::Global;
 

@@ -1,6 +1,6 @@
 use crate::message::{Piece, told};
-use crate::tree::items;
 use serde_json::Value;
+use sgt_format::items;
 use sgt_model::{LAST_TABLE, LEAST, MOST, NoMemory};
 use std::alloc::Global;
 

@@ -1,12 +1,11 @@
 use crate::message::{Piece, told, unexpected, unknown};
 use crate::record::numbers;
-use crate::tree::{first_not_whole, items, word_of};
+use crate::tree::{first_not_whole, word_of};
 use serde_json::Value;
+use sgt_format::items;
 use sgt_model::NoMemory;
+use sgt_proc::MOST_ARGUMENTS;
 use std::alloc::Global;
-
-/// The most arguments that a call has.
-const MOST_ARGUMENTS: usize = 4;
 
 /// How a start is written.
 const START: &str = "[\"start\",procedure,[argument,..]]";
@@ -137,13 +136,13 @@ fn arguments_fault(alloc: Global, tree: &Value) -> Result<Option<String>, NoMemo
     let Some(arguments) = items(tree) else {
         return unexpected(alloc, "a list of arguments", tree);
     };
-    if arguments.len() > MOST_ARGUMENTS {
+    if arguments.len() > usize::from(MOST_ARGUMENTS) {
         return told(
             alloc,
             &[
                 Piece::Count(arguments.len() as u64),
                 Piece::Words(" arguments are given, and at most "),
-                Piece::Count(MOST_ARGUMENTS as u64),
+                Piece::Count(u64::from(MOST_ARGUMENTS)),
                 Piece::Words(" may be"),
             ],
         );

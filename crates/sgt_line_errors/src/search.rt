@@ -1,28 +1,13 @@
 use crate::flow::Flow;
 use crate::part::Part;
-use crate::tree::{items, word_of};
+use crate::tree::word_of;
 use serde_json::Value;
+use sgt_format::items;
 use sgt_model::{LAST_TABLE, NoMemory, is_value};
-use sgt_proc::Flaw;
+use sgt_proc::{
+    DEEPEST, Flaw, LAST_CODE, LAST_REGISTER, MOST_ANSWERS, MOST_ARGUMENTS, MOST_STATEMENTS,
+};
 use std::alloc::Global;
-
-/// The greatest number of a register.
-pub(crate) const LAST_REGISTER: i64 = 15;
-
-/// How many statements a procedure has at most.
-pub(crate) const MOST_STATEMENTS: i64 = 64;
-
-/// How deep statements and expressions are at most.
-pub(crate) const DEEPEST: i64 = 16;
-
-/// How many answers a path has at most.
-pub(crate) const MOST_ANSWERS: i64 = 8;
-
-/// The greatest code.
-pub(crate) const LAST_CODE: i64 = 999;
-
-/// How many arguments a procedure takes at most.
-pub(crate) const MOST_ARGUMENTS: i64 = 4;
 
 /// A search through a procedure as JSON, from its top and from left to right, for the first place that has a flaw.
 #[derive(Drop)]
@@ -133,11 +118,11 @@ impl Search {
     // Whether a number of this part has the flaw.
     fn is_broken(&self, part: Part, number: i64) -> bool {
         match (self.flaw, part) {
-            (Flaw::HighRegister, Part::Register) => number > LAST_REGISTER,
+            (Flaw::HighRegister, Part::Register) => number > i64::from(LAST_REGISTER),
             (Flaw::NoArgument, Part::Argument) => number >= self.arguments,
             (Flaw::HighTable, Part::Table) => number > i64::from(LAST_TABLE),
-            (Flaw::BadCode, Part::Code) => number < 1 || number > LAST_CODE,
-            (Flaw::ManyArguments, Part::Arguments) => number > MOST_ARGUMENTS,
+            (Flaw::BadCode, Part::Code) => number < 1 || number > i64::from(LAST_CODE),
+            (Flaw::ManyArguments, Part::Arguments) => number > i64::from(MOST_ARGUMENTS),
             (Flaw::BadLiteral, Part::Expression) => !is_value(number),
             _ => false,
         }
@@ -170,8 +155,8 @@ impl Search {
 }
 
 // The number, where it counts and is over the most.
-fn over(number: i64, most: i64, counts: bool) -> Option<i64> {
-    if counts && number > most {
+fn over(number: i64, most: u8, counts: bool) -> Option<i64> {
+    if counts && number > i64::from(most) {
         Some(number)
     } else {
         None

@@ -1,26 +1,6 @@
+//! What the items of a JSON list are.
+
 use serde_json::Value;
-use sgt_model::NoMemory;
-use std::alloc::Global;
-
-/// The tree of a line, or none where the line is no JSON.
-pub(crate) fn tree_of(alloc: Global, line: &[u8]) -> Result<Option<Value>, NoMemory> {
-    let Ok(text) = str::from_utf8(line) else {
-        return Ok(None);
-    };
-    match Value::from_str(alloc, text) {
-        Ok(tree) => Ok(Some(tree)),
-        Err(error) => if error.is_memory() {
-            Err(NoMemory)
-        } else {
-            Ok(None)
-        },
-    }
-}
-
-/// The items of a list.
-pub(crate) fn items(tree: &Value) -> Option<&[Value]> {
-    Some(tree.as_array()?.as_slice())
-}
 
 /// The word that a list begins with, where it begins with a text.
 pub(crate) fn word_of(items: &[Value]) -> Option<&str> {

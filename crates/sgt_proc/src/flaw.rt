@@ -10,7 +10,7 @@ use crate::sizes::{MOST_STATEMENTS, size};
 use sgt_model::Procedure;
 
 /// The most arguments that a procedure takes.
-const MOST_ARGS: u8 = 4;
+pub const MOST_ARGUMENTS: u8 = 4;
 
 /// What can be wrong with a procedure's text. A way through it takes either branch of each If, whatever the condition, and
 /// stops at an Ask.
@@ -96,7 +96,7 @@ impl Flaw {
             Flaw::TooLong => size(body) > MOST_STATEMENTS,
             Flaw::TooDeep => depth(body).max(exprs_depth(body)) > DEEPEST,
             Flaw::ManyAnswers => most_answers(body, 0) > MOST_ANSWERS,
-            Flaw::ManyArguments => args > MOST_ARGS,
+            Flaw::ManyArguments => args > MOST_ARGUMENTS,
         }
     }
 }

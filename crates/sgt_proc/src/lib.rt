@@ -27,8 +27,12 @@ mod registers;
 mod sizes;
 mod value;
 
+pub use answers::MOST_ANSWERS;
 pub use checked::{Checked, check};
 pub use cursor::Cursor;
-pub use flaw::{Flaw, Flawed};
+pub use depths::DEEPEST;
+pub use flaw::{Flaw, Flawed, MOST_ARGUMENTS};
 pub use laws::flawless_is_sound;
 pub use next::Next;
+pub use numbers::{LAST_CODE, LAST_REGISTER};
+pub use sizes::MOST_STATEMENTS;

@@ -7,6 +7,12 @@ ghost use Rattle.sgt_proc.specs.NumberFlaws.{is_bad};
 use crate::flaw::Flaw;
 use sgt_model::{Cond, Expr, LAST_TABLE, Statement, is_value};
 
+/// The greatest number of a register.
+pub const LAST_REGISTER: u8 = 15;
+
+/// The greatest code that a procedure of a text asks.
+pub const LAST_CODE: u16 = 999;
+
 /// A number that stands in the text of a procedure.
 #[derive(Clone, Copy)]
 pub enum Number {
@@ -29,10 +35,10 @@ impl Rule {
         ensures { result ≡ is_bad self.flaw self.args number }
     {
         match (self.flaw, number) {
-            (Flaw::HighRegister, Number::Register(n)) => n > 15,
+            (Flaw::HighRegister, Number::Register(n)) => n > LAST_REGISTER,
             (Flaw::NoArgument, Number::Argument(n)) => n >= self.args,
             (Flaw::HighTable, Number::Table(n)) => n > LAST_TABLE,
-            (Flaw::BadCode, Number::Code(n)) => n == 0 || n > 999,
+            (Flaw::BadCode, Number::Code(n)) => n == 0 || n > LAST_CODE,
             (Flaw::BadLiteral, Number::Literal(n)) => !is_value(n),
             _ => false,
         }

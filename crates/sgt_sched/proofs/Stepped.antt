@@ -1,5 +1,5 @@
 -- The effect of a call on a live transaction.
-use Rattle.std.proofs.Common.{◌≡◌, ℕ, Bool, true, false, nat_lt, List, Option, Some, None, Result, Ok, Err, refl, sym, subst}
+use Rattle.std.proofs.Common.{◌≡◌, ℕ, Bool, true, false, nat_lt, List, Option, Some, None, Result, Ok, Err, inl, refl, sym, subst}
 use Rattle.std.specs.Prelude.{OnErr}
 use Rattle.std.proofs.lemmas.Result.{IfOk-weaker}
 use Rattle.sgt_records.specs.declared.records.Records.{Ghosts as RecordsGhosts}
@@ -10,17 +10,21 @@ use Rattle.sgt_model.specs.declared.limits.Asks.{Asks}
 use Rattle.sgt_model.specs.declared.event.Event.{Event}
 use Rattle.sgt_model.specs.declared.reply.Fate.{Fate}
 use Rattle.sgt_model.specs.declared.reply.Reply.{Reply}
+use Rattle.sgt_model.specs.Contents.{Key}
 use Rattle.sgt_model.specs.Traces.{Next}
 use Rattle.sgt_model.specs.Settings.{Rules}
 use Rattle.sgt_model.specs.Left.{next_left}
 use Rattle.sgt_model.specs.State.{State}
-use Rattle.sgt_model.specs.CallEffects.{IfOpen, StepOn, StepEffect, CommitOn, CommitEffect, CallEffect}
+use Rattle.sgt_model.specs.CallEffects.{IfOpen, CycleAbortEffect, StepOn, StepEffect, CommitOn, CommitEffect, CallEffect}
 use Rattle.sgt_model.specs.declared.reply.Cause.{Cause}
 use Rattle.sgt_model.specs.declared.reply.Reply.TheVariants as reply
 use Rattle.sgt_sched.specs.declared.brief.Brief.{Brief}
 use Rattle.sgt_sched.specs.declared.brief.Brief.TheVariants as brief
+use Rattle.sgt_sched.specs.declared.operation.Operation.{Operation}
+use Rattle.sgt_sched.specs.declared.operation.Operation.TheVariants as operation
 use Rattle.sgt_sched.specs.declared.sched.Sched.{Sched}
 use Rattle.sgt_sched.specs.Briefs.{in_full, InBrief, Unplaced}
+use Rattle.sgt_sched.specs.Operations.{kind_of, next_of}
 use Rattle.sgt_sched.specs.Scheduler.{Tries}
 use Rattle.sgt_sched.specs.Steps.{IsNotLiveBy}
 
@@ -57,16 +61,25 @@ pub in_brief : {effect more : State → Reply → State → Type 0} {out : Reply
     → InBrief more out before b after
 in_brief also done = record { does = also done.does; short = done.short }
 
--- what an access does that is made from the same scheduler, as what a step does
-pub made : {R A G : Type 0} {r : RecordsGhosts R} {a : AccessesGhosts A} {g : GraphGhosts G} (effect more : State → Reply → State → Type 0)
-    (out : Reply) {old now new : Sched R A G r a g} (result : Result Brief NoMemory) → now ≡ old
-    → ((before : State) (told : Reply) (after : State) → effect before told after → more before told after)
-    → Tries (Unplaced effect) now result new → Tries (InBrief more out) old result new
-made effect more out {new = new} result same also tries = subst (λ s. Tries (InBrief more out) s result new) same (record {
-  done = IfOk-weaker result _ _ (λ b done. in_brief (also _ _ _) (done out)) tries.done;
-  refused = tries.refused;
-  kept = tries.kept;
-})
+module _ {R A G : Type 0} {r : RecordsGhosts R} {a : AccessesGhosts A} {g : GraphGhosts G} {old : Sched R A G r a g} where
+  -- what an access does, as what a step does
+  pub made : (effect more : State → Reply → State → Type 0) {new : Sched R A G r a g} (result : Result Brief NoMemory)
+      → ((before : State) (told : Reply) (after : State) → effect before told after → more before told after)
+      → Tries (Unplaced effect) old result new → Tries (Unplaced more) old result new
+  made effect more result also tries = record {
+    done = IfOk-weaker result _ _ (λ b done out. in_brief (also _ _ _) (done out)) tries.done;
+    refused = tries.refused;
+    kept = tries.kept;
+  }
+
+  -- the same effect of the same scheduler, with what is placed
+  pub made_with : (effect : State → Reply → State → Type 0) (out : Reply) {now new : Sched R A G r a g} (result : Result Brief NoMemory)
+      → now ≡ old → Tries (Unplaced effect) now result new → Tries (InBrief effect out) old result new
+  made_with effect out {new = new} result same tries = subst (λ s. Tries (InBrief effect out) s result new) same (record {
+    done = IfOk-weaker result _ _ (λ b done. done out) tries.done;
+    refused = tries.refused;
+    kept = tries.kept;
+  })
 
 -- an abort is told by what is placed
 pub placed_abort : (b : Brief) (out : Reply) (why : Cause) (fell : List ℕ) → in_full b out ≡ reply.Aborted why fell
@@ -93,3 +106,9 @@ whatever (Err e) p = p
 pub called : (rules : Rules) (before : State) (r : Reply) (after : State) (event is : Event) → event ≡ is
     → CallEffect rules is before r after → CallEffect rules event before r after
 called rules before r after event is same done = subst (λ e. CallEffect rules e before r after) (sym same) done
+
+-- an access that is blocked is rejected
+pub rejected : (asks : Asks) (t : ℕ) (k : Key) (operation : Operation) (before : State) (r : Reply) (after : State)
+    → CycleAbortEffect t k (kind_of operation) before r after → StepOn asks t (next_of k operation) before r after
+rejected asks t k operation.Look before r after rejects = inl rejects
+rejected asks t k (operation.Store v) before r after rejects = inl rejects

@@ -4,6 +4,7 @@ pub mod SchedulerView
 pub mod KeptProp
 pub mod Briefs
 pub mod Admission
+pub mod Operations
 pub mod Steps
 pub mod Endings
 pub mod FateList

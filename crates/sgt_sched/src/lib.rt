@@ -22,6 +22,7 @@ mod follow;
 mod laws;
 mod leave;
 mod live;
+mod operation;
 mod reads;
 mod running;
 mod sched;

@@ -1,5 +1,5 @@
 //! More procedures.
-ghost use Rattle.std.specs.Prelude.{◌≡◌, ◌≢◌, ◌≤◌, ◌^◌, ◌↔◌, [], length, Err, IfOk, OnOk, OnErr};
+ghost use Rattle.std.specs.Prelude.{◌≡◌, ◌≢◌, ◌<◌, ◌≤◌, ◌^◌, ◌↔◌, [], length, Err, IfOk, OnOk, OnErr};
 ghost use Rattle.sgt_engine.specs.Puts.{with_procedure};
 
 use crate::engine::Engine;
@@ -48,12 +48,22 @@ impl<R: Records, A: Accesses, G: Graph> Engine<R, A, G> {
         ensures unchanged { OnErr result (self.new ≡ self.old) }
     {
         let number = self.next_number()?;
-        self.sched.add_procedure(procedure)?;
+        self.add_at_start(procedure)?;
         Ok(number)
     }
 
-    // The number of one that may be added behind the others.
-    fn next_number(&self) -> Result<u16, AddError>
+    /// The same, for a caller that has asked for the number.
+    pub fn add_at_start(&mut self, procedure: Checked) -> Result<(), NoMemory>
+        requires begins { self.old.past ≡ [] }
+        requires has_number { length self.old.procedures < 2 ^ 16 }
+        ensures added { OnOk result (self.new ≡ with_procedure procedure self.old) }
+        ensures unchanged { OnErr result (self.new ≡ self.old) }
+    {
+        self.sched.add_procedure(procedure)
+    }
+
+    /// The number that a procedure gets that is added now. `Begun` and `TooMany` as where one is added.
+    pub fn next_number(&self) -> Result<u16, AddError>
         ensures number { IfOk result (λ n. (self.now.past ≡ []) × (n ≡ length self.now.procedures)) }
         ensures begun { result ≡ Err AddError.Begun → self.now.past ≢ [] }
         ensures too_many { result ≡ Err AddError.TooMany → (self.now.past ≡ []) × (2 ^ 16 ≤ length self.now.procedures) }

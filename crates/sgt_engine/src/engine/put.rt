@@ -53,10 +53,22 @@ impl<R: Records, A: Accesses, G: Graph> Engine<R, A, G> {
         ensures refused { IfErr result (AreRefused self.old rows.now) }
         ensures unchanged { OnErr result (self.new ≡ self.old) }
     {
-        new_is_empty();
         if !self.is_new() {
             return Err(PutError::Begun);
         }
+        self.put_at_start(alloc, rows)
+    }
+
+    /// The same, for a caller that knows that the history is empty.
+    pub fn put_at_start(&mut self, alloc: Global, rows: &[(Key, i64)]) -> Result<(), PutError>
+        requires begins { self.old.past ≡ [] }
+        requires in_range { HasValues rows.now }
+        ensures put { OnOk result (PutsRows self.old rows.now self.new) }
+        ensures not_begun { result ≢ Err PutError.Begun }
+        ensures refused { IfErr result (AreRefused self.old rows.now) }
+        ensures unchanged { OnErr result (self.new ≡ self.old) }
+    {
+        new_is_empty();
         let opening = self.opening_with(alloc, rows)?;
         self.sched.reopen(alloc, &opening)?;
         self.opening = opening;

@@ -5,17 +5,19 @@ ghost use Rattle.sgt_model.specs.declared.event.Event.TheVariants.{Step};
 ghost use Rattle.sgt_model.specs.declared.kind.Kind.TheVariants.{Look, Store};
 ghost use Rattle.sgt_model.specs.CallEffects.{StepEffect, StepOn, MakesLook, MakesStore};
 ghost use Rattle.sgt_model.specs.Numbers.{IsValue};
-ghost use Rattle.sgt_model.specs.Traces.{Looks, Puts, Raises};
+ghost use Rattle.sgt_model.specs.Traces.{Raises};
 ghost use Rattle.sgt_model.specs.Walks.{Member};
 ghost use Rattle.sgt_cycle.specs.Walk.{NoWalk};
 ghost use Rattle.sgt_sched.specs.Briefs.{InBrief, Unplaced};
 ghost use Rattle.sgt_sched.specs.Endings.{EndsOne, IsBlocked};
 ghost use Rattle.sgt_sched.specs.LiveList.{has_number};
+ghost use Rattle.sgt_sched.specs.Operations.{kind_of, next_of, WritesValue};
 ghost use Rattle.sgt_sched.specs.Scheduler.{parts, state, asks_of, Turns, Tries, LinksOrAborts};
 ghost use Rattle.sgt_sched.specs.Steps.{AreRivals};
 
 use crate::brief::Brief;
 use crate::follow::follow;
+use crate::operation::Operation;
 use crate::reads::note_read;
 use crate::sched::Sched;
 use sgt_access::Accesses;
@@ -52,50 +54,87 @@ impl<R: Records, A: Accesses, G: Graph> Sched<R, A, G> {
         };
         let next = self.next_at(t, index);
         match next {
-            Next::Look(key) => self.look(t, index, key, out),
-            Next::Put(key, value) => self.store(t, index, key, value, out),
+            Next::Look(key) => self.access(t, index, key, Operation::Look, out),
+            Next::Put(key, value) => self.access(t, index, key, Operation::Store(value), out),
             Next::Ends(_) => Ok(Brief::Ended),
             Next::Asks(code) => Ok(self.step_asked(t, code, out)),
         }
     }
 
-    // Makes a look of a live transaction, which has this index, or aborts it where the look would close a cycle. Most have no rival.
-    fn look(&mut self, t: Tid, index: usize, key: Key, out: &mut Reply) -> Result<Brief, NoMemory>
-        requires live { (state self.old).nodes t ≡ true }
-        requires at { position (has_number t) (parts self.old).live ≡ Some index }
-        ensures done { Tries (InBrief (StepOn (asks_of self.old) t (Looks key)) out.new) self.old result self.new }
-        ensures out { OnErr result (out.new ≡ out.old) }
-        ensures no_memory { IsBlocked (state self.old) t key Look → IsOk result }
-    {
-        if self.accesses.has_rival(t, key, Kind::Look) {
-            return self.look_behind(t, index, key, out);
-        }
-        self.make_look(t, index, key, &Tids::new(), Link::default())
-    }
-
-    // The same, where others have conflicting accesses.
-    #[inline(never)]
-    fn look_behind(
+    // Makes an access of a live transaction, which has this index, or aborts it where the access would close a cycle. Most have no
+    // rival.
+    #[inline(always)]
+    fn access(
         &mut self,
         t: Tid,
         index: usize,
         key: Key,
+        operation: Operation,
         out: &mut Reply,
     ) -> Result<Brief, NoMemory>
         requires live { (state self.old).nodes t ≡ true }
         requires at { position (has_number t) (parts self.old).live ≡ Some index }
-        ensures done { Tries (InBrief (StepOn (asks_of self.old) t (Looks key)) out.new) self.old result self.new }
+        requires in_range { WritesValue operation }
+        ensures done { Tries (InBrief (StepOn (asks_of self.old) t (next_of key operation)) out.new) self.old result self.new }
         ensures out { OnErr result (out.new ≡ out.old) }
-        ensures no_memory { IsBlocked (state self.old) t key Look → IsOk result }
+        ensures no_memory { IsBlocked (state self.old) t key (kind_of operation) → IsOk result }
     {
-        let writers = self.accesses.rivals(t, key, Kind::Look);
-        let Some(link) = self.plan_or_abort(t, &writers, out) else {
-            return Ok(Brief::Placed);
-        };
-        self.make_look(t, index, key, &writers, link)
+        if self.accesses.has_rival(t, key, operation.kind()) {
+            return self.access_after(t, index, key, operation, out);
+        }
+        self.make_access(t, index, key, operation, &Tids::new(), Link::default())
     }
 
-    // Makes a look of a live transaction, which has this index, behind these writers.
+    // The same, where others have conflicting accesses. Each kind of access has its own copy of it.
+    #[inline(always)]
+    fn access_after(
+        &mut self,
+        t: Tid,
+        index: usize,
+        key: Key,
+        operation: Operation,
+        out: &mut Reply,
+    ) -> Result<Brief, NoMemory>
+        requires live { (state self.old).nodes t ≡ true }
+        requires at { position (has_number t) (parts self.old).live ≡ Some index }
+        requires in_range { WritesValue operation }
+        ensures done { Tries (InBrief (StepOn (asks_of self.old) t (next_of key operation)) out.new) self.old result self.new }
+        ensures out { OnErr result (out.new ≡ out.old) }
+        ensures no_memory { IsBlocked (state self.old) t key (kind_of operation) → IsOk result }
+    {
+        let rivals = self.accesses.rivals(t, key, operation.kind());
+        let Some(link) = self.plan_or_abort(t, &rivals, out) else {
+            return Ok(Brief::Placed);
+        };
+        self.make_access(t, index, key, operation, &rivals, link)
+    }
+
+    // Makes an access of a live transaction, which has this index, after these rivals.
+    #[inline(always)]
+    fn make_access(
+        &mut self,
+        t: Tid,
+        index: usize,
+        key: Key,
+        operation: Operation,
+        rivals: &Tids,
+        link: Link,
+    ) -> Result<Brief, NoMemory>
+        requires live { (state self.old).nodes t ≡ true }
+        requires at { position (has_number t) (parts self.old).live ≡ Some index }
+        requires in_range { WritesValue operation }
+        requires rivals { AreRivals (state self.old) t key (kind_of operation) rivals.now }
+        requires free { NoWalk (state self.old).pairs t rivals.now }
+        requires planned { rivals.now ≢ [] → G.is_planned (parts self.old).graph t rivals.now link }
+        ensures { Tries (Unplaced (StepOn (asks_of self.old) t (next_of key operation))) self.old result self.new }
+    {
+        match operation {
+            Operation::Look => self.make_look(t, index, key, rivals, link),
+            Operation::Store(value) => self.make_store(t, index, key, value, rivals, link),
+        }
+    }
+
+    // Makes a look of a live transaction, which has this index, after these writers.
     #[inline(always)]
     fn make_look(
         &mut self,
@@ -123,53 +162,7 @@ impl<R: Records, A: Accesses, G: Graph> Sched<R, A, G> {
         Ok(Brief::Looked { key, value })
     }
 
-    // Makes a store of a live transaction, which has this index, or aborts it where the store would close a cycle. Most have no rival.
-    fn store(
-        &mut self,
-        t: Tid,
-        index: usize,
-        key: Key,
-        value: i64,
-        out: &mut Reply,
-    ) -> Result<Brief, NoMemory>
-        requires live { (state self.old).nodes t ≡ true }
-        requires at { position (has_number t) (parts self.old).live ≡ Some index }
-        requires in_range { IsValue value }
-        ensures done { Tries (InBrief (StepOn (asks_of self.old) t (Puts key value)) out.new) self.old result self.new }
-        ensures out { OnErr result (out.new ≡ out.old) }
-        ensures no_memory { IsBlocked (state self.old) t key Store → IsOk result }
-    {
-        if self.accesses.has_rival(t, key, Kind::Store) {
-            return self.store_behind(t, index, key, value, out);
-        }
-        self.make_store(t, index, key, value, &Tids::new(), Link::default())
-    }
-
-    // The same, where others have conflicting accesses.
-    #[inline(never)]
-    fn store_behind(
-        &mut self,
-        t: Tid,
-        index: usize,
-        key: Key,
-        value: i64,
-        out: &mut Reply,
-    ) -> Result<Brief, NoMemory>
-        requires live { (state self.old).nodes t ≡ true }
-        requires at { position (has_number t) (parts self.old).live ≡ Some index }
-        requires in_range { IsValue value }
-        ensures done { Tries (InBrief (StepOn (asks_of self.old) t (Puts key value)) out.new) self.old result self.new }
-        ensures out { OnErr result (out.new ≡ out.old) }
-        ensures no_memory { IsBlocked (state self.old) t key Store → IsOk result }
-    {
-        let rivals = self.accesses.rivals(t, key, Kind::Store);
-        let Some(link) = self.plan_or_abort(t, &rivals, out) else {
-            return Ok(Brief::Placed);
-        };
-        self.make_store(t, index, key, value, &rivals, link)
-    }
-
-    // Makes a store of a live transaction, which has this index, behind these rivals.
+    // Makes a store of a live transaction, which has this index, after these rivals.
     #[inline(always)]
     fn make_store(
         &mut self,

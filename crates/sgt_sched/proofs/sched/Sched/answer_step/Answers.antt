@@ -12,12 +12,12 @@ use Rattle.sgt_sched.proofs.sched.Sched.answer_step.Goals as goal
 
 pub returns-in-Look-clause-done : goal.returns-in-Look-clause-done
 returns-in-Look-clause-done g c = record {
-  done = IfOk-weaker c.look.result _ _
-      (λ b done. in_brief (steps_on c.args.self.now.limits.asks c.args.t _ (in_full b c.look.new.out) _ _
+  done = IfOk-weaker c.access.result _ _
+      (λ b done. in_brief (steps_on c.args.self.now.limits.asks c.args.t _ (in_full b c.access.new.out) _ _
       (c.in-Some.ensures.unended.0 refl).begun
-      (c.in-Some.ensures.unended.0 refl).unended (ap seen (sym c.in-Look.is) ∙ c.next_at-next.ensures.next)) done) c.look.ensures.done.done;
-  refused = c.look.ensures.done.refused;
-  kept = c.look.ensures.done.kept;
+      (c.in-Some.ensures.unended.0 refl).unended (ap seen (sym c.in-Look.is) ∙ c.next_at-next.ensures.next)) done) c.access.ensures.done.done;
+  refused = c.access.ensures.done.refused;
+  kept = c.access.ensures.done.kept;
 }
 
 pub returns-in-Put-clause-done : goal.returns-in-Put-clause-done
@@ -25,12 +25,13 @@ returns-in-Put-clause-done g c =
     let fits : SFits w64 c.in-Put.value = search rules in
     let next = ap (Puts c.in-Put.key) (to_z-of_z w64 c.in-Put.value fits) ∙ (ap seen (sym c.in-Put.is) ∙ c.next_at-next.ensures.next) in
     record {
-      done = IfOk-weaker c.store.result _ _ (λ b done. in_brief
-          (steps_on c.args.self.now.limits.asks c.args.t (state c.args.self.now) (in_full b c.store.new.out) _
+      done = IfOk-weaker c.access-in-Put.result _ _ (λ b done. in_brief
+          (steps_on c.args.self.now.limits.asks c.args.t (state c.args.self.now) (in_full b c.access-in-Put.new.out) _
           (Puts c.in-Put.key (to_z w64 (of_z w64 c.in-Put.value)))
-          (c.in-Some.ensures.unended.0 refl).begun (c.in-Some.ensures.unended.0 refl).unended next) done) c.store.ensures.done.done;
-      refused = c.store.ensures.done.refused;
-      kept = c.store.ensures.done.kept;
+          (c.in-Some.ensures.unended.0 refl).begun (c.in-Some.ensures.unended.0 refl).unended next) done)
+          c.access-in-Put.ensures.done.done;
+      refused = c.access-in-Put.ensures.done.refused;
+      kept = c.access-in-Put.ensures.done.kept;
     }
 
 pub returns-in-Ends-clause-done : goal.returns-in-Ends-clause-done
@@ -58,18 +59,18 @@ returns-in-Asks-clause-done g c = record {
 }
 
 pub returns-in-Look-clause-out : goal.returns-in-Look-clause-out
-returns-in-Look-clause-out g c = c.look.ensures.out
+returns-in-Look-clause-out g c = c.access.ensures.out
 
 pub returns-in-Look-clause-no_memory : goal.returns-in-Look-clause-no_memory
-returns-in-Look-clause-no_memory g c e = c.look.ensures.no_memory
+returns-in-Look-clause-no_memory g c e = c.access.ensures.no_memory
     (subst (λ n. StepEnds c.args.self.now.limits.asks c.args.t n (state c.args.self.now))
     (sym (ap seen (sym c.in-Look.is) ∙ c.next_at-next.ensures.next)) e.1)
 
 pub returns-in-Put-clause-out : goal.returns-in-Put-clause-out
-returns-in-Put-clause-out g c = c.store.ensures.out
+returns-in-Put-clause-out g c = c.access-in-Put.ensures.out
 
 pub returns-in-Put-clause-no_memory : goal.returns-in-Put-clause-no_memory
-returns-in-Put-clause-no_memory g c e = c.store.ensures.no_memory
+returns-in-Put-clause-no_memory g c e = c.access-in-Put.ensures.no_memory
     (subst (λ n. StepEnds c.args.self.now.limits.asks c.args.t n (state c.args.self.now))
     (sym (ap seen (sym c.in-Put.is) ∙ c.next_at-next.ensures.next)) e.1)
 

@@ -1,6 +1,6 @@
 //! What runs of jobs came to, as text.
 use crate::accounts::{ACCOUNTS, checking};
-use crate::crowd::tell_compared;
+use crate::crowd::run_compared;
 use sgt_dispatch::Job;
 use sgt_log::History;
 use sgt_format::reply_line;
@@ -76,9 +76,9 @@ impl fmt::Display for Counts {
     }
 }
 
-/// What is told of a report.
+/// What is printed of a report.
 #[derive(Clone, Copy)]
-pub enum Told<'a> {
+pub enum Printed<'a> {
     /// That there is one.
     Report,
     /// How many jobs came to what.
@@ -93,50 +93,50 @@ pub enum Told<'a> {
     Compared { limits: Limits, jobs: &'a [Job] },
 }
 
-/// Tells this of a report.
-pub fn tell<W: Threads + Wait + Sync + Print>(
+/// Prints this of a report.
+pub fn print_report<W: Threads + Wait + Sync + Print>(
     rt: &W,
     alloc: Global,
     report: &Report<u64>,
-    told: Told<'_>,
+    printed: Printed<'_>,
 ) -> io::Result<()> {
-    match told {
-        Told::Report => println!(rt; "a report"),
-        Told::Counts => tell_report(rt, report),
-        Told::Order => tell_ordered(rt, report),
-        Told::Leaver => tell_leaver(rt, alloc, report),
-        Told::Aborts => tell_deposits(rt, alloc, report),
-        Told::Compared { limits, jobs } => tell_compared(rt, alloc, limits, jobs, report),
+    match printed {
+        Printed::Report => println!(rt; "a report"),
+        Printed::Counts => print_counts(rt, report),
+        Printed::Order => print_ordered(rt, report),
+        Printed::Leaver => print_leaver(rt, alloc, report),
+        Printed::Aborts => print_deposits(rt, alloc, report),
+        Printed::Compared { limits, jobs } => run_compared(rt, alloc, limits, jobs, report),
     }
 }
 
-/// Tells of which transactions the entries are, and how many jobs came to what.
-fn tell_ordered<W: Print>(rt: &W, report: &Report<u64>) -> io::Result<()> {
-    tell_order(rt, &report.history)?;
-    tell_report(rt, report)
+/// Prints of which transactions the entries are, and how many jobs came to what.
+fn print_ordered<W: Print>(rt: &W, report: &Report<u64>) -> io::Result<()> {
+    print_order(rt, &report.history)?;
+    print_counts(rt, report)
 }
 
-/// Tells what a run of deposits came to, and how its history ends.
-fn tell_deposits<W: Print>(rt: &W, alloc: Global, report: &Report<u64>) -> io::Result<()> {
-    tell_report(rt, report)?;
-    tell_size(rt, report)?;
-    tell_aborts(rt, alloc, &report.history)
+/// Prints what a run of deposits came to, and how its history ends.
+fn print_deposits<W: Print>(rt: &W, alloc: Global, report: &Report<u64>) -> io::Result<()> {
+    print_counts(rt, report)?;
+    print_size(rt, report)?;
+    print_aborts(rt, alloc, &report.history)
 }
 
-/// Tells the outcomes, the size of the history, and its last reply.
-fn tell_leaver<W: Print>(rt: &W, alloc: Global, report: &Report<u64>) -> io::Result<()> {
+/// Prints the outcomes, the size of the history, and its last reply.
+fn print_leaver<W: Print>(rt: &W, alloc: Global, report: &Report<u64>) -> io::Result<()> {
     for outcome in &report.outcomes {
         print!(rt; "{outcome:?}, ")?;
     }
-    tell_size(rt, report)?;
+    print_size(rt, report)?;
     match report.history.last_reply() {
-        Some(reply) => tell_reply(rt, alloc, &reply),
+        Some(reply) => print_reply(rt, alloc, &reply),
         None => Ok(()),
     }
 }
 
-/// Tells how many jobs came to what, and what all customers have on their checking accounts.
-fn tell_report<W: Print>(rt: &W, report: &Report<u64>) -> io::Result<()> {
+/// Prints how many jobs came to what, and what all customers have on their checking accounts.
+fn print_counts<W: Print>(rt: &W, report: &Report<u64>) -> io::Result<()> {
     let counts = Counts::of(report.outcomes.as_slice());
     print!(rt; "{counts}; checking")?;
     for name in 1..=ACCOUNTS {
@@ -145,8 +145,8 @@ fn tell_report<W: Print>(rt: &W, report: &Report<u64>) -> io::Result<()> {
     println!(rt)
 }
 
-/// Tells how many entries the history has, and whether the database is as it was opened.
-fn tell_size<W: Print>(rt: &W, report: &Report<u64>) -> io::Result<()> {
+/// Prints how many entries the history has, and whether the database is as it was opened.
+fn print_size<W: Print>(rt: &W, report: &Report<u64>) -> io::Result<()> {
     let is_as_opened = report.database.rows() == report.opening.rows();
     println!(rt;
         "{} entries, as opened: {is_as_opened}",
@@ -154,27 +154,27 @@ fn tell_size<W: Print>(rt: &W, report: &Report<u64>) -> io::Result<()> {
     )
 }
 
-/// Tells a reply, on a line of its own.
-fn tell_reply<W: Print>(rt: &W, alloc: Global, reply: &Reply) -> io::Result<()> {
+/// Prints a reply, on a line of its own.
+fn print_reply<W: Print>(rt: &W, alloc: Global, reply: &Reply) -> io::Result<()> {
     match reply_line(alloc, reply) {
         Ok(line) => io::writer(rt).write_all(line.as_slice()),
         Err(_) => Err(io::Error::from(ErrorKind::OutOfMemory)),
     }
 }
 
-/// Tells the aborts of a history, each on a line.
-fn tell_aborts<W: Print>(rt: &W, alloc: Global, history: &History) -> io::Result<()> {
+/// Prints the aborts of a history, each on a line.
+fn print_aborts<W: Print>(rt: &W, alloc: Global, history: &History) -> io::Result<()> {
     for place in 0..history.len() {
         let reply = history.reply_at(place);
         if matches!(reply, Reply::Aborted { .. }) {
-            tell_reply(rt, alloc, &reply)?;
+            print_reply(rt, alloc, &reply)?;
         }
     }
     Ok(())
 }
 
-/// Tells of which transactions the entries are.
-fn tell_order<W: Print>(rt: &W, history: &History) -> io::Result<()> {
+/// Prints of which transactions the entries are.
+fn print_order<W: Print>(rt: &W, history: &History) -> io::Result<()> {
     print!(rt; "entries of")?;
     for place in 0..history.len() {
         let entry = history.entry(place);

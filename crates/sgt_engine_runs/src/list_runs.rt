@@ -1,4 +1,6 @@
-use crate::accounts::{tell_no_memory, total};
+//! Runs of the drawn list of events, and what is printed of them.
+
+use crate::accounts::{print_no_memory, total};
 use crate::counts::Counts;
 use crate::digest::Digests;
 use crate::drawn::{ACCOUNTS, CUSTOMER, apply_all, limits, open, place_of};
@@ -13,78 +15,78 @@ use std::alloc::{AllocGlobal, Global};
 use std::io;
 use std::io::Print;
 
-/// Runs the list on an engine with up to eight live, with asks answered at the step and at the commit, and tells how many of each
+/// Runs the list on an engine with up to eight live, with asks answered at the step and at the commit, and prints how many of each
 /// kind of reply there were, what the committed accounts hold in all, and a digest of the replies' lines. Then it runs the list
-/// over other bodies of the layers too, with up to 8 and up to 32 live, and tells the digests for each: of the replies, of the
-/// replies where each walk is told by its first member alone, and of the committed database.
+/// over other bodies of the layers too, with up to 8 and up to 32 live, and prints the digests for each: of the replies, of the
+/// replies where each walk is printed by its first member alone, and of the committed database.
 ///
-/// What is refused memory once is tried again, so that whichever one allocation is refused, it tells the same but for the last
+/// What is refused memory once is tried again, so that whichever one allocation is refused, it prints the same but for the last
 /// line: that counts the calls that were refused memory.
-pub fn tell_drawn(rt: &(impl AllocGlobal + Print)) -> io::Result<()> {
+pub fn run_drawn(rt: &(impl AllocGlobal + Print)) -> io::Result<()> {
     let mut refusals = Refusals { calls: 0 };
     for asks in &[Asks::AtStep, Asks::AtCommit] {
         println!(rt; "asks at the {}", place_of(*asks))?;
-        tell_engine::<SlabRecords, PerKey, BitGraph>(rt, *asks, &mut refusals)?;
+        run_engine::<SlabRecords, PerKey, BitGraph>(rt, *asks, &mut refusals)?;
     }
     for live in &[8, 32] {
-        tell_bodies(rt, limits(*live, Asks::AtStep), &mut refusals)?;
-        tell_bodies(rt, limits(*live, Asks::AtCommit), &mut refusals)?;
+        run_bodies(rt, limits(*live, Asks::AtStep), &mut refusals)?;
+        run_bodies(rt, limits(*live, Asks::AtCommit), &mut refusals)?;
     }
     println!(rt; "refused memory {}", refusals.calls)
 }
 
-/// Runs the list on an engine over these bodies, and tells what became of it.
-fn tell_engine<R: Records, A: Accesses, G: Graph>(
+/// Runs the list on an engine over these bodies, and prints what became of it.
+fn run_engine<R: Records, A: Accesses, G: Graph>(
     rt: &(impl AllocGlobal + Print),
     asks: Asks,
     refusals: &mut Refusals,
 ) -> io::Result<()> {
     match open::<R, A, G>(rt.alloc(), limits(8, asks), refusals) {
-        Some(mut engine) => tell_events(rt, &mut engine, refusals),
-        None => tell_no_memory(rt),
+        Some(mut engine) => run_events(rt, &mut engine, refusals),
+        None => print_no_memory(rt),
     }
 }
 
-/// Applies the list to the engine, and tells what became of it.
-fn tell_events<R: Records, A: Accesses, G: Graph>(
+/// Applies the list to the engine, and prints what became of it.
+fn run_events<R: Records, A: Accesses, G: Graph>(
     rt: &(impl AllocGlobal + Print),
     engine: &mut Engine<R, A, G>,
     refusals: &mut Refusals,
 ) -> io::Result<()> {
     let applied = apply_all(engine, refusals);
-    tell_applied(rt, applied)?;
-    tell_counts(rt, engine.history())?;
+    print_applied(rt, applied)?;
+    print_counts(rt, engine.history())?;
     let digests = Digests::of(rt.alloc(), engine, refusals);
-    tell_replies(rt, digests)?;
+    print_replies(rt, digests)?;
     println!(rt; "live at the end {}", engine.sched().live_count())?;
     quit_all(engine, refusals);
-    tell_quit(rt, engine)
+    print_quit(rt, engine)
 }
 
-/// Tells of a list that was refused memory.
-fn tell_applied(rt: &impl Print, applied: Result<(), NoMemory>) -> io::Result<()> {
+/// Prints that a list was refused memory, where it was.
+fn print_applied(rt: &impl Print, applied: Result<(), NoMemory>) -> io::Result<()> {
     match applied {
         Ok(()) => Ok(()),
-        Err(NoMemory) => tell_no_memory(rt),
+        Err(NoMemory) => print_no_memory(rt),
     }
 }
 
-/// Tells how many events the history has, and how many replies of each kind.
-fn tell_counts(rt: &impl Print, history: &History) -> io::Result<()> {
+/// Prints how many events the history has, and how many replies of each kind.
+fn print_counts(rt: &impl Print, history: &History) -> io::Result<()> {
     let counts = Counts::of(history);
     println!(rt; "events {}\n{counts}", history.len())
 }
 
-/// Tells the digest of the replies alone.
-fn tell_replies(rt: &impl Print, digests: Result<Digests, NoMemory>) -> io::Result<()> {
+/// Prints the digest of the replies alone.
+fn print_replies(rt: &impl Print, digests: Result<Digests, NoMemory>) -> io::Result<()> {
     match digests {
         Ok(digests) => println!(rt; "digest {:016x}", digests.replies),
-        Err(NoMemory) => tell_no_memory(rt),
+        Err(NoMemory) => print_no_memory(rt),
     }
 }
 
-/// Tells of an engine where all have quit.
-fn tell_quit<R: Records, A: Accesses, G: Graph>(
+/// Prints the end of an engine where all have quit.
+fn print_quit<R: Records, A: Accesses, G: Graph>(
     rt: &impl Print,
     engine: &Engine<R, A, G>,
 ) -> io::Result<()> {
@@ -105,7 +107,7 @@ fn quit_all<R: Records, A: Accesses, G: Graph>(
 }
 
 /// Runs the list by these limits, over the plain bodies of the layers and over the quick ones, which `sgt` has.
-fn tell_bodies(
+fn run_bodies(
     rt: &(impl AllocGlobal + Print),
     limits: Limits,
     refusals: &mut Refusals,
@@ -115,9 +117,9 @@ fn tell_bodies(
         "up to {live} live, asks at the {when}: replies, replies by first members, database"
     )?;
     let plain = digests::<ListRecords, OneList, PairGraph>(rt.alloc(), limits, refusals);
-    tell_digests(rt, plain, "ListRecords OneList PairGraph")?;
+    print_digests(rt, plain, "ListRecords OneList PairGraph")?;
     let quick = digests::<SlabRecords, PerKey, BitGraph>(rt.alloc(), limits, refusals);
-    tell_digests(rt, quick, "SlabRecords PerKey BitGraph")
+    print_digests(rt, quick, "SlabRecords PerKey BitGraph")
 }
 
 /// The digests of a run over these bodies.
@@ -141,8 +143,8 @@ fn digests_on<R: Records, A: Accesses, G: Graph>(
     Digests::of(alloc, engine, refusals)
 }
 
-/// Tells the digests of a run over these bodies.
-fn tell_digests(
+/// Prints the digests of a run over these bodies.
+fn print_digests(
     rt: &impl Print,
     digests: Result<Digests, NoMemory>,
     bodies: &str,

@@ -1,6 +1,6 @@
 use Rattle.std.proofs.Common.{ap, ◌∙◌}
 use Rattle.sgt_engine.specs.EngineView.{EngineView}
-use Rattle.sgt_engine.proofs.engine.Engine.put.Goals as goal
+use Rattle.sgt_engine.proofs.engine.Engine.put_at_start.Goals as goal
 
 pub returns-clause-put : goal.returns-clause-put
 returns-clause-put g c = record {

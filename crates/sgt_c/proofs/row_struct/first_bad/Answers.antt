@@ -1,6 +1,6 @@
 use Rattle.std.proofs.Common.{rules, refl, arith}
 use Rattle.sgt_c.proofs.RowSteps.{all_ranged, none, ranged_next}
-use Rattle.sgt_c.proofs.putting.first_bad.Goals as goal
+use Rattle.sgt_c.proofs.row_struct.first_bad.Goals as goal
 
 pub loop-index-preserved : goal.loop-index-preserved
 loop-index-preserved c =

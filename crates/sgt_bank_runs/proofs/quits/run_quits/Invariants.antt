@@ -1,5 +1,5 @@
 use Rattle.sgt_engine.specs.EngineView.{setting_of}
-use Rattle.sgt_bank_runs.proofs.quits.tell_quits.Given as goal
+use Rattle.sgt_bank_runs.proofs.quits.run_quits.Given as goal
 
 abbrev pub ghosts-play-N-Ledger : goal.ghosts-play-N-Ledger
 ghosts-play-N-Ledger g a = record { name = a.blank.name; parts = a.blank.parts }

@@ -1,0 +1,43 @@
+use Rattle.std.proofs.Common.{◌≡◌, true, refl, sym, subst}
+use Rattle.std.proofs.lemmas.Bool.{true≢false}
+use Rattle.sgt_model.specs.AccessList.{lists_conflicting}
+use Rattle.sgt_model.specs.CallEffects.{StepOn}
+use Rattle.sgt_model.specs.Walks.{last_of}
+use Rattle.sgt_sched.specs.Operations.{kind_of, next_of}
+use Rattle.sgt_sched.specs.Scheduler.{asks_of}
+use Rattle.sgt_sched.proofs.Accessed.{no_rivals, no_walk}
+use Rattle.sgt_sched.proofs.Stepped.{made_with, whatever}
+use Rattle.sgt_sched.proofs.sched.Sched.access.Goals as goal
+
+pub make_access-requires-clause-rivals : goal.make_access-requires-clause-rivals
+make_access-requires-clause-rivals g c κs lives = no_rivals
+    (g.A.Accesses.list c.args.self.now.accesses) c.args.t c.args.key (kind_of c.args.operation) c.new.result c.new.ensures
+    (λ r. true≢false (sym (c.if-has_rival.ensures.exact.1
+    (r.0, r.1, subst (λ k. lists_conflicting (g.A.Accesses.list c.args.self.now.accesses) r.0 c.args.key k ≡ true) (sym c.kind.ensures) r.2))))
+
+pub make_access-requires-clause-free : goal.make_access-requires-clause-free
+make_access-requires-clause-free g c κs lives = no_walk (g.G.Graph.pairs c.args.self.now.graph) c.args.t c.new.result
+    c.new.ensures
+
+pub make_access-requires-clause-planned : goal.make_access-requires-clause-planned
+make_access-requires-clause-planned g c κs lives some = absurd (some c.new.ensures)
+
+pub returns : goal.returns
+returns g c = record {
+  done = made_with (StepOn (asks_of c.args.self.now) c.args.t (next_of c.args.key c.args.operation)) c.args.out.now c.make_access.result
+      refl c.make_access.ensures;
+  out = whatever c.make_access.result refl;
+  no_memory = λ b. absurd (true≢false (sym (c.if-has_rival.ensures.exact.1 (
+    last_of c.args.t b.0,
+    b.1.rival.apart,
+    subst (λ k. lists_conflicting (g.A.Accesses.list c.args.self.now.accesses) (last_of c.args.t b.0) c.args.key k ≡ true)
+        (sym c.kind.ensures) b.1.rival.has_conflicting,
+  ))));
+}
+
+pub returns-then-has_rival : goal.returns-then-has_rival
+returns-then-has_rival g c = record {
+  done = c.access_after.ensures.done;
+  out = c.access_after.ensures.out;
+  no_memory = c.access_after.ensures.no_memory;
+}
