@@ -90,7 +90,8 @@ module _ (past : List Entry) (e : Entry) where
       ap (λ b. filter (live (e ∷ past)) (cond b (started_ones past ++ start_count past ∷ []) (started_ones past))) (ap is_start is) in
       let both = filter-append (live (e ∷ past)) (started_ones past) (start_count past ∷ []) in
       let old = filter_listed (live (e ∷ past)) (live past) (started_ones past) (λ t m. as_before t (begun_below past t m)) in
-      let new : filter (live (e ∷ past)) (start_count past ∷ []) ≡ start_count past ∷ [] = ap (λ b. cond b (start_count past ∷ []) []) (now_live) in
+      let new : filter (live (e ∷ past)) (start_count past ∷ [])
+      ≡ start_count past ∷ [] = ap (λ b. cond b (start_count past ∷ []) []) (now_live) in
       let count = ap length (ones ∙ (both ∙ ap₂ (λ a b. a ++ b) old new)) ∙ length-append (live_ones past) (start_count past ∷ []) in
       let a : count_started e.reply ≡ 1 = ap count_started is in
       let b : count_ended e.reply ≡ 0 = ap count_ended is in
@@ -190,7 +191,8 @@ none_counted past = (λ no_one t. not_live no_one t (live past t) refl, λ none.
 
     not_live : length (live_ones past) ≡ 0 → (t : ℕ) (b : Bool) → live past t ≡ b → live past t ≡ false
     not_live no_one t true is =
-        absurd (empty (live_ones past) t no_one (kept_member (live past) t (started_ones past) is (begun_has past t (live-started past t is))))
+        absurd (empty (live_ones past) t no_one (kept_member (live past) t (started_ones past) is
+        (begun_has past t (live-started past t is))))
     not_live no_one t false is = is
 
 take_whole : (n : ℕ) (h : List Entry) → length h ≤ n → take n h ≡ h

@@ -2,8 +2,8 @@ ghost use Rattle.std.specs.Prelude.{◌≡◌, ◌++◌, ◌≤◌, length, IfOk
 ghost use Rattle.sgt_bank.specs.Reports.{outcome_lines, report_text};
 
 use crate::outcome_text::append_outcome;
-use sgt_log::History;
 use sgt_format::append_database;
+use sgt_log::History;
 use sgt_model::{Database, NoMemory};
 use sgt_workers::Outcome;
 use std::alloc::{AllocError, Global};

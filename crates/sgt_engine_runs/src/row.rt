@@ -1,4 +1,4 @@
-//! The events of the row `two_level_cascade` on `Engine::apply`, made to be run where memory is refused, as `tests/growths` does.
+//! The events of the row `two_level_cascade` on `Engine::apply`, made to be run where memory is refused, as `tests/growths.py` does.
 //! It prints which events are refused memory, and whether the history, the committed values and who is live are as before.
 
 use crate::accounts::{open, print_no_memory};

@@ -54,7 +54,8 @@ none_earlier entries end t k kind within looks stores h =
 
 -- one that is told is there
 pub first_there : (entries : List Entry) (end t : ℕ) (k : Key) (earlier kind : Kind) → end ≤ length entries → (o : Option ℕ)
-    → FirstOrNone (ConflictsAt entries t k earlier kind) end o → is_none o ≡ false → has_conflicting (entries_before entries end) t k kind ≡ true
+    → FirstOrNone (ConflictsAt entries t k earlier kind) end o → is_none o ≡ false
+    → has_conflicting (entries_before entries end) t k kind ≡ true
 first_there entries end t k earlier kind within None first one = absurd (cc)
 first_there entries end t k earlier kind within (Some n) first one =
     finds_at (λ past. has_conflicting past t k kind ≡ true) (λ past o. conflicts o t k kind ≡ true) (conflicts_back t k kind)

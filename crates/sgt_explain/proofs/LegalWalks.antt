@@ -76,13 +76,15 @@ along_closed past t k kind rest h n below = let one : n + 1 ≡ suc n = omega ar
 -- what comes of it
 
 edge_from : (entries : List Entry) (end t : ℕ) (k : Key) (kind : Kind) (one next : Option ℕ)
-    → Along (Pair (entries_before entries end)) (Closing (entries_before entries end) t k kind) one next → HasEdgeFrom entries end k kind one next
+    → Along (Pair (entries_before entries end)) (Closing (entries_before entries end) t k kind) one next
+    → HasEdgeFrom entries end k kind one next
 edge_from entries end t k kind None next h = h
 edge_from entries end t k kind (Some a) (Some b) h = h.precedes
 edge_from entries end t k kind (Some a) None h = h.conflict
 
 pair_from : (entries : List Entry) (end t : ℕ) (k : Key) (kind : Kind) (edge : Edge) (one next first : Option ℕ) → first ≡ Some t
-    → Along (Pair (entries_before entries end)) (Closing (entries_before entries end) t k kind) one next → TellsFrom entries end k kind edge one next first
+    → Along (Pair (entries_before entries end)) (Closing (entries_before entries end) t k kind) one next
+    → TellsFrom entries end k kind edge one next first
     → IsPairAt entries end edge
 pair_from entries end t k kind edge None next first is along told = absurd along
 pair_from entries end t k kind edge (Some a) (Some b) first is along told =
@@ -102,7 +104,8 @@ record ByCycle (s : Setting) (past : List Entry) (event : Event) (walk : List �
   named : named_by event ≡ Some t
   closes : ClosesCycle s past t walk
 
-by_cycle : (s : Setting) (past : List Entry) (event : Event) (r : Reply) → ReplyIsJustified s past event r → (n : ℕ) → n < length (cycle_in r)
+by_cycle : (s : Setting) (past : List Entry) (event : Event) (r : Reply) → ReplyIsJustified s past event r → (n : ℕ)
+    → n < length (cycle_in r)
     → ByCycle s past event (cycle_in r)
 by_cycle s past (Step t) (reply.Aborted (cause.Cycle walk) fell) h n below = record { t = t; named = refl; closes = h.0 }
 by_cycle s past (Start p args) (reply.Aborted (cause.Cycle walk) fell) h n below = absurd h.0
@@ -157,7 +160,8 @@ told_is_pair s entries place n k kind edge within legal about below told =
     let w = walk_at s entries place n k kind within legal about below in
     let short : n < length (w.t ∷ w.rest) = subst (λ l. n < length l) w.walk below in
     let told_here = subst (λ l. TellsEdge entries place k kind l n edge) w.walk told in
-    pair_from entries place w.t k kind edge _ _ _ refl (along_closed (entries_before entries place) w.t k kind w.rest w.closes n short) told_here
+    pair_from entries place w.t k kind edge _ _ _ refl (along_closed (entries_before entries place)
+    w.t k kind w.rest w.closes n short) told_here
 
 one_there : (entries : List Entry) (end : ℕ) (k : Key) (kind : Kind) (one next : Option ℕ) → HasEdgeFrom entries end k kind one next
     → (t : ℕ) × (one ≡ Some t)

@@ -42,7 +42,8 @@ found_at F G back entries zero within h = absurd (back.nowhere h)
 found_at F G back entries (suc end) within h =
     let (e, is) = entry_there entries end (omega (arith, within)) in
     let one : suc end ≡ end + 1 = omega arith in
-    let next : entries_before entries (suc end) ≡ e ∷ entries_before entries end = ap (entries_before entries) one ∙ before_next entries end e is in
+    let next : entries_before entries (suc end) ≡ e ∷ entries_before entries end = ap (entries_before entries) one
+    ∙ before_next entries end e is in
     elim (back.here_or_before e (entries_before entries end) (subst F next h)) [
       | inl now ↦ (end, omega arith, subst (G (entries_before entries end)) (sym (access_there entries end e is)) now)
       | inr earlier ↦
@@ -57,7 +58,8 @@ finds_at F G back entries zero n within below at = absurd (omega (arith, below))
 finds_at F G back entries (suc end) n within below at =
     let (e, is) = entry_there entries end (omega (arith, within)) in
     let one : suc end ≡ end + 1 = omega arith in
-    let next : entries_before entries (suc end) ≡ e ∷ entries_before entries end = ap (entries_before entries) one ∙ before_next entries end e is in
+    let next : entries_before entries (suc end) ≡ e ∷ entries_before entries end = ap (entries_before entries) one
+    ∙ before_next entries end e is in
     subst F (sym next) (elim (cases_eq n end) [
       | inl same ↦ back.here e (entries_before entries end)
           (subst (G (entries_before entries end)) (access_there entries end e is)

@@ -38,7 +38,8 @@ one_at_most (Some a) t = by_test (nat_eq a.by t)
     by_test false = omega arith
 
 pub reads_next : (entries : List Entry) (at t : ℕ) → at < length entries
-    → reads (entries_before entries (at + 1)) t ≡ reads (entries_before entries at) t ++ values_read (act_in (placed_access entries at) t [])
+    → reads (entries_before entries (at + 1)) t
+    ≡ reads (entries_before entries at) t ++ values_read (act_in (placed_access entries at) t [])
 reads_next entries at t within = let (e, is) = entry_there entries at within in
     rw (before_next entries at e is, access_there entries at e is) (values-more (access_of e) t (acts (entries_before entries at) t))
 

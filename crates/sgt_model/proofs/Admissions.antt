@@ -41,7 +41,8 @@ started_admitted s (e ∷ past) t h started = by_age (started_admitted s past t 
   where
     by_start : start_count past ≤ t → Begins s past e.event e.reply ⊎ (is_start e.reply ≡ false) → IsAdmitted s (call_of (e ∷ past) t)
     by_start new (inl b) =
-        let count : start_count (e ∷ past) ≡ start_count past + 1 = ap (λ r. cond (is_start r) (start_count past + 1) (start_count past)) b.reply_is in
+        let count : start_count (e ∷ past)
+        ≡ start_count past + 1 = ap (λ r. cond (is_start r) (start_count past + 1) (start_count past)) b.reply_is in
         let is : start_count past ≡ t = omega arith in
         subst (λ u. IsAdmitted s (unwrap_or (call_in e.event e.reply u) (call_of past u))) is
         (at_start s past e.event e.reply b (call_of past (start_count past)))
@@ -49,7 +50,8 @@ started_admitted s (e ∷ past) t h started = by_age (started_admitted s past t 
         let count : start_count (e ∷ past) ≡ start_count past = ap (λ b. cond b (start_count past + 1) (start_count past)) none in
         absurd (omega arith)
 
-    by_age : (t < start_count past → IsAdmitted s (call_of past t)) → (t < start_count past) ⊎ (start_count past ≤ t) → IsAdmitted s (call_of (e ∷ past) t)
+    by_age : (t < start_count past → IsAdmitted s (call_of past t)) → (t < start_count past) ⊎ (start_count past ≤ t)
+        → IsAdmitted s (call_of (e ∷ past) t)
     by_age before (inl earlier) = subst (IsAdmitted s) (sym (call-kept s past e t h.1 earlier)) (before earlier)
     by_age before (inr new) = by_start new (starts_or_not (effect s past e.event e.reply h.1))
 

@@ -56,7 +56,8 @@ module _ (s : Setting) (past : List Entry) (h : Legal s past) (p : ℕ) (args : 
           (is_none (fate_of past u)) (lt-ltb u (start_count past + 1) (omega arith)) (le-ltb u (start_count past) le)
           (eq-eqb u (start_count past) e) (ap is_none (unstarted-no_fate s past h u le))
       go (inr le) (inr n) = above (nat_lt u (start_count past + 1)) (nat_lt u (start_count past)) (nat_eq u (start_count past))
-          (is_none (fate_of past u)) (le-ltb u (start_count past + 1) (omega arith)) (le-ltb u (start_count past) le) (ne_eqb u (start_count past) n)
+          (is_none (fate_of past u)) (le-ltb u (start_count past + 1) (omega arith)) (le-ltb u (start_count past) le)
+          (ne_eqb u (start_count past) n)
 
   started_same : (u : ℕ) → u < start_count past → live (start_entry p args (start_count past) ∷ past) u ≡ live past u
   started_same u lt = live_is u ∙ (ap (λ b. live past u || b) (ne_eqb u (start_count past) (λ e. absurd (omega (arith, e))))
@@ -106,7 +107,8 @@ module _ (s : Setting) (past : List Entry) (h : Legal s past) (p : ℕ) (args : 
       live_ones_after = sym (filter-append (live (start_entry p args (start_count past) ∷ past)) (started_ones past) (start_count past ∷ [])
           ∙ ap₂ (λ l b. l ++ cond b (start_count past ∷ []) []) (filter_listed (live (start_entry p args (start_count past) ∷ past))
           (live past) (started_ones past) (λ u m. started_same u (begun_below past u m))) (live_is (start_count past)
-          ∙ (ap (λ b. live past (start_count past) || b) (eq-eqb (start_count past) (start_count past) refl) ∙ or_true (live past (start_count past)))))
+          ∙ (ap (λ b. live past (start_count past) || b) (eq-eqb (start_count past) (start_count past) refl)
+          ∙ or_true (live past (start_count past)))))
 
       pairs_to : (u v : ℕ) → LivePair past u v → LivePair (start_entry p args (start_count past) ∷ past) u v
       pairs_to u v q = record {

@@ -338,7 +338,8 @@ falls-so past t fell paths set r e a = record {
 
 -- t is aborted with those that fall
 pub aborts_by : {past : List Entry} {t : ℕ} {why : Cause} (fell : List ℕ) (paths : List (List ℕ)) (set : List ℕ)
-    → rising fell ≡ true → each_test past t fell paths ≡ true → all_test past t fell set ≡ true → AbortReply past t why (reply.Aborted why fell)
+    → rising fell ≡ true → each_test past t fell paths ≡ true → all_test past t fell set ≡ true
+    → AbortReply past t why (reply.Aborted why fell)
 aborts_by {past} {t} {why} fell paths set r e a = record { fell = fell; falls = falls-so past t fell paths set r e a; is = refl }
 
 -- an access is rejected, with a walk that it would close

@@ -210,7 +210,8 @@ abort_at s past t why r alive due a = subst (λ x. Effect s past (Step t) x) (sy
       has_cause = due;
     }))
 
-quit_at : (s : Setting) (past : List Entry) (t : ℕ) (r : Reply) → live past t ≡ true → AbortReply past t cause.Quit r → Effect s past (Quit t) r
+quit_at : (s : Setting) (past : List Entry) (t : ℕ) (r : Reply) → live past t ≡ true → AbortReply past t cause.Quit r
+    → Effect s past (Quit t) r
 quit_at s past t r alive a = subst (λ x. Effect s past (Quit t) x) (sym a.is)
     (undoes (record {
       undoing = record {

@@ -279,7 +279,8 @@ pub committed-stands : (past : List Entry) (t : ℕ) → committed past t ≡ tr
 committed-stands past t h = ap has_aborted (committed-fate past t h)
 
 -- a started transaction is live, committed or aborted
-pub status : (past : List Entry) (t : ℕ) → t < start_count past → (live past t ≡ true) ⊎ ((committed past t ≡ true) ⊎ (aborted past t ≡ true))
+pub status : (past : List Entry) (t : ℕ) → t < start_count past
+    → (live past t ≡ true) ⊎ ((committed past t ≡ true) ⊎ (aborted past t ≡ true))
 status past t started = go (fate_of past t) refl
   where
     go : (o : Option Fate) → fate_of past t ≡ o → (live past t ≡ true) ⊎ ((committed past t ≡ true) ⊎ (aborted past t ≡ true))

@@ -53,7 +53,8 @@ last_step args behind true r go same = same
 last_step args behind false r go same = refl
 
 test_step : (args : List ℤ) (behind : Way) (h : Truth) (ys ns : Run) (next : Bool → OrCode Reached) → ys ≡ run_reached args behind
-    (next true) → ns ≡ run_reached args behind (next false) → with_condition h ys ns ≡ run_reached args behind (and_then (choice_or_code h) next)
+    (next true) → ns ≡ run_reached args behind (next false)
+    → with_condition h ys ns ≡ run_reached args behind (and_then (choice_or_code h) next)
 test_step args behind (holds true) ys ns next yes_same no_same = yes_same
 test_step args behind (holds false) ys ns next yes_same no_same = no_same
 test_step args behind too_far ys ns next yes_same no_same = refl

@@ -103,7 +103,8 @@ one_step s past t (Raises code) r q a b = inl (one_asked_step s.rules.limits.ask
 
 -- commits
 
-one_least : (past : List Entry) (t u v : ℕ) → IsLeastPredecessor (LivePredecessor past) t u → IsLeastPredecessor (LivePredecessor past) t v → u ≡ v
+one_least : (past : List Entry) (t u v : ℕ) → IsLeastPredecessor (LivePredecessor past) t u
+    → IsLeastPredecessor (LivePredecessor past) t v → u ≡ v
 one_least past t u v a b = let below = a.least v b.pair in let above = b.least u a.pair in omega arith
 
 one_end : (past : List Entry) (t : ℕ) (answers : List ℤ) (r q : Reply) → MustWait past t r ⊎ MayCommit past t answers r

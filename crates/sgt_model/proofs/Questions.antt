@@ -140,7 +140,8 @@ started_live : (s : Setting) (past : List Entry) (e : Entry) → Legal s past �
 started_live s past e h is =
     let more : start_count (e ∷ past) ≡ start_count past + 1 = ap (λ r. cond (is_start r) (start_count past + 1) (start_count past)) is in
     let none : fate_of past (start_count past) ≡ None = unstarted-no_fate s past h (start_count past) (le_refl (start_count past)) in
-    live_from (e ∷ past) (start_count past) (omega arith) (option_or-at_none _ _ (ap (λ r. ending_in e.event r (start_count past)) is) ∙ none)
+    live_from (e ∷ past) (start_count past) (omega arith) (option_or-at_none _ _
+    (ap (λ r. ending_in e.event r (start_count past)) is) ∙ none)
 
 number_is : (r : Reply) (n t : ℕ) → r ≡ reply.Started n → started_number r ≡ Some t → n ≡ t
 number_is r n t is e = some_is n t (sym (ap started_number is) ∙ e)

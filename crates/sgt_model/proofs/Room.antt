@@ -43,7 +43,8 @@ pub begun_below : (past : List Entry) (t : ℕ) → Member t (started_ones past)
 begun_below [] t m = absurd m
 begun_below (e ∷ past) t m = go (begun_below past t) (is_start e.reply) m
   where
-    go : (Member t (started_ones past) → t < start_count past) → (b : Bool) → Member t (cond b (started_ones past ++ start_count past ∷ []) (started_ones past))
+    go : (Member t (started_ones past) → t < start_count past) → (b : Bool)
+        → Member t (cond b (started_ones past ++ start_count past ∷ []) (started_ones past))
         → t < cond b (start_count past + 1) (start_count past)
     go rest true m = elim (member_append t (started_ones past) (start_count past) m) [
       | inl k ↦ let before : t < start_count past = rest k in
@@ -63,7 +64,8 @@ starts_or_not (refuses x) = inr (ap is_start x.reply_is)
 
 -- of those that were started before an entry, no more are live after it
 live_fewer : (e : Entry) (past : List Entry) → length (filter (live (e ∷ past)) (started_ones past)) ≤ length (live_ones past)
-live_fewer e past = filter_fewer (live (e ∷ past)) (live past) (started_ones past) (λ t m alive. live-before e past t alive (begun_below past t m))
+live_fewer e past = filter_fewer (live (e ∷ past)) (live past) (started_ones past)
+    (λ t m alive. live-before e past t alive (begun_below past t m))
 
 not_equal : (a b : ℕ) → nat_eq a b ≡ false → a ≢ b
 not_equal a b h e = true≢false (sym (eq-eqb a b e) ∙ h)
@@ -77,10 +79,12 @@ limits_are_kept s (e ∷ past) h = now (limits_are_kept s past h.0) (live_fewer 
         → length (filter (live (e ∷ past)) (started_ones past)) ≤ length (live_ones past)
         → Begins s past e.event e.reply ⊎ (is_start e.reply ≡ false)
         → (cond (is_start e.reply) (start_count past + 1) (start_count past) ≤ s.rules.limits.begins) × (length
-        (filter (live (e ∷ past)) (cond (is_start e.reply) (started_ones past ++ start_count past ∷ []) (started_ones past))) ≤ s.rules.limits.live)
+        (filter (live (e ∷ past)) (cond (is_start e.reply) (started_ones past ++ start_count past ∷ []) (started_ones past)))
+        ≤ s.rules.limits.live)
     now (few, kept) fewer (inr none) =
         subst (λ b. (cond b (start_count past + 1) (start_count past) ≤ s.rules.limits.begins) × (length
-        (filter (live (e ∷ past)) (cond b (started_ones past ++ start_count past ∷ []) (started_ones past))) ≤ s.rules.limits.live)) (sym none)
+        (filter (live (e ∷ past)) (cond b (started_ones past ++ start_count past ∷ []) (started_ones past)))
+        ≤ s.rules.limits.live)) (sym none)
         (few, omega arith)
     now (few, kept) fewer (inl b) =
         let spent = not_equal (start_count past) s.rules.limits.begins b.not_spent in
@@ -92,5 +96,6 @@ limits_are_kept s (e ∷ past) h = now (limits_are_kept s past h.0) (live_fewer 
         ∙ length-append (filter (live (e ∷ past)) (started_ones past)) (filter (live (e ∷ past)) (start_count past ∷ [])) in
         let started : is_start e.reply ≡ true = ap is_start b.reply_is in
         subst (λ c. (cond c (start_count past + 1) (start_count past) ≤ s.rules.limits.begins) × (length
-        (filter (live (e ∷ past)) (cond c (started_ones past ++ start_count past ∷ []) (started_ones past))) ≤ s.rules.limits.live)) (sym started)
+        (filter (live (e ∷ past)) (cond c (started_ones past ++ start_count past ∷ []) (started_ones past)))
+        ≤ s.rules.limits.live)) (sym started)
         (omega arith, omega arith)

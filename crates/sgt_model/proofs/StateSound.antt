@@ -48,7 +48,8 @@ begun_has : (past : List Entry) (t : ℕ) → t < start_count past → Member t 
 begun_has [] t lt = absurd (omega arith)
 begun_has (e ∷ past) t lt = go (is_start e.reply) (begun_has past t) lt
   where
-    now_or : t < start_count past + 1 → (t < start_count past → Member t (started_ones past)) → Member t (started_ones past) ⊎ (t ≡ start_count past)
+    now_or : t < start_count past + 1 → (t < start_count past → Member t (started_ones past))
+        → Member t (started_ones past) ⊎ (t ≡ start_count past)
     now_or lt before = elim (cases_lt t (start_count past)) [ inl l ↦ inl (before l) | inr le ↦ inr (omega arith) ]
 
     go : (b : Bool) → (t < start_count past → Member t (started_ones past)) → t < cond b (start_count past + 1) (start_count past)

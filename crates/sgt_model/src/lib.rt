@@ -69,19 +69,17 @@ pub use event::{Answers, Args, Event};
 pub use key::{Key, LAST_TABLE, LEAST, MOST, is_value};
 pub use kind::Kind;
 pub use laws::{
-    aborts_have_cause, commit_order_is_total, commits_in_order, committed_are_admitted, headline_holds,
-    histories_are_executed, histories_go_on, limits_are_kept, looks_agree_at_commit,
-    no_pair_from_live, pairs_have_no_cycle, replay_is_serial, replays_hold_values,
-    replies_are_unique, replies_name_few, replies_tell_who_is_live, runs_are_traces,
-    serial_is_execution, some_reply_is_legal, sources_commit_before_replies, sources_commit_first,
-    sources_stand, writers_commit_in_order,
+    aborts_have_cause, commit_order_is_total, commits_in_order, committed_are_admitted,
+    headline_holds, histories_are_executed, histories_go_on, limits_are_kept,
+    looks_agree_at_commit, no_pair_from_live, pairs_have_no_cycle, replay_is_serial,
+    replays_hold_values, replies_are_unique, replies_name_few, replies_tell_who_is_live,
+    runs_are_traces, serial_is_execution, some_reply_is_legal, sources_commit_before_replies,
+    sources_commit_first, sources_stand, writers_commit_in_order,
 };
 pub use left::{left_goes_on, next_is_of_left};
 pub use limits::{Asks, Limits, MOST_BEGINS, MOST_LIVE};
 pub use procedure::{Cond, Expr, Procedure, Statement};
-pub use refinement::{
-    calls_simulate, new_is_empty, nexts_agree, states_are_sound, verdicts_agree,
-};
+pub use refinement::{calls_simulate, new_is_empty, nexts_agree, states_are_sound, verdicts_agree};
 pub use reply::{Cause, Fate, Reply};
 pub use tid::Tid;
 pub use tids::Tids;

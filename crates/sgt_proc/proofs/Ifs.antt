@@ -27,7 +27,8 @@ module _ (c : Cond) (ys ns : Vec Statement Global) where
       ≡ (cond_uses r (cond_text c) || (uses_unset r (onto (block_of ys.items) rest) || uses_unset r (onto (block_of ns.items) rest)))
   if_live r rest = ap (uses_unset r) (onto_if c ys ns rest)
 
-  pub if_answers : (rest : Way) → most_answers (onto (in_front (If c ys ns) empty) rest) ≡ max (most_answers (onto (block_of ys.items) rest))
+  pub if_answers : (rest : Way) → most_answers (onto (in_front (If c ys ns) empty) rest)
+      ≡ max (most_answers (onto (block_of ys.items) rest))
       (most_answers (onto (block_of ns.items) rest))
   if_answers rest = ap most_answers (onto_if c ys ns rest)
 
@@ -41,5 +42,6 @@ module _ (c : Cond) (ys ns : Vec Statement Global) where
       (max (cond_depth (cond_text c)) (max (exprs_depth (block_of ys.items)) (exprs_depth (block_of ns.items)))) 0
   if_terms = ap exprs_depth (before_if c ys ns empty)
 
-  pub if_branch : (held : Bool) (rest : Block) → branch held (in_front (If c ys ns) rest) ≡ cond held (block_of ys.items) (block_of ns.items)
+  pub if_branch : (held : Bool) (rest : Block)
+      → branch held (in_front (If c ys ns) rest) ≡ cond held (block_of ys.items) (block_of ns.items)
   if_branch held rest = ap (branch held) (before_if c ys ns rest)

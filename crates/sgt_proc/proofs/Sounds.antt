@@ -133,7 +133,8 @@ module _ (args : List ℤ) (all_values : All IsValue args) where
   arg_has : (k : ℕ) → k < length args → IsSomeValue (slice_get args k)
   arg_has k h = subst IsSomeValue (sym (slice_get-get_or args k (pos 0) h)) (All-get_or IsValue args k (pos 0) h all_values)
 
-  value_fine : (regs : Registers) (t : ExprText) → Clean (λ so. in_expr so t) → AreAssigned (λ r. uses r t) regs → IsFine (value_of t args regs)
+  value_fine : (regs : Registers) (t : ExprText) → Clean (λ so. in_expr so t) → AreAssigned (λ r. uses r t) regs
+      → IsFine (value_of t args regs)
   value_fine regs (num v) c assigned = allowed_number (length args) (Literal v) c
   value_fine regs (arg k) c assigned = got_fine (slice_get args k) (arg_has k (allowed_number (length args) (Argument k) c))
   value_fine regs (reg n) c assigned =

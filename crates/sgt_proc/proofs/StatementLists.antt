@@ -13,12 +13,14 @@ or_first : (a b : Bool) → (a || b) ≡ ((a || false) || b)
 or_first true b = refl
 or_first false b = refl
 
-in_before : (so : Number → Bool) (s : Statement) (b : Block) → in_block so (in_front s b) ≡ (in_block so (in_front s empty) || in_block so b)
+in_before : (so : Number → Bool) (s : Statement) (b : Block)
+    → in_block so (in_front s b) ≡ (in_block so (in_front s empty) || in_block so b)
 in_before so (Look to table id absent) b =
     or_first (so (Register to) || (so (Table table) || (in_expr so (expr_text id) || so (Code absent)))) (in_block so b)
 in_before so (Find to table id absent) b =
     or_first (so (Register to) || (so (Table table) || (in_expr so (expr_text id) || in_expr so (expr_text absent)))) (in_block so b)
-in_before so (Put table id value) b = or_first (so (Table table) || (in_expr so (expr_text id) || in_expr so (expr_text value))) (in_block so b)
+in_before so (Put table id value) b = or_first (so (Table table) || (in_expr so (expr_text id) || in_expr so (expr_text value)))
+    (in_block so b)
 in_before so (Let to value) b = or_first (so (Register to) || in_expr so (expr_text value)) (in_block so b)
 in_before so (Ask code) b = or_first (so (Code code)) (in_block so b)
 in_before so (If' cond p ys q ns) b =

@@ -15,7 +15,8 @@ onto_block [] rest = rest
 onto_block (s ∷ list) rest = in_front s (onto_block list rest)
 
 -- behind all of them
-pub onto_last : (list : List Statement) (s : Statement) (rest : Block) → onto_block (list ++ s ∷ []) rest ≡ onto_block list (in_front s rest)
+pub onto_last : (list : List Statement) (s : Statement) (rest : Block)
+    → onto_block (list ++ s ∷ []) rest ≡ onto_block list (in_front s rest)
 onto_last [] s rest = refl
 onto_last (x ∷ list) s rest = ap (in_front x) (onto_last list s rest)
 

@@ -64,7 +64,8 @@ written_last list s trees v so one b rest others =
 -- one more
 pub written_more : (list : List Statement) (i : ℕ) (s : Statement) (trees longer : List Value) (v : Value) → i < length list
     → s ≡ get_or list i s → longer ≡ trees ++ v ∷ [] → Written (take i list) trees
-    → ((b : Block) (rest : Items) → SpellsBlock b rest → SpellsBlock (in_front s b) (item (view v) rest)) → Written (take (i + 1) list) longer
+    → ((b : Block) (rest : Items) → SpellsBlock b rest → SpellsBlock (in_front s b) (item (view v) rest))
+    → Written (take (i + 1) list) longer
 written_more list i s trees longer v h e more so one =
     rw (more, take_more list i s h ∙ ap (λ x. take i list ++ x ∷ []) (sym e)) (written_last (take i list) s trees v so one)
 

@@ -209,7 +209,8 @@ commit_count asks t (Puts k v) before r after m x = stays_count _ r before after
 commit_count asks t (Raises code) before r after m x = asked_commit_count asks t code before r after m x
 
 open_count : (t : ℕ) (before : State) (r : Reply) (after : State) (X : Type 0) → (IsUnended before t → X → Counts r before after)
-    → (b : Bool) (o : Option Fate) → nat_lt t before.start_count ≡ b → before.fates t ≡ o → IfOpen b o before r after X → Counts r before after
+    → (b : Bool) (o : Option Fate) → nat_lt t before.start_count ≡ b → before.fates t ≡ o → IfOpen b o before r after X
+    → Counts r before after
 open_count t before r after X count false o e f x = stays_count _ r before after refl x
 open_count t before r after X count true (Some fate) e f x = stays_count _ r before after refl x
 open_count t before r after X count true None e f x = count (record { begun = e; unended = f }) x
@@ -229,10 +230,12 @@ pub call_counts : (rules : Rules) (event : Event) (before : State) (r : Reply) (
 call_counts rules (Start p args) before r after live x = start_count (rules.procedures p) args before r after
     (ap is_ending x.reply ∙ start_quiet rules.limits before.start_count (length before.live) (takes rules p) args) x.does
 call_counts rules (Step t) before r after live x = open_count t before r after _
-    (λ u. step_count rules.limits.asks t (next_left (before.left t)) before r after (live t u)) (nat_lt t before.start_count) (before.fates t)
+    (λ u. step_count rules.limits.asks t (next_left (before.left t)) before r after (live t u)) (nat_lt t before.start_count)
+    (before.fates t)
     refl refl x
 call_counts rules (Commit t) before r after live x = open_count t before r after _
-    (λ u. commit_count rules.limits.asks t (next_left (before.left t)) before r after (live t u)) (nat_lt t before.start_count) (before.fates t)
+    (λ u. commit_count rules.limits.asks t (next_left (before.left t)) before r after (live t u)) (nat_lt t before.start_count)
+    (before.fates t)
     refl refl x
 call_counts rules (Quit t) before r after live x = open_count t before r after _ (λ u. abort_count t _ r before after (live t u))
     (nat_lt t before.start_count) (before.fates t) refl refl x

@@ -19,7 +19,8 @@ loop-place-preserved-else-not-is_aborted c =
       within = search rules;
       none_since = c.loop-place.invariant.none_since
           ∙ writer_skipped c.args.history.now.entries c.loop-place.place c.args.key
-          (λ v. not (aborted (entries_before c.args.history.now.entries c.args.end) v)) c.in-Some.writer (search rules) within c.in-Some.ensures
+          (λ v. not (aborted (entries_before c.args.history.now.entries c.args.end) v)) c.in-Some.writer (search rules)
+          within c.in-Some.ensures
           (search rules);
     }
 

@@ -12,8 +12,12 @@ use Rattle.sgt_sched.proofs.sched.Sched.access.Goals as goal
 pub make_access-requires-clause-rivals : goal.make_access-requires-clause-rivals
 make_access-requires-clause-rivals g c κs lives = no_rivals
     (g.A.Accesses.list c.args.self.now.accesses) c.args.t c.args.key (kind_of c.args.operation) c.new.result c.new.ensures
-    (λ r. true≢false (sym (c.if-has_rival.ensures.exact.1
-    (r.0, r.1, subst (λ k. lists_conflicting (g.A.Accesses.list c.args.self.now.accesses) r.0 c.args.key k ≡ true) (sym c.kind.ensures) r.2))))
+    (λ r. true≢false (sym (c.if-has_rival.ensures.exact.1 (
+      r.0,
+      r.1,
+      subst (λ k. lists_conflicting (g.A.Accesses.list c.args.self.now.accesses) r.0 c.args.key k ≡ true)
+          (sym c.kind.ensures) r.2,
+    ))))
 
 pub make_access-requires-clause-free : goal.make_access-requires-clause-free
 make_access-requires-clause-free g c κs lives = no_walk (g.G.Graph.pairs c.args.self.now.graph) c.args.t c.new.result

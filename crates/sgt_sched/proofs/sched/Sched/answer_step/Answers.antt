@@ -15,7 +15,8 @@ returns-in-Look-clause-done g c = record {
   done = IfOk-weaker c.access.result _ _
       (λ b done. in_brief (steps_on c.args.self.now.limits.asks c.args.t _ (in_full b c.access.new.out) _ _
       (c.in-Some.ensures.unended.0 refl).begun
-      (c.in-Some.ensures.unended.0 refl).unended (ap seen (sym c.in-Look.is) ∙ c.next_at-next.ensures.next)) done) c.access.ensures.done.done;
+      (c.in-Some.ensures.unended.0 refl).unended (ap seen (sym c.in-Look.is) ∙ c.next_at-next.ensures.next)) done)
+      c.access.ensures.done.done;
   refused = c.access.ensures.done.refused;
   kept = c.access.ensures.done.kept;
 }
