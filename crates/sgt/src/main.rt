@@ -18,9 +18,9 @@ use clap::{Arg, ArgAction, ArgMatches, Command};
 use help::{BANK_HELP, CHECK_HELP, HELP, SCRIPT_HELP};
 use sgt_bank::{MOST_TRIES, MOST_WORKERS, run_jobs};
 use sgt_check::{CheckFault, run_check, run_graph};
+use sgt_input::{Fault, Reader, Source, Writer};
 use sgt_line_errors::{Remembering, explain};
 use sgt_script::run_script;
-use sgt_input::{Fault, Reader, Source, Writer};
 use std::alloc::{AllocError, Global};
 use std::env;
 use std::fmt::Display;
@@ -231,10 +231,7 @@ fn number(options: &ArgMatches<'_>, name: &str, most: u32) -> u32
     requires { 1 ≤ most }
     ensures { (1 ≤ result) × (result ≤ most) }
 {
-    options
-        .get_one::<u32>(name)
-        .unwrap_or(1)
-        .clamp(1, most)
+    options.get_one::<u32>(name).unwrap_or(1).clamp(1, most)
 }
 
 /// How a run ended that has a fault, and what tells more of that, where it was asked for and there is something.

@@ -2,15 +2,15 @@
 //! of its reply, and then the report.
 use crate::gates::Gates;
 use sgt_access::{Accesses, PerKey};
+use sgt_assembly::all_procedures;
 use sgt_bank::{read_input, report_text};
 use sgt_dispatch::Job;
-use sgt_log::History;
 use sgt_format::{Opening, append_numbered, append_reply};
 use sgt_graph::{BitGraph, Graph};
-use sgt_model::{Event, Tid};
-use sgt_assembly::all_procedures;
-use sgt_records::{Records, SlabRecords};
 use sgt_input::Reader;
+use sgt_log::History;
+use sgt_model::{Event, Tid};
+use sgt_records::{Records, SlabRecords};
 use sgt_workers::{Bank, PoolError, Report, run};
 use std::alloc::{AllocError, Global};
 use std::io;

@@ -100,10 +100,7 @@ pub fn each_outcome<W: Threads + Wait + Sync + Print>(
 }
 
 /// Two deposits by two workers. Each, when it is told of its finished job, waits there until the other is told too.
-pub fn finish_together<W: Threads + Wait + Sync + Print>(
-    rt: &W,
-    alloc: Global,
-) -> io::Result<()> {
+pub fn finish_together<W: Threads + Wait + Sync + Print>(rt: &W, alloc: Global) -> io::Result<()> {
     println!(rt; "two workers finish together:")?;
     let jobs = [
         job(0, DEPOSIT_CHECKING, &[1, 10]),
@@ -119,7 +116,10 @@ pub fn finish_together<W: Threads + Wait + Sync + Print>(
         (Some(first), Some(second)) => first.1 != second.1,
         _ => false,
     };
-    println!(rt; "each in time: {}, by two workers: {workers}", gates.all_in_time())
+    println!(rt;
+        "each in time: {}, by two workers: {workers}",
+        gates.all_in_time()
+    )
 }
 
 /// What is refused before any growth, the first fault before the others.

@@ -59,7 +59,12 @@ pub extern "C" fn sgt_step(alloc: Global, engine: &mut Handle, t: u32, reply: &m
 ///
 /// `NO_MEMORY`; `CLOSED`.
 #[unsafe(no_mangle)]
-pub extern "C" fn sgt_commit(alloc: Global, engine: &mut Handle, t: u32, reply: &mut SgtReply) -> u32
+pub extern "C" fn sgt_commit(
+    alloc: Global,
+    engine: &mut Handle,
+    t: u32,
+    reply: &mut SgtReply,
+) -> u32
     ensures ok { result ≡ 0 → Answered (Commit t) engine.old.slot.held engine.new.slot.held reply.new }
     ensures unchanged { result ≢ 0 → engine.new.slot.held ≡ engine.old.slot.held }
     ensures unwritten { result ≢ 0 → reply.new ≡ reply.old }

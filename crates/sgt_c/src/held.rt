@@ -1,7 +1,7 @@
 ghost use Rattle.std.specs.Prelude.{◌≡◌, IfOk};
 
-use sgt_model::NoMemory;
 use sgt_assembly::SgtEngine;
+use sgt_model::NoMemory;
 use std::alloc::Global;
 
 /// What an open handle holds.

@@ -7,8 +7,8 @@ use crate::fault_struct::{SgtFault, write_fault};
 use crate::handle::Handle;
 use crate::held::Held;
 use crate::status;
-use sgt_format::{OpeningError, read_opening};
 use sgt_assembly::open_engine;
+use sgt_format::{OpeningError, read_opening};
 use std::alloc::Global;
 
 /// Opens an engine in a closed handle, of an opening's bytes as the first line of a script has them, without its end.

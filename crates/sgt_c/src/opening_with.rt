@@ -12,8 +12,8 @@ use crate::handle::Handle;
 use crate::held::Held;
 use crate::row_struct::{SgtRow, first_bad, keyed_row};
 use crate::status;
-use sgt_format::{OpeningError, read_opening};
 use sgt_assembly::open_engine;
+use sgt_format::{OpeningError, read_opening};
 use sgt_model::{Database, NoMemory};
 use std::alloc::Global;
 

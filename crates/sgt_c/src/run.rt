@@ -9,8 +9,8 @@ ghost use Rattle.sgt_c.specs.Runs.{Ran, GaveUp, Runs, GivesUp, RunsOn, StepsOn, 
 use crate::handle::Handle;
 use crate::reply_struct::{SgtReply, write_reply};
 use crate::status;
-use sgt_model::{Args, Event, NoMemory, Reply, Tid};
 use sgt_assembly::SgtEngine;
+use sgt_model::{Args, Event, NoMemory, Reply, Tid};
 use std::alloc::Global;
 
 /// Runs a procedure from its start to its commit, for a caller whose transactions need not run side by side. The last reply is

@@ -29,8 +29,8 @@ pub use cut::CutError;
 pub use procedures::AddError;
 pub use put::PutError;
 use sgt_access::Accesses;
-use sgt_log::History;
 use sgt_graph::Graph;
+use sgt_log::History;
 use sgt_model::{
     Database, Event, Key, Limits, MakeError, NoMemory, Reply, calls_simulate, headline_holds,
     nexts_agree, replay_is_serial, states_are_sound, verdicts_agree,

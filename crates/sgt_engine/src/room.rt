@@ -5,8 +5,8 @@ ghost use Rattle.sgt_sched.specs.Endings.{EndsOne};
 ghost use Rattle.sgt_sched.specs.Scheduler.{state, asks_of};
 
 use sgt_access::Accesses;
-use sgt_log::History;
 use sgt_graph::Graph;
+use sgt_log::History;
 use sgt_model::{Event, NoMemory, Reply};
 use sgt_records::Records;
 use sgt_sched::{Brief, Sched};

@@ -1,9 +1,9 @@
 use crate::refusals::Refusals;
 use sgt_access::Accesses;
 use sgt_engine::Engine;
-use sgt_log::History;
 use sgt_format::{append_database, append_reply};
 use sgt_graph::Graph;
+use sgt_log::History;
 use sgt_model::{Cause, Fate, NoMemory, Reply, Tids};
 use sgt_records::Records;
 use std::alloc::Global;

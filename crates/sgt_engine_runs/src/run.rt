@@ -1,8 +1,8 @@
 use sgt_access::Accesses;
 use sgt_engine::{CutError, Engine};
-use sgt_log::History;
 use sgt_format::append_reply;
 use sgt_graph::Graph;
+use sgt_log::History;
 use sgt_model::{Entry, Event, Key, MOST_LIVE, NoMemory, Reply, Tid, Tids};
 use sgt_records::Records;
 use std::alloc::{AllocGlobal, Global};

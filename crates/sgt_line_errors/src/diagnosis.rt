@@ -13,10 +13,10 @@ use crate::record::record_fault;
 use crate::request::{event_fault, job_fault};
 use serde_json::Value;
 use sgt_format::{items, read_tree};
+use sgt_input::Fault;
 use sgt_model::NoMemory;
 use sgt_proc::Flaw;
 use sgt_smallbank::PROCEDURES;
-use sgt_input::Fault;
 use std::alloc::Global;
 
 /// What tells more of a fault than its own line does, in one line without its end: where the fault is in the line of the input that
