@@ -7,3 +7,4 @@ pub mod Runs
 pub mod RunLaws
 pub mod RecordLaws
 pub mod Beginnings
+pub mod Outcomes

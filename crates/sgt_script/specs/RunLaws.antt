@@ -14,7 +14,7 @@ use Rattle.sgt_textbook.specs.Laws.{TextbookLaws}
 use Rattle.sgt_notation.specs.Transcripts.{TranscriptsSpellTextbooks, cut_comment, transcript}
 use Rattle.sgt_format.specs.ReplyText.{text}
 use Rattle.sgt_input.specs.Ends.{End}
-use Rattle.sgt_script.specs.declared.telling.Telling.TheVariants.{Replies}
+use Rattle.sgt_script.specs.declared.output.Output.TheVariants.{Replies}
 use Rattle.sgt_script.specs.Parts.{Answer, Replied, WasCut, StillLive, Part, answer_text, part_of, parts_of}
 use Rattle.sgt_script.specs.Scripts.{Execution, Closing}
 
