@@ -35,7 +35,7 @@ use Rattle.sgt_script.specs.Outcomes.{IsCutOff, IsStopped}
 use Rattle.sgt_script.proofs.Answers.{all-answered, appends-trans, begin-next, closes-part}
 use Rattle.sgt_script.proofs.Parts.{lines-newer, part-rows, replies-newer, runs-go-on}
 use Rattle.sgt_script.proofs.WholeLines.{IsReadSo, behind-records, only-records, read-next, read-opened}
-use Rattle.sgt_script.proofs.Runs.{appends-none, output-same}
+use Rattle.sgt_script.proofs.FirstLines.{appends-none, output-same}
 
 -- what is written, and what is gathered
 

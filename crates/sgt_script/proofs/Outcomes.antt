@@ -15,7 +15,7 @@ use Rattle.sgt_script.specs.Outcomes.{IsWhole, LawsOf}
 use Rattle.sgt_script.specs.Scripts.{Execution, ScriptOf}
 use Rattle.sgt_script.proofs.RecordLaws.{record-laws}
 use Rattle.sgt_script.proofs.RunLaws.{history-laws, run-laws}
-use Rattle.sgt_script.proofs.Runs.{Wrote}
+use Rattle.sgt_script.proofs.FirstLines.{Wrote}
 
 module _ (headline : HeadlineHolds) (opened : OpenedHoldValues) (committed : CommittedAreValues) (bank : ReplayIsBank)
     (ordered : AreCommitOrdered) (serializable : AreSerializable) (recoverable : AreRecoverable) (spell : TranscriptsSpellTextbooks) where

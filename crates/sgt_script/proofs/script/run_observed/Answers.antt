@@ -3,7 +3,7 @@ use Rattle.sgt_input.specs.Intake.{cut_left}
 use Rattle.sgt_input.specs.Ends.{IsExact}
 use Rattle.sgt_engine.specs.EngineView.{setting_of}
 use Rattle.sgt_script.proofs.Outcomes.{with-laws}
-use Rattle.sgt_script.proofs.Runs.{wrote-bad-record, wrote-refused, wrote-opened}
+use Rattle.sgt_script.proofs.FirstLines.{wrote-bad-record, wrote-refused, wrote-opened}
 use Rattle.sgt_script.proofs.Beginnings.{stops-nothing, stops-records, stops-opened, fails-opened}
 use Rattle.sgt_script.proofs.Opened.{begun-behind, bad-behind}
 use Rattle.sgt_script.proofs.WholeLines.{read-nothing}
