@@ -34,8 +34,8 @@ asked StillLive = script_line.Cut
 abbrev pub lines_of : List Answer → List ScriptLine
 lines_of answers = map asked (reverse answers)
 
--- the text of an answer: the line that replies to it, or the operations that it is as a history has them, with a comment where
--- one history ends and another begins, or nothing where the records at the end are told alone
+-- the text of an answer, by the output mode: the line that replies to it; or its operations as a history has them, with a comment
+-- where one history ends and another begins; or nothing
 abbrev pub answer_text : Output → Answer → List ℕ
 answer_text Replies (Replied e) = text e.reply
 answer_text Replies (WasCut entries) = cut_text entries

@@ -113,7 +113,7 @@ pub record RunLaws (run : Execution) (out : List ℕ) (end : End) : Type 0 where
   pub parts : InEachPart (parts_of run.setting run.answers)
   pub written : IsSerialText run out end
 
--- ---- of a run told by its operations
+-- ---- in the output mode History
 
 -- what the textbook says holds of the history of each of these parts
 abbrev pub InEachTextbook : List Part → Type 0

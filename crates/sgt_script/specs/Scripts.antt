@@ -26,8 +26,8 @@ use Rattle.sgt_script.specs.Parts.{Answer, LegalRun, left_by, lines_of, part_of,
 abbrev pub script_line_at : ℕ → List ℕ → Result ScriptLine Fault
 script_line_at n line = at_line n (script_line_of line)
 
--- what stands behind the answers of a run that ended well: behind replies the database of these contents, nothing behind
--- operations, and where records are told these contents as record lines
+-- what stands behind the answers of a run that ended well, by the output mode: the database of these contents; nothing; or these
+-- contents as record lines
 abbrev pub Last : Output → Contents → List ℕ → Type 0
 Last Replies m last = (rows : List Row) × IsByKey rows × ((k : Key) → contents_of rows k ≡ m k) × (last ≡ database_text rows)
 Last History m last = last ≡ []

@@ -48,15 +48,16 @@ pub fn run_script<S: Source, T: Sink>(
 /// Runs a script as [`run_script`] does, and writes what the output mode says.
 ///
 /// - `Replies`: what [`run_script`] writes.
-/// - `History`: the run as a history in the notation of Bernstein, Hadzilacos and Goodman (1987), chapter 2. Each read, write, commit
-///   and abort is a line, as `r1[2/101]`. A transaction's abort comes before the cascading aborts that it causes. At a cut stands a
-///   comment `# cut N`, and the numbers of transactions begin anew.
+/// - `History`: the run as a history in the notation of Bernstein, Hadzilacos and Goodman (1987), chapter 2. Each read, write,
+///   commit and abort is a line, as `r1[2/101]`. A transaction's abort comes before the cascading aborts that it causes. At a cut
+///   stands a comment `# cut N`, and the numbers of transactions begin anew.
 /// - `Records`: the committed database, a line `["record",table,number,value]` for each record, by table and then by number. At a
 ///   fault nothing is written, but for what went well of a write that failed.
 ///
 /// With a sink for explanations, it writes there why transactions are aborted. An abort by a cycle gets a line for each edge of the
-/// cycle, with its accesses. Each cascading abort gets a line that says from whom the transaction had read, and what. A line at the
-/// end names the transactions that are live. The explanations of a line are written after its answer, and name lines by their numbers.
+/// cycle, with its accesses. Each cascading abort gets a line that says from whom the transaction had read, and what. A line at
+/// the end names the transactions that are live. The explanations of a line are written after its answer, and name lines by their
+/// numbers.
 ///
 /// Explanations change nothing of the run. After a failed write there come no more of them. If some have no memory, they are left
 /// out, and a line at the end says so; neither is a fault. An explanation costs passes over the history since the last cut.

@@ -324,10 +324,10 @@ fn answer_lines<S: Source, T: Sink, X: Observer>(
 ///
 /// # Errors
 ///
-/// The fault of the first line that spells neither event nor cut or is too long, or of the input: the replies to the lines before it are
-/// written then. `Reading` where a read failed: the replies to the whole lines read are written then. `NoMemory` where a growth
-/// was refused: the replies to some first lines are. Neither writes the database. And `Writing` where a write failed: the
-/// beginning of what a whole run writes is written then.
+/// The fault of the first line that spells neither event nor cut or is too long, or of the input: the answers to the lines before
+/// it are written. `Reading` if a read failed: the answers to the whole lines that were read are written. `NoMemory` if an
+/// allocation failed: the answers to some first lines are written. None of these writes the database. `Writing` if a write
+/// failed: the beginning of what a whole run writes is written.
 pub(crate) fn run_opened<S: Source, T: Sink, X: Observer>(
     alloc: Global,
     lines: &mut Lines,
