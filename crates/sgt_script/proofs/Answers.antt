@@ -1,5 +1,5 @@
 -- Laws of lines that are answered one after another.
-use Rattle.std.proofs.Common.{◌≡◌, ℕ, ◌+◌, List, [], ◌∷◌, ◌++◌, refl, ap, sym, ◌∙◌, append_assoc, append-nil, subst}
+use Rattle.std.proofs.Common.{◌≡◌, ℕ, List, [], ◌∷◌, ◌++◌, refl, ap, sym, ◌∙◌, append_assoc, append-nil, subst}
 use Rattle.std.proofs.lemmas.List.{map-append}
 use Rattle.std.proofs.lemmas.Grind.{reverse_onto}
 use Rattle.std.specs.Prelude.{map, reverse, Option, None, Some, IfSome, IfErr, OnOk, Ok, Err}
@@ -9,7 +9,7 @@ use Rattle.sgt_input.specs.declared.fault.Fault.TheVariants as fault
 use Rattle.std.specs.Io.KnownBytes.{Appends}
 use Rattle.sgt_input.specs.Lines.{Cut}
 use Rattle.sgt_input.specs.Ends.{End, IsExact, IsOfInput}
-use Rattle.sgt_input.specs.Spelled.{spelled, end_of}
+use Rattle.sgt_input.specs.Spelled.{spelled}
 use Rattle.sgt_script.specs.declared.output.Output.{Output}
 use Rattle.sgt_script.specs.Parts.{Answer, LegalRun, Part, asked, left_by, lines_of, part_of, answers_text}
 use Rattle.sgt_script.specs.Scripts.{Execution, RunOutput, script_line_at, Closing, Last}

@@ -1,11 +1,10 @@
 -- Laws of a run that stopped on the way: it wrote the beginning of what a whole run writes.
-use Rattle.std.proofs.Common.{◌≡◌, ◌≢◌, ℕ, ◌+◌, List, [], ◌∷◌, ◌++◌, refl, ap, sym, ◌∙◌, append_assoc, append-nil, subst, inl, inr, ◌⊎◌, arith}
+use Rattle.std.proofs.Common.{◌≡◌, ◌≢◌, ℕ, ◌+◌, List, [], ◌∷◌, ◌++◌, refl, ap, sym, ◌∙◌, append_assoc, append-nil, subst, inl, inr, arith}
 use Rattle.std.proofs.lemmas.List.{take-append-drop}
 use Rattle.std.specs.Result.{is_err}
 use Rattle.std.specs.Prelude.{take, drop, true, false, Result, Option, None, Some, IfSome, OnErr, Ok, Err}
 use Rattle.std.specs.Io.KnownBytes.{Appends, Consumes}
 use Rattle.sgt_model.specs.declared.entry.Entry.{Entry}
-use Rattle.sgt_model.specs.Contents.{Key}
 use Rattle.sgt_model.specs.Continuations.{SettledAreRows}
 use Rattle.sgt_model.specs.Databases.{Row, contents_of}
 use Rattle.sgt_model.specs.OneReply.{SomeReplyIsLegal}
@@ -28,7 +27,7 @@ use Rattle.sgt_input.specs.Spelled.{spelled, end_of}
 use Rattle.sgt_script.specs.declared.output.Output.{Output}
 use Rattle.sgt_script.specs.declared.output.Output.TheVariants.{Replies, History, Records}
 use Rattle.sgt_script.specs.Parts.{Answer, LegalAnswer, LegalRun, Part, answer_text, left_by, lines_of, part_behind, part_of, answers_text}
-use Rattle.sgt_script.specs.Scripts.{RunOutput, ScriptOf, script_line_at, Closing, Last}
+use Rattle.sgt_script.specs.Scripts.{ScriptOf, script_line_at, Closing, Last}
 use Rattle.sgt_script.specs.Answering.{AnswersAll, AnswersLine, AnswersRead, AnswersScriptRead, AnswersSome, BeginWith, NoLine}
 use Rattle.sgt_script.specs.Beginnings.{AppendsPart, Begins, IsStop, LineRuns, ScriptRuns, WritesAt}
 use Rattle.sgt_script.specs.Outcomes.{IsCutOff, IsStopped}

@@ -8,7 +8,6 @@ use Rattle.sgt_assembly.specs.Openings.{OpenedHoldValues}
 use Rattle.sgt_input.specs.Lines.{Ending}
 use Rattle.sgt_input.specs.Ends.{End}
 use Rattle.sgt_script.specs.declared.output.Output.TheVariants.{Records}
-use Rattle.sgt_script.specs.Parts.{answers_text}
 use Rattle.sgt_script.specs.Scripts.{Execution, Closing, ScriptOf}
 use Rattle.sgt_script.specs.RunLaws.{chained}
 use Rattle.sgt_script.specs.RecordLaws.{RecordLaws}

@@ -4,11 +4,11 @@ ghost use Rattle.std.specs.Prelude.{◌+◌, ◌^◌, ◌<◌};
 use crate::live_text::append_live;
 use crate::observer::Observer;
 use crate::pending::pending_at;
-use sgt_log::History;
-use sgt_explain::append_explanation;
-use sgt_model::NoMemory;
 use sgt_assembly::SgtEngine;
+use sgt_explain::append_explanation;
 use sgt_input::{Lines, Sink, write_all};
+use sgt_log::History;
+use sgt_model::NoMemory;
 use std::alloc::Global;
 use std::marker::Model;
 

@@ -17,20 +17,20 @@ ghost use Rattle.sgt_script.specs.Outcomes.{CountsReads, CountsWrites, IsCutOff,
 use crate::observer::Observer;
 use crate::output::Output;
 use json::Scratch;
+use sgt_assembly::{SgtEngine, open_engine, opened_hold_values};
 use sgt_engine::CutError;
 use sgt_format::{
     Opening, ScriptLine, append_cut, append_database, append_records, append_reply,
     append_still_live, read_script_line,
 };
+use sgt_input::{Fault, Lines, Sink, Source, at_line, opening_of, read_records, write_all};
 use sgt_model::{
     Entry, Event, NoMemory, headline_holds, histories_go_on, replays_hold_values,
     some_reply_is_legal,
 };
-use sgt_assembly::{SgtEngine, open_engine, opened_hold_values};
+use sgt_notation::{append_cut_comment, append_operations, transcripts_spell_textbooks};
 use sgt_smallbank::replay_is_bank;
 use sgt_textbook::{legal_are_commit_ordered, legal_are_recoverable, legal_are_serializable};
-use sgt_input::{Fault, Lines, Sink, Source, at_line, opening_of, read_records, write_all};
-use sgt_notation::{append_cut_comment, append_operations, transcripts_spell_textbooks};
 use std::alloc::Global;
 
 /// What the next line asks for, if there is one.
