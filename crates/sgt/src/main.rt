@@ -20,7 +20,7 @@ use sgt_bank::{MOST_TRIES, MOST_WORKERS, run_jobs};
 use sgt_check::{CheckFault, run_check, run_graph};
 use sgt_input::{Fault, Reader, Source, Writer};
 use sgt_line_errors::{Remembering, explain};
-use sgt_script::run_script;
+use sgt_script::Output;
 use std::alloc::{AllocError, Global};
 use std::env;
 use std::fmt::Display;
@@ -278,23 +278,25 @@ fn script<R: Print + Input>(
     if options.get_flag("explain") {
         return explained_script(rt, alloc, stderr);
     }
-    unexplained(plain_script(rt, alloc, options))
+    unexplained(plain_script(rt, alloc, output_of(options)))
 }
 
-fn plain_script<R: Print + Input>(
-    rt: &R,
-    alloc: Global,
-    options: &ArgMatches<'_>,
-) -> Result<(), Fault> {
+/// The output mode that the options of a run name.
+fn output_of(options: &ArgMatches<'_>) -> Output {
+    if options.get_flag("history") {
+        Output::History
+    } else if options.get_flag("records") {
+        Output::Records
+    } else {
+        Output::Replies
+    }
+}
+
+fn plain_script<R: Print + Input>(rt: &R, alloc: Global, output: Output) -> Result<(), Fault> {
     let mut reader = Reader::new(rt.reader());
     let mut writer = Writer::new(io::writer(rt));
-    if options.get_flag("history") {
-        sgt_script::run_history(alloc, &mut reader, &mut writer)
-    } else if options.get_flag("records") {
-        sgt_script::run_records(alloc, &mut reader, &mut writer)
-    } else {
-        run_script(alloc, &mut reader, &mut writer)
-    }
+    let explanations: Option<&mut Writer<Stderr>> = None;
+    sgt_script::run(alloc, &mut reader, &mut writer, output, explanations)
 }
 
 /// The same, and tells on standard error why transactions are aborted.
@@ -306,7 +308,13 @@ fn explained_script<R: Print + Input>(
     let mut source = Remembering::new(alloc, Reader::new(rt.reader()));
     let mut writer = Writer::new(io::writer(rt));
     let mut errors = Writer::new(stderr);
-    let ran = sgt_script::run_explained(alloc, &mut source, &mut writer, &mut errors);
+    let ran = sgt_script::run(
+        alloc,
+        &mut source,
+        &mut writer,
+        Output::Replies,
+        Some(&mut errors),
+    );
     explained(alloc, sgt_line_errors::Command::Script, &source, ran)
 }
 

@@ -1,5 +1,5 @@
 -- Laws of lines that are answered one after another.
-use Rattle.std.proofs.Common.{◌≡◌, ℕ, ◌+◌, List, [], ◌∷◌, ◌++◌, refl, ap, sym, ◌∙◌, append_assoc, append-nil, subst}
+use Rattle.std.proofs.Common.{◌≡◌, ℕ, List, [], ◌∷◌, ◌++◌, refl, ap, sym, ◌∙◌, append_assoc, append-nil, subst}
 use Rattle.std.proofs.lemmas.List.{map-append}
 use Rattle.std.proofs.lemmas.Grind.{reverse_onto}
 use Rattle.std.specs.Prelude.{map, reverse, Option, None, Some, IfSome, IfErr, OnOk, Ok, Err}
@@ -9,8 +9,8 @@ use Rattle.sgt_input.specs.declared.fault.Fault.TheVariants as fault
 use Rattle.std.specs.Io.KnownBytes.{Appends}
 use Rattle.sgt_input.specs.Lines.{Cut}
 use Rattle.sgt_input.specs.Ends.{End, IsExact, IsOfInput}
-use Rattle.sgt_input.specs.Spelled.{spelled, end_of}
-use Rattle.sgt_script.specs.declared.telling.Telling.{Telling}
+use Rattle.sgt_input.specs.Spelled.{spelled}
+use Rattle.sgt_script.specs.declared.output.Output.{Output}
 use Rattle.sgt_script.specs.Parts.{Answer, LegalRun, Part, asked, left_by, lines_of, part_of, answers_text}
 use Rattle.sgt_script.specs.Scripts.{Execution, RunOutput, script_line_at, Closing, Last}
 use Rattle.sgt_script.specs.Answering.{AllAnswered, AnswersAll, BeginWith, NoLine}
@@ -48,16 +48,16 @@ appends-trans (Some ws) (Some bs) None xs ys first second = second
 appends-trans (Some ws) (Some bs) (Some cs) xs ys first second = second ∙ ap (λ l. l ++ ys) first ∙ append_assoc ws xs ys
 
 -- what a run over known lines from number n on writes, with what it started from
-abbrev pub Output : Telling → Setting → ℕ → Option Cut → Option (List ℕ) → Option (List ℕ) → End → Type 0
-Output w s n known held held' end =
+abbrev pub RunWrote : Output → Setting → ℕ → Option Cut → Option (List ℕ) → Option (List ℕ) → End → Type 0
+RunWrote w s n known held held' end =
     IfSome known (λ c. (run : Execution) × (run.setting ≡ s) × (out : List ℕ) × Appends held held' out
     × RunOutput w run n c.given c.ending out end)
 
 -- a run whose lines are all answered, with what it wrote
-pub output-all : (w : Telling) (s : Setting) (n : ℕ) (known : Option Cut) (answers : List Answer) (end : End) (last : List ℕ)
+pub output-all : (w : Output) (s : Setting) (n : ℕ) (known : Option Cut) (answers : List Answer) (end : End) (last : List ℕ)
     (held held' : Option (List ℕ)) → LegalRun s answers → AllAnswered n known answers end
     → Closing w (left_by (part_of s answers)) end last → Appends held held' (answers_text w answers ++ last)
-    → Output w s n known held held' end
+    → RunWrote w s n known held held' end
 output-all w s n None answers end last held held' legal all closing written = tt
 output-all w s n (Some c) answers end last held held' legal all closing written = (
   record { setting = s; answers = answers },
@@ -80,27 +80,27 @@ exact-flush (Ok tt') err exact = refl
 exact-flush (Err f) err exact = absurd (subst IsOfInput err exact)
 
 -- what a run writes that ended at a fault of the script
-pub output-fault : (w : Telling) (s : Setting) (n : ℕ) (known : Option Cut) (r : End) (f : Fault) (held held' : Option (List ℕ))
-    → r ≡ Err f → (IsOfInput f → AnswersAll w s n known held held' (Err f)) → IsExact r → Output w s n known held held' r
+pub output-fault : (w : Output) (s : Setting) (n : ℕ) (known : Option Cut) (r : End) (f : Fault) (held held' : Option (List ℕ))
+    → r ≡ Err f → (IsOfInput f → AnswersAll w s n known held held' (Err f)) → IsExact r → RunWrote w s n known held held' r
 output-fault w s n known r f held held' failed answered exact =
     let all = answered (subst IsExact failed exact) in
-    subst (Output w s n known held held') (sym failed)
+    subst (RunWrote w s n known held held') (sym failed)
     (output-all w s n known all.answers (Err f) [] held held' all.legal all.all refl
     (subst (Appends held held') (sym (append-nil (answers_text w all.answers))) all.written))
 
 -- the database behind an engine's part
-pub closes-part : (w : Telling) (p q : Part) (last : List ℕ) → p ≡ q → Last w (left_by q) last → Closing w (left_by p) (Ok tt) last
+pub closes-part : (w : Output) (p q : Part) (last : List ℕ) → p ≡ q → Last w (left_by q) last → Closing w (left_by p) (Ok tt) last
 closes-part w p q last same is = subst (λ (x : Part). Last w (left_by x) last) (sym same) is
 
 -- what a run writes that ended well
-pub output-well : (w : Telling) (s : Setting) (n : ℕ) (known : Option Cut) (q : Part) (r : End) (gathered : List ℕ)
+pub output-well : (w : Output) (s : Setting) (n : ℕ) (known : Option Cut) (q : Part) (r : End) (gathered : List ℕ)
     (held held' held'' : Option (List ℕ)) → r ≡ Ok tt
     → (all : AnswersAll w s n known held held' (Ok tt)) × (part_of s all.answers ≡ q) → Last w (left_by q) gathered
     → OnOk r (Appends held' held'' gathered)
-    → Output w s n known held held'' r
+    → RunWrote w s n known held held'' r
 output-well w s n known q r gathered held held' held'' wrote (all, part) is last =
     let more : Appends held' held'' gathered = subst (λ (e : End). OnOk e (Appends held' held'' gathered)) wrote last in
-    subst (Output w s n known held held'') (sym wrote)
+    subst (RunWrote w s n known held held'') (sym wrote)
     (output-all w s n known all.answers (Ok tt) gathered held held'' all.legal all.all
     (closes-part w (part_of s all.answers) q gathered part is)
     (appends-trans held held' held'' (answers_text w all.answers) gathered all.written more))

@@ -1,11 +1,10 @@
 -- Laws of a run that stopped on the way: it wrote the beginning of what a whole run writes.
-use Rattle.std.proofs.Common.{◌≡◌, ◌≢◌, ℕ, ◌+◌, List, [], ◌∷◌, ◌++◌, refl, ap, sym, ◌∙◌, append_assoc, append-nil, subst, inl, inr, ◌⊎◌, arith}
+use Rattle.std.proofs.Common.{◌≡◌, ◌≢◌, ℕ, ◌+◌, List, [], ◌∷◌, ◌++◌, refl, ap, sym, ◌∙◌, append_assoc, append-nil, subst, inl, inr, arith}
 use Rattle.std.proofs.lemmas.List.{take-append-drop}
 use Rattle.std.specs.Result.{is_err}
 use Rattle.std.specs.Prelude.{take, drop, true, false, Result, Option, None, Some, IfSome, OnErr, Ok, Err}
 use Rattle.std.specs.Io.KnownBytes.{Appends, Consumes}
 use Rattle.sgt_model.specs.declared.entry.Entry.{Entry}
-use Rattle.sgt_model.specs.Contents.{Key}
 use Rattle.sgt_model.specs.Continuations.{SettledAreRows}
 use Rattle.sgt_model.specs.Databases.{Row, contents_of}
 use Rattle.sgt_model.specs.OneReply.{SomeReplyIsLegal}
@@ -25,28 +24,29 @@ use Rattle.sgt_input.specs.Records.{Passes, ReadsRecords}
 use Rattle.sgt_input.proofs.Begun.{Begun, HaveBegun}
 use Rattle.sgt_input.specs.Ends.{End, IsOfInput}
 use Rattle.sgt_input.specs.Spelled.{spelled, end_of}
-use Rattle.sgt_script.specs.declared.telling.Telling.{Telling}
-use Rattle.sgt_script.specs.declared.telling.Telling.TheVariants.{Replies, Operations, Records}
+use Rattle.sgt_script.specs.declared.output.Output.{Output}
+use Rattle.sgt_script.specs.declared.output.Output.TheVariants.{Replies, History, Records}
 use Rattle.sgt_script.specs.Parts.{Answer, LegalAnswer, LegalRun, Part, answer_text, left_by, lines_of, part_behind, part_of, answers_text}
-use Rattle.sgt_script.specs.Scripts.{RunOutput, ScriptOf, script_line_at, Closing, Last}
+use Rattle.sgt_script.specs.Scripts.{ScriptOf, script_line_at, Closing, Last}
 use Rattle.sgt_script.specs.Answering.{AnswersAll, AnswersLine, AnswersRead, AnswersScriptRead, AnswersSome, BeginWith, NoLine}
 use Rattle.sgt_script.specs.Beginnings.{AppendsPart, Begins, IsStop, LineRuns, ScriptRuns, WritesAt}
+use Rattle.sgt_script.specs.Outcomes.{IsCutOff, IsStopped}
 use Rattle.sgt_script.proofs.Answers.{all-answered, appends-trans, begin-next, closes-part}
 use Rattle.sgt_script.proofs.Parts.{lines-newer, part-rows, replies-newer, runs-go-on}
 use Rattle.sgt_script.proofs.WholeLines.{IsReadSo, behind-records, only-records, read-next, read-opened}
-use Rattle.sgt_script.proofs.Runs.{appends-none, output-same}
+use Rattle.sgt_script.proofs.FirstLines.{appends-none, output-same}
 
 -- what is written, and what is gathered
 
 -- what was written of the answers, and what is gathered of them
-abbrev pub Gathers : Telling → Option (List ℕ) → Option (List ℕ) → List Answer → List ℕ → Type 0
+abbrev pub Gathers : Output → Option (List ℕ) → Option (List ℕ) → List Answer → List ℕ → Type 0
 Gathers w old now answers gathered = (bytes : List ℕ) × Appends old now bytes × (answers_text w answers ≡ bytes ++ gathered)
 
 -- some of what is gathered was written out
 abbrev pub Flushed : Option (List ℕ) → Option (List ℕ) → List ℕ → List ℕ → Type 0
 Flushed old now gathered left = (bytes : List ℕ) × Appends old now bytes × (gathered ≡ bytes ++ left)
 
-gathers-less : (w : Telling) (a b c : Option (List ℕ)) (answers : List Answer) (held held' : List ℕ) → Gathers w a b answers held
+gathers-less : (w : Output) (a b c : Option (List ℕ)) (answers : List Answer) (held held' : List ℕ) → Gathers w a b answers held
     → Flushed b c held held'
     → Gathers w a c answers held'
 gathers-less w a b c answers held held' (xs, first, all) (ys, second, rest) = (
@@ -55,7 +55,7 @@ gathers-less w a b c answers held held' (xs, first, all) (ys, second, rest) = (
   all ∙ ap (λ l. xs ++ l) rest ∙ sym (append_assoc xs ys held'),
 )
 
-gathers-next : (w : Telling) (a b : Option (List ℕ)) (answers : List Answer) (x : Answer) (held held' : List ℕ) → Gathers w a b answers held
+gathers-next : (w : Output) (a b : Option (List ℕ)) (answers : List Answer) (x : Answer) (held held' : List ℕ) → Gathers w a b answers held
     → held' ≡ held ++ answer_text w x → Gathers w a b (x ∷ answers) held'
 gathers-next w a b answers x held held' (xs, first, all) more =
     (xs, first, ap (λ l. l ++ answer_text w x) all ∙ append_assoc xs held (answer_text w x) ∙ ap (λ l. xs ++ l) (sym more))
@@ -89,7 +89,7 @@ on-failed {P} r f is holds = subst (λ (e : End). OnErr e P) is holds
 -- behind some lines
 
 -- of known lines from number n on, those before this intake were answered, and here an engine's part and what is gathered stand
-pub record IsAnsweredSo (w : Telling) (s : Setting) (n : ℕ) (known : Option Cut) (from old : Option (List ℕ)) (i : Intake)
+pub record IsAnsweredSo (w : Output) (s : Setting) (n : ℕ) (known : Option Cut) (from old : Option (List ℕ)) (i : Intake)
     (rest held : Option (List ℕ)) (gathered : List ℕ) (p : Part) : Type 0 where
   pub answers : List Answer
   pub legal : LegalRun s answers
@@ -107,7 +107,7 @@ consumes-none None = tt
 consumes-none (Some xs) = refl
 
 -- before the first
-pub answered-none : (w : Telling) (i : Intake) (rest held : Option (List ℕ)) (gathered : List ℕ) (s : Setting) (past : List Entry)
+pub answered-none : (w : Output) (i : Intake) (rest held : Option (List ℕ)) (gathered : List ℕ) (s : Setting) (past : List Entry)
     → gathered ≡ []
     → past ≡ []
     → IsAnsweredSo w s (i.number + 1) (cut_left i rest) (bytes_left i rest) held i rest held gathered (record { setting = s; past = past })
@@ -127,7 +127,7 @@ answered-none w i rest held gathered s past empty none = record {
   written = ([], appends-none held, sym empty);
 }
 
-module _ (w : Telling) (s : Setting) (n : ℕ) (known : Option Cut) (from old : Option (List ℕ)) where
+module _ (w : Output) (s : Setting) (n : ℕ) (known : Option Cut) (from old : Option (List ℕ)) where
   -- where some of what is gathered is written out
   pub answered-flushed : (i : Intake) (rest b c : Option (List ℕ)) (held held' : List ℕ) (p : Part)
       → IsAnsweredSo w s n known from old i rest b held p → Flushed b c held held' → IsAnsweredSo w s n known from old i rest c held' p
@@ -248,9 +248,9 @@ module _ (w : Telling) (s : Setting) (n : ℕ) (known : Option Cut) (from old : 
 -- whole runs
 
 -- what stands behind the answers
-closes : (w : Telling) → SettledAreRows → (s : Setting) (rows : List Row) (answers : List Answer) (end : End) → s.opening ≡ contents_of rows
+closes : (w : Output) → SettledAreRows → (s : Setting) (rows : List Row) (answers : List Answer) (end : End) → s.opening ≡ contents_of rows
     → (last : List ℕ) × Closing w (left_by (part_of s answers)) end last
-closes Operations are_rows s rows answers (Ok tt') is = ([], refl)
+closes History are_rows s rows answers (Ok tt') is = ([], refl)
 closes Replies are_rows s rows answers (Ok tt') is =
     let opened = part-rows are_rows s rows answers is in
     let told = are_rows opened.0 (part_of s answers).past in (
@@ -266,7 +266,7 @@ closes Records are_rows s rows answers (Ok tt') is =
 closes w are_rows s rows answers (Err f) is = ([], refl)
 
 -- what was answered goes on to a whole run
-goes-on : (w : Telling) → SomeReplyIsLegal → SettledAreRows → (s : Setting) (rows : List Row) (n m : ℕ) (c : Cut) (left : Option Cut)
+goes-on : (w : Output) → SomeReplyIsLegal → SettledAreRows → (s : Setting) (rows : List Row) (n m : ℕ) (c : Cut) (left : Option Cut)
     (answers : List Answer) (out rest : List ℕ) → s.opening ≡ contents_of rows → LegalRun s answers
     → BeginWith n (Some c) (lines_of answers) m left → answers_text w answers ≡ out ++ rest → Begins (LineRuns w s n c) answers out
 goes-on w some are_rows s rows n m c None answers out rest is legal answered parts = absurd answered
@@ -294,16 +294,16 @@ goes-on w some are_rows s rows n m c (Some left) answers out rest is legal answe
     }
 
 -- what a run over known lines from number n on wrote that stopped behind a reply
-abbrev pub Stops : Telling → Setting → ℕ → Option Cut → (from to old new : Option (List ℕ)) → End → Type 0
+abbrev pub Stops : Output → Setting → ℕ → Option Cut → (from to old new : Option (List ℕ)) → End → Type 0
 Stops w s n known from to old new end = IfSome known (λ c. (answered : List Answer) × Appends old new (answers_text w answered)
     × Begins (LineRuns w s n c) answered (answers_text w answered) × (end ≡ Err fault.Reading → AnswersRead n from to answered))
 
 -- and what one wrote whose write failed
-abbrev pub Fails : Telling → Setting → ℕ → Option Cut → Option (List ℕ) → Option (List ℕ) → Type 0
+abbrev pub Fails : Output → Setting → ℕ → Option Cut → Option (List ℕ) → Option (List ℕ) → Type 0
 Fails w s n known old new = IfSome known (λ c. (answered : List Answer) × (out : List ℕ) × Appends old new out
     × Begins (LineRuns w s n c) answered out)
 
-pub stops-from : (w : Telling) → SomeReplyIsLegal → SettledAreRows → (s : Setting) (rows : List Row) (n : ℕ) (known : Option Cut)
+pub stops-from : (w : Output) → SomeReplyIsLegal → SettledAreRows → (s : Setting) (rows : List Row) (n : ℕ) (known : Option Cut)
     (from to old new : Option (List ℕ)) (wrote unread : Type 0) (end : End) → s.opening ≡ contents_of rows → wrote
     → (end ≡ Err fault.Reading → unread) → AnswersSome w s n known from to old new wrote unread
     → Stops w s n known from to old new end
@@ -318,7 +318,7 @@ stops-from w answer are_rows s rows n (Some c) from to old new wrote unread end 
       λ reading. some.read (failed reading),
     )
 
-pub fails-from : (w : Telling) → SomeReplyIsLegal → SettledAreRows → (s : Setting) (rows : List Row) (n : ℕ) (known : Option Cut)
+pub fails-from : (w : Output) → SomeReplyIsLegal → SettledAreRows → (s : Setting) (rows : List Row) (n : ℕ) (known : Option Cut)
     (from to old new : Option (List ℕ)) (wrote unread : Type 0) → s.opening ≡ contents_of rows
     → AnswersSome w s n known from to old new wrote unread → Fails w s n known old new
 fails-from w answer are_rows s rows n None from to old new wrote unread is some = tt
@@ -331,7 +331,7 @@ fails-from w answer are_rows s rows n (Some c) from to old new wrote unread is s
 )
 
 -- where the write of the database failed
-pub fails-last : (w : Telling) (s : Setting) (n : ℕ) (known : Option Cut) (q : Part) (gathered : List ℕ)
+pub fails-last : (w : Output) (s : Setting) (n : ℕ) (known : Option Cut) (q : Part) (gathered : List ℕ)
     (held held' held'' : Option (List ℕ))
     → (all : AnswersAll w s n known held held' (Ok tt)) × (part_of s all.answers ≡ q) → Last w (left_by q) gathered
     → AppendsPart held' held'' gathered
@@ -365,7 +365,7 @@ fails-last w s n (Some c) q gathered held held' held'' (all, present) is part = 
 -- from the first line
 
 -- a whole run behind an opening is one of the script
-of-script : (w : Telling) (s : Setting) (bytes line : List ℕ) (n : ℕ) (c : Cut) (o : Opening) (answered : List Answer) (out : List ℕ)
+of-script : (w : Output) (s : Setting) (bytes line : List ℕ) (n : ℕ) (c : Cut) (o : Opening) (answered : List Answer) (out : List ℕ)
     → HaveBegun 1 bytes line o n c → s ≡ opened_setting o → Begins (LineRuns w s n c) answered out
     → Begins (ScriptRuns w bytes) answered out
 of-script w s bytes line n c o answered out opened is begun = record {
@@ -384,57 +384,63 @@ of-script w s bytes line n c o answered out opened is begun = record {
       });
 }
 
--- what a script's run wrote that stopped, or whose write failed
-abbrev pub ScriptStops : Telling → (rest to old new : Option (List ℕ)) → End → Type 0
-ScriptStops w rest to old new end = IfSome rest (λ bytes. (answered : List Answer) × Appends old new (answers_text w answered)
-    × ((answered ≡ []) ⊎ Begins (ScriptRuns w bytes) answered (answers_text w answered))
-    × (end ≡ Err fault.Reading → AnswersScriptRead rest to answered))
+-- the text of answers is empty where the records at the end are written alone
+answers-unwritten : (answers : List Answer) → answers_text Records answers ≡ []
+answers-unwritten [] = refl
+answers-unwritten (a ∷ answers) = append-nil (answers_text Records answers) ∙ answers-unwritten answers
 
-abbrev pub ScriptFails : Telling → Option (List ℕ) → Option (List ℕ) → Option (List ℕ) → Type 0
-ScriptFails w rest old new = IfSome rest (λ bytes. (answered : List Answer) × (out : List ℕ) × Appends old new out
-    × Begins (ScriptRuns w bytes) answered out)
+pub no-answers : (w : Output) (answers : List Answer) → w ≡ Records → answers_text w answers ≡ []
+no-answers w answers is = subst (λ (mode : Output). answers_text mode answers ≡ []) (sym is) (answers-unwritten answers)
 
 -- before an opening nothing is written
-pub stops-nothing : (w : Telling) (rest to held : Option (List ℕ)) (end : End) → (end ≡ Err fault.Reading → AnswersScriptRead rest to [])
-    → ScriptStops w rest to held held end
+pub stops-nothing : (w : Output) (rest to held : Option (List ℕ)) (end : End) → (end ≡ Err fault.Reading → AnswersScriptRead rest to [])
+    → IsStopped w rest to held held end
 stops-nothing w None to held end read = tt
-stops-nothing w (Some bytes) to held end read = ([], appends-none held, inl refl, read)
+stops-nothing w (Some bytes) to held end read = record {
+  answered = [];
+  appends = appends-none held;
+  begins = inl refl;
+  read = read;
+  nothing = λ is. appends-none held;
+}
 
 -- nor where a read failed, or a growth was refused, behind line 1
-pub stops-records : (w : Telling) (input : Option (List ℕ)) (i : Intake) (rest to held : Option (List ℕ)) (o : Opening) (end : End)
+pub stops-records : (w : Output) (input : Option (List ℕ)) (i : Intake) (rest to held : Option (List ℕ)) (o : Opening) (end : End)
     → HasOpened 1 input i rest o → (end ≡ Err fault.Reading → (i.ended ≡ false) × ReadsRecords (bytes_left i rest) to)
-    → ScriptStops w input to held held end
+    → IsStopped w input to held held end
 stops-records w None i rest to held o end opened read = tt
-stops-records w (Some bytes) i rest to held o end opened read = (
-  [],
-  appends-none held,
-  inl refl,
-  λ reading. read-opened i bytes rest to o [] opened (read reading).0 (only-records (bytes_left i rest) to (read reading).1),
-)
+stops-records w (Some bytes) i rest to held o end opened read = record {
+  answered = [];
+  appends = appends-none held;
+  begins = inl refl;
+  read = λ reading. read-opened i bytes rest to o [] opened (read reading).0 (only-records (bytes_left i rest) to (read reading).1);
+  nothing = λ is. appends-none held;
+}
 
 -- behind an opening
-pub stops-opened : (w : Telling) (i k : Intake) (s : Setting) (input rest rest' to old new : Option (List ℕ)) (known : Option Cut)
+pub stops-opened : (w : Output) (i k : Intake) (s : Setting) (input rest rest' to old new : Option (List ℕ)) (known : Option Cut)
     (first o : Opening) (end : End) → HasOpened 1 input i rest first → Begun 1 input i.line o (k.number + 1) known
     → s ≡ opened_setting o
     → (k.ended ≡ false → (i.ended ≡ false) × Passes i.number (bytes_left i rest) k.number (bytes_left k rest'))
     → (end ≡ Err fault.Reading → k.ended ≡ false) → Stops w s (k.number + 1) known (bytes_left k rest') to old new end
-    → ScriptStops w input to old new end
+    → IsStopped w input to old new end
 stops-opened w i k s None rest rest' to old new known first o end opened begun is passes going stops = tt
 stops-opened w i k s (Some bytes) rest rest' to old new None first o end opened begun is passes going stops = absurd begun
 stops-opened w i k s (Some bytes) rest rest' to old new (Some c) first o end opened begun is passes going
-    (answered, wrote, begins, read) = (
-      answered,
-      wrote,
-      inr (of-script w s bytes i.line (k.number + 1) c o answered (answers_text w answered) begun is begins),
-      λ reading.
+    (answered, wrote, begins, read) = record {
+      answered = answered;
+      appends = wrote;
+      begins = inr (of-script w s bytes i.line (k.number + 1) c o answered (answers_text w answered) begun is begins);
+      read = λ reading.
           let still = passes (going reading) in
           read-opened i bytes rest to first answered opened still.0
-          (behind-records (bytes_left i rest) (bytes_left k rest') to i.number k.number answered opened.number still.1 (read reading)),
-    )
+          (behind-records (bytes_left i rest) (bytes_left k rest') to i.number k.number answered opened.number still.1 (read reading));
+      nothing = λ records. subst (Appends old new) (no-answers w answered records) wrote;
+    }
 
-pub fails-opened : (w : Telling) (s : Setting) (rest old new : Option (List ℕ)) (line : List ℕ) (n : ℕ) (known : Option Cut) (o : Opening)
-    → Begun 1 rest line o n known → s ≡ opened_setting o → Fails w s n known old new → ScriptFails w rest old new
+pub fails-opened : (w : Output) (s : Setting) (rest old new : Option (List ℕ)) (line : List ℕ) (n : ℕ) (known : Option Cut) (o : Opening)
+    → Begun 1 rest line o n known → s ≡ opened_setting o → Fails w s n known old new → IsCutOff w rest old new
 fails-opened w s None old new line n known o begun is fails = tt
 fails-opened w s (Some bytes) old new line n None o begun is fails = absurd begun
 fails-opened w s (Some bytes) old new line n (Some c) o begun is (answered, out, wrote, begins) =
-    (answered, out, wrote, of-script w s bytes line n c o answered out begun is begins)
+    record { answered = answered; out = out; appends = wrote; begins = of-script w s bytes line n c o answered out begun is begins }

@@ -3,7 +3,8 @@ pub mod NextLines
 pub mod Parts
 pub mod WholeLines
 pub mod Opened
-pub mod Runs
+pub mod FirstLines
 pub mod RunLaws
 pub mod RecordLaws
 pub mod Beginnings
+pub mod Outcomes

@@ -17,7 +17,7 @@ use Rattle.sgt_model.specs.declared.event.Event.{Event}
 use Rattle.sgt_engine.specs.Cuts.{GoesOn, NobodyLive, setting_behind}
 use Rattle.sgt_engine.specs.EngineView.{EngineView, setting_of}
 use Rattle.sgt_script.specs.Answering.{AnswersLine}
-use Rattle.sgt_script.specs.declared.telling.Telling.{Telling}
+use Rattle.sgt_script.specs.declared.output.Output.{Output}
 use Rattle.sgt_script.specs.Parts.{Answer, Replied, WasCut, StillLive, LegalAnswer, LegalRun, Part, answer_text, asked, lines_of, part_at, part_of, answers_text}
 
 -- the history of the present part is legal
@@ -50,7 +50,7 @@ answer-to some p (script_line.Event e) =
 answer-to some p script_line.Cut = cut-answer p (live_ones p.past) refl
 
 -- the text of answers with newer ones
-pub replies-newer : (w : Telling) (newer answers : List Answer)
+pub replies-newer : (w : Output) (newer answers : List Answer)
     → answers_text w (newer ++ answers) ≡ answers_text w answers ++ answers_text w newer
 replies-newer w [] answers = sym (append-nil (answers_text w answers))
 replies-newer w (a ∷ newer) answers = ap (λ l. l ++ answer_text w a) (replies-newer w newer answers)
@@ -74,7 +74,7 @@ runs-go-on some s answers (line ∷ lines) legal =
 
 -- what an engine does with a line is an answer to it
 
-pub replied : (w : Telling) (e : Entry) (event : Event) (old new : EngineView) (before after : List ℕ) → setting_of new ≡ setting_of old
+pub replied : (w : Output) (e : Entry) (event : Event) (old new : EngineView) (before after : List ℕ) → setting_of new ≡ setting_of old
     → new.past ≡ e ∷ old.past → e.event ≡ event → after ≡ before ++ answer_text w (Replied e) → Legal (setting_of new) new.past
     → AnswersLine w (script_line.Event event) (part_at old) (part_at new) before after
 replied w e event old new before after same more is told legal =
@@ -92,7 +92,7 @@ nobody : (lives : List ℕ) → ¬ ¬ (lives ≡ []) → lives ≡ []
 nobody [] not = refl
 nobody (t ∷ ts) not = absurd (not (λ none. absurd (cc none)))
 
-pub was-cut : (w : Telling) (old new : EngineView) (items : List Entry) (n : ℕ) (before after : List ℕ) → GoesOn old new
+pub was-cut : (w : Output) (old new : EngineView) (items : List Entry) (n : ℕ) (before after : List ℕ) → GoesOn old new
     → reverse items ≡ old.past
     → n ≡ length items → ¬ ¬ NobodyLive old.past → after ≡ before ++ answer_text w (WasCut n)
     → AnswersLine w script_line.Cut (part_at old) (part_at new) before after

@@ -2,7 +2,6 @@
 use Rattle.std.proofs.Common.{◌≡◌, refl, sym, ap, ◌∙◌, subst, List, [], ◌∷◌, ◌++◌, append_assoc, append-nil}
 use Rattle.std.proofs.Math.Path.{fun_ext}
 use Rattle.std.specs.Prelude.{ℕ, length, Option, None, Some, IfSome, Ok, Err}
-use Rattle.std.specs.Io.KnownBytes.{Appends}
 use Rattle.sgt_model.specs.declared.entry.Entry.{Entry}
 use Rattle.sgt_model.specs.declared.limits.Limits.{Limits}
 use Rattle.sgt_model.specs.declared.reply.Reply.{Reply}
@@ -19,14 +18,14 @@ use Rattle.sgt_smallbank.specs.Texts.{procedures}
 use Rattle.sgt_assembly.specs.Openings.{OpenedHoldValues}
 use Rattle.sgt_format.specs.FilledOpenings.{behind_records, leading_records, number_behind}
 use Rattle.sgt_format.specs.ReplyText.{text}
-use Rattle.sgt_input.specs.Lines.{Ending, cut}
+use Rattle.sgt_input.specs.Lines.{Ending}
 use Rattle.sgt_input.specs.Ends.{End}
 use Rattle.sgt_textbook.specs.Laws.{AreCommitOrdered, AreSerializable, AreRecoverable, TextbookLaws}
 use Rattle.sgt_notation.specs.Transcripts.{TranscriptsSpellTextbooks, cut_comment, operations_text, transcript}
-use Rattle.sgt_script.specs.declared.telling.Telling.{Telling}
-use Rattle.sgt_script.specs.declared.telling.Telling.TheVariants.{Replies, Operations, Records}
+use Rattle.sgt_script.specs.declared.output.Output.{Output}
+use Rattle.sgt_script.specs.declared.output.Output.TheVariants.{Replies, History, Records}
 use Rattle.sgt_script.specs.Parts.{Answer, Replied, WasCut, StillLive, LegalRun, Part, answer_text, answers_text, cut_off, left_by, part_of, parts_of}
-use Rattle.sgt_script.specs.Scripts.{Execution, Closing, Opened, RunOutput, Script, ScriptOf}
+use Rattle.sgt_script.specs.Scripts.{Execution, Closing, Opened, RunOutput, ScriptOf}
 use Rattle.sgt_script.specs.RunLaws.{HistoryLaws, InEachPart, InEachTextbook, IsSerialText, PartLaws, RunLaws, behind_cut, transcripts, carried, chained, line_telling, opened_on, replies_telling, results_left}
 use Rattle.sgt_script.proofs.Parts.{legal-part}
 
@@ -50,14 +49,14 @@ tells-one (reply.Waits t) results before telling is = ap (λ l. l ++ text (reply
 tells-one (reply.Aborted why fell) results before telling is = ap (λ l. l ++ text (reply.Aborted why fell)) is
 
 -- contents that are the same, at the end
-pub closing-same : (w : Telling) (m n : Contents) (end : End) (last : List ℕ) → ((k : Key) → n k ≡ m k) → Closing w m end last
+pub closing-same : (w : Output) (m n : Contents) (end : End) (last : List ℕ) → ((k : Key) → n k ≡ m k) → Closing w m end last
     → Closing w n end last
 closing-same Replies m n (Ok done) last same (rows, by_key, contents, is) = (rows, by_key, (λ k. contents k ∙ sym (same k)), is)
-closing-same Operations m n (Ok done) last same is = is
+closing-same History m n (Ok done) last same is = is
 closing-same Records m n (Ok done) last same (rows, by_key, contents, is) = (rows, by_key, (λ k. contents k ∙ sym (same k)), is)
 closing-same w m n (Err fault) last same is = is
 
--- a run told by its operations writes the transcripts of its parts
+-- a run in the output mode History writes the transcripts of its parts
 
 -- one more entry of the present part
 transcript-more : (s : Setting) (e : Entry) (past : List Entry) (parts : List Part)
@@ -68,7 +67,7 @@ transcript-more s e past (q ∷ parts) =
     append_assoc (behind_cut q parts ++ cut_comment (length q.past)) (transcript past) (operations_text e.event e.reply)
 
 transcribed : (s : Setting) (answers : List Answer) → LegalRun s answers
-    → answers_text Operations answers ≡ transcripts (parts_of s answers)
+    → answers_text History answers ≡ transcripts (parts_of s answers)
 transcribed s [] legal = refl
 transcribed s (Replied e ∷ answers) legal =
     let p = part_of s answers in
@@ -79,18 +78,18 @@ transcribed s (WasCut entries ∷ answers) legal =
     ap (λ l. l ++ cut_comment entries) (transcribed s answers legal.0)
     ∙ ap (λ n. transcripts (parts_of s answers) ++ cut_comment n) legal.1.1
     ∙ sym (append-nil (transcripts (parts_of s answers) ++ cut_comment (length p.past)))
-transcribed s (StillLive ∷ answers) legal = append-nil (answers_text Operations answers) ∙ transcribed s answers legal.0
+transcribed s (StillLive ∷ answers) legal = append-nil (answers_text History answers) ∙ transcribed s answers legal.0
 
-closes-nothing : (m : Contents) (end : End) (last : List ℕ) → Closing Operations m end last → last ≡ []
+closes-nothing : (m : Contents) (end : End) (last : List ℕ) → Closing History m end last → last ≡ []
 closes-nothing m (Ok done) last is = is
 closes-nothing m (Err fault) last is = is
 
 transcribed-run : (run : Execution) (n : ℕ) (later : List (List ℕ)) (ending : Ending) (out : List ℕ) (end : End)
-    → RunOutput Operations run n later ending out end → out ≡ transcripts (parts_of run.setting run.answers)
+    → RunOutput History run n later ending out end → out ≡ transcripts (parts_of run.setting run.answers)
 transcribed-run run n later ending out end output =
-    output.text ∙ ap (λ l. answers_text Operations run.answers ++ l)
+    output.text ∙ ap (λ l. answers_text History run.answers ++ l)
     (closes-nothing (left_by (part_of run.setting run.answers)) end output.last output.closing)
-    ∙ append-nil (answers_text Operations run.answers) ∙ transcribed run.setting run.answers output.legal
+    ∙ append-nil (answers_text History run.answers) ∙ transcribed run.setting run.answers output.legal
 
 module _ (headline : HeadlineHolds) where
   -- each part starts from what the serial run of those before it leaves
@@ -186,7 +185,7 @@ module _ (headline : HeadlineHolds) where
           (part-laws s answers is values legal.0, cut-laws s answers is values legal.0)
       cut-laws s (StillLive ∷ answers) is values legal = cut-laws s answers is values legal.0
 
-    pub parts-laws : (w : Telling) (l : List ℕ) (ls : List (List ℕ)) (ending : Ending) (run : Execution) (out : List ℕ) (end : End)
+    pub parts-laws : (w : Output) (l : List ℕ) (ls : List (List ℕ)) (ending : Ending) (run : Execution) (out : List ℕ) (end : End)
         → Opened w l ls ending run out end → InEachPart (parts_of run.setting run.answers)
     parts-laws w l ls ending run out end s =
         let rules = ap (λ (t : Setting). t.rules) s.setting in
@@ -197,7 +196,7 @@ module _ (headline : HeadlineHolds) where
           cut-laws others limits run.setting run.answers rules values s.output.legal,
         )
 
-    run-laws : (ls : List (List ℕ)) (ending : Ending) (run : Option Execution) (out : List ℕ) (end : End)
+    pub run-laws : (ls : List (List ℕ)) (ending : Ending) (run : Option Execution) (out : List ℕ) (end : End)
         → ScriptOf Replies ls ending run out end → IfSome run (λ r. RunLaws r out end)
     run-laws [] ending None out end s = tt
     run-laws [] ending (Some run) out end s = absurd s
@@ -207,16 +206,7 @@ module _ (headline : HeadlineHolds) where
       written = serial-text run (number_behind ls) (behind_records ls) ending out end s.output;
     }
 
-    -- what a run wrote, with its laws beside it
-    pub with-laws : (rest held held' : Option (List ℕ)) (end : End)
-        → IfSome rest (λ bytes. (run : Option Execution) × (out : List ℕ) × Appends held held' out × Script Replies bytes run out end)
-        → IfSome rest (λ bytes. (run : Option Execution) × (out : List ℕ) × Appends held held' out × Script Replies bytes run out end
-        × IfSome run (λ r. RunLaws r out end))
-    with-laws None held held' end wrote = tt
-    with-laws (Some bytes) held held' end (run, out, appended, script) =
-        (run, out, appended, script, run-laws (cut bytes).given (cut bytes).ending run out end script)
-
-    -- the same of a run that is told by its operations
+    -- the same in the output mode History
     module _ (ordered : AreCommitOrdered) (serializable : AreSerializable) (recoverable : AreRecoverable)
         (spell : TranscriptsSpellTextbooks) where
       textbook-laws : (s : Setting) (answers : List Answer) → LegalRun s answers → TextbookLaws (part_of s answers).past
@@ -233,13 +223,13 @@ module _ (headline : HeadlineHolds) where
       cut-textbooks s (WasCut entries ∷ answers) legal = (textbook-laws s answers legal.0, cut-textbooks s answers legal.0)
       cut-textbooks s (StillLive ∷ answers) legal = cut-textbooks s answers legal.0
 
-      history-laws : (ls : List (List ℕ)) (ending : Ending) (run : Option Execution) (out : List ℕ) (end : End)
-          → ScriptOf Operations ls ending run out end → IfSome run (λ r. HistoryLaws r out)
+      pub history-laws : (ls : List (List ℕ)) (ending : Ending) (run : Option Execution) (out : List ℕ) (end : End)
+          → ScriptOf History ls ending run out end → IfSome run (λ r. HistoryLaws r out)
       history-laws [] ending None out end s = tt
       history-laws [] ending (Some run) out end s = absurd s
       history-laws (l ∷ ls) ending None out end s = tt
       history-laws (l ∷ ls) ending (Some run) out end s = record {
-        parts = parts-laws Operations l ls ending run out end s;
+        parts = parts-laws History l ls ending run out end s;
         textbooks = (
           textbook-laws run.setting run.answers s.output.legal,
           cut-textbooks run.setting run.answers s.output.legal,
@@ -247,11 +237,3 @@ module _ (headline : HeadlineHolds) where
         written = transcribed-run run (number_behind ls) (behind_records ls) ending out end s.output;
         spelled = spell;
       }
-
-      pub with-history-laws : (rest held held' : Option (List ℕ)) (end : End)
-          → IfSome rest (λ bytes. (run : Option Execution) × (out : List ℕ) × Appends held held' out × Script Operations bytes run out end)
-          → IfSome rest (λ bytes. (run : Option Execution) × (out : List ℕ) × Appends held held' out × Script Operations bytes run out end
-          × IfSome run (λ r. HistoryLaws r out))
-      with-history-laws None held held' end wrote = tt
-      with-history-laws (Some bytes) held held' end (run, out, appended, script) =
-          (run, out, appended, script, history-laws (cut bytes).given (cut bytes).ending run out end script)

@@ -7,7 +7,7 @@ use Rattle.sgt_format.specs.declared.script_line.ScriptLine.{ScriptLine}
 use Rattle.sgt_input.specs.Lines.{Cut, AtEnd, whole_lines}
 use Rattle.sgt_input.specs.Ends.{End}
 use Rattle.sgt_input.specs.Spelled.{spelled, end_of}
-use Rattle.sgt_script.specs.declared.telling.Telling.{Telling}
+use Rattle.sgt_script.specs.declared.output.Output.{Output}
 use Rattle.sgt_script.specs.Parts.{Answer, LegalAnswer, LegalRun, Part, answer_text, asked, lines_of, part_behind, answers_text}
 use Rattle.sgt_script.specs.Scripts.{script_line_at}
 
@@ -53,7 +53,7 @@ abbrev pub AnswersScriptRead : Option (List ℕ) → Option (List ℕ) → List 
 AnswersScriptRead old new answers = (read : List ℕ) × Consumes old new read × AreLaterAnswered (whole_lines read) answers
 
 -- what a line asks for was answered: the present part has become the one behind that answer, whose text was added
-pub record AnswersLine (w : Telling) (line : ScriptLine) (old new : Part) (before after : List ℕ) : Type 0 where
+pub record AnswersLine (w : Output) (line : ScriptLine) (old new : Part) (before after : List ℕ) : Type 0 where
   pub answer : Answer
   pub of_line : asked answer ≡ line
   pub legal : LegalAnswer old answer
@@ -61,7 +61,7 @@ pub record AnswersLine (w : Telling) (line : ScriptLine) (old new : Part) (befor
   pub text : after ≡ before ++ answer_text w answer
 
 -- of known lines from number n on, all were answered, up to this end: the answers are legal, and their text was written
-pub record AnswersAll (w : Telling) (s : Setting) (n : ℕ) (known : Option Cut) (old new : Option (List ℕ)) (end : End) : Type 0 where
+pub record AnswersAll (w : Output) (s : Setting) (n : ℕ) (known : Option Cut) (old new : Option (List ℕ)) (end : End) : Type 0 where
   pub answers : List Answer
   pub legal : LegalRun s answers
   pub all : AllAnswered n known answers end
@@ -69,7 +69,7 @@ pub record AnswersAll (w : Telling) (s : Setting) (n : ℕ) (known : Option Cut)
 
 -- of known lines from number n on, the first were answered: the answers are legal, and what is written is their text but for the
 -- rest, which is none where no write failed; and where a read failed, these are all whole lines read
-pub record AnswersSome (w : Telling) (s : Setting) (n : ℕ) (known : Option Cut) (from to old new : Option (List ℕ)) (wrote unread : Type 0) : Type 0 where
+pub record AnswersSome (w : Output) (s : Setting) (n : ℕ) (known : Option Cut) (from to old new : Option (List ℕ)) (wrote unread : Type 0) : Type 0 where
   pub answers : List Answer
   pub next : ℕ
   pub left : Option Cut

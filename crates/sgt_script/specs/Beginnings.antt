@@ -6,7 +6,7 @@ use Rattle.sgt_input.specs.declared.fault.Fault.{Fault}
 use Rattle.sgt_input.specs.declared.fault.Fault.TheVariants as fault
 use Rattle.sgt_input.specs.Lines.{Cut}
 use Rattle.sgt_input.specs.Ends.{End}
-use Rattle.sgt_script.specs.declared.telling.Telling.{Telling}
+use Rattle.sgt_script.specs.declared.output.Output.{Output}
 use Rattle.sgt_script.specs.Parts.{Answer}
 use Rattle.sgt_script.specs.Scripts.{Execution, RunOutput, Script}
 
@@ -31,11 +31,11 @@ pub record Begins (Whole : Wholes) (answered : List Answer) (out : List ℕ) : T
   pub whole : Whole run (out ++ rest) end
 
 -- the whole runs of a script over these bytes, which open
-abbrev pub ScriptRuns : Telling → List ℕ → Wholes
+abbrev pub ScriptRuns : Output → List ℕ → Wholes
 ScriptRuns w bytes run out end = Script w bytes (Some run) out end
 
 -- the whole runs behind an opening, over these lines, from number n on
-abbrev pub LineRuns : Telling → Setting → ℕ → Cut → Wholes
+abbrev pub LineRuns : Output → Setting → ℕ → Cut → Wholes
 LineRuns w s n c run out end = (run.setting ≡ s) × RunOutput w run n c.given c.ending out end
 
 -- these bytes are written; where not all of them could be, the first are, and the fault is that and not this one

@@ -5,3 +5,4 @@ pub mod RunLaws
 pub mod RecordLaws
 pub mod Answering
 pub mod Beginnings
+pub mod Outcomes

@@ -1,7 +1,7 @@
--- What is true of every run of a script that is told by its records.
+-- What is true of every run of a script in the output mode Records.
 use Rattle.std.specs.Prelude.{ℕ, List}
 use Rattle.sgt_input.specs.Ends.{End}
-use Rattle.sgt_script.specs.declared.telling.Telling.TheVariants.{Records}
+use Rattle.sgt_script.specs.declared.output.Output.TheVariants.{Records}
 use Rattle.sgt_script.specs.Parts.{parts_of}
 use Rattle.sgt_script.specs.Scripts.{Execution, Closing}
 use Rattle.sgt_script.specs.RunLaws.{InEachPart, chained}

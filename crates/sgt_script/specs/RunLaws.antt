@@ -14,7 +14,7 @@ use Rattle.sgt_textbook.specs.Laws.{TextbookLaws}
 use Rattle.sgt_notation.specs.Transcripts.{TranscriptsSpellTextbooks, cut_comment, transcript}
 use Rattle.sgt_format.specs.ReplyText.{text}
 use Rattle.sgt_input.specs.Ends.{End}
-use Rattle.sgt_script.specs.declared.telling.Telling.TheVariants.{Replies}
+use Rattle.sgt_script.specs.declared.output.Output.TheVariants.{Replies}
 use Rattle.sgt_script.specs.Parts.{Answer, Replied, WasCut, StillLive, Part, answer_text, part_of, parts_of}
 use Rattle.sgt_script.specs.Scripts.{Execution, Closing}
 
@@ -113,7 +113,7 @@ pub record RunLaws (run : Execution) (out : List ℕ) (end : End) : Type 0 where
   pub parts : InEachPart (parts_of run.setting run.answers)
   pub written : IsSerialText run out end
 
--- ---- of a run told by its operations
+-- ---- in the output mode History
 
 -- what the textbook says holds of the history of each of these parts
 abbrev pub InEachTextbook : List Part → Type 0

@@ -18,23 +18,23 @@ use Rattle.sgt_input.specs.declared.fault.Fault.TheVariants as fault
 use Rattle.sgt_input.specs.Lines.{Ending, cut}
 use Rattle.sgt_input.specs.Ends.{End, fault_of_opening, no_opening}
 use Rattle.sgt_input.specs.Spelled.{at_line, spelled, end_of}
-use Rattle.sgt_script.specs.declared.telling.Telling.{Telling}
-use Rattle.sgt_script.specs.declared.telling.Telling.TheVariants.{Replies, Operations, Records}
+use Rattle.sgt_script.specs.declared.output.Output.{Output}
+use Rattle.sgt_script.specs.declared.output.Output.TheVariants.{Replies, History, Records}
 use Rattle.sgt_script.specs.Parts.{Answer, LegalRun, left_by, lines_of, part_of, answers_text}
 
 -- what line n asks for, or its fault
 abbrev pub script_line_at : ℕ → List ℕ → Result ScriptLine Fault
 script_line_at n line = at_line n (script_line_of line)
 
--- what stands behind the answers of a run that ended well: behind replies the database of these contents, nothing behind
--- operations, and where records are told these contents as record lines
-abbrev pub Last : Telling → Contents → List ℕ → Type 0
+-- what stands behind the answers of a run that ended well, by the output mode: the database of these contents; nothing; or these
+-- contents as record lines
+abbrev pub Last : Output → Contents → List ℕ → Type 0
 Last Replies m last = (rows : List Row) × IsByKey rows × ((k : Key) → contents_of rows k ≡ m k) × (last ≡ database_text rows)
-Last Operations m last = last ≡ []
+Last History m last = last ≡ []
 Last Records m last = (rows : List Row) × IsByKey rows × ((k : Key) → contents_of rows k ≡ m k) × (last ≡ record_lines rows)
 
 -- what stands behind the answers; nothing at a fault
-abbrev pub Closing : Telling → Contents → End → List ℕ → Type 0
+abbrev pub Closing : Output → Contents → End → List ℕ → Type 0
 Closing w m (Ok _) last = Last w m last
 Closing w m (Err fault) last = last ≡ []
 
@@ -45,7 +45,7 @@ pub record Execution : Type 0 where
 
 -- what a run over these lines behind the opening, from number n on, writes: the text of legal answers to them, and the closing
 -- text, of what the last part leaves
-pub record RunOutput (w : Telling) (run : Execution) (n : ℕ) (later : List (List ℕ)) (ending : Ending) (out : List ℕ) (end : End) : Type 0 where
+pub record RunOutput (w : Output) (run : Execution) (n : ℕ) (later : List (List ℕ)) (ending : Ending) (out : List ℕ) (end : End) : Type 0 where
   pub last : List ℕ
   pub legal : LegalRun run.setting run.answers
   pub lines_are : lines_of run.answers ≡ spelled script_line_at n later
@@ -54,7 +54,7 @@ pub record RunOutput (w : Telling) (run : Execution) (n : ℕ) (later : List (Li
   pub text : out ≡ answers_text w run.answers ++ last
 
 -- line 1 and the record lines behind it are an opening, and the lines behind those are answered
-pub record Opened (w : Telling) (line : List ℕ) (later : List (List ℕ)) (ending : Ending) (run : Execution) (out : List ℕ) (end : End) : Type 0 where
+pub record Opened (w : Output) (line : List ℕ) (later : List (List ℕ)) (ending : Ending) (run : Execution) (out : List ℕ) (end : End) : Type 0 where
   pub opening : Opening
   pub opens : OpensWith 1 line (leading_records later) opening
   pub setting : run.setting ≡ opened_setting opening
@@ -80,12 +80,12 @@ abbrev pub Unopened : Ending → List ℕ → End → Type 0
 Unopened ending out end = (out ≡ []) × (end ≡ no_opening ending)
 
 -- what a run over these lines writes: with an execution where they open, and without one where they do not
-abbrev pub ScriptOf : Telling → List (List ℕ) → Ending → Option Execution → List ℕ → End → Type 0
+abbrev pub ScriptOf : Output → List (List ℕ) → Ending → Option Execution → List ℕ → End → Type 0
 ScriptOf w [] ending None out end = Unopened ending out end
 ScriptOf w [] ending (Some run) out end = ⊥
 ScriptOf w (line ∷ later) ending None out end = Refused line out end ⊎ RefusedRecord line later out end
 ScriptOf w (line ∷ later) ending (Some run) out end = Opened w line later ending run out end
 
 -- what a script's run over these bytes writes, and how it ends
-abbrev pub Script : Telling → List ℕ → Option Execution → List ℕ → End → Type 0
+abbrev pub Script : Output → List ℕ → Option Execution → List ℕ → End → Type 0
 Script w bytes run out end = ScriptOf w (cut bytes).given (cut bytes).ending run out end

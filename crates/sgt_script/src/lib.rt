@@ -1,10 +1,10 @@
-//! The whole of `sgt script` over a source and a sink: bytes in, lines, events, replies, text out. `specs/Scripts.antt` says
-//! what a script's run writes and how it ends, over what `sgt_input` says of lines and `sgt_format` of texts.
+//! A whole script over a source and a sink: bytes in, lines, events, replies, text out. `specs/Outcomes.antt` says what a run owes
+//! its caller, and `specs/Scripts.antt` what it writes.
 //!
-//! [`run_script`] writes the replies and the database, [`run_history`] the operations of the same run, [`run_records`] what it leaves;
-//! and [`run_explained`] tells beside the replies, on a sink of its own, why transactions are aborted.
+//! [`run_script`] writes the replies and then the database. [`run`] does the same in each output mode, with explanations on a
+//! second sink if they are asked for.
 //!
-//! It is no program: it opens no file and knows no command line. Events are answered by the engine of `sgt_assembly`.
+//! This is not a program: it opens no file and knows no command line. The engine of `sgt_assembly` answers the events.
 //!
 //! ```
 //! let mut reader = Reader::new(rt.reader());
@@ -13,16 +13,13 @@
 //! ```
 #![tactic(auto)]
 
-mod explain;
-mod explained;
-mod explaining;
+mod explainer;
 mod live_text;
+mod observer;
+mod output;
 mod pending;
-mod records;
-mod run;
+mod runs;
 mod script;
-mod telling;
 
-pub use explained::run_explained;
-pub use records::run_records;
-pub use run::{run_history, run_script};
+pub use output::Output;
+pub use runs::{run, run_script};

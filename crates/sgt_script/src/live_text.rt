@@ -1,3 +1,4 @@
+//! The line that names the transactions that are live at the end of a run.
 ghost use Rattle.std.specs.Prelude.{◌≡◌, take, OnErr, vec_len};
 
 use sgt_format::append_numbered;

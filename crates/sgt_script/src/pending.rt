@@ -1,5 +1,7 @@
-use sgt_log::History;
+//! The access that a transaction was about to make when a cycle aborted it.
+
 use sgt_explain::{Call, Pending, Progress, call_before, progress_before};
+use sgt_log::History;
 use sgt_model::{Kind, NoMemory, Tid};
 use sgt_proc::{Checked, Next};
 use std::alloc::Global;

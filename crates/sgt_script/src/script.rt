@@ -1,3 +1,4 @@
+//! A run of a script from its first line to its last: each line is answered, and what is written depends on the output mode.
 ghost use Rattle.std.specs.Prelude.{◌≡◌, ◌≢◌, ℕ, List, Option, false, IfOk, IfErr, OnOk, OnErr, IfSome, IsSome, IsNone, Err, Ok, Some, None, ◌⊎◌, [], ◌∷◌, ◌++◌, ◌+◌, ◌^◌, ◌<◌, ◌≤◌};
 ghost use Rattle.std.specs.Io.KnownBytes.{Appends, Consumes};
 ghost use Rattle.sgt_model.specs.declared.entry.Entry.{Entry};
@@ -7,23 +8,29 @@ ghost use Rattle.sgt_input.specs.Lines.{has_break};
 ghost use Rattle.sgt_input.specs.Intake.{NoLineCame, bytes_left, come, cut_left, has_whole_line, taken};
 ghost use Rattle.sgt_input.specs.Ends.{IsOfInput, IsExact};
 ghost use Rattle.sgt_script.specs.Parts.{Answer, Replied, StillLive, WasCut, answer_text, answers_text, left_by, part_at, part_of};
-ghost use Rattle.sgt_script.specs.Scripts.{Execution, Last, RunOutput, Script, script_line_at};
-ghost use Rattle.sgt_script.specs.Answering.{AnswersAll, AnswersLine, AnswersRead, AnswersScriptRead, AnswersSome, BeginWith, NoLine};
+ghost use Rattle.sgt_script.specs.Scripts.{Execution, Last, RunOutput, script_line_at};
+ghost use Rattle.sgt_script.specs.Answering.{AnswersAll, AnswersLine, AnswersRead, AnswersSome, BeginWith, NoLine};
 ghost use Rattle.sgt_script.specs.Opened.{HasOpened, IsRefused, ReadsNoLine};
-ghost use Rattle.sgt_script.specs.Beginnings.{AppendsPart, Begins, IsStop, LineRuns, ScriptRuns, WritesAt};
+ghost use Rattle.sgt_script.specs.Beginnings.{AppendsPart, Begins, IsStop, LineRuns, WritesAt};
+ghost use Rattle.sgt_script.specs.Outcomes.{CountsReads, CountsWrites, IsCutOff, IsStopped, IsWhole};
 
-use crate::explain::Explains;
-use crate::telling::Telling;
+use crate::observer::Observer;
+use crate::output::Output;
 use json::Scratch;
+use sgt_assembly::{SgtEngine, open_engine, opened_hold_values};
 use sgt_engine::CutError;
 use sgt_format::{
     Opening, ScriptLine, append_cut, append_database, append_records, append_reply,
     append_still_live, read_script_line,
 };
-use sgt_model::{Entry, Event, NoMemory, histories_go_on, some_reply_is_legal};
-use sgt_assembly::{SgtEngine, open_engine};
 use sgt_input::{Fault, Lines, Sink, Source, at_line, opening_of, read_records, write_all};
-use sgt_notation::{append_cut_comment, append_operations};
+use sgt_model::{
+    Entry, Event, NoMemory, headline_holds, histories_go_on, replays_hold_values,
+    some_reply_is_legal,
+};
+use sgt_notation::{append_cut_comment, append_operations, transcripts_spell_textbooks};
+use sgt_smallbank::replay_is_bank;
+use sgt_textbook::{legal_are_commit_ordered, legal_are_recoverable, legal_are_serializable};
 use std::alloc::Global;
 
 /// What the next line asks for, if there is one.
@@ -74,27 +81,27 @@ fn next_script_line<S: Source>(
 fn answer_event(
     engine: &mut SgtEngine,
     event: Event,
-    telling: Telling,
+    output: Output,
     text: &mut Vec<u8>,
 ) -> Result<(), NoMemory>
     ensures setting { setting_of engine.new ≡ setting_of engine.old }
     ensures answered { OnOk result ((entry : Entry) × (engine.new.past ≡ entry ∷ engine.old.past)
         × (entry.event ≡ event)
-        × (text.new.items ≡ text.old.items ++ answer_text telling (Replied entry))) }
+        × (text.new.items ≡ text.old.items ++ answer_text output (Replied entry))) }
     ensures legal { Legal (setting_of engine.new) engine.new.past }
     ensures kept { OnErr result (text.new.items ≡ text.old.items) }
 {
     engine.answer(event)?;
-    match telling {
-        Telling::Replies => match engine.last_reply() {
+    match output {
+        Output::Replies => match engine.last_reply() {
             Some(reply) => append_reply(text, reply),
             None => unreachable!(),
         },
-        Telling::Operations => match engine.history().last() {
+        Output::History => match engine.history().last() {
             Some(Entry { event, reply }) => append_operations(text, &event, &reply),
             None => unreachable!(),
         },
-        Telling::Records => Ok(()),
+        Output::Records => Ok(()),
     }
 }
 
@@ -102,17 +109,17 @@ fn answer_event(
 fn answer_cut(
     alloc: Global,
     engine: &mut SgtEngine,
-    telling: Telling,
+    output: Output,
     text: &mut Vec<u8>,
 ) -> Result<(), NoMemory>
-    ensures answered { OnOk result (AnswersLine telling ScriptLine.Cut
+    ensures answered { OnOk result (AnswersLine output ScriptLine.Cut
         (part_at engine.old) (part_at engine.new) text.old.items text.new.items) }
     ensures kept { OnErr result (text.new.items ≡ text.old.items) }
 {
     match engine.cut(alloc) {
-        Ok(past) => append_was_cut(past.history.len(), telling, text),
+        Ok(past) => append_was_cut(past.history.len(), output, text),
         Err(CutError::StillLive) => {
-            append_was_not_cut(telling, text)?;
+            append_was_not_cut(output, text)?;
             Ok(())
         }
         Err(CutError::NoMemory) => Err(NoMemory),
@@ -120,35 +127,35 @@ fn answer_cut(
 }
 
 /// Adds that so many entries were cut off.
-fn append_was_cut(entries: usize, telling: Telling, text: &mut Vec<u8>) -> Result<(), NoMemory>
+fn append_was_cut(entries: usize, output: Output, text: &mut Vec<u8>) -> Result<(), NoMemory>
     ensures text { OnOk result
-        (text.new.items ≡ text.old.items ++ answer_text telling (WasCut entries)) }
+        (text.new.items ≡ text.old.items ++ answer_text output (WasCut entries)) }
     ensures kept { OnErr result (text.new.items ≡ text.old.items) }
 {
-    match telling {
-        Telling::Replies => append_cut(text, entries),
-        Telling::Operations => append_cut_comment(text, entries),
-        Telling::Records => Ok(()),
+    match output {
+        Output::Replies => append_cut(text, entries),
+        Output::History => append_cut_comment(text, entries),
+        Output::Records => Ok(()),
     }
 }
 
 /// Adds that nothing was cut off, as a transaction is live. Where replies are not written that is nothing.
-fn append_was_not_cut(telling: Telling, text: &mut Vec<u8>) -> Result<(), NoMemory>
-    ensures text { OnOk result (text.new.items ≡ text.old.items ++ answer_text telling StillLive) }
+fn append_was_not_cut(output: Output, text: &mut Vec<u8>) -> Result<(), NoMemory>
+    ensures text { OnOk result (text.new.items ≡ text.old.items ++ answer_text output StillLive) }
     ensures kept { OnErr result (text.new.items ≡ text.old.items) }
 {
-    match telling {
-        Telling::Replies => append_still_live(text),
-        Telling::Operations | Telling::Records => Ok(()),
+    match output {
+        Output::Replies => append_still_live(text),
+        Output::History | Output::Records => Ok(()),
     }
 }
 
 /// What is written behind the answers of a run that ends well.
-fn last_text(alloc: Global, engine: &SgtEngine, telling: Telling) -> Result<Vec<u8>, NoMemory>
-    ensures { IfOk result (λ text. Last telling (left_by (part_at engine.now)) text.items) }
+fn last_text(alloc: Global, engine: &SgtEngine, output: Output) -> Result<Vec<u8>, NoMemory>
+    ensures { IfOk result (λ text. Last output (left_by (part_at engine.now)) text.items) }
 {
     let mut text = Vec::new(alloc);
-    append_last(alloc, engine, telling, &mut text)?;
+    append_last(alloc, engine, output, &mut text)?;
     Ok(text)
 }
 
@@ -156,16 +163,16 @@ fn last_text(alloc: Global, engine: &SgtEngine, telling: Telling) -> Result<Vec<
 fn append_last(
     alloc: Global,
     engine: &SgtEngine,
-    telling: Telling,
+    output: Output,
     text: &mut Vec<u8>,
 ) -> Result<(), NoMemory>
     requires { text.old.items ≡ [] }
-    ensures { OnOk result (Last telling (left_by (part_at engine.now)) text.new.items) }
+    ensures { OnOk result (Last output (left_by (part_at engine.now)) text.new.items) }
 {
-    match telling {
-        Telling::Replies => append_database(text, &engine.database(alloc)?),
-        Telling::Operations => Ok(()),
-        Telling::Records => append_records(text, &engine.database(alloc)?),
+    match output {
+        Output::Replies => append_database(text, &engine.database(alloc)?),
+        Output::History => Ok(()),
+        Output::Records => append_records(text, &engine.database(alloc)?),
     }
 }
 
@@ -223,38 +230,39 @@ fn stop<T: Sink>(sink: &mut T, gathered: &mut Vec<u8>, fault: Fault) -> Fault
 }
 
 /// Answers the line of a number: the text of that is added.
-fn answer_line<X: Explains>(
+#[inline]
+fn answer_line<X: Observer>(
     alloc: Global,
     engine: &mut SgtEngine,
     line: ScriptLine,
     number: u64,
-    telling: Telling,
+    output: Output,
     text: &mut Vec<u8>,
-    explains: &mut X,
+    observer: &mut X,
 ) -> Result<(), NoMemory>
-    ensures answered { OnOk result (AnswersLine telling line
+    ensures answered { OnOk result (AnswersLine output line
         (part_at engine.old) (part_at engine.new) text.old.items text.new.items) }
     ensures kept { OnErr result (text.new.items ≡ text.old.items) }
 {
     match line {
         ScriptLine::Event(event) => {
-            answer_event(engine, event, telling, text)?;
-            explains.answered(engine, number);
+            answer_event(engine, event, output, text)?;
+            observer.answered(engine, number);
             Ok(())
         }
-        ScriptLine::Cut => answer_cut(alloc, engine, telling, text),
+        ScriptLine::Cut => answer_cut(alloc, engine, output, text),
     }
 }
 
 /// Answers the lines that are left. The answers are gathered, and written out before each read and at the end.
-fn answer_lines<S: Source, T: Sink, X: Explains>(
+fn answer_lines<S: Source, T: Sink, X: Observer>(
     alloc: Global,
     lines: &mut Lines,
     source: &mut S,
     sink: &mut T,
     engine: &mut SgtEngine,
-    telling: Telling,
-    explains: &mut X,
+    output: Output,
+    observer: &mut X,
 ) -> Result<(), Fault>
     requires reading { S.failures source.old + 1 < 2 ^ 64 }
     requires writing { T.failures sink.old + 1 < 2 ^ 64 }
@@ -262,13 +270,13 @@ fn answer_lines<S: Source, T: Sink, X: Explains>(
     requires few { come lines.old ≤ 16777217 }
     ensures bounded { S.given source.new + come lines.old ≤ S.given source.old + 16777217 }
     ensures all { OnOk result (
-        (all : AnswersAll telling (setting_of engine.old) (lines.old.number + 1)
+        (all : AnswersAll output (setting_of engine.old) (lines.old.number + 1)
         (cut_left lines.old (S.rest source.old)) (T.held sink.old) (T.held sink.new) (Ok tt))
         × (part_of (setting_of engine.old) all.answers ≡ part_at engine.new)) }
     ensures fault { IfErr result (λ f. IsOfInput f →
-        AnswersAll telling (setting_of engine.old) (lines.old.number + 1)
+        AnswersAll output (setting_of engine.old) (lines.old.number + 1)
         (cut_left lines.old (S.rest source.old)) (T.held sink.old) (T.held sink.new) (Err f)) }
-    ensures some { AnswersSome telling (setting_of engine.old) (lines.old.number + 1)
+    ensures some { AnswersSome output (setting_of engine.old) (lines.old.number + 1)
         (cut_left lines.old (S.rest source.old))
         (bytes_left lines.old (S.rest source.old)) (S.rest source.new)
         (T.held sink.old) (T.held sink.new)
@@ -288,23 +296,23 @@ fn answer_lines<S: Source, T: Sink, X: Explains>(
     let mut gathered = Vec::new(alloc);
     loop {
         flush_before_read(lines, sink, &mut gathered)?;
-        explains.written(lines);
+        observer.written(lines);
         match next_script_line(alloc, &mut scratch, lines, source) {
             Ok(Some(line)) => match answer_line(
                 alloc,
                 engine,
                 line,
                 lines.number(),
-                telling,
+                output,
                 &mut gathered,
-                explains,
+                observer,
             ) {
                 Ok(()) => (),
                 Err(_) => return Err(stop(sink, &mut gathered, Fault::NoMemory)),
             },
             Ok(None) => {
                 flush(sink, &mut gathered)?;
-                explains.ended(engine);
+                observer.ended(engine);
                 return Ok(());
             }
             Err(fault) => return Err(stop(sink, &mut gathered, fault)),
@@ -316,18 +324,18 @@ fn answer_lines<S: Source, T: Sink, X: Explains>(
 ///
 /// # Errors
 ///
-/// The fault of the first line that spells neither event nor cut or is too long, or of the input: the replies to the lines before it are
-/// written then. `Reading` where a read failed: the replies to the whole lines read are written then. `NoMemory` where a growth
-/// was refused: the replies to some first lines are. Neither writes the database. And `Writing` where a write failed: the
-/// beginning of what a whole run writes is written then.
-pub(crate) fn run_opened<S: Source, T: Sink, X: Explains>(
+/// The fault of the first line that spells neither event nor cut or is too long, or of the input: the answers to the lines before
+/// it are written. `Reading` if a read failed: the answers to the whole lines that were read are written. `NoMemory` if an
+/// allocation failed: the answers to some first lines are written. None of these writes the database. `Writing` if a write
+/// failed: the beginning of what a whole run writes is written.
+pub(crate) fn run_opened<S: Source, T: Sink, X: Observer>(
     alloc: Global,
     lines: &mut Lines,
     source: &mut S,
     sink: &mut T,
     engine: &mut SgtEngine,
-    telling: Telling,
-    explains: &mut X,
+    output: Output,
+    observer: &mut X,
 ) -> Result<(), Fault>
     requires reading { S.failures source.old + 1 < 2 ^ 64 }
     requires writing { T.failures sink.old + 1 < 2 ^ 64 }
@@ -336,17 +344,17 @@ pub(crate) fn run_opened<S: Source, T: Sink, X: Explains>(
     ensures output { IsExact result → IfSome (cut_left lines.old (S.rest source.old)) (λ c.
         (run : Execution) × (run.setting ≡ setting_of engine.old)
         × (out : List ℕ) × Appends (T.held sink.old) (T.held sink.new) out
-        × RunOutput telling run (lines.old.number + 1) c.given c.ending out result) }
+        × RunOutput output run (lines.old.number + 1) c.given c.ending out result) }
     ensures stops { IsStop result → IfSome (cut_left lines.old (S.rest source.old)) (λ c.
-        (answered : List Answer) × Appends (T.held sink.old) (T.held sink.new) (answers_text telling answered)
-        × Begins (LineRuns telling (setting_of engine.old) (lines.old.number + 1) c) answered (answers_text telling answered)
+        (answered : List Answer) × Appends (T.held sink.old) (T.held sink.new) (answers_text output answered)
+        × Begins (LineRuns output (setting_of engine.old) (lines.old.number + 1) c) answered (answers_text output answered)
         × (result ≡ Err Fault.Reading → AnswersRead (lines.old.number + 1)
         (bytes_left lines.old (S.rest source.old)) (S.rest source.new) answered)) }
     ensures going { result ≡ Err Fault.Reading → lines.old.ended ≡ false }
     ensures part { result ≡ Err Fault.Writing →
         IfSome (cut_left lines.old (S.rest source.old)) (λ c.
         (answered : List Answer) × (out : List ℕ) × Appends (T.held sink.old) (T.held sink.new) out
-        × Begins (LineRuns telling (setting_of engine.old) (lines.old.number + 1) c) answered out) }
+        × Begins (LineRuns output (setting_of engine.old) (lines.old.number + 1) c) answered out) }
     ensures bounded { S.given source.new + come lines.old ≤ S.given source.old + 16777217 }
     ensures read_well { IsExact result → S.failures source.new ≡ S.failures source.old }
     ensures read_failed { result ≡ Err Fault.Reading →
@@ -359,8 +367,8 @@ pub(crate) fn run_opened<S: Source, T: Sink, X: Explains>(
     // Whatever was answered by then, some whole run goes on from there.
     some_reply_is_legal();
     histories_go_on();
-    answer_lines(alloc, lines, source, sink, engine, telling, explains)?;
-    let mut text = last_text(alloc, engine, telling)?;
+    answer_lines(alloc, lines, source, sink, engine, output, observer)?;
+    let mut text = last_text(alloc, engine, output)?;
     flush(sink, &mut text)
 }
 
@@ -387,45 +395,43 @@ fn open_input<S: Source>(alloc: Global, source: &mut S) -> Result<(Lines, Openin
     Ok((lines, opening))
 }
 
-/// Runs a script: line 1 opens and the record lines behind it fill the database, each later line is an event or a cut and is
-/// answered, and the committed database comes last.
+/// Runs a script: line 1 opens, and the record lines after it fill the database. Each later line is an event or a cut, and is
+/// answered. What is written depends on the output mode. The observer follows the run.
 ///
 /// # Errors
 ///
-/// The first fault of the script: the replies to the lines before it are written then. `Reading` where a read failed: the
-/// replies to the whole lines read are. `NoMemory` where a growth was refused: the replies to some first lines are. None of
-/// these writes the database. And `Writing` where a write failed: the beginning of what a whole run writes is written then.
-pub(crate) fn run_with<S: Source, T: Sink, X: Explains>(
+/// The first fault of the script: the answers to the lines before it are written. `Reading` if a read failed: the answers to the
+/// whole lines that were read are written. `NoMemory` if an allocation failed: the answers to some first lines are written. None of
+/// these writes the database. `Writing` if a write failed: the beginning of what a whole run writes is written.
+pub(crate) fn run_observed<S: Source, T: Sink, X: Observer>(
     alloc: Global,
     source: &mut S,
     sink: &mut T,
-    telling: Telling,
-    explains: &mut X,
+    output: Output,
+    observer: &mut X,
 ) -> Result<(), Fault>
     requires reading { S.failures source.old + 1 < 2 ^ 64 }
     requires writing { T.failures sink.old + 1 < 2 ^ 64 }
-    ensures script { IsExact result → IfSome (S.rest source.old) (λ bytes.
-        (run : Option Execution) × (out : List ℕ) × Appends (T.held sink.old) (T.held sink.new) out
-        × Script telling bytes run out result) }
-    ensures stops { IsStop result → IfSome (S.rest source.old) (λ bytes. (answered : List Answer)
-        × Appends (T.held sink.old) (T.held sink.new) (answers_text telling answered)
-        × ((answered ≡ []) ⊎ Begins (ScriptRuns telling bytes) answered (answers_text telling answered))
-        × (result ≡ Err Fault.Reading →
-        AnswersScriptRead (S.rest source.old) (S.rest source.new) answered)) }
-    ensures part { result ≡ Err Fault.Writing → IfSome (S.rest source.old) (λ bytes.
-        (answered : List Answer) × (out : List ℕ) × Appends (T.held sink.old) (T.held sink.new) out
-        × Begins (ScriptRuns telling bytes) answered out) }
+    ensures script { IsExact result → IsWhole output (S.rest source.old) (T.held sink.old) (T.held sink.new) result }
+    ensures stops { IsStop result →
+        IsStopped output (S.rest source.old) (S.rest source.new) (T.held sink.old) (T.held sink.new) result }
+    ensures part { result ≡ Err Fault.Writing → IsCutOff output (S.rest source.old) (T.held sink.old) (T.held sink.new) }
     ensures bounded { S.given source.new ≤ S.given source.old + 16777217 }
-    ensures read_well { IsExact result → S.failures source.new ≡ S.failures source.old }
-    ensures read_failed { result ≡ Err Fault.Reading →
-        S.failures source.new ≡ S.failures source.old + 1 }
-    ensures wrote_well { result ≢ Err Fault.Writing →
-        T.failures sink.new ≡ T.failures sink.old }
-    ensures write_failed { result ≡ Err Fault.Writing →
-        T.failures sink.new ≡ T.failures sink.old + 1 }
+    ensures reads { CountsReads result (S.failures source.old) (S.failures source.new) }
+    ensures writes { CountsWrites result (T.failures sink.old) (T.failures sink.new) }
 {
+    // The headline holds for each legal history.
+    headline_holds();
+    // The textbook's classes contain it, and its text spells the textbook's operations.
+    legal_are_commit_ordered();
+    legal_are_serializable();
+    legal_are_recoverable();
+    transcripts_spell_textbooks();
+    // Each of SmallBank's procedures does the bank's arithmetic, if its part began with values.
+    opened_hold_values();
+    replays_hold_values();
+    replay_is_bank();
     let (mut lines, opening) = open_input(alloc, source)?;
-    explains.opened(&lines);
     let opening = read_records(alloc, &mut lines, source, opening)?;
     let mut engine = open_engine(alloc, opening)?;
     run_opened(
@@ -434,7 +440,7 @@ pub(crate) fn run_with<S: Source, T: Sink, X: Explains>(
         source,
         sink,
         &mut engine,
-        telling,
-        explains,
+        output,
+        observer,
     )
 }

@@ -10,6 +10,13 @@ use sgt_proc::Checked;
 use sgt_records::Records;
 
 impl<R: Records, A: Accesses, G: Graph> Sched<R, A, G> {
+    /// The procedures by their numbers.
+    pub fn procedures(&self) -> &[Checked]
+        ensures { result.now ≡ (parts self.now).procedures }
+    {
+        self.procedures.as_slice()
+    }
+
     /// How many procedures there are.
     pub fn procedure_count(&self) -> usize
         ensures { result ≡ length (parts self.now).procedures }

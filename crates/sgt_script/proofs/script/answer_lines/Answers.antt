@@ -8,7 +8,7 @@ use Rattle.sgt_script.proofs.script.answer_lines.Goals as goal
 
 pub loop-gathered-init : goal.loop-gathered-init
 loop-gathered-init g c = record {
-  so = answered-none c.args.telling c.args.lines.now (g.S.Source.rest c.args.source.now) (g.T.Sink.held c.args.sink.now)
+  so = answered-none c.args.output c.args.lines.now (g.S.Source.rest c.args.source.now) (g.T.Sink.held c.args.sink.now)
       c.new-gathered.result.items
       (setting_of c.args.engine.now) c.args.engine.now.past (search rules) c.requires.fresh;
   ended = λ going. going;
@@ -21,14 +21,14 @@ loop-gathered-init g c = record {
 pub loop-gathered-preserved : goal.loop-gathered-preserved
 loop-gathered-preserved g c =
     record {
-      so = answered-next c.args.telling (setting_of c.args.engine.now) (c.args.lines.now.number + 1)
+      so = answered-next c.args.output (setting_of c.args.engine.now) (c.args.lines.now.number + 1)
           (cut_left c.args.lines.now (g.S.Source.rest c.args.source.now))
           (bytes_left c.args.lines.now (g.S.Source.rest c.args.source.now)) (g.T.Sink.held c.args.sink.now)
           c.loop-gathered.lines c.next_script_line.new.lines (g.S.Source.rest c.loop-gathered.source)
           (g.S.Source.rest c.next_script_line.new.source) (g.T.Sink.held c.flush_before_read.new.sink)
           c.flush_before_read.new.gathered.items
           c.answer_line.new.text.items (part_at c.loop-gathered.engine) (part_at c.answer_line.new.engine) c.in-Ok-Some.line
-          (answered-flushed c.args.telling (setting_of c.args.engine.now) (c.args.lines.now.number + 1)
+          (answered-flushed c.args.output (setting_of c.args.engine.now) (c.args.lines.now.number + 1)
           (cut_left c.args.lines.now (g.S.Source.rest c.args.source.now))
           (bytes_left c.args.lines.now (g.S.Source.rest c.args.source.now)) (g.T.Sink.held c.args.sink.now)
           c.loop-gathered.lines (g.S.Source.rest c.loop-gathered.source) (g.T.Sink.held c.loop-gathered.sink)
@@ -47,7 +47,7 @@ loop-gathered-preserved g c =
 
 pub returns-in_err-flush_before_read-clause-some : goal.returns-in_err-flush_before_read-clause-some
 returns-in_err-flush_before_read-clause-some g c =
-    some-failed c.args.telling (setting_of c.args.engine.now) (c.args.lines.now.number + 1)
+    some-failed c.args.output (setting_of c.args.engine.now) (c.args.lines.now.number + 1)
     (cut_left c.args.lines.now (g.S.Source.rest c.args.source.now))
     (bytes_left c.args.lines.now (g.S.Source.rest c.args.source.now)) (g.T.Sink.held c.args.sink.now)
     c.loop-gathered.lines (g.S.Source.rest c.loop-gathered.source) (g.S.Source.rest c.loop-gathered.source)
@@ -57,13 +57,13 @@ returns-in_err-flush_before_read-clause-some g c =
 
 pub returns-in-Err-answer_line-clause-some : goal.returns-in-Err-answer_line-clause-some
 returns-in-Err-answer_line-clause-some g c =
-    let so = answered-flushed c.args.telling (setting_of c.args.engine.now) (c.args.lines.now.number + 1)
+    let so = answered-flushed c.args.output (setting_of c.args.engine.now) (c.args.lines.now.number + 1)
     (cut_left c.args.lines.now (g.S.Source.rest c.args.source.now))
     (bytes_left c.args.lines.now (g.S.Source.rest c.args.source.now)) (g.T.Sink.held c.args.sink.now) c.loop-gathered.lines
     (g.S.Source.rest c.loop-gathered.source) (g.T.Sink.held c.loop-gathered.sink) (g.T.Sink.held c.flush_before_read.new.sink)
     c.loop-gathered.gathered.items c.flush_before_read.new.gathered.items (part_at c.loop-gathered.engine) c.loop-gathered.invariant.so
     c.in_ok-flush_before_read.ensures.bytes in
-    some-refused c.args.telling (setting_of c.args.engine.now) (c.args.lines.now.number + 1)
+    some-refused c.args.output (setting_of c.args.engine.now) (c.args.lines.now.number + 1)
     (cut_left c.args.lines.now (g.S.Source.rest c.args.source.now))
     (bytes_left c.args.lines.now (g.S.Source.rest c.args.source.now)) (g.T.Sink.held c.args.sink.now)
     c.loop-gathered.lines (g.S.Source.rest c.loop-gathered.source) (g.S.Source.rest c.next_script_line.new.source)
@@ -73,13 +73,13 @@ returns-in-Err-answer_line-clause-some g c =
 
 pub returns-in_err-flush-in-Ok-None-clause-some : goal.returns-in_err-flush-in-Ok-None-clause-some
 returns-in_err-flush-in-Ok-None-clause-some g c =
-    let so = answered-flushed c.args.telling (setting_of c.args.engine.now) (c.args.lines.now.number + 1)
+    let so = answered-flushed c.args.output (setting_of c.args.engine.now) (c.args.lines.now.number + 1)
     (cut_left c.args.lines.now (g.S.Source.rest c.args.source.now))
     (bytes_left c.args.lines.now (g.S.Source.rest c.args.source.now)) (g.T.Sink.held c.args.sink.now) c.loop-gathered.lines
     (g.S.Source.rest c.loop-gathered.source) (g.T.Sink.held c.loop-gathered.sink) (g.T.Sink.held c.flush_before_read.new.sink)
     c.loop-gathered.gathered.items c.flush_before_read.new.gathered.items (part_at c.loop-gathered.engine) c.loop-gathered.invariant.so
     c.in_ok-flush_before_read.ensures.bytes in
-    some-failed c.args.telling (setting_of c.args.engine.now) (c.args.lines.now.number + 1)
+    some-failed c.args.output (setting_of c.args.engine.now) (c.args.lines.now.number + 1)
     (cut_left c.args.lines.now (g.S.Source.rest c.args.source.now))
     (bytes_left c.args.lines.now (g.S.Source.rest c.args.source.now)) (g.T.Sink.held c.args.sink.now)
     c.loop-gathered.lines (g.S.Source.rest c.loop-gathered.source) (g.S.Source.rest c.next_script_line.new.source)
@@ -88,13 +88,13 @@ returns-in_err-flush-in-Ok-None-clause-some g c =
 
 pub returns-in-Ok-None-clause-all : goal.returns-in-Ok-None-clause-all
 returns-in-Ok-None-clause-all g c =
-    let so = answered-flushed c.args.telling (setting_of c.args.engine.now) (c.args.lines.now.number + 1)
+    let so = answered-flushed c.args.output (setting_of c.args.engine.now) (c.args.lines.now.number + 1)
     (cut_left c.args.lines.now (g.S.Source.rest c.args.source.now))
     (bytes_left c.args.lines.now (g.S.Source.rest c.args.source.now)) (g.T.Sink.held c.args.sink.now) c.loop-gathered.lines
     (g.S.Source.rest c.loop-gathered.source) (g.T.Sink.held c.loop-gathered.sink) (g.T.Sink.held c.flush_before_read.new.sink)
     c.loop-gathered.gathered.items c.flush_before_read.new.gathered.items (part_at c.loop-gathered.engine) c.loop-gathered.invariant.so
     c.in_ok-flush_before_read.ensures.bytes in
-    all-so c.args.telling (setting_of c.args.engine.now) (c.args.lines.now.number + 1)
+    all-so c.args.output (setting_of c.args.engine.now) (c.args.lines.now.number + 1)
     (cut_left c.args.lines.now (g.S.Source.rest c.args.source.now))
     (bytes_left c.args.lines.now (g.S.Source.rest c.args.source.now)) (g.T.Sink.held c.args.sink.now)
     c.loop-gathered.lines (g.S.Source.rest c.loop-gathered.source) (g.T.Sink.held c.flush_before_read.new.sink) _
@@ -102,13 +102,13 @@ returns-in-Ok-None-clause-all g c =
 
 pub returns-in-Ok-None-clause-some : goal.returns-in-Ok-None-clause-some
 returns-in-Ok-None-clause-some g c =
-    let so = answered-flushed c.args.telling (setting_of c.args.engine.now) (c.args.lines.now.number + 1)
+    let so = answered-flushed c.args.output (setting_of c.args.engine.now) (c.args.lines.now.number + 1)
     (cut_left c.args.lines.now (g.S.Source.rest c.args.source.now))
     (bytes_left c.args.lines.now (g.S.Source.rest c.args.source.now)) (g.T.Sink.held c.args.sink.now) c.loop-gathered.lines
     (g.S.Source.rest c.loop-gathered.source) (g.T.Sink.held c.loop-gathered.sink) (g.T.Sink.held c.flush_before_read.new.sink)
     c.loop-gathered.gathered.items c.flush_before_read.new.gathered.items (part_at c.loop-gathered.engine) c.loop-gathered.invariant.so
     c.in_ok-flush_before_read.ensures.bytes in
-    some-written c.args.telling (setting_of c.args.engine.now) (c.args.lines.now.number + 1)
+    some-written c.args.output (setting_of c.args.engine.now) (c.args.lines.now.number + 1)
     (cut_left c.args.lines.now (g.S.Source.rest c.args.source.now))
     (bytes_left c.args.lines.now (g.S.Source.rest c.args.source.now)) (g.T.Sink.held c.args.sink.now)
     c.loop-gathered.lines (g.S.Source.rest c.loop-gathered.source) (g.S.Source.rest c.next_script_line.new.source)
@@ -117,13 +117,13 @@ returns-in-Ok-None-clause-some g c =
 
 pub returns-in-Err-clause-some : goal.returns-in-Err-clause-some
 returns-in-Err-clause-some g c =
-    let so = answered-flushed c.args.telling (setting_of c.args.engine.now) (c.args.lines.now.number + 1)
+    let so = answered-flushed c.args.output (setting_of c.args.engine.now) (c.args.lines.now.number + 1)
     (cut_left c.args.lines.now (g.S.Source.rest c.args.source.now))
     (bytes_left c.args.lines.now (g.S.Source.rest c.args.source.now)) (g.T.Sink.held c.args.sink.now) c.loop-gathered.lines
     (g.S.Source.rest c.loop-gathered.source) (g.T.Sink.held c.loop-gathered.sink) (g.T.Sink.held c.flush_before_read.new.sink)
     c.loop-gathered.gathered.items c.flush_before_read.new.gathered.items (part_at c.loop-gathered.engine) c.loop-gathered.invariant.so
     c.in_ok-flush_before_read.ensures.bytes in
-    some-stop c.args.telling (setting_of c.args.engine.now) (c.args.lines.now.number + 1)
+    some-stop c.args.output (setting_of c.args.engine.now) (c.args.lines.now.number + 1)
     (cut_left c.args.lines.now (g.S.Source.rest c.args.source.now))
     (bytes_left c.args.lines.now (g.S.Source.rest c.args.source.now)) (g.T.Sink.held c.args.sink.now)
     c.loop-gathered.lines (g.S.Source.rest c.loop-gathered.source) (g.S.Source.rest c.next_script_line.new.source)
@@ -138,13 +138,13 @@ returns-in-Err-clause-some g c =
 
 pub returns-in-Err-clause-fault : goal.returns-in-Err-clause-fault
 returns-in-Err-clause-fault g c =
-    let so = answered-flushed c.args.telling (setting_of c.args.engine.now) (c.args.lines.now.number + 1)
+    let so = answered-flushed c.args.output (setting_of c.args.engine.now) (c.args.lines.now.number + 1)
     (cut_left c.args.lines.now (g.S.Source.rest c.args.source.now))
     (bytes_left c.args.lines.now (g.S.Source.rest c.args.source.now)) (g.T.Sink.held c.args.sink.now) c.loop-gathered.lines
     (g.S.Source.rest c.loop-gathered.source) (g.T.Sink.held c.loop-gathered.sink) (g.T.Sink.held c.flush_before_read.new.sink)
     c.loop-gathered.gathered.items c.flush_before_read.new.gathered.items (part_at c.loop-gathered.engine) c.loop-gathered.invariant.so
     c.in_ok-flush_before_read.ensures.bytes in
-    fault-stop c.args.telling (setting_of c.args.engine.now) (c.args.lines.now.number + 1)
+    fault-stop c.args.output (setting_of c.args.engine.now) (c.args.lines.now.number + 1)
     (cut_left c.args.lines.now (g.S.Source.rest c.args.source.now))
     (bytes_left c.args.lines.now (g.S.Source.rest c.args.source.now)) (g.T.Sink.held c.args.sink.now)
     c.loop-gathered.lines (g.S.Source.rest c.loop-gathered.source) (g.T.Sink.held c.flush_before_read.new.sink) _

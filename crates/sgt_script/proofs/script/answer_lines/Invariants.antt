@@ -7,7 +7,7 @@ use Rattle.sgt_script.proofs.script.answer_lines.Given as goal
 
 abbrev pub invariant-loop-gathered : goal.invariant-loop-gathered
 invariant-loop-gathered g l = record {
-  so : IsAnsweredSo l.fn.telling (setting_of l.fn.engine) (l.fn.lines.number + 1) (cut_left l.fn.lines (g.S.Source.rest l.fn.source))
+  so : IsAnsweredSo l.fn.output (setting_of l.fn.engine) (l.fn.lines.number + 1) (cut_left l.fn.lines (g.S.Source.rest l.fn.source))
       (bytes_left l.fn.lines (g.S.Source.rest l.fn.source)) (g.T.Sink.held l.fn.sink) l.lines (g.S.Source.rest l.source)
       (g.T.Sink.held l.sink) l.gathered.items (part_at l.engine);
   ended : l.lines.ended ≡ false → l.fn.lines.ended ≡ false;

@@ -9,14 +9,14 @@ use Rattle.sgt_script.proofs.script.run_opened.Goals as goal
 
 pub returns-in_err-answer_lines-clause-output : goal.returns-in_err-answer_lines-clause-output
 returns-in_err-answer_lines-clause-output g c = λ exact.
-    output-fault c.args.telling (setting_of c.args.engine.now) (c.args.lines.now.number + 1)
+    output-fault c.args.output (setting_of c.args.engine.now) (c.args.lines.now.number + 1)
     (cut_left c.args.lines.now (g.S.Source.rest c.args.source.now))
     c.from_residual.result c.in_err-answer_lines.field-0.0 (g.T.Sink.held c.args.sink.now) (g.T.Sink.held c.answer_lines.new.sink)
     (search rules) (search rules) exact
 
 pub returns-clause-output : goal.returns-clause-output
 returns-clause-output g c = λ exact.
-    output-well c.args.telling (setting_of c.args.engine.now) (c.args.lines.now.number + 1)
+    output-well c.args.output (setting_of c.args.engine.now) (c.args.lines.now.number + 1)
     (cut_left c.args.lines.now (g.S.Source.rest c.args.source.now))
     (part_at c.answer_lines.new.engine) c.flush.result c.in_ok-text.text.items
     (g.T.Sink.held c.args.sink.now) (g.T.Sink.held c.answer_lines.new.sink) (g.T.Sink.held c.flush.new.sink)
@@ -25,7 +25,7 @@ returns-clause-output g c = λ exact.
 
 pub returns-in_err-answer_lines-clause-stops : goal.returns-in_err-answer_lines-clause-stops
 returns-in_err-answer_lines-clause-stops g c = λ stop.
-    stops-from c.args.telling c.some_reply_is_legal.ensures c.histories_go_on.ensures.rows
+    stops-from c.args.output c.some_reply_is_legal.ensures c.histories_go_on.ensures.rows
     (setting_of c.args.engine.now) c.args.engine.now.opening
     (c.args.lines.now.number + 1) (cut_left c.args.lines.now (g.S.Source.rest c.args.source.now))
     (bytes_left c.args.lines.now (g.S.Source.rest c.args.source.now)) (g.S.Source.rest c.answer_lines.new.source)
@@ -37,7 +37,7 @@ returns-in_err-answer_lines-clause-stops g c = λ stop.
 
 pub returns-in_err-answer_lines-clause-part : goal.returns-in_err-answer_lines-clause-part
 returns-in_err-answer_lines-clause-part g c = λ failed.
-    fails-from c.args.telling c.some_reply_is_legal.ensures c.histories_go_on.ensures.rows
+    fails-from c.args.output c.some_reply_is_legal.ensures c.histories_go_on.ensures.rows
     (setting_of c.args.engine.now) c.args.engine.now.opening
     (c.args.lines.now.number + 1) (cut_left c.args.lines.now (g.S.Source.rest c.args.source.now))
     (bytes_left c.args.lines.now (g.S.Source.rest c.args.source.now)) (g.S.Source.rest c.answer_lines.new.source)
@@ -46,7 +46,7 @@ returns-in_err-answer_lines-clause-part g c = λ failed.
 
 pub returns-in_err-text-clause-stops : goal.returns-in_err-text-clause-stops
 returns-in_err-text-clause-stops g c = λ stop.
-    stops-from c.args.telling c.some_reply_is_legal.ensures c.histories_go_on.ensures.rows
+    stops-from c.args.output c.some_reply_is_legal.ensures c.histories_go_on.ensures.rows
     (setting_of c.args.engine.now) c.args.engine.now.opening
     (c.args.lines.now.number + 1) (cut_left c.args.lines.now (g.S.Source.rest c.args.source.now))
     (bytes_left c.args.lines.now (g.S.Source.rest c.args.source.now)) (g.S.Source.rest c.answer_lines.new.source)
@@ -56,7 +56,7 @@ returns-in_err-text-clause-stops g c = λ stop.
 
 pub returns-clause-part : goal.returns-clause-part
 returns-clause-part g c = λ failed.
-    fails-last c.args.telling (setting_of c.args.engine.now) (c.args.lines.now.number + 1)
+    fails-last c.args.output (setting_of c.args.engine.now) (c.args.lines.now.number + 1)
     (cut_left c.args.lines.now (g.S.Source.rest c.args.source.now))
     (part_at c.answer_lines.new.engine) c.in_ok-text.text.items
     (g.T.Sink.held c.args.sink.now) (g.T.Sink.held c.answer_lines.new.sink) (g.T.Sink.held c.flush.new.sink)

@@ -7,15 +7,16 @@ use Rattle.sgt_format.specs.declared.opening.Opening.{Opening}
 use Rattle.sgt_input.specs.Lines.{Cut, Ending, cut}
 use Rattle.sgt_input.specs.Ends.{End}
 use Rattle.sgt_script.specs.Opened.{IsRefused, LinesRefused}
-use Rattle.sgt_script.specs.declared.telling.Telling.{Telling}
+use Rattle.sgt_script.specs.declared.output.Output.{Output}
 use Rattle.sgt_script.specs.Scripts.{Execution, Script, ScriptOf, RunOutput}
+use Rattle.sgt_script.specs.Outcomes.{IsWhole}
 use Rattle.sgt_assembly.specs.Openings.{opened_setting}
 use Rattle.sgt_input.proofs.Begun.{Begun, HasBadRecord}
-use Rattle.sgt_script.proofs.Answers.{Output}
+use Rattle.sgt_script.proofs.Answers.{RunWrote}
 use Rattle.sgt_input.specs.declared.fault.Fault.{Fault}
 
--- what a run wrote over bytes that are known
-abbrev pub Wrote : Telling → Option (List ℕ) → Option (List ℕ) → Option (List ℕ) → End → Type 0
+-- what a run wrote over bytes that are known, before its laws are shown
+abbrev pub Wrote : Output → Option (List ℕ) → Option (List ℕ) → Option (List ℕ) → End → Type 0
 Wrote w rest held held' r =
     IfSome rest (λ bytes. (run : Option Execution) × (out : List ℕ) × Appends held held' out × Script w bytes run out r)
 
@@ -25,10 +26,16 @@ appends-none None = tt
 appends-none (Some xs) = sym (append-nil xs)
 
 -- line 1 is refused, or there is none
-pub wrote-refused : (w : Telling) (rest held : Option (List ℕ)) (f : Fault) (r : End) → IsRefused 1 rest f → r ≡ Err f
-    → Wrote w rest held held r
+pub wrote-refused : (w : Output) (rest held : Option (List ℕ)) (f : Fault) (r : End) → IsRefused 1 rest f → r ≡ Err f
+    → IsWhole w rest held held r
 wrote-refused w None held f r refused is = tt
-wrote-refused w (Some bytes) held f r refused is = (None, [], appends-none held, go (cut bytes).given refused)
+wrote-refused w (Some bytes) held f r refused is = record {
+  run = None;
+  out = [];
+  appends = appends-none held;
+  script = go (cut bytes).given refused;
+  laws = tt;
+}
   where
     go : (ls : List (List ℕ)) → LinesRefused 1 ls (cut bytes).ending f → ScriptOf w ls (cut bytes).ending None [] r
     go [] none = (refl, is ∙ sym none)
@@ -41,25 +48,26 @@ wrote-refused w (Some bytes) held f r refused is = (None, [], appends-none held,
     })
 
 -- a record line behind line 1 can't be put
-pub wrote-bad-record : (w : Telling) (rest held : Option (List ℕ)) (line : List ℕ) (f : Fault) (r : End) → HasBadRecord 1 rest line f
-    → r ≡ Err f → Wrote w rest held held r
+pub wrote-bad-record : (w : Output) (rest held : Option (List ℕ)) (line : List ℕ) (f : Fault) (r : End) → HasBadRecord 1 rest line f
+    → r ≡ Err f → IsWhole w rest held held r
 wrote-bad-record w None held line f r refused is = tt
-wrote-bad-record w (Some bytes) held line f r (later, given, bad, refuses, fault-is) is = (
-  None,
-  [],
-  appends-none held,
-  subst (λ (ls : List (List ℕ)). ScriptOf w ls (cut bytes).ending None [] r) (sym given)
-      (inr (record { bad = bad; refuses = refuses; nothing = refl; end_is = is ∙ ap (λ (g : Fault). Err g) fault-is })),
-)
+wrote-bad-record w (Some bytes) held line f r (later, given, bad, refuses, fault-is) is = record {
+  run = None;
+  out = [];
+  appends = appends-none held;
+  script = subst (λ (ls : List (List ℕ)). ScriptOf w ls (cut bytes).ending None [] r) (sym given)
+      (inr (record { bad = bad; refuses = refuses; nothing = refl; end_is = is ∙ ap (λ (g : Fault). Err g) fault-is }));
+  laws = tt;
+}
 
 -- the same lines from the same number on
-pub output-same : (w : Telling) (run : Execution) (m n : ℕ) (ls ls' : List (List ℕ)) (e e' : Ending) (out : List ℕ) (end : End)
+pub output-same : (w : Output) (run : Execution) (m n : ℕ) (ls ls' : List (List ℕ)) (e e' : Ending) (out : List ℕ) (end : End)
     → m ≡ n → ls ≡ ls' → e ≡ e' → RunOutput w run n ls' e' out end → RunOutput w run m ls e out end
 output-same w run m n ls ls' e e' out end number lines ending output = rw (number, lines, ending) output
 
 -- they open
-pub wrote-opened : (w : Telling) (s : Setting) (rest held held' : Option (List ℕ)) (line : List ℕ) (n : ℕ) (new : Option Cut) (o : Opening)
-    (r : End) → Begun 1 rest line o n new → s ≡ opened_setting o → Output w s n new held held' r → Wrote w rest held held' r
+pub wrote-opened : (w : Output) (s : Setting) (rest held held' : Option (List ℕ)) (line : List ℕ) (n : ℕ) (new : Option Cut) (o : Opening)
+    (r : End) → Begun 1 rest line o n new → s ≡ opened_setting o → RunWrote w s n new held held' r → Wrote w rest held held' r
 wrote-opened w s None held held' line n new o r begun is output = tt
 wrote-opened w s (Some bytes) held held' line n None o r begun is output = absurd begun
 wrote-opened w s (Some bytes) held held' line n (Some c) o r begun is (run, from, out, wrote, output) = (

@@ -1,40 +1,37 @@
+//! The explanations of a run on a second sink: why transactions are aborted, and which are live at the end.
 ghost use Rattle.std.specs.Prelude.{◌+◌, ◌^◌, ◌<◌};
 
-use crate::explain::Explains;
 use crate::live_text::append_live;
+use crate::observer::Observer;
 use crate::pending::pending_at;
-use sgt_log::History;
+use sgt_assembly::SgtEngine;
 use sgt_explain::append_explanation;
-use sgt_format::Opening;
+use sgt_input::{Lines, Sink, write_all};
+use sgt_log::History;
 use sgt_model::NoMemory;
-use sgt_proc::Checked;
-use sgt_assembly::{SgtEngine, all_procedures};
-use sgt_input::{Lines, Sink, opening_of, write_all};
 use std::alloc::Global;
 use std::marker::Model;
 
-/// What is told where there was no memory for an explanation.
+/// The line at the end if an explanation had no memory.
 const LEFT_OUT: &[u8] = b"explanations are left out: no memory\n";
 
-/// Tells on a sink why transactions are aborted, and which are live at the end. What is told is gathered, and written behind the
-/// answers. Where a write fails, nothing more is told.
+/// Writes to a sink why transactions are aborted, and which are live at the end. The explanations are gathered, and written after
+/// the answers that they belong to. After a failed write it writes no more.
 #[derive(Drop)]
-pub(crate) struct Explaining<'a, E: Sink> {
+pub(crate) struct Explainer<'a, E: Sink> {
     alloc: Global,
     errors: &'a mut E,
     /// Whether a write has failed.
     has_failed: bool,
-    /// Whether there was no memory for an explanation.
+    /// Whether an explanation had no memory.
     has_lost: bool,
-    /// The procedures by their numbers.
-    procedures: Vec<Checked>,
-    /// The number of the line of each entry; where there was no memory for one, that of none behind it.
+    /// The line number of each entry. If one had no memory, the list ends before it.
     lines: Vec<u64>,
-    /// What is not written yet.
+    /// The explanations that are not written yet.
     text: Vec<u8>,
 }
 
-impl<'a, E: Sink> Model for Explaining<'a, E> {
+impl<'a, E: Sink> Model for Explainer<'a, E> {
     ghost use Rattle.std.specs.Prelude.{◌≡◌, ◌+◌, ◌<◌, ◌^◌, ℕ, false};
 
     ghost Value = { ℕ };
@@ -44,26 +41,25 @@ impl<'a, E: Sink> Model for Explaining<'a, E> {
     ghost invariant = { λ e. e.has_failed ≡ false → E.failures e.errors.now + 1 < 2 ^ 64 };
 }
 
-impl<'a, E: Sink> Explaining<'a, E> {
-    /// Tells on this sink. It knows no procedures before the opening.
+impl<'a, E: Sink> Explainer<'a, E> {
+    /// An explainer that writes to this sink.
     pub(crate) fn new(alloc: Global, errors: &'a mut E) -> Self
         requires { E.failures errors.old + 1 < 2 ^ 64 }
     {
-        Explaining {
+        Explainer {
             alloc,
             errors,
             has_failed: false,
             has_lost: false,
-            procedures: Vec::new(alloc),
             lines: Vec::new(alloc),
             text: Vec::new(alloc),
         }
     }
 
-    /// Tells what is left to be told of a run that is over.
+    /// Writes the explanations that are left when the run is over.
     pub(crate) fn finish(mut self) {
         self.write_out();
-        let Explaining {
+        let Explainer {
             errors,
             has_failed,
             has_lost,
@@ -82,8 +78,8 @@ impl<'a, E: Sink> Explaining<'a, E> {
         self.text.clear();
     }
 
-    // Notes the line of the entry at a place, where those of all before it are noted. What is noted of it or behind it is of a
-    // history that was cut off.
+    // Notes the line of the entry at a place, if the lines of all entries before it are noted. Lines that are noted from this place
+    // on belong to a history that was cut off.
     fn note_line(&mut self, place: usize, line: u64) {
         self.lines.truncate(place);
         if self.lines.len() == place {
@@ -91,16 +87,17 @@ impl<'a, E: Sink> Explaining<'a, E> {
         }
     }
 
-    // Gathers why the entry at a place aborts whom it aborts, where it aborts anyone.
-    fn explain_at(&mut self, history: &History, place: usize) {
-        if aborts_at(history, place) && self.append(history, place).is_err() {
+    // Gathers the explanation of the entry at a place, if it aborts a transaction.
+    fn explain_at(&mut self, engine: &SgtEngine, place: usize) {
+        if aborts_at(engine.history(), place) && self.append(engine, place).is_err() {
             self.has_lost = true;
         }
     }
 
-    // Adds that to what is gathered, or nothing where there is no memory.
-    fn append(&mut self, history: &History, place: usize) -> Result<(), NoMemory> {
-        let pending = pending_at(self.alloc, history, place, self.procedures.as_slice())?;
+    // Adds that explanation. If there is no memory, it adds nothing.
+    fn append(&mut self, engine: &SgtEngine, place: usize) -> Result<(), NoMemory> {
+        let history = engine.history();
+        let pending = pending_at(self.alloc, history, place, engine.sched().procedures())?;
         append_explanation(
             &mut self.text,
             history,
@@ -111,20 +108,12 @@ impl<'a, E: Sink> Explaining<'a, E> {
     }
 }
 
-impl<E: Sink> Explains for Explaining<'_, E> {
-    fn opened(&mut self, lines: &Lines) {
-        match procedures_of(self.alloc, lines) {
-            Ok(procedures) => self.procedures = procedures,
-            Err(_) => self.has_lost = true,
-        }
-    }
-
+impl<E: Sink> Observer for Explainer<'_, E> {
     fn answered(&mut self, engine: &SgtEngine, line: u64) {
-        let history = engine.history();
-        let entries = history.len();
+        let entries = engine.history().len();
         if entries > 0 {
             self.note_line(entries - 1, line);
-            self.explain_at(history, entries - 1);
+            self.explain_at(engine, entries - 1);
         }
     }
 
@@ -147,13 +136,4 @@ fn aborts_at(history: &History, place: usize) -> bool {
         Some(entry) => entry.is_ending() && !entry.is_commit(),
         None => false,
     }
-}
-
-// The procedures of the engine of an opening, which the line given last is.
-fn procedures_of(alloc: Global, lines: &Lines) -> Result<Vec<Checked>, NoMemory> {
-    let Ok(opening) = opening_of(alloc, 1, lines) else {
-        return Err(NoMemory);
-    };
-    let Opening { procedures, .. } = opening;
-    all_procedures(alloc, procedures)
 }

@@ -1,0 +1,28 @@
+//! What follows a run line by line, and changes nothing of it.
+
+use sgt_assembly::SgtEngine;
+use sgt_input::Lines;
+
+/// Follows a run. It changes nothing of the run and causes no fault.
+pub(crate) trait Observer: Drop {
+    /// The engine has answered the event of the line with this number: that event is the newest entry.
+    fn answered(&mut self, engine: &SgtEngine, line: u64);
+
+    /// Each answer that has to be written before the next read is written.
+    fn written(&mut self, lines: &Lines);
+
+    /// All lines are answered.
+    fn ended(&mut self, engine: &SgtEngine);
+}
+
+/// Does nothing.
+#[derive(Drop)]
+pub(crate) struct Unobserved;
+
+impl Observer for Unobserved {
+    fn answered(&mut self, _engine: &SgtEngine, _line: u64) {}
+
+    fn written(&mut self, _lines: &Lines) {}
+
+    fn ended(&mut self, _engine: &SgtEngine) {}
+}

@@ -1,0 +1,93 @@
+//! The public runs of a script.
+ghost use Rattle.std.specs.Prelude.{◌≡◌, IfSome, Err, ◌+◌, ◌^◌, ◌<◌, ◌≤◌};
+ghost use Rattle.sgt_input.specs.Ends.{IsExact};
+ghost use Rattle.sgt_script.specs.declared.output.Output.TheVariants.{Replies};
+ghost use Rattle.sgt_script.specs.Beginnings.{IsStop};
+ghost use Rattle.sgt_script.specs.Outcomes.{CountsReads, CountsWrites, IsCutOff, IsStopped, IsWhole};
+
+use crate::explainer::Explainer;
+use crate::observer::Unobserved;
+use crate::output::Output;
+use crate::script::run_observed;
+use sgt_input::{Fault, Sink, Source};
+use std::alloc::Global;
+
+/// Runs a script on the program's engine, and writes the replies and then the committed database.
+///
+/// Line 1 opens, and the record lines after it put records into the opening database. Each later line is an event or a cut, and is
+/// answered. A cut ends a part of the run and drops its history.
+///
+/// The headline holds for each part. One serial run of all parts, in commit order, gives the answers in the `committed` lines and
+/// leaves the database that is written. In it each of SmallBank's procedures does what the bank's arithmetic says.
+///
+/// A run reads at most 16,777,217 bytes, however long its reader goes on: one more than an input may have.
+///
+/// # Errors
+///
+/// The first fault of the script: the replies to the lines before it are written. `Reading` if a read failed: the replies to the
+/// whole lines that were read are written. `NoMemory` if an allocation failed: the replies to some first lines are written. None of
+/// these writes the database. `Writing` if a write failed: the beginning of what a whole run writes is written.
+pub fn run_script<S: Source, T: Sink>(
+    alloc: Global,
+    source: &mut S,
+    sink: &mut T,
+) -> Result<(), Fault>
+    requires reading { S.failures source.old + 1 < 2 ^ 64 }
+    requires writing { T.failures sink.old + 1 < 2 ^ 64 }
+    ensures script { IsExact result → IsWhole Replies (S.rest source.old) (T.held sink.old) (T.held sink.new) result }
+    ensures stops { IsStop result →
+        IsStopped Replies (S.rest source.old) (S.rest source.new) (T.held sink.old) (T.held sink.new) result }
+    ensures part { result ≡ Err Fault.Writing → IsCutOff Replies (S.rest source.old) (T.held sink.old) (T.held sink.new) }
+    ensures bounded { S.given source.new ≤ S.given source.old + 16777217 }
+    ensures reads { CountsReads result (S.failures source.old) (S.failures source.new) }
+    ensures writes { CountsWrites result (T.failures sink.old) (T.failures sink.new) }
+{
+    run_observed(alloc, source, sink, Output::Replies, &mut Unobserved)
+}
+
+/// Runs a script as [`run_script`] does, and writes what the output mode says.
+///
+/// - `Replies`: what [`run_script`] writes.
+/// - `History`: the run as a history in the notation of Bernstein, Hadzilacos and Goodman (1987), chapter 2. Each read, write,
+///   commit and abort is a line, as `r1[2/101]`. A transaction's abort comes before the cascading aborts that it causes. At a cut
+///   stands a comment `# cut N`, and the numbers of transactions begin anew.
+/// - `Records`: the committed database, a line `["record",table,number,value]` for each record, by table and then by number. At a
+///   fault nothing is written, but for what went well of a write that failed.
+///
+/// With a sink for explanations, it writes there why transactions are aborted. An abort by a cycle gets a line for each edge of the
+/// cycle, with its accesses. Each cascading abort gets a line that says from whom the transaction had read, and what. A line at
+/// the end names the transactions that are live. The explanations of a line are written after its answer, and name lines by their
+/// numbers.
+///
+/// Explanations change nothing of the run. After a failed write there come no more of them. If some have no memory, they are left
+/// out, and a line at the end says so; neither is a fault. An explanation costs passes over the history since the last cut.
+///
+/// # Errors
+///
+/// As [`run_script`], with the text of the output mode for the replies. The explanations of all that was answered are written too.
+pub fn run<S: Source, T: Sink, E: Sink>(
+    alloc: Global,
+    source: &mut S,
+    sink: &mut T,
+    output: Output,
+    explanations: Option<&mut E>,
+) -> Result<(), Fault>
+    requires reading { S.failures source.old + 1 < 2 ^ 64 }
+    requires writing { T.failures sink.old + 1 < 2 ^ 64 }
+    requires explaining { IfSome explanations (λ errors. E.failures errors.now + 1 < 2 ^ 64) }
+    ensures script { IsExact result → IsWhole output (S.rest source.old) (T.held sink.old) (T.held sink.new) result }
+    ensures stops { IsStop result →
+        IsStopped output (S.rest source.old) (S.rest source.new) (T.held sink.old) (T.held sink.new) result }
+    ensures part { result ≡ Err Fault.Writing → IsCutOff output (S.rest source.old) (T.held sink.old) (T.held sink.new) }
+    ensures bounded { S.given source.new ≤ S.given source.old + 16777217 }
+    ensures reads { CountsReads result (S.failures source.old) (S.failures source.new) }
+    ensures writes { CountsWrites result (T.failures sink.old) (T.failures sink.new) }
+{
+    let Some(errors) = explanations else {
+        return run_observed(alloc, source, sink, output, &mut Unobserved);
+    };
+    let mut explainer = Explainer::new(alloc, errors);
+    let ran = run_observed(alloc, source, sink, output, &mut explainer);
+    explainer.finish();
+    ran
+}
