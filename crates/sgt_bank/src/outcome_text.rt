@@ -1,8 +1,9 @@
+//! The line of a job's outcome.
 ghost use Rattle.std.specs.Prelude.{◌≡◌, ◌++◌, take, vec_len, slice_get, IfOk, OnOk, OnErr};
 ghost use Rattle.sgt_bank.specs.OutcomeText.{commit_words, code_words, ask_words, refusal_words, words_at, outcome_words, outcome_text};
 
-use sgt_log::{EntryRef, History};
 use sgt_format::{append_answers, append_number, append_numbered};
+use sgt_log::{EntryRef, History};
 use sgt_model::{Cause, NoMemory, Reply};
 use sgt_workers::Outcome;
 use std::alloc::{AllocError, Global};

@@ -1,9 +1,10 @@
+//! The text of the report: the outcomes of all jobs, and the database.
 ghost use Rattle.std.specs.Prelude.{◌≡◌, ◌++◌, ◌≤◌, length, IfOk, OnOk};
 ghost use Rattle.sgt_bank.specs.Reports.{outcome_lines, report_text};
 
 use crate::outcome_text::append_outcome;
-use sgt_log::History;
 use sgt_format::append_database;
+use sgt_log::History;
 use sgt_model::{Database, NoMemory};
 use sgt_workers::Outcome;
 use std::alloc::{AllocError, Global};

@@ -178,6 +178,15 @@ pub fn run_jobs<S: Source, T: Sink, W: Threads + Wait + Sync>(
     ensures reads { CountsReads result (S.given source.old) (S.given source.new) (S.failures source.old) (S.failures source.new) }
     ensures writes { CountsWrites result (T.failures sink.old) (T.failures sink.new) }
 {
-    write_run(rt, alloc, source, sink, workers, tries, Output::Report, &OpenGate)?;
+    write_run(
+        rt,
+        alloc,
+        source,
+        sink,
+        workers,
+        tries,
+        Output::Report,
+        &OpenGate,
+    )?;
     Ok(())
 }

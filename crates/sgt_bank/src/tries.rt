@@ -1,7 +1,7 @@
 //! What is told of the attempts at each job.
 use crate::watch::FailedTry;
-use sgt_log::{EntryRef, History};
 use sgt_format::append_numbered;
+use sgt_log::{EntryRef, History};
 use sgt_model::{Cause, NoMemory, Reply, Tid};
 use sgt_workers::Outcome;
 use std::alloc::{AllocError, Global};

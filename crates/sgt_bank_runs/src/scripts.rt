@@ -1,7 +1,7 @@
 //! Many scripts in one process, each run by itself as `sgt script` does.
 
-use sgt_script::run_script;
 use sgt_input::{Fault, Reader, Writer};
+use sgt_script::run_script;
 use std::alloc::{AllocError, Global};
 use std::io;
 use std::io::{Input, Print, Read, Write};

@@ -2,8 +2,8 @@
 use crate::accounts::{ACCOUNTS, checking};
 use crate::crowd::tell_compared;
 use sgt_dispatch::Job;
-use sgt_log::History;
 use sgt_format::reply_line;
+use sgt_log::History;
 use sgt_model::{Limits, Reply};
 use sgt_workers::{Outcome, Report};
 use std::alloc::Global;

@@ -1,3 +1,4 @@
+//! Where commits wait until a live transaction ends.
 ghost use Rattle.std.specs.Prelude.{◌≡◌};
 ghost use Rattle.sgt_model.specs.Questions.{is_ending};
 

@@ -1,3 +1,4 @@
+//! The report of a run, and the test that its outcomes say what is so.
 ghost use Rattle.std.specs.Prelude.{◌≡◌, IfOk, IfErr, OnOk, reverse};
 ghost use Rattle.sgt_audit.specs.AllOutcomes.{OutcomesStand};
 ghost use Rattle.sgt_engine.specs.EngineView.{setting_of};
@@ -9,8 +10,8 @@ use sgt_access::Accesses;
 use sgt_audit::{Outcome, audit};
 use sgt_dispatch::Job;
 use sgt_engine::{Engine, Past};
-use sgt_log::History;
 use sgt_graph::Graph;
+use sgt_log::History;
 use sgt_model::Database;
 use sgt_records::Records;
 use std::alloc::Global;
