@@ -12,7 +12,7 @@ pub trait Accesses: Drop + Send {
     ghost list: { Self → List ListedAccess };
 
     /// An access of the key can be noted without memory.
-    ghost is_ready: { Self → K → Type 0 };
+    ghost is_ready: { Self → Key → Type 0 };
 
     /// No accesses. This takes no memory.
     fn empty(alloc: Global) -> Self

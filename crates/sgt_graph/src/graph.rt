@@ -19,7 +19,7 @@ pub trait Graph: Drop + Send {
     ghost pairs: { Self → ℕ → ℕ → Bool };
 
     /// Pairs from these transactions to that one are linked by this.
-    ghost is_planned: { Self → ℕ → List ℕ → L → Type 0 };
+    ghost is_planned: { Self → ℕ → List ℕ → Link → Type 0 };
 
     /// A graph of no nodes.
     fn empty() -> Self

@@ -353,7 +353,7 @@ refused_by {past} {t} {k} {kind} rest fell paths set c r e a = record {
 
 -- who has to wait
 
--- NoneLive
+-- HasNoLivePredecessor
 abbrev pub none_live_test : List Entry → ℕ → Bool
 none_live_test past t = list_all (λ v. not (live past v && pair past v t)) (actors past)
 
@@ -377,7 +377,7 @@ refuses_by {past} {t} fell paths set first r e a = record {
   is = refl;
 }
 
--- IsLeastBefore
+-- IsLeastPredecessor
 abbrev pub least_test : List Entry → ℕ → ℕ → Bool
 least_test past t u = (live past u && pair past u t) && list_all (λ v. implies (live past v && pair past v t) (not (nat_lt v u)))
     (actors past)

@@ -9,7 +9,7 @@ abbrev pub seen : Next → trace.Next
 seen (Look k) = trace.Looks k
 seen (Put k v) = trace.Puts k v
 seen (Ends answers) = trace.Ends answers
-seen (Asks code) = trace.Asks code
+seen (Asks code) = trace.Raises code
 
 -- what is stored next is a value
 abbrev pub StoresValue : Next → Type 0

@@ -42,13 +42,13 @@ pub fn exprs_depth(statements: &[Statement]) -> u8
 {
     let mut deepest = 0;
     for statement in statements {
-        deepest = terms_depth_of(statement).max(deepest);
+        deepest = exprs_depth_of(statement).max(deepest);
     }
     deepest
 }
 
 #[cycle(terms)]
-fn terms_depth_of(statement: &Statement) -> u8
+fn exprs_depth_of(statement: &Statement) -> u8
     ensures { result ≡ min 17 (exprs_depth (in_front statement.now empty)) }
 {
     match statement {

@@ -17,13 +17,13 @@ use std::alloc::Global;
 /// The committed values, and above them the writes of the live transactions.
 pub trait Records: Drop + Send {
     /// The values that live transactions have written at a key, each writer's last one, in the order of these writes.
-    ghost chain: { Self → K → List (ℕ × ℤ) };
+    ghost chain: { Self → Key → List (ℕ × ℤ) };
 
     /// The committed value of a key, or none.
-    ghost settled: { Self → K → Option ℤ };
+    ghost settled: { Self → Key → Option ℤ };
 
     /// A write of the key takes no memory.
-    ghost is_ready: { Self → K → Type 0 };
+    ghost is_ready: { Self → Key → Type 0 };
 
     /// The records of a database, with no write pending. `NoMemory` where a growth was refused.
     fn build(alloc: Global, opening: &Database) -> Result<Self, NoMemory>

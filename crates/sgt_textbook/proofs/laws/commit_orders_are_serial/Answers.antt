@@ -2,4 +2,4 @@ use Rattle.sgt_textbook.proofs.SerialOrder.{commit_order_serial}
 use Rattle.sgt_textbook.proofs.laws.commit_orders_are_serial.Goals as goal
 
 pub returns : goal.returns
-returns c = commit_order_serial c.commits_in_order.ensures c.commits_in_line.ensures
+returns c = commit_order_serial c.commits_in_order.ensures c.commit_order_is_total.ensures

@@ -2,4 +2,4 @@ use Rattle.sgt_textbook.proofs.Histories.{commit_ordered}
 use Rattle.sgt_textbook.proofs.laws.legal_are_commit_ordered.Goals as goal
 
 pub returns : goal.returns
-returns c = commit_ordered c.commits_in_order.ensures c.commits_in_line.ensures
+returns c = commit_ordered c.commits_in_order.ensures c.commit_order_is_total.ensures
