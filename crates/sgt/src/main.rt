@@ -314,7 +314,7 @@ fn explained_script<R: Print + Input>(
 }
 
 /// What `sgt bank` is asked for. How many jobs have ended is told where standard error is a terminal.
-fn bank_asked(stderr: &Stderr, options: &ArgMatches<'_>) -> sgt_bank::Options
+fn read_bank_options(stderr: &Stderr, options: &ArgMatches<'_>) -> sgt_bank::Options
     ensures workers { (1 ≤ result.workers) × (result.workers ≤ 16) }
     ensures tries { (1 ≤ result.tries) × (result.tries ≤ 1000) }
 {
@@ -347,19 +347,19 @@ fn bank<R: Print + Eprint + Input + Clock + Threads + Wait + Sync>(
     stderr: Stderr,
     options: &ArgMatches<'_>,
 ) -> Result<(), Failure> {
-    let asked = bank_asked(&stderr, options);
+    let chosen = read_bank_options(&stderr, options);
     let mut writer = Writer::new(io::writer(rt));
     let mut errors = Writer::new(stderr);
     if options.get_flag("explain") {
         let mut source = Remembering::new(alloc, Reader::new(rt.reader()));
-        let ran = run_bank(rt, alloc, &mut source, &mut writer, &mut errors, asked);
+        let ran = run_bank(rt, alloc, &mut source, &mut writer, &mut errors, chosen);
         let command = sgt_line_errors::Command::Bank {
-            workers: asked.workers,
+            workers: chosen.workers,
         };
         return explained(alloc, command, &source, ran);
     }
     let mut reader = Reader::new(rt.reader());
-    unexplained(run_bank(rt, alloc, &mut reader, &mut writer, &mut errors, asked))
+    unexplained(run_bank(rt, alloc, &mut reader, &mut writer, &mut errors, chosen))
 }
 
 /// Checks a history from standard input to standard output, and tells whether it is serializable and recoverable.

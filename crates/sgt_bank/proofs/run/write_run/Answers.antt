@@ -1,5 +1,5 @@
 use Rattle.std.proofs.Common.{rules}
-use Rattle.sgt_bank.proofs.Reported.{writes-all, writes-part}
+use Rattle.sgt_bank.proofs.RunLaws.{writes-all, writes-part}
 use Rattle.sgt_bank.proofs.run.write_run.Goals as goal
 
 pub returns-clause-output : goal.returns-clause-output

@@ -1,4 +1,4 @@
--- Laws of a bank's report.
+-- Laws of a run, and of what it writes.
 use Rattle.std.proofs.Common.{◌≡◌, ℕ, zero, suc, ◌+◌, ◌<◌, ◌≤◌, List, [], ◌∷◌, refl, sym, ◌∙◌, arith}
 use Rattle.std.specs.Prelude.{cond, Option, None, Some, IfSome, reverse, take}
 use Rattle.std.specs.Io.KnownBytes.{Appends}
@@ -21,7 +21,7 @@ use Rattle.sgt_assembly.specs.Openings.{opened_setting, OpenedIsBank}
 use Rattle.sgt_bank.specs.Banks.{HasRun, AreRun, IsHistory, IsRecords, IsReport, IsRun}
 use Rattle.sgt_textbook.specs.Laws.{AreCommitOrdered, AreSerializable, AreRecoverable}
 use Rattle.sgt_notation.specs.Transcripts.{TranscriptsSpellTextbooks, transcript}
-use Rattle.sgt_bank.proofs.SerialTexts.{text-same}
+use Rattle.sgt_bank.proofs.TextsAgree.{text-same}
 use Rattle.sgt_bank.specs.Reports.{report_text}
 use Rattle.sgt_bank.specs.declared.output.Output.{Output}
 use Rattle.sgt_bank.specs.declared.output.Output.TheVariants as output
