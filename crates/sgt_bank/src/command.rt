@@ -47,9 +47,9 @@ pub struct Options {
 
 /// Runs the jobs of an input as `run_jobs` does, and writes the output that the options ask for.
 ///
-/// Where explanations are asked for, the second sink gets a line for each job, by number, after the output. It has the transaction of
-/// each try at the job, and which transactions aborted the tries that failed. The explanations change nothing of the run. Where there
-/// is no memory for them, one line says so. Where a write of them fails, they end there. Neither is a fault.
+/// Where explanations are asked for, the second sink gets a line for each job, by number, after the output. The line has the
+/// transaction of each try at the job, and which transactions aborted the tries that failed. The explanations change nothing of the
+/// run. Where there is no memory for them, one line says so. Where a write of them fails, they end there. Neither is a fault.
 ///
 /// # Errors
 ///

@@ -4,8 +4,8 @@
 //!   `specs/Inputs.antt` says what that is, and what the first fault of an input is.
 //! - [`bank_of`] makes of an opening what the jobs run on: the `Bank` of `sgt_workers`.
 //! - [`outcome_line`] is the line of a job's outcome, and [`report_text`] all of them and then the database.
-//! - [`run_jobs`] joins these by `run` of `sgt_workers`, which makes the threads, and writes the report. `specs/Banks.antt` says what
-//!   a run is, and `specs/Outputs.antt` what it owes.
+//! - [`run_jobs`] joins these by `run` of `sgt_workers`, which makes the threads, and writes the report. `specs/Banks.antt` says
+//!   what a run is, and `specs/Outputs.antt` what it owes.
 //! - [`run_bank`] is the command. Its [`Options`] say whether the report, the history or the records are written ([`Output`]), and
 //!   whether it is explained how often each job was tried ([`Explanations`]).
 //!
