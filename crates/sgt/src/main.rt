@@ -16,7 +16,7 @@ use clap::builder::ValueParser;
 use clap::error::ErrorKind;
 use clap::{Arg, ArgAction, ArgMatches, Command};
 use help::{BANK_HELP, CHECK_HELP, HELP, SCRIPT_HELP};
-use sgt_bank::{MOST_TRIES, MOST_WORKERS, run_jobs};
+use sgt_bank::{Explanations, MOST_TRIES, MOST_WORKERS, run_bank};
 use sgt_check::{CheckFault, run_check, run_graph};
 use sgt_input::{Fault, Reader, Source, Writer};
 use sgt_line_errors::{Remembering, explain};
@@ -318,6 +318,33 @@ fn explained_script<R: Print + Input>(
     explained(alloc, sgt_line_errors::Command::Script, &source, ran)
 }
 
+/// What `sgt bank` is asked for. How many jobs have ended is told where standard error is a terminal.
+fn read_bank_options(stderr: &Stderr, options: &ArgMatches<'_>) -> sgt_bank::Options
+    ensures workers { (1 ≤ result.workers) × (result.workers ≤ 16) }
+    ensures tries { (1 ≤ result.tries) × (result.tries ≤ 1000) }
+{
+    let output = if options.get_flag("history") {
+        sgt_bank::Output::History
+    } else if options.get_flag("records") {
+        sgt_bank::Output::Records
+    } else {
+        sgt_bank::Output::Report
+    };
+    let explanations = if !options.get_flag("explain") {
+        Explanations::Off
+    } else if stderr.is_terminal() {
+        Explanations::TriesAndProgress
+    } else {
+        Explanations::Tries
+    };
+    sgt_bank::Options {
+        workers: number(options, "workers", MOST_WORKERS),
+        tries: number(options, "tries", MOST_TRIES),
+        output,
+        explanations,
+    }
+}
+
 /// Runs the jobs of a bank from standard input to standard output.
 fn bank<R: Print + Eprint + Input + Clock + Threads + Wait + Sync>(
     rt: &R,
@@ -325,66 +352,19 @@ fn bank<R: Print + Eprint + Input + Clock + Threads + Wait + Sync>(
     stderr: Stderr,
     options: &ArgMatches<'_>,
 ) -> Result<(), Failure> {
-    let workers = number(options, "workers", MOST_WORKERS);
-    let tries = number(options, "tries", MOST_TRIES);
-    if options.get_flag("explain") {
-        return explained_bank(rt, alloc, stderr, workers, tries);
-    }
-    unexplained(plain_bank(rt, alloc, options, workers, tries))
-}
-
-fn plain_bank<R: Print + Input + Threads + Wait + Sync>(
-    rt: &R,
-    alloc: Global,
-    options: &ArgMatches<'_>,
-    workers: u32,
-    tries: u32,
-) -> Result<(), Fault>
-    requires workers { (1 ≤ workers) × (workers ≤ 16) }
-    requires tries { (1 ≤ tries) × (tries ≤ 1000) }
-{
-    let mut reader = Reader::new(rt.reader());
+    let chosen = read_bank_options(&stderr, options);
     let mut writer = Writer::new(io::writer(rt));
-    if options.get_flag("history") {
-        sgt_bank::run_history(rt, alloc, &mut reader, &mut writer, workers, tries)
-    } else if options.get_flag("records") {
-        sgt_bank::run_records(rt, alloc, &mut reader, &mut writer, workers, tries)
-    } else {
-        run_jobs(rt, alloc, &mut reader, &mut writer, workers, tries)
-    }
-}
-
-/// The same, and tells on standard error how often each job was tried, and where that is a terminal, how many have ended.
-fn explained_bank<R: Print + Eprint + Input + Clock + Threads + Wait + Sync>(
-    rt: &R,
-    alloc: Global,
-    stderr: Stderr,
-    workers: u32,
-    tries: u32,
-) -> Result<(), Failure>
-    requires workers { (1 ≤ workers) × (workers ≤ 16) }
-    requires tries { (1 ≤ tries) × (tries ≤ 1000) }
-{
-    let mut source = Remembering::new(alloc, Reader::new(rt.reader()));
-    let mut writer = Writer::new(io::writer(rt));
-    let tells_progress = stderr.is_terminal();
     let mut errors = Writer::new(stderr);
-    let ran = sgt_bank::run_explained(
-        rt,
-        alloc,
-        &mut source,
-        &mut writer,
-        &mut errors,
-        workers,
-        tries,
-        tells_progress,
-    );
-    explained(
-        alloc,
-        sgt_line_errors::Command::Bank { workers },
-        &source,
-        ran,
-    )
+    if options.get_flag("explain") {
+        let mut source = Remembering::new(alloc, Reader::new(rt.reader()));
+        let ran = run_bank(rt, alloc, &mut source, &mut writer, &mut errors, chosen);
+        let command = sgt_line_errors::Command::Bank {
+            workers: chosen.workers,
+        };
+        return explained(alloc, command, &source, ran);
+    }
+    let mut reader = Reader::new(rt.reader());
+    unexplained(run_bank(rt, alloc, &mut reader, &mut writer, &mut errors, chosen))
 }
 
 /// Checks a history from standard input to standard output, and tells whether it is serializable and recoverable.

@@ -1,3 +1,4 @@
+//! What can become of a job.
 use sgt_model::Tid;
 
 /// What became of a job. Entries of the history are named by their numbers, counted from 0.

@@ -1,5 +1,7 @@
-pub mod Reported
-pub mod SerialTexts
-pub mod Takings
-pub mod Beginnings
+-- of the input
 pub mod NextCalls
+pub mod JobsInTurn
+pub mod Beginnings
+-- of the run and its texts
+pub mod TextsAgree
+pub mod RunLaws

@@ -1,9 +1,12 @@
 -- what an input asks for
 pub mod Jobs
-pub mod Taking
 pub mod Inputs
--- what its run writes
+-- how far its lines are read
+pub mod Taking
+-- the texts that a run can write
 pub mod OutcomeText
 pub mod Reports
 pub mod SerialText
+-- what a run is, and what it owes
 pub mod Banks
+pub mod Outputs

@@ -54,10 +54,10 @@ outcome_words history (outcome.Left note) = codes "left"
 outcome_words history outcome.Untaken = codes "untaken"
 outcome_words history outcome.NoMemory = codes "no memory"
 
--- the line of these words, behind the job's number
-abbrev pub outcome_line : ℕ → List ℕ → List ℕ
-outcome_line number words = decimal number ++ codes " " ++ words ++ codes "\n"
+-- a line of these words, after the number of the job
+abbrev pub numbered_line : ℕ → List ℕ → List ℕ
+numbered_line number words = decimal number ++ codes " " ++ words ++ codes "\n"
 
 -- the line of an outcome
-abbrev pub outcome_text : {N : Type 0} → ℕ → List Entry → Outcome N → List ℕ
-outcome_text number history o = outcome_line number (outcome_words history o)
+abbrev pub outcome_line : {N : Type 0} → ℕ → List Entry → Outcome N → List ℕ
+outcome_line number history o = numbered_line number (outcome_words history o)

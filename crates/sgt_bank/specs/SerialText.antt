@@ -10,7 +10,7 @@ use Rattle.sgt_format.specs.DatabaseText.{database_text}
 use Rattle.sgt_format.specs.ReplyText.{committed_text}
 use Rattle.sgt_audit.specs.declared.outcome.Outcome.{Outcome}
 use Rattle.sgt_audit.specs.declared.outcome.Outcome.TheVariants as outcome
-use Rattle.sgt_bank.specs.OutcomeText.{asked_text, ask_words, outcome_words, outcome_line}
+use Rattle.sgt_bank.specs.OutcomeText.{asked_text, ask_words, outcome_words, numbered_line}
 
 -- what the serial run gives each committed and each refused transaction, the first reply first
 abbrev pub serial_results : Setting → List Entry → List RunResult
@@ -50,7 +50,7 @@ serial_words s history o = outcome_words history o
 -- the lines of outcomes, of the jobs from number n on
 abbrev pub serial_lines : {N : Type 0} → ℕ → Setting → List Entry → List (Outcome N) → List ℕ
 serial_lines n s history [] = []
-serial_lines n s history (o ∷ os) = outcome_line n (serial_words s history o) ++ serial_lines (n + 1) s history os
+serial_lines n s history (o ∷ os) = numbered_line n (serial_words s history o) ++ serial_lines (n + 1) s history os
 
 -- all of them, and then the database
 abbrev pub serial_text : {N : Type 0} → Setting → List Entry → List (Outcome N) → List Row → List ℕ

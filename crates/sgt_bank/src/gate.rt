@@ -1,3 +1,4 @@
+//! The gate of a run that is not watched.
 use sgt_workers::{Gate, Outcome, Pass};
 use std::convert::Infallible;
 

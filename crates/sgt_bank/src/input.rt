@@ -1,3 +1,4 @@
+//! The input of a bank: its opening with the records, and its jobs.
 ghost use Rattle.std.specs.Prelude.{◌≡◌, ◌≢◌, IfOk, IfErr, IfSome, Err, ◌+◌, ◌^◌, ◌<◌, ◌≤◌};
 ghost use Rattle.sgt_workers.specs.Banks.{AreLimitsFor, AreJobs};
 ghost use Rattle.sgt_bank.specs.Inputs.{InputAsks, InputFails};

@@ -1,3 +1,4 @@
+//! The jobs that the lines after the opening ask for.
 ghost use Rattle.std.specs.Prelude.{◌≡◌, ◌≢◌, ℕ, List, IfOk, IfErr, IfSome, IsNone, Err, Ok, [], ◌+◌, ◌^◌, ◌<◌, ◌≤◌};
 ghost use Rattle.sgt_input.specs.Lines.{AtEnd};
 ghost use Rattle.sgt_input.specs.Intake.{EndsAs, come, cut_left};

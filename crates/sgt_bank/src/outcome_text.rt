@@ -1,5 +1,6 @@
+//! The line of a job's outcome.
 ghost use Rattle.std.specs.Prelude.{◌≡◌, ◌++◌, take, vec_len, slice_get, IfOk, OnOk, OnErr};
-ghost use Rattle.sgt_bank.specs.OutcomeText.{commit_words, code_words, ask_words, refusal_words, words_at, outcome_words, outcome_text};
+ghost use Rattle.sgt_bank.specs.OutcomeText.{commit_words, code_words, ask_words, refusal_words, words_at, outcome_words, outcome_line};
 
 use sgt_format::{append_answers, append_number, append_numbered};
 use sgt_log::{EntryRef, History};
@@ -17,7 +18,7 @@ pub fn outcome_line<N>(
     outcome: &Outcome<N>,
     history: &History,
 ) -> Result<Vec<u8>, NoMemory>
-    ensures { IfOk result (λ line. line.items ≡ outcome_text number history.now.entries outcome.now) }
+    ensures { IfOk result (λ line. line.items ≡ outcome_line number history.now.entries outcome.now) }
 {
     let mut line = Vec::new(alloc);
     append_outcome(&mut line, number, outcome, history)?;
@@ -32,7 +33,7 @@ pub(crate) fn append_outcome<N>(
     history: &History,
 ) -> Result<(), AllocError>
     ensures ok { OnOk result
-        (lines.new.items ≡ lines.old.items ++ outcome_text number history.now.entries outcome.now) }
+        (lines.new.items ≡ lines.old.items ++ outcome_line number history.now.entries outcome.now) }
     ensures err { OnErr result (take (vec_len lines.old) lines.new.items ≡ lines.old.items) }
 {
     append_number(lines, number)?;

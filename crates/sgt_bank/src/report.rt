@@ -1,3 +1,4 @@
+//! The text of the report: the outcomes of all jobs, and the database.
 ghost use Rattle.std.specs.Prelude.{◌≡◌, ◌++◌, ◌≤◌, length, IfOk, OnOk};
 ghost use Rattle.sgt_bank.specs.Reports.{outcome_lines, report_text};
 

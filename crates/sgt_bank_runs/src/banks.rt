@@ -2,8 +2,7 @@
 //! of its reply, and then the report.
 use crate::gates::Gates;
 use sgt_access::{Accesses, PerKey};
-use sgt_assembly::all_procedures;
-use sgt_bank::{read_input, report_text};
+use sgt_bank::{bank_of, read_input, report_text};
 use sgt_dispatch::Job;
 use sgt_format::{Opening, append_numbered, append_reply};
 use sgt_graph::{BitGraph, Graph};
@@ -11,7 +10,7 @@ use sgt_input::Reader;
 use sgt_log::History;
 use sgt_model::{Event, Tid};
 use sgt_records::{Records, SlabRecords};
-use sgt_workers::{Bank, PoolError, Report, run};
+use sgt_workers::{PoolError, Report, run};
 use std::alloc::{AllocError, Global};
 use std::io;
 use std::io::{ErrorKind, Input, Print, Write};
@@ -34,13 +33,8 @@ pub fn run_bank<R: Records, A: Accesses, G: Graph, W: Threads + Wait + Sync>(
     crew: Crew,
     gates: &Gates,
 ) -> Result<Report<u64>, PoolError> {
-    let Ok(procedures) = all_procedures(alloc, opening.procedures) else {
+    let Ok(bank) = bank_of(alloc, opening) else {
         return Err(PoolError::NoMemory);
-    };
-    let bank = Bank {
-        opening: opening.database,
-        procedures,
-        limits: opening.limits,
     };
     run::<R, A, G, Gates, W>(rt, alloc, bank, jobs, crew.workers, crew.tries, gates)
 }

@@ -1,3 +1,4 @@
+//! Why a feed could not be made.
 use std::alloc::AllocError;
 use thiserror::Error;
 

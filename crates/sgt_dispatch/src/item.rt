@@ -1,3 +1,4 @@
+//! What a feed carries.
 use crate::job::Job;
 
 /// What a feed carries.

@@ -1,3 +1,4 @@
+//! A job: one call of a procedure.
 use sgt_model::Args;
 
 /// One call of a procedure that a worker is to make as a transaction of its own.

@@ -1,3 +1,4 @@
+//! What each end of a feed knows of what was put and taken. It stands in proofs alone.
 use crate::item::Item;
 use std::collections::LinkedList;
 

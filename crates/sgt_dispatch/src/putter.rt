@@ -1,3 +1,4 @@
+//! The end of a feed that puts.
 ghost use Rattle.std.specs.Prelude.{◌≡◌, ◌<◌, if◌then◌else◌, OnOk, OnErr, IfErr};
 ghost use Rattle.crossbeam_channel.specs.Claims.{IsSeatAt};
 ghost use Rattle.crossbeam_channel.specs.Ends.{sends_on};

@@ -1,3 +1,4 @@
+//! Whether the receipts of all sessions are the entries of the history, each once.
 ghost use Rattle.std.specs.Prelude.{◌≡◌, ◌+◌, ◌^◌, ◌<◌, ◌≤◌, IsTrue, [], length, Some, IfSome, slice_get, slice_index, slice_index_or};
 ghost use Rattle.std.specs.List.{sum_by};
 ghost use Rattle.sgt_session.specs.Accounts.{AccountsForHistory};

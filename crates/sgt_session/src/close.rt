@@ -1,3 +1,4 @@
+//! The close: the engine comes out of its lock where the receipts are its history.
 ghost use Rattle.std.specs.Prelude.{◌≡◌, IfOk, IfErr, length, reverse};
 ghost use Rattle.sgt_model.specs.Legality.{Legal};
 ghost use Rattle.sgt_engine.specs.EngineView.{setting_of};

@@ -1,3 +1,4 @@
+//! The name that ties sessions to their engine.
 ghost use Rattle.std.specs.Prelude.{ℕ};
 ghost use Rattle.sgt_model.specs.Settings.{Setting};
 ghost use Rattle.sgt_session.specs.Settings.{none};

@@ -1,3 +1,4 @@
+//! How an engine is put under its lock, with its sessions.
 ghost use Rattle.std.specs.Prelude.{◌≡◌, ◌≤◌, [], replicate, vec_capacity, MatchResult};
 ghost use Rattle.sgt_engine.specs.EngineView.{setting_of};
 

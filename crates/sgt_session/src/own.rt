@@ -1,3 +1,4 @@
+//! The transactions that a session has started and not seen end, and the capacity for their receipts.
 ghost use Rattle.std.specs.Prelude.{◌≡◌, ◌+◌, ◌<◌, ◌≤◌, ℕ, true, length, OnOk};
 ghost use Rattle.std.specs.Result.{IsOk};
 ghost use Rattle.std.specs.Vec.{vec_len, vec_capacity};

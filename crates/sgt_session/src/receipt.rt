@@ -1,3 +1,4 @@
+//! The receipt of one call.
 ghost use Rattle.std.specs.Prelude.{◌≡◌};
 
 use sgt_model::{Event, Reply};

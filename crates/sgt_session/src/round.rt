@@ -1,3 +1,4 @@
+//! What lies under the lock: the engine and the book of calls.
 ghost use Rattle.std.specs.Prelude.{◌≡◌, ◌+◌, ◌<◌, ◌≤◌, ℕ, true, [], ◌∷◌, ◌++◌, length, vec_len, vec_capacity, OnOk, OnErr, reverse};
 ghost use Rattle.std.specs.List.{sum_by};
 ghost use Rattle.std.specs.Result.{IsOk};
@@ -12,8 +13,8 @@ use crate::receipts::Receipts;
 use crate::session::{Session, lend};
 use sgt_access::Accesses;
 use sgt_engine::Engine;
-use sgt_log::History;
 use sgt_graph::Graph;
+use sgt_log::History;
 use sgt_model::{Event, NoMemory};
 use sgt_records::Records;
 use std::marker::Model;

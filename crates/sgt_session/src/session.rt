@@ -1,3 +1,4 @@
+//! A session: one caller's way to the engine.
 ghost use Rattle.std.specs.Prelude.{◌≡◌, ◌+◌, ◌<◌, ◌≤◌, ◌&&◌, false, List, [], ◌∷◌, ◌++◌, All, length, vec_len, vec_capacity, IfOk, MatchResult};
 ghost use Rattle.std.specs.List.{sum_by};
 ghost use Rattle.sgt_model.specs.declared.event.Event.TheVariants.{Commit};
@@ -11,8 +12,8 @@ use crate::receipt::Receipt;
 use crate::receipts::Receipts;
 use crate::shared::Shared;
 use sgt_access::Accesses;
-use sgt_log::EntryRef;
 use sgt_graph::Graph;
+use sgt_log::EntryRef;
 use sgt_model::{Event, NoMemory, Tid};
 use sgt_records::Records;
 use std::alloc::Global;

@@ -1,3 +1,4 @@
+//! An engine under its lock.
 ghost use Rattle.std.specs.Prelude.{◌≡◌, ◌≤◌};
 
 use crate::lock_policy::LockPolicy;

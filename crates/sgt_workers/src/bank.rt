@@ -1,3 +1,4 @@
+//! What jobs are run on, the limits of a run, and the test of what it is given.
 ghost use Rattle.std.specs.Prelude.{◌≡◌, ◌↔◌, IsTrue, Result, Ok, Err};
 ghost use Rattle.sgt_workers.specs.declared.errors.PoolError.TheVariants as PoolError;
 ghost use Rattle.sgt_workers.specs.Banks.{AreWorkers, AreTries, AreLimitsFor, AreNumbered, AreJobs};

@@ -1,3 +1,4 @@
+//! Why a run of jobs has no report.
 use thiserror::Error;
 
 /// Why a run of jobs has no report.

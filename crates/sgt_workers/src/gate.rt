@@ -1,3 +1,4 @@
+//! The gate: it is asked before each call of a worker, and told what becomes of each job.
 use sgt_audit::Outcome;
 use sgt_model::Tid;
 

@@ -1,3 +1,4 @@
+//! The report of a run, and the test that its outcomes say what is so.
 ghost use Rattle.std.specs.Prelude.{◌≡◌, IfOk, IfErr, OnOk, reverse};
 ghost use Rattle.sgt_audit.specs.AllOutcomes.{OutcomesStand};
 ghost use Rattle.sgt_engine.specs.EngineView.{setting_of};

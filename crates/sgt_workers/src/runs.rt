@@ -1,3 +1,4 @@
+//! A run of jobs: a new engine, its sessions, the threads, and the report.
 ghost use Rattle.std.specs.Prelude.{◌≡◌, ◌↔◌, [], Err, IfOk, IfErr};
 ghost use Rattle.sgt_engine.specs.EngineView.{setting_of as made_with};
 ghost use Rattle.sgt_workers.specs.declared.errors.PoolError.TheVariants as PoolError;

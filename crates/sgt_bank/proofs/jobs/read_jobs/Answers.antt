@@ -3,7 +3,7 @@ use Rattle.std.specs.Prelude.{IfErr, vec_len}
 use Rattle.sgt_input.specs.Intake.{cut_left}
 use Rattle.sgt_input.specs.Ends.{IsOfInput}
 use Rattle.sgt_bank.specs.Taking.{TakesCall, EndsWith}
-use Rattle.sgt_bank.proofs.Takings.{asked-none, asked-next, asked-many, asked-fault, numbered-snoc, length-snoc, length-numbered, numbered-at}
+use Rattle.sgt_bank.proofs.JobsInTurn.{asked-none, asked-next, asked-many, asked-fault, numbered-snoc, length-snoc, length-numbered, numbered-at}
 use Rattle.sgt_bank.proofs.jobs.read_jobs.Goals as goal
 
 pub loop-jobs-init : goal.loop-jobs-init

@@ -4,7 +4,7 @@ use Rattle.sgt_model.specs.Settings.{Setting}
 use Rattle.sgt_model.specs.Legality.{Legal}
 use Rattle.sgt_model.specs.Replay.{folded, ReplayAgrees}
 use Rattle.sgt_model.specs.Aborts.{AbortsHaveCause}
-use Rattle.sgt_bank.proofs.Reported.{each-run}
+use Rattle.sgt_bank.proofs.RunLaws.{each-run}
 use Rattle.sgt_bank.proofs.run.run_behind_opening.Goals as goal
 
 pub returns-in-Ok-clause-report : goal.returns-in-Ok-clause-report

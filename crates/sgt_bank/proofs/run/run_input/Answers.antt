@@ -1,7 +1,7 @@
 use Rattle.std.proofs.Common.{rules, ◌≡◌, subst, arith, length}
 use Rattle.std.proofs.lemmas.Slice.Zip.{AllZip-long}
 use Rattle.sgt_bank.specs.Banks.{AreRun}
-use Rattle.sgt_bank.proofs.Reported.{is-run}
+use Rattle.sgt_bank.proofs.RunLaws.{is-run}
 use Rattle.sgt_bank.proofs.run.run_input.Goals as goal
 
 pub returns-clause-run : goal.returns-clause-run

@@ -1,4 +1,4 @@
--- What was told is what the serial run tells.
+-- The text of a report is the text that the serial run gives.
 use Rattle.std.proofs.Common.{◌≡◌, ℕ, zero, suc, ◌+◌, List, [], ◌∷◌, ◌++◌, length, refl, sym, ◌∙◌, ap, append_assoc}
 use Rattle.std.specs.Prelude.{true, cond, reverse, take, slice_get, Some}
 use Rattle.std.specs.List.{AllZip}
@@ -19,7 +19,7 @@ use Rattle.sgt_audit.specs.declared.outcome.Outcome.{Outcome}
 use Rattle.sgt_audit.specs.declared.outcome.Outcome.TheVariants as outcome
 use Rattle.sgt_model.specs.Questions.{is_commit}
 use Rattle.sgt_audit.specs.Outcomes.{OutcomeStands}
-use Rattle.sgt_bank.specs.OutcomeText.{commit_words, ask_words, words_at, outcome_words, outcome_line}
+use Rattle.sgt_bank.specs.OutcomeText.{commit_words, ask_words, words_at, outcome_words, numbered_line}
 use Rattle.sgt_bank.specs.Reports.{outcome_lines, report_text}
 use Rattle.sgt_bank.specs.SerialText.{told_before, result_words, result_at, is_refused, serial_ask, serial_words, serial_lines, serial_text}
 
@@ -122,8 +122,8 @@ lines-same s history tries number [] [] replay stand = refl
 lines-same s history tries number [] (o ∷ os) replay stand = absurd stand
 lines-same s history tries number (job ∷ jobs) [] replay stand = absurd stand
 lines-same s history tries number (job ∷ jobs) (o ∷ os) replay stand =
-    ap (λ words. outcome_line number words ++ serial_lines (number + 1) s history os) (words-same s history tries job o replay stand.0)
-    ∙ ap (λ lines. outcome_line number (outcome_words history o) ++ lines) (lines-same s history tries (number + 1) jobs os replay stand.1)
+    ap (λ words. numbered_line number words ++ serial_lines (number + 1) s history os) (words-same s history tries job o replay stand.0)
+    ∙ ap (λ lines. numbered_line number (outcome_words history o) ++ lines) (lines-same s history tries (number + 1) jobs os replay stand.1)
 
 -- the text of a report whose outcomes stand in its history is what the serial run tells
 pub text-same : {N : Type 0} → (s : Setting) (history : List Entry) (tries : ℕ) (jobs : List Job) (os : List (Outcome N))

@@ -1,4 +1,4 @@
--- Laws of a bank's report.
+-- Laws of a run, and of what it writes.
 use Rattle.std.proofs.Common.{◌≡◌, ℕ, zero, suc, ◌+◌, ◌<◌, ◌≤◌, List, [], ◌∷◌, refl, sym, ◌∙◌, arith}
 use Rattle.std.specs.Prelude.{cond, Option, None, Some, IfSome, reverse, take}
 use Rattle.std.specs.Io.KnownBytes.{Appends}
@@ -21,8 +21,11 @@ use Rattle.sgt_assembly.specs.Openings.{opened_setting, OpenedIsBank}
 use Rattle.sgt_bank.specs.Banks.{HasRun, AreRun, IsHistory, IsRecords, IsReport, IsRun}
 use Rattle.sgt_textbook.specs.Laws.{AreCommitOrdered, AreSerializable, AreRecoverable}
 use Rattle.sgt_notation.specs.Transcripts.{TranscriptsSpellTextbooks, transcript}
-use Rattle.sgt_bank.proofs.SerialTexts.{text-same}
+use Rattle.sgt_bank.proofs.TextsAgree.{text-same}
 use Rattle.sgt_bank.specs.Reports.{report_text}
+use Rattle.sgt_bank.specs.declared.output.Output.{Output}
+use Rattle.sgt_bank.specs.declared.output.Output.TheVariants as output
+use Rattle.sgt_bank.specs.Outputs.{IsOutput, WritesAll, WritesPart, output_text}
 
 -- no note can be made
 no-note : Infallible → ⊥
@@ -88,7 +91,7 @@ is-run bank workers tries (Some bytes) o jobs history outcomes rows asks run =
     }
 
 -- the text of jobs that were run is a report
-pub is-report : (workers tries : ℕ) (bytes : List ℕ) (history : List Entry) (outcomes : List (Outcome Infallible)) (rows : List Row)
+is-report : (workers tries : ℕ) (bytes : List ℕ) (history : List Entry) (outcomes : List (Outcome Infallible)) (rows : List Row)
     (out : List ℕ) → IsRun workers tries bytes history outcomes rows → out ≡ report_text history outcomes rows
     → IsReport workers tries bytes out
 is-report workers tries bytes history outcomes rows out run text = record {
@@ -101,7 +104,7 @@ is-report workers tries bytes history outcomes rows out run text = record {
 }
 
 -- so does the text of its records
-pub is-records : (workers tries : ℕ) (bytes : List ℕ) (history : List Entry) (outcomes : List (Outcome Infallible)) (rows : List Row)
+is-records : (workers tries : ℕ) (bytes : List ℕ) (history : List Entry) (outcomes : List (Outcome Infallible)) (rows : List Row)
     (out : List ℕ) → IsRun workers tries bytes history outcomes rows → out ≡ record_lines rows → IsRecords workers tries bytes out
 is-records workers tries bytes history outcomes rows out run text = record {
   history = history;
@@ -112,7 +115,7 @@ is-records workers tries bytes history outcomes rows out run text = record {
 }
 
 -- and so it is where they are told by their operations
-pub is-history : AreCommitOrdered → AreSerializable → AreRecoverable → TranscriptsSpellTextbooks → (workers tries : ℕ) (bytes : List ℕ)
+is-history : AreCommitOrdered → AreSerializable → AreRecoverable → TranscriptsSpellTextbooks → (workers tries : ℕ) (bytes : List ℕ)
     (history : List Entry) (outcomes : List (Outcome Infallible)) (rows : List Row) (out : List ℕ)
     → IsRun workers tries bytes history outcomes rows → out ≡ transcript (reverse history) → IsHistory workers tries bytes out
 is-history ordered serializable recoverable spelled workers tries bytes history outcomes rows out run text = record {
@@ -129,15 +132,34 @@ is-history ordered serializable recoverable spelled workers tries bytes history 
   spelled = spelled;
 }
 
--- what was written of what was run, where the input is known
-pub written-all : (Is : List ℕ → List ℕ → Type 0) (Ran : List ℕ → Type 0) (rest held held' : Option (List ℕ)) (out : List ℕ)
-    → ((bytes : List ℕ) → Ran bytes → Is bytes out) → IfSome rest Ran → Appends held held' out
-    → IfSome rest (λ bytes. (out : List ℕ) × Is bytes out × Appends held held' out)
-written-all Is Ran None held held' out is ran wrote = tt
-written-all Is Ran (Some bytes) held held' out is ran wrote = (out, is bytes ran, wrote)
+-- what the text of jobs that were run is, and what becomes of it
+module _ (ordered : AreCommitOrdered) (serializable : AreSerializable) (recoverable : AreRecoverable)
+    (spelled : TranscriptsSpellTextbooks) where
+  -- it is the output that was asked for
+  is-output : (o : Output) (workers tries : ℕ) (bytes : List ℕ) (history : List Entry) (outcomes : List (Outcome Infallible))
+      (rows : List Row) (out : List ℕ) → IsRun workers tries bytes history outcomes rows
+      → out ≡ output_text o history outcomes rows → IsOutput o workers tries bytes out
+  is-output output.Report workers tries bytes history outcomes rows out run text =
+      is-report workers tries bytes history outcomes rows out run text
+  is-output output.History workers tries bytes history outcomes rows out run text =
+      is-history ordered serializable recoverable spelled workers tries bytes history outcomes rows out run text
+  is-output output.Records workers tries bytes history outcomes rows out run text =
+      is-records workers tries bytes history outcomes rows out run text
 
-pub written-part : (Is : List ℕ → List ℕ → Type 0) (Ran : List ℕ → Type 0) (rest held held' : Option (List ℕ)) (out : List ℕ)
-    → ((bytes : List ℕ) → Ran bytes → Is bytes out) → IfSome rest Ran → ((k : ℕ) × Appends held held' (take k out))
-    → IfSome rest (λ bytes. (out : List ℕ) × (k : ℕ) × Is bytes out × Appends held held' (take k out))
-written-part Is Ran None held held' out is ran wrote = tt
-written-part Is Ran (Some bytes) held held' out is ran (k, wrote) = (out, k, is bytes ran, wrote)
+  -- all of it was written
+  pub writes-all : (o : Output) (workers tries : ℕ) (rest held held' : Option (List ℕ)) (history : List Entry)
+      (outcomes : List (Outcome Infallible)) (rows : List Row) (out : List ℕ)
+      → IfSome rest (λ bytes. IsRun workers tries bytes history outcomes rows) → out ≡ output_text o history outcomes rows
+      → Appends held held' out → WritesAll o workers tries rest held held'
+  writes-all o workers tries None held held' history outcomes rows out run text wrote = tt
+  writes-all o workers tries (Some bytes) held held' history outcomes rows out run text wrote =
+      (out, is-output o workers tries bytes history outcomes rows out run text, wrote)
+
+  -- a part of it was written
+  pub writes-part : (o : Output) (workers tries : ℕ) (rest held held' : Option (List ℕ)) (history : List Entry)
+      (outcomes : List (Outcome Infallible)) (rows : List Row) (out : List ℕ)
+      → IfSome rest (λ bytes. IsRun workers tries bytes history outcomes rows) → out ≡ output_text o history outcomes rows
+      → ((k : ℕ) × Appends held held' (take k out)) → WritesPart o workers tries rest held held'
+  writes-part o workers tries None held held' history outcomes rows out run text wrote = tt
+  writes-part o workers tries (Some bytes) held held' history outcomes rows out run text (k, wrote) =
+      (out, k, is-output o workers tries bytes history outcomes rows out run text, wrote)

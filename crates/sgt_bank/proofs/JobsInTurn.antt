@@ -43,8 +43,7 @@ asked-none first (Some c) =
 
 -- one more line that asks for a call
 pub asked-next : (first : ℕ) (a b d : Option Cut) (cs : List JobCall) (c : JobCall) → length cs < 1000000
-    → TakesCalls first a cs b → TakesCall b c d
-    → TakesCalls first a (cs ++ c ∷ []) d
+    → TakesCalls first a cs b → TakesCall b c d → TakesCalls first a (cs ++ c ∷ []) d
 asked-next first None b d cs c few before next = tt
 asked-next first (Some a) None d cs c few before next = absurd before
 asked-next first (Some a) (Some b) None cs c few before next = next

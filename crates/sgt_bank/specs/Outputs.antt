@@ -1,0 +1,54 @@
+-- What a run owes, whichever output it is asked for.
+use Rattle.std.specs.Prelude.{◌≡◌, ◌≢◌, ℕ, ◌+◌, ◌≤◌, List, reverse, take, Option, IfSome, Result, Err}
+use Rattle.std.specs.Io.KnownBytes.{Appends}
+use Rattle.sgt_model.specs.declared.entry.Entry.{Entry}
+use Rattle.sgt_model.specs.Databases.{Row}
+use Rattle.sgt_format.specs.RecordText.{record_lines}
+use Rattle.sgt_audit.specs.declared.outcome.Outcome.{Outcome}
+use Rattle.sgt_input.specs.declared.fault.Fault.{Fault}
+use Rattle.sgt_input.specs.declared.fault.Fault.TheVariants as fault
+use Rattle.sgt_notation.specs.Transcripts.{transcript}
+use Rattle.sgt_bank.specs.declared.output.Output.{Output}
+use Rattle.sgt_bank.specs.declared.output.Output.TheVariants as output
+use Rattle.sgt_bank.specs.Inputs.{InputFails, IsOfText}
+use Rattle.sgt_bank.specs.Reports.{report_text}
+use Rattle.sgt_bank.specs.Banks.{IsHistory, IsRecords, IsReport}
+
+-- the text of a run
+abbrev pub output_text : {N : Type 0} → Output → List Entry → List (Outcome N) → List Row → List ℕ
+output_text output.Report history outcomes rows = report_text history outcomes rows
+output_text output.History history outcomes rows = transcript (reverse history)
+output_text output.Records history outcomes rows = record_lines rows
+
+-- what is written for an input of these bytes
+abbrev pub IsOutput : Output → ℕ → ℕ → List ℕ → List ℕ → Type 0
+IsOutput output.Report workers tries bytes out = IsReport workers tries bytes out
+IsOutput output.History workers tries bytes out = IsHistory workers tries bytes out
+IsOutput output.Records workers tries bytes out = IsRecords workers tries bytes out
+
+-- the whole output is added to what a sink held, where the bytes of the input are known
+abbrev pub WritesAll : Output → ℕ → ℕ → Option (List ℕ) → Option (List ℕ) → Option (List ℕ) → Type 0
+WritesAll o workers tries rest held held' = IfSome rest (λ bytes.
+    (out : List ℕ) × IsOutput o workers tries bytes out × Appends held held' out)
+
+-- a part from the front of the output is added
+abbrev pub WritesPart : Output → ℕ → ℕ → Option (List ℕ) → Option (List ℕ) → Option (List ℕ) → Type 0
+WritesPart o workers tries rest held held' = IfSome rest (λ bytes.
+    (out : List ℕ) × (k : ℕ) × IsOutput o workers tries bytes out × Appends held held' (take k out))
+
+-- a fault of the input is the first one that the input has
+abbrev pub IsFirstFault : ℕ → Option (List ℕ) → Fault → Type 0
+IsFirstFault workers rest f = IsOfText f → IfSome rest (λ bytes. InputFails workers bytes f)
+
+-- at most 16,777,217 bytes are read, and a read fails exactly where the run ends with `Reading`
+abbrev pub CountsReads : {A : Type 0} → Result A Fault → ℕ → ℕ → ℕ → ℕ → Type 0
+CountsReads result given given' failures failures' =
+    (given' ≤ given + 16777217)
+    × (result ≢ Err fault.Reading → failures' ≡ failures)
+    × (result ≡ Err fault.Reading → failures' ≡ failures + 1)
+
+-- a write fails exactly where the run ends with `Writing`
+abbrev pub CountsWrites : {A : Type 0} → Result A Fault → ℕ → ℕ → Type 0
+CountsWrites result failures failures' =
+    (result ≢ Err fault.Writing → failures' ≡ failures)
+    × (result ≡ Err fault.Writing → failures' ≡ failures + 1)

@@ -1,0 +1,135 @@
+//! The command `sgt bank`: one run of an input's jobs, with its options.
+ghost use Rattle.std.specs.Prelude.{◌≡◌, ◌≢◌, IfErr, OnOk, Err, ◌+◌, ◌^◌, ◌<◌};
+ghost use Rattle.sgt_workers.specs.Banks.{AreWorkers, AreTries};
+ghost use Rattle.sgt_bank.specs.Outputs.{WritesAll, WritesPart, IsFirstFault, CountsReads, CountsWrites};
+
+use crate::gate::OpenGate;
+use crate::output::Output;
+use crate::run::write_run;
+use crate::tries::append_tries;
+use crate::watch::{Seen, Watch};
+use sgt_input::{Fault, Sink, Source, write_all};
+use sgt_model::NoMemory;
+use sgt_workers::Report;
+use std::alloc::Global;
+use std::convert::Infallible;
+use std::io::Eprint;
+use std::sync::Wait;
+use std::thread::Threads;
+use std::time::Clock;
+
+/// What is written where there was no memory for the explanations.
+const LEFT_OUT: &[u8] = b"explanations are left out: no memory\n";
+
+/// What is explained of a run, beside its output.
+#[derive(Clone, Copy)]
+pub enum Explanations {
+    /// Nothing.
+    Off,
+    /// After the run, how often each job was tried.
+    Tries,
+    /// The same, and during the run how many jobs have ended: a line on standard error, at most one each second.
+    TriesAndProgress,
+}
+
+/// The options of the command.
+#[derive(Clone, Copy)]
+pub struct Options {
+    /// How many jobs run at the same time, from 1 to `MOST_WORKERS`.
+    pub workers: u32,
+    /// How often a job is tried before it is given up, from 1 to `MOST_TRIES`.
+    pub tries: u32,
+    /// What is written.
+    pub output: Output,
+    /// What is explained beside it.
+    pub explanations: Explanations,
+}
+
+/// Runs the jobs of an input as `run_jobs` does, and writes the output that the options ask for.
+///
+/// Where explanations are asked for, the second sink gets a line for each job, by number, after the output. The line has the
+/// transaction of each try at the job, and which transactions aborted the tries that failed. The explanations change nothing of the
+/// run. Where there is no memory for them, one line says so. Where a write of them fails, they end there. Neither is a fault.
+///
+/// # Errors
+///
+/// As of `run_jobs`; there are no explanations then.
+pub fn run_bank<S: Source, T: Sink, E: Sink, W: Threads + Wait + Clock + Eprint + Sync>(
+    rt: &W,
+    alloc: Global,
+    source: &mut S,
+    sink: &mut T,
+    errors: &mut E,
+    options: Options,
+) -> Result<(), Fault>
+    requires reading { S.failures source.old + 1 < 2 ^ 64 }
+    requires writing { T.failures sink.old + 1 < 2 ^ 64 }
+    requires explaining { E.failures errors.old + 1 < 2 ^ 64 }
+    requires workers { AreWorkers options.workers }
+    requires tries { AreTries options.tries }
+    ensures output { OnOk result
+        (WritesAll options.output options.workers options.tries (S.rest source.old) (T.held sink.old) (T.held sink.new)) }
+    ensures part { result ≡ Err Fault.Writing →
+        WritesPart options.output options.workers options.tries (S.rest source.old) (T.held sink.old) (T.held sink.new) }
+    ensures nothing { IfErr result (λ f. f ≢ Fault.Writing → sink.new ≡ sink.old) }
+    ensures fault { IfErr result (IsFirstFault options.workers (S.rest source.old)) }
+    ensures reads { CountsReads result (S.given source.old) (S.given source.new) (S.failures source.old) (S.failures source.new) }
+    ensures writes { CountsWrites result (T.failures sink.old) (T.failures sink.new) }
+    ensures silent { options.explanations ≡ Explanations.Off → errors.new ≡ errors.old }
+    ensures unexplained { IfErr result (λ _. errors.new ≡ errors.old) }
+{
+    let Options {
+        workers,
+        tries,
+        output,
+        explanations,
+    } = options;
+    let tells_progress = match explanations {
+        Explanations::Off => {
+            write_run(rt, alloc, source, sink, workers, tries, output, &OpenGate)?;
+            return Ok(());
+        }
+        Explanations::Tries => false,
+        Explanations::TriesAndProgress => true,
+    };
+    let watch = Watch::new(rt, alloc, tells_progress);
+    let report = write_run(rt, alloc, source, sink, workers, tries, output, &watch)?;
+    explain_tries(alloc, errors, watch.into_seen(), &report);
+    Ok(())
+}
+
+/// Writes the lines of the tries.
+fn explain_tries<E: Sink>(alloc: Global, errors: &mut E, seen: Seen, report: &Report<Infallible>)
+    requires { E.failures errors.old + 1 < 2 ^ 64 }
+{
+    match tries_text(alloc, seen, report) {
+        Ok(text) => {
+            let _ = write_all(errors, text.as_slice());
+        }
+        Err(_) => {
+            let _ = write_all(errors, LEFT_OUT);
+        }
+    }
+}
+
+/// The lines of the tries.
+fn tries_text(alloc: Global, seen: Seen, report: &Report<Infallible>) -> Result<Vec<u8>, NoMemory> {
+    let Seen {
+        failed,
+        has_lost,
+        ..
+    } = seen;
+    if has_lost {
+        return Err(NoMemory);
+    }
+    let mut failed = failed;
+    let mut text = Vec::new(alloc);
+    append_tries(
+        alloc,
+        &mut text,
+        &mut failed,
+        &report.history,
+        report.outcomes.as_slice(),
+    )?;
+    Ok(text)
+}

@@ -1,0 +1,69 @@
+//! What a run writes: the report, the history or the records.
+ghost use Rattle.std.specs.Prelude.{◌≡◌, ◌≤◌, IfOk, length, reverse};
+ghost use Rattle.sgt_format.specs.RecordText.{record_lines};
+ghost use Rattle.sgt_notation.specs.Transcripts.{transcript};
+ghost use Rattle.sgt_bank.specs.Outputs.{output_text};
+
+use crate::report::report_text;
+use sgt_format::append_records;
+use sgt_log::History;
+use sgt_model::{Database, NoMemory};
+use sgt_notation::append_transcript;
+use sgt_workers::Report;
+use std::alloc::Global;
+use std::convert::Infallible;
+
+/// What is written of a run.
+#[derive(Clone, Copy)]
+pub enum Output {
+    /// A line for each job's outcome, by number, and then the committed database.
+    Report,
+    /// The history in the notation of Bernstein, Hadzilacos and Goodman (1987), chapter 2. It has a line for each read, write,
+    /// commit and abort of all tries, as `r1[2/101]`, in the order of the history. Where an abort cascades, its own line comes
+    /// first, and then one for each transaction that is aborted in cascade.
+    History,
+    /// The committed database: a line `["record",table,number,value]` for each record, by table and then by number.
+    Records,
+}
+
+/// The text of a run, as it is asked for.
+///
+/// `NoMemory` where an allocation failed.
+pub(crate) fn output_text(
+    alloc: Global,
+    output: Output,
+    report: &Report<Infallible>,
+) -> Result<Vec<u8>, NoMemory>
+    requires { length report.now.outcomes.items ≤ 1000000 }
+    ensures { IfOk result (λ text. text.items
+        ≡ output_text output report.now.history.entries report.now.outcomes.items report.now.database) }
+{
+    match output {
+        Output::Report => report_text(
+            alloc,
+            &report.history,
+            report.outcomes.as_slice(),
+            &report.database,
+        ),
+        Output::History => history_text(alloc, &report.history),
+        Output::Records => records_text(alloc, &report.database),
+    }
+}
+
+/// The operations of a history, a line each.
+fn history_text(alloc: Global, history: &History) -> Result<Vec<u8>, NoMemory>
+    ensures { IfOk result (λ text. text.items ≡ transcript (reverse history.now.entries)) }
+{
+    let mut text = Vec::new(alloc);
+    append_transcript(&mut text, history)?;
+    Ok(text)
+}
+
+/// The records of a database, a line each.
+fn records_text(alloc: Global, database: &Database) -> Result<Vec<u8>, NoMemory>
+    ensures { IfOk result (λ text. text.items ≡ record_lines database.now) }
+{
+    let mut text = Vec::new(alloc);
+    append_records(&mut text, database)?;
+    Ok(text)
+}
