@@ -1,3 +1,4 @@
+//! What is wrong with a line for which a run ended with a fault, in one line for a person.
 ghost use Rattle.std.specs.Prelude.{◌≡◌, None, IfOk};
 ghost use Rattle.sgt_line_errors.specs.FaultyLines.{line_of};
 
@@ -13,9 +14,9 @@ use crate::record::record_fault;
 use crate::request::{event_fault, job_fault};
 use crate::tree::{items, tree_of};
 use serde_json::Value;
+use sgt_input::Fault;
 use sgt_model::NoMemory;
 use sgt_smallbank::PROCEDURES;
-use sgt_input::Fault;
 use std::alloc::Global;
 
 /// What tells more of a fault than its own line does, in one line without its end: where the fault is in the line of the input that

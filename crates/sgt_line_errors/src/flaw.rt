@@ -1,3 +1,4 @@
+//! The flaws of a procedure in words.
 use crate::message::{Piece, message};
 use crate::search::{
     DEEPEST, LAST_CODE, LAST_REGISTER, MOST_ANSWERS, MOST_ARGUMENTS, MOST_STATEMENTS, Search,

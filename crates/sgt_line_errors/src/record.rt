@@ -1,3 +1,4 @@
+//! What is wrong with the line of a record.
 use crate::message::{Piece, told};
 use crate::tree::items;
 use serde_json::Value;

@@ -1,3 +1,4 @@
+//! The JSON tree of a line, and its lists.
 use serde_json::Value;
 use sgt_model::NoMemory;
 use std::alloc::Global;
