@@ -17,7 +17,7 @@ use clap::error::ErrorKind;
 use clap::{Arg, ArgAction, ArgMatches, Command};
 use help::{BANK_HELP, CHECK_HELP, HELP, SCRIPT_HELP};
 use sgt_bank::{Explanations, MOST_TRIES, MOST_WORKERS, run_bank};
-use sgt_check::{CheckFault, run_check, run_graph};
+use sgt_check::{CheckFault, run_check};
 use sgt_input::{Fault, Reader, Source, Writer};
 use sgt_line_errors::{Remembering, explain};
 use sgt_script::Output;
@@ -375,11 +375,12 @@ fn check<R: Print + Input>(
 ) -> Result<bool, CheckFault> {
     let mut reader = Reader::new(rt.reader());
     let mut writer = Writer::new(io::writer(rt));
-    if options.get_flag("graph") {
-        run_graph(alloc, &mut reader, &mut writer)
+    let output = if options.get_flag("graph") {
+        sgt_check::Output::Graph
     } else {
-        run_check(alloc, &mut reader, &mut writer)
-    }
+        sgt_check::Output::Report
+    };
+    run_check(alloc, &mut reader, &mut writer, output)
 }
 
 /// Runs what the words ask for, and gives the status.

@@ -3,3 +3,4 @@ pub mod Counting
 pub mod Sound
 pub mod Whole
 pub mod Graphs
+pub mod Named

@@ -1,13 +1,12 @@
 -- Texts that grow piece by piece.
-use Rattle.std.proofs.Common.{◌≡◌, ℕ, ◌+◌, List, ◌++◌, map, refl, ap, sym, ◌∙◌, append_assoc, append-nil, ◌∷◌, []}
-use Rattle.std.specs.Prelude.{Option, Some, None, Result, Ok, Err, OnOk, slice_get, codes}
-use Rattle.std.specs.Option.{option_map_or, option_map}
+use Rattle.std.proofs.Common.{◌≡◌, ℕ, ◌+◌, List, ◌++◌, refl, ap, sym, ◌∙◌, append_assoc, append-nil, ◌∷◌, []}
+use Rattle.std.specs.Prelude.{Option, Some, Result, Ok, Err, OnOk, slice_get, codes}
+use Rattle.std.specs.Option.{option_map_or}
 use Rattle.std.specs.Fmt.{decimal}
-use Rattle.std.proofs.lemmas.Option.{slice_get-map}
 use Rattle.sgt_classes.specs.declared.operation.Operation.{Operation}
 use Rattle.sgt_classes.specs.declared.operation.Violation.{Violation}
 use Rattle.sgt_notation.specs.declared.history.History.{History}
-use Rattle.sgt_notation.specs.Spellings.{spelling, text_at}
+use Rattle.sgt_notation.specs.Spellings.{spelling}
 use Rattle.sgt_notation.specs.Readings.{texts}
 use Rattle.std.specs.List.{flat_map}
 use Rattle.sgt_check.specs.declared.piece.Piece.{Piece}
@@ -35,18 +34,6 @@ on_ok (Err e) P Q f p = tt
 pub told_no : (name : List ℕ) (why : Violation → List ℕ) (o : Option Violation) (v : Violation) → o ≡ Some v
     → name ++ codes " no: " ++ why v ≡ class_text name why o
 told_no name why o v is = sym (ap (class_text name why) is)
-
-text_of_item : {X : Type 0} (f : X → List ℕ) (xs : List X) (i : ℕ)
-    → option_map_or (λ text. text) (slice_get (map f xs) i) [] ≡ option_map_or f (slice_get xs i) []
-text_of_item {X} f xs i = ap (λ o. option_map_or (λ text. text) o []) (slice_get-map f xs i) ∙ by (slice_get xs i)
-  where
-    by : (o : Option X) → option_map_or (λ text. text) (option_map f o) [] ≡ option_map_or f o []
-    by None = refl
-    by (Some x) = refl
-
--- the text of an item of a history
-pub name_text : (h : History) (i : ℕ) → option_map_or (λ name. name.items) (slice_get h.items.items i) [] ≡ text_at (texts h) i
-name_text h i = sym (text_of_item _ h.items.items i)
 
 -- the text of an operation that there is
 pub placed_there : (h : History) (i : ℕ) (op : Operation) → slice_get h.operations.items i ≡ Some op

@@ -1,25 +1,42 @@
--- What the check of a text writes, and how it ends.
+-- What a check writes for each output, and how it ends.
 use Rattle.std.specs.Prelude.{◌≡◌, ◌<◌, ◌↔◌, ℕ, Bool, true, List, length, ⊤}
+use Rattle.sgt_classes.specs.declared.operation.Operation.{Operation}
 use Rattle.sgt_classes.specs.Classes.{IsRecoverable}
 use Rattle.sgt_classes.specs.Equivalence.{IsSerializable}
 use Rattle.sgt_notation.specs.declared.history.History.{History}
 use Rattle.sgt_notation.specs.Words.{words_of}
 use Rattle.sgt_notation.specs.Readings.{AreRead, IsFirstFault, texts}
+use Rattle.sgt_check.specs.declared.checked.Output.{Output}
+use Rattle.sgt_check.specs.declared.checked.Output.TheVariants as output
 use Rattle.sgt_check.specs.declared.report.Report.{Report}
 use Rattle.sgt_check.specs.declared.fault.CheckFault.{CheckFault}
 use Rattle.sgt_check.specs.declared.fault.CheckFault.TheVariants.{Notation, TooLong}
 use Rattle.sgt_check.specs.Reports.{IsReport}
 use Rattle.sgt_check.specs.ReportText.{report_text}
+use Rattle.sgt_check.specs.Graphs.{IsDrawn}
 
--- the output is the text of a report on the history that the input spells, and the verdict whether that is serializable and
--- recoverable
-pub record IsChecked (input output : List ℕ) (sound : Bool) : Type 0 where
-  pub history : History
+-- the text of a report on the history
+pub record IsReported (h : History) (text : List ℕ) : Type 0 where
   pub report : Report
+  pub found : IsReport h.operations.items report
+  pub written : text ≡ report_text h report
+
+-- the text that each output asks for
+abbrev pub IsOutput : Output → History → List ℕ → Type 0
+IsOutput output.Report h text = IsReported h text
+IsOutput output.Graph h text = IsDrawn h text
+
+-- the verdict: whether the history is serializable and recoverable
+abbrev pub IsVerdict : List Operation → Bool → Type 0
+IsVerdict h sound = (sound ≡ true) ↔ (IsSerializable h × IsRecoverable h)
+
+-- What a check owes, whichever its output: it writes the text that the output asks for, of the history that the input spells, and
+-- returns the verdict on that history.
+pub record IsChecked (output : Output) (input written : List ℕ) (sound : Bool) : Type 0 where
+  pub history : History
   pub read : AreRead (words_of input) (texts history) history.operations.items
-  pub found : IsReport history.operations.items report
-  pub written : output ≡ report_text history report
-  pub verdict : (sound ≡ true) ↔ (IsSerializable history.operations.items × IsRecoverable history.operations.items)
+  pub lines : IsOutput output history written
+  pub verdict : IsVerdict history.operations.items sound
 
 -- a fault of the input: it is too long, or spells no history
 abbrev pub IsFaultOf : List ℕ → CheckFault → Type 0

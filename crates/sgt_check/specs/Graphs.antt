@@ -1,24 +1,38 @@
--- What is written where the serialization graph of a text is asked for.
-use Rattle.std.specs.Prelude.{◌≡◌, ◌↔◌, ℕ, Bool, true, List}
+-- The text of the serialization graph of a history, with the cycle of its report.
+use Rattle.std.specs.Prelude.{◌≡◌, ℕ, List}
+use Rattle.sgt_classes.specs.declared.operation.Operation.{Operation}
 use Rattle.sgt_classes.specs.declared.graph.Edge.{Edge}
-use Rattle.sgt_classes.specs.Classes.{IsRecoverable}
-use Rattle.sgt_classes.specs.Equivalence.{IsSerializable}
+use Rattle.sgt_classes.specs.declared.serial.Serializability.{Serializability}
+use Rattle.sgt_classes.specs.SerialOrders.{IsShown}
 use Rattle.sgt_classes.specs.FirstConflicts.{AreFirstConflicts}
 use Rattle.sgt_notation.specs.declared.history.History.{History}
-use Rattle.sgt_notation.specs.Words.{words_of}
-use Rattle.sgt_notation.specs.Readings.{AreRead, texts}
 use Rattle.sgt_check.specs.declared.report.Report.{Report}
 use Rattle.sgt_check.specs.Reports.{IsReport}
 use Rattle.sgt_check.specs.GraphText.{graph_text}
 
--- the output is the text of the serialization graph of the history that the input spells, each edge by its first two operations,
--- with the cycle of a report on it, and the verdict whether the history is serializable and recoverable
-pub record IsDrawn (input output : List ℕ) (sound : Bool) : Type 0 where
-  pub history : History
-  pub report : Report
+-- the report with this serial order or cycle in place of its own
+abbrev pub with_shown : Serializability → Report → Report
+with_shown shown r = record {
+  counts = r.counts;
+  serializability = shown;
+  recoverable = r.recoverable;
+  dirty_write = r.dirty_write;
+  avoiding = r.avoiding;
+  strict = r.strict;
+  rigorous = r.rigorous;
+  commit_ordered = r.commit_ordered;
+}
+
+-- A report on the history can name this serial order or cycle: put in place of its own, it leaves a report on the history.
+abbrev pub CanBeNamed : List Operation → Serializability → Type 0
+CanBeNamed h shown = (r : Report) → IsReport h r → IsReport h (with_shown shown r)
+
+-- The text of the serialization graph of the history. Each edge stands there by its first two operations. Red are those that the
+-- cycle has which a report on the history can name.
+pub record IsDrawn (h : History) (text : List ℕ) : Type 0 where
+  pub shown : Serializability
   pub conflicts : List Edge
-  pub read : AreRead (words_of input) (texts history) history.operations.items
-  pub found : IsReport history.operations.items report
-  pub first : AreFirstConflicts history.operations.items conflicts
-  pub written : output ≡ graph_text history conflicts report.serializability
-  pub verdict : (sound ≡ true) ↔ (IsSerializable history.operations.items × IsRecoverable history.operations.items)
+  pub found : IsShown h.operations.items shown
+  pub named : CanBeNamed h.operations.items shown
+  pub first : AreFirstConflicts h.operations.items conflicts
+  pub written : text ≡ graph_text h conflicts shown

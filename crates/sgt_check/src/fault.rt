@@ -1,3 +1,4 @@
+//! How a check can end with an error.
 ghost use Rattle.std.specs.Prelude.{◌≡◌};
 ghost use Rattle.sgt_check.specs.declared.fault.CheckFault.TheVariants as fault;
 

@@ -7,8 +7,8 @@ ghost use Rattle.sgt_classes.specs.FirstAccesses.{pair_cmp};
 ghost use Rattle.sgt_check.specs.GraphText.{node_text, leads, cycle_of, colour_text, arrow_text, graph_text};
 
 use crate::piece::{Piece, append_pieces};
-use sgt_format::append_numbered;
 use sgt_classes::{Action, Edge, Operation, Serializability};
+use sgt_format::append_numbered;
 use sgt_model::NoMemory;
 use sgt_notation::History;
 use std::alloc::Global;

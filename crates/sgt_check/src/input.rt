@@ -5,8 +5,8 @@ ghost use Rattle.sgt_check.specs.declared.fault.CheckFault.TheVariants as fault;
 ghost use Rattle.sgt_notation.specs.declared.fault.NotationFault.{NotationFault};
 
 use crate::fault::CheckFault;
-use sgt_model::NoMemory;
 use sgt_input::Source;
+use sgt_model::NoMemory;
 use std::alloc::{AllocError, Global};
 
 /// The most bytes that an input may have.

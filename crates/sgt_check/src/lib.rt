@@ -1,9 +1,11 @@
 //! The check of a history that is given as text: is it serializable, recoverable, and of which other classes?
 //!
-//! [`check_history`] puts the checkers of `sgt_classes` together into a [`Report`], [`append_report`] writes it as seven lines,
-//! and [`run_check`] does so for what a reader gives. [`append_graph`] writes the serialization graph in DOT, and [`run_graph`]
-//! that of what a reader gives. The classes are defined in `sgt_classes`, the notation in `sgt_notation`, the lines of a report
-//! in `specs/ReportText.antt`, and those of a graph in `specs/GraphText.antt`.
+//! - [`run_check`] checks what a source gives, and writes a report or the serialization graph: its [`Output`].
+//! - [`check_history`] puts the checkers of `sgt_classes` together into a [`Report`], and [`append_report`] writes it as seven lines.
+//! - [`append_graph`] writes the serialization graph in DOT.
+//!
+//! The classes are defined in `sgt_classes`, the notation in `sgt_notation`, the lines of a report in `specs/ReportText.antt`, and
+//! those of a graph in `specs/GraphText.antt`. `specs/Checks.antt` says what a check owes for each output.
 //!
 //! ```
 //! let history = read_history(alloc, b"w1[x] r2[x] c2 c1")?;
@@ -12,8 +14,8 @@
 //! ```
 #![tactic(auto)]
 
+mod checked;
 mod fault;
-mod graph;
 mod graph_text;
 mod input;
 mod piece;
@@ -22,8 +24,8 @@ mod report;
 mod report_text;
 mod run;
 
+pub use checked::Output;
 pub use fault::CheckFault;
-pub use graph::run_graph;
 pub use graph_text::append_graph;
 pub use report::{Counts, Report, check_history};
 pub use report_text::append_report;

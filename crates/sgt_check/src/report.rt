@@ -88,7 +88,7 @@ pub fn check_history(alloc: Global, history: &[Operation]) -> Result<Report, NoM
 }
 
 /// A serial order or a cycle. Where the history is commit ordered it is the commit order, and no graph is made.
-fn serial_unless_commit_ordered(
+pub(crate) fn serial_unless_commit_ordered(
     alloc: Global,
     history: &[Operation],
     commit_ordered: &Option<Violation>,

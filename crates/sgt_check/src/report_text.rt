@@ -5,8 +5,8 @@ ghost use Rattle.sgt_check.specs.Pieces.{pieces_text};
 
 use crate::piece::{Piece, append_pieces};
 use crate::report::{Counts, Report};
-use sgt_format::append_numbered;
 use sgt_classes::{Edge, Serializability, Violation};
+use sgt_format::append_numbered;
 use sgt_model::NoMemory;
 use sgt_notation::History;
 

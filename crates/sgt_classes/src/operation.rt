@@ -1,3 +1,4 @@
+//! The operations of a history, and the two operations by which a history is not of a class.
 ghost use Rattle.std.specs.Prelude.{◌≡◌};
 ghost use Rattle.sgt_classes.specs.Histories.{item_of};
 

@@ -1,3 +1,4 @@
+//! The edges of the cycle for which a transaction is aborted, each with the accesses that make it.
 ghost use Rattle.std.specs.Prelude.{◌≡◌, ◌≤◌, ◌<◌, ◌+◌, ◌↔◌, true, length, reverse, IfSome, IfNone, IsSome, []};
 ghost use Rattle.sgt_model.specs.Settings.{Setting};
 ghost use Rattle.sgt_model.specs.Legality.{Legal};

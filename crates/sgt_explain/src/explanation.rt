@@ -1,3 +1,4 @@
+//! All lines that explain one abort.
 ghost use Rattle.std.specs.Prelude.{◌≡◌, take, OnErr, vec_len};
 
 use crate::edge::{Edge, cycle_edge};

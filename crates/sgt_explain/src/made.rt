@@ -1,3 +1,4 @@
+//! An access that an entry of a history makes.
 ghost use Rattle.std.specs.Prelude.{◌≡◌, ◌<◌, length};
 ghost use Rattle.sgt_model.specs.Accesses.{access_at, access_of};
 ghost use Rattle.sgt_explain.specs.Places.{placed_access};

@@ -1,3 +1,4 @@
+//! What a transaction was started with, and how far it has come.
 ghost use Rattle.std.specs.Prelude.{◌≡◌, ◌+◌, ◌^◌, ◌<◌, ◌++◌, ℕ, None, [], length, IfOk, OnOk, IfSome, IfNone};
 ghost use Rattle.std.specs.Option.{option_map};
 ghost use Rattle.sgt_model.specs.Accesses.{act_in};

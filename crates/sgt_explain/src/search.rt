@@ -1,3 +1,4 @@
+//! The first accesses of a transaction that conflict with a later one.
 ghost use Rattle.std.specs.Prelude.{◌≡◌, ◌≤◌, ◌<◌, ◌↔◌, true, length, IfSome, IsSome, IsTrue};
 ghost use Rattle.sgt_model.specs.Aborts.{IsAccessBy};
 ghost use Rattle.sgt_model.specs.Pairs.{one_stores, has_conflicting};

@@ -1,3 +1,4 @@
+//! Why a transaction was aborted in cascade: its read from a transaction that was aborted.
 ghost use Rattle.std.specs.Prelude.{◌≡◌, ◌<◌, ◌↔◌, ℕ, Some, length, reverse, slice_get, IfSome, IfNone, IsSome, IsSomeAnd, IsTrue};
 ghost use Rattle.sgt_model.specs.Settings.{Setting};
 ghost use Rattle.sgt_model.specs.Legality.{Legal};

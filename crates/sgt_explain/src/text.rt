@@ -1,3 +1,4 @@
+//! The lines of text of edges and of cascading aborts.
 ghost use Rattle.std.specs.Prelude.{◌≡◌, take, OnErr, vec_len};
 
 use crate::edge::{Earlier, Edge};

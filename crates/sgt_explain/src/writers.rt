@@ -1,3 +1,4 @@
+//! Which transaction wrote the newest version of a key.
 ghost use Rattle.std.specs.Prelude.{◌≡◌, ◌≤◌, ◌<◌, ◌↔◌, Some, true, length, not, IsTrue};
 ghost use Rattle.std.specs.Option.{option_map};
 ghost use Rattle.sgt_model.specs.declared.reply.Fate.{Fate};

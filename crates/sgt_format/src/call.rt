@@ -1,3 +1,4 @@
+//! The call of a procedure that a job makes.
 use sgt_model::Args;
 
 /// The call of a procedure that a job's line asks for.

@@ -1,3 +1,4 @@
+//! The lines that answer a cut.
 ghost use Rattle.std.specs.Prelude.{◌≡◌, ◌++◌, OnOk, OnErr};
 ghost use Rattle.sgt_format.specs.CutText.{cut_text, still_live_text};
 

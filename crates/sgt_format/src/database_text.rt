@@ -1,3 +1,4 @@
+//! The lines of a database.
 ghost use Rattle.std.specs.Prelude.{◌≡◌, ◌++◌, take, OnOk, OnErr, vec_len};
 ghost use Rattle.sgt_format.specs.DatabaseText.{row_text, database_text};
 

@@ -1,3 +1,4 @@
+//! Numbers and keys in decimal.
 ghost use Rattle.std.specs.Prelude.{◌≡◌, ◌<◌, ◌≤◌, ◌+◌, ◌∷◌, ◌++◌, length, take, drop, OnOk, OnErr, vec_len, codes};
 ghost use Rattle.std.specs.Fmt.{decimal, signed_decimal};
 ghost use Rattle.sgt_format.specs.Decimals.{key_text, record_text, each_item, items_or_none};

@@ -1,3 +1,4 @@
+//! Why a line gives no event, no job or no opening.
 ghost use Rattle.std.specs.Prelude.{◌≡◌};
 ghost use Rattle.sgt_format.specs.declared.errors.LineError.TheVariants as line_error;
 ghost use Rattle.sgt_format.specs.declared.errors.OpeningError.TheVariants as opening_error;

@@ -1,3 +1,4 @@
+//! The line of an event or of a job, read by its tokens, without a tree.
 ghost use Rattle.std.specs.Prelude.{◌≡◌, ◌∷◌, [], ◌++◌, List, ℕ, map, Some, Ok, IfOk, IfSome, IsTrue, IsFalse, ◌≤◌, length};
 ghost use Rattle.fast_float.specs.Text.{scan};
 ghost use Rattle.json.specs.Token.{begin_array, end_array, string, number};

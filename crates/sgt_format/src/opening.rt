@@ -1,3 +1,4 @@
+//! An opening, and the line that spells it.
 ghost use Rattle.std.specs.Prelude.{◌≡◌, List, ℕ, Some, IfOk, IfErr, map};
 ghost use Rattle.serde_json.specs.View.{view};
 ghost use Rattle.sgt_format.specs.Openings.{Opens, Refuses, IsOpened, RefusesSheet};

@@ -1,3 +1,4 @@
+//! The line of one procedure.
 ghost use Rattle.std.specs.Prelude.{◌≡◌, IfOk, IfErr};
 ghost use Rattle.sgt_format.specs.ProcedureLines.{RefusesProcedure, SpellsProcedure};
 

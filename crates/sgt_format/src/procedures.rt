@@ -1,3 +1,4 @@
+//! The procedures of an opening, read from their trees.
 ghost use Rattle.std.specs.Prelude.{◌≡◌, ⊤, IfOk, IfErr, map};
 ghost use Rattle.serde_json.specs.View.{view};
 ghost use Rattle.sgt_format.specs.Openings.{ProcedureIsRefused, IsRefusedAs};

@@ -1,3 +1,4 @@
+//! The line of a record.
 ghost use Rattle.std.specs.Prelude.{◌≡◌, IfOk, IfSome, map};
 ghost use Rattle.serde_json.specs.View.{view};
 ghost use Rattle.sgt_model.specs.Numbers.{IsValue};

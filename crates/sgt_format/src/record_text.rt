@@ -1,3 +1,4 @@
+//! The lines of a database as records.
 ghost use Rattle.std.specs.Prelude.{◌≡◌, ◌≤◌, ◌+◌, ◌++◌, length, take, drop, OnOk, OnErr, vec_len};
 ghost use Rattle.sgt_format.specs.RecordText.{key_numbers, row_numbers, record_line, record_lines};
 

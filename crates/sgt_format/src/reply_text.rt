@@ -1,3 +1,4 @@
+//! The line of a reply.
 ghost use Rattle.std.specs.Prelude.{◌≡◌, ◌++◌, take, IfOk, OnOk, OnErr, vec_len, codes};
 ghost use Rattle.std.specs.Fmt.{signed_decimal};
 ghost use Rattle.sgt_format.specs.Decimals.{record_text};

@@ -1,3 +1,4 @@
+//! A line of a script: an event or a cut.
 ghost use Rattle.std.specs.Prelude.{◌≡◌, ◌≢◌, Ok, Err, IfOk, IfErr};
 ghost use Rattle.serde_json.specs.View.{view};
 ghost use Rattle.sgt_format.specs.ScriptLines.{of_word, script_line_in, script_line_of};

@@ -1,3 +1,4 @@
+//! The JSON tree of a line, and the items of its lists.
 ghost use Rattle.std.specs.Prelude.{◌≡◌, IfOk, map, option_map};
 ghost use Rattle.serde_json.specs.View.{view};
 ghost use Rattle.sgt_format.specs.Trees.{tree_of, list};

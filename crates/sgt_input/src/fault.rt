@@ -1,3 +1,4 @@
+//! How a run can end before its end.
 ghost use Rattle.std.specs.Prelude.{◌≡◌};
 ghost use Rattle.sgt_input.specs.declared.fault.Fault.TheVariants as fault;
 

@@ -17,9 +17,9 @@
 //! ```
 #![tactic(auto)]
 
-mod bad_line;
 mod buffer;
 mod fault;
+mod line_fault;
 mod lines;
 mod misfit;
 mod opening;
@@ -27,8 +27,8 @@ mod records;
 mod sink;
 mod source;
 
-pub use bad_line::at_line;
 pub use fault::Fault;
+pub use line_fault::at_line;
 pub use lines::Lines;
 pub use misfit::Misfit;
 pub use opening::opening_of;

@@ -1,3 +1,4 @@
+//! The position of a procedure's first shape error, kept on the heap.
 ghost use Rattle.std.specs.Prelude.{◌≡◌, IfOk};
 
 use sgt_proc_json::Place;

@@ -1,3 +1,4 @@
+//! The opening that the first line of an input spells.
 ghost use Rattle.std.specs.Prelude.{◌≡◌, ◌≢◌, IfOk, IfErr, Err};
 ghost use Rattle.sgt_format.specs.Openings.{Opens, Refuses};
 ghost use Rattle.sgt_format.specs.declared.errors.OpeningError.{OpeningError};

@@ -1,3 +1,4 @@
+//! The records of the lines after an opening, put into its database.
 ghost use Rattle.std.specs.Prelude.{◌≡◌, ◌≢◌, IfOk, IfErr, OnOk, OnErr, IfSome, IsSome, IsNone, Err, None, false, ◌+◌, ◌^◌, ◌<◌, ◌≤◌};
 ghost use Rattle.std.specs.Io.KnownBytes.{Consumes, Keeps};
 ghost use Rattle.sgt_model.specs.Databases.{contents_of};

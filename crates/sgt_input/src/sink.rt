@@ -1,3 +1,4 @@
+//! Where bytes go: a trait, and its implementation over any `Write`.
 ghost use Rattle.std.specs.Prelude.{◌≡◌, ℕ, List, [], Option, IfOk, OnOk, OnErr, ◌+◌, ◌^◌, ◌<◌, ◌≤◌, length, take};
 ghost use Rattle.std.specs.Io.KnownBytes.{WriteAppends, Appends};
 

@@ -1,3 +1,4 @@
+//! What is wrong with the accounts of an opening.
 use crate::message::{Piece, told};
 use serde_json::Value;
 use sgt_format::items;

@@ -1,3 +1,5 @@
+//! The command whose run ended with a fault.
+
 /// The command whose run a fault has ended.
 #[derive(Clone, Copy, Debug, PartialEq, Eq)]
 pub enum Command {

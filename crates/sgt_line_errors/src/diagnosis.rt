@@ -1,3 +1,4 @@
+//! What is wrong with a line for which a run ended with a fault, in one line for a person.
 ghost use Rattle.std.specs.Prelude.{◌≡◌, None, IfOk};
 ghost use Rattle.sgt_line_errors.specs.FaultyLines.{line_of};
 

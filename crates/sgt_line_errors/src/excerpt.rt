@@ -1,3 +1,4 @@
+//! The beginning of a JSON tree, shortened for a message.
 use serde_json::Value;
 use sgt_model::NoMemory;
 use std::alloc::Global;

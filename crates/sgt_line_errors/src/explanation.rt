@@ -1,3 +1,4 @@
+//! The explanation of a fault, from the bytes that the run has read.
 ghost use Rattle.std.specs.Prelude.{◌≡◌, None};
 ghost use Rattle.sgt_line_errors.specs.FaultyLines.{line_of};
 

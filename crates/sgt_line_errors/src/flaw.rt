@@ -1,3 +1,4 @@
+//! The flaws of a procedure in words.
 use crate::message::{Piece, message};
 use crate::search::Search;
 use serde_json::Value;

@@ -1,3 +1,5 @@
+//! What holds on all paths to a position of a procedure: the registers that are set, and the number of answers.
+
 /// What is so on the paths that lead to a place of a procedure: which registers all of them set, and how many answers the one with
 /// the most has.
 #[derive(Clone, Copy)]

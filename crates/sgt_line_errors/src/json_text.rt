@@ -1,3 +1,4 @@
+//! Where a line stops being JSON.
 use crate::message::{Piece, told};
 use json::{Scratch, is_valid};
 use serde_json::Value;

@@ -1,3 +1,4 @@
+//! What is wrong with the limits of an opening.
 use crate::message::{Piece, told};
 use serde_json::Value;
 use sgt_model::{MOST_BEGINS, MOST_LIVE, NoMemory};

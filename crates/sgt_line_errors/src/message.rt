@@ -1,3 +1,4 @@
+//! Messages made of pieces.
 use crate::excerpt::append_excerpt;
 use serde_json::Value;
 use sgt_model::NoMemory;

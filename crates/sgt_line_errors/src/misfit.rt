@@ -1,3 +1,4 @@
+//! What is wrong at the position of a procedure's first shape error.
 use crate::message::{Piece, told, unexpected, unknown};
 use crate::part::{Part, is_known};
 use crate::tree::word_of;

@@ -1,3 +1,4 @@
+//! What is wrong with the line of an opening.
 use crate::account::NAMES;
 use crate::limit::ordinal;
 use crate::message::{Piece, told, unexpected};

@@ -1,3 +1,4 @@
+//! What may stand at a position of a procedure that is written as JSON.
 use sgt_model::NoMemory;
 use std::alloc::Global;
 

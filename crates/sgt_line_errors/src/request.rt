@@ -1,3 +1,4 @@
+//! What is wrong with the line of an event or of a job.
 use crate::message::{Piece, told, unexpected, unknown};
 use crate::record::numbers;
 use crate::tree::{first_not_whole, word_of};

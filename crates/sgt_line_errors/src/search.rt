@@ -1,3 +1,4 @@
+//! The search for the first position of a procedure that has a flaw.
 use crate::flow::Flow;
 use crate::part::Part;
 use crate::tree::word_of;

@@ -6,10 +6,7 @@ use Rattle.std.specs.Fmt.{decimal}
 use Rattle.std.proofs.Math.Seq.{take-append_seam, get_or-append_seam}
 use Rattle.std.proofs.Math.ListN.{get_or-append}
 use Rattle.memchr.specs.Find.{IsFirstByte, is_byte}
-use Rattle.sgt_classes.specs.declared.operation.Action.{Action}
-use Rattle.sgt_classes.specs.declared.operation.Action.TheVariants.{Read, Write, Commit, Abort}
-use Rattle.sgt_classes.specs.Histories.{item_of}
-use Rattle.sgt_notation.specs.Spellings.{IsItem, bracketed, IsOperation, text_at, act_text}
+use Rattle.sgt_notation.specs.Spellings.{IsItem, bracketed}
 use Rattle.sgt_notation.proofs.NumberTexts.{text_is_digits}
 
 -- behind digits and the item in brackets: where the bracket is

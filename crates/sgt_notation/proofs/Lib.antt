@@ -6,4 +6,5 @@ pub mod Ends
 pub mod OneMore
 pub mod Letters
 pub mod OperationLines
+pub mod ItemTexts
 pub mod WrittenOperations

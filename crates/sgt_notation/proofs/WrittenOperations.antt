@@ -3,7 +3,6 @@ use Rattle.std.proofs.Common.{◌≡◌, ℕ, List, [], ◌∷◌, ◌++◌, ref
 use Rattle.std.proofs.lemmas.Grind.{flat_map-append}
 use Rattle.std.specs.Prelude.{codes}
 use Rattle.std.specs.Fmt.{decimal}
-use Rattle.sgt_model.specs.declared.entry.Entry.{Entry}
 use Rattle.sgt_model.specs.declared.event.Event.{Event}
 use Rattle.sgt_model.specs.declared.reply.Reply.{Reply}
 use Rattle.sgt_model.specs.declared.reply.Reply.TheVariants as reply
@@ -13,7 +12,7 @@ use Rattle.sgt_classes.specs.declared.operation.Action.TheVariants as action
 use Rattle.sgt_notation.specs.Spellings.{bracketed, spelling, text_at}
 use Rattle.sgt_textbook.specs.Textbook.{each_does, named, operations_in, operations_of, stepping, textbook}
 use Rattle.sgt_format.specs.Decimals.{key_text}
-use Rattle.sgt_notation.specs.Transcripts.{NamesKey, NamesKeys, TranscriptsSpellTextbooks, access_lines, end_lines, operations_text, spelled_lines, transcript}
+use Rattle.sgt_notation.specs.Transcripts.{NamesKey, TranscriptsSpellTextbooks, access_lines, end_lines, operations_text, spelled_lines}
 
 -- accesses, where the item has the key's text
 reads : (items : List (List ℕ)) (x : ℕ) (k : Key) (ts : List ℕ) → text_at items x ≡ key_text k

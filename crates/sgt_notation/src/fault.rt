@@ -1,3 +1,4 @@
+//! What can be wrong with the text of a history.
 ghost use Rattle.std.specs.Prelude.{◌≡◌, map, take, IfOk};
 ghost use Rattle.sgt_notation.specs.declared.fault.NotationFault.TheVariants as fault;
 ghost use Rattle.sgt_notation.specs.Readings.{shown_byte};

@@ -1,3 +1,4 @@
+//! A history that was read: its operations, and the texts of its items.
 use sgt_classes::Operation;
 
 /// The history that a text spells.

@@ -1,3 +1,4 @@
+//! How many answers a procedure can give.
 ghost use Rattle.sgt_model.specs.Syntax.{empty};
 ghost use Rattle.sgt_model.specs.ProcedureTexts.{in_front, block_of};
 ghost use Rattle.sgt_proc.specs.Dataflow.{AnswersFrom};

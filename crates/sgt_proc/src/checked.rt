@@ -1,3 +1,4 @@
+//! A procedure without a flaw, and what it does next.
 ghost use Rattle.std.specs.Prelude.{◌≡◌, ◌≤◌, ◌<◌, IfOk, OnOk, IfErr};
 ghost use Rattle.sgt_model.specs.ProcedureTexts.{procedure_text};
 ghost use Rattle.sgt_model.specs.Meaning.{run_with};

@@ -1,3 +1,4 @@
+//! A run of a procedure, from one access to the next.
 ghost use Rattle.std.specs.Prelude.{◌≡◌};
 ghost use Rattle.sgt_model.specs.Left.{next_left, left_at_start, after_look, after_store};
 ghost use Rattle.sgt_proc.specs.Nexts.{seen, StoresValue};

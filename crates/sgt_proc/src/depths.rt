@@ -1,3 +1,4 @@
+//! How deep the statements and the expressions of a procedure are.
 ghost use Rattle.std.specs.Prelude.{◌≡◌, ◌+◌, min, max};
 ghost use Rattle.sgt_model.specs.Syntax.{empty};
 ghost use Rattle.sgt_model.specs.ProcedureTexts.{expr_text, cond_text, in_front, block_of};

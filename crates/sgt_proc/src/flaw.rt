@@ -1,3 +1,4 @@
+//! What can be wrong with a procedure.
 ghost use Rattle.std.specs.Prelude.{◌≡◌, ◌↔◌, IsTrue};
 ghost use Rattle.sgt_model.specs.ProcedureTexts.{procedure_text};
 ghost use Rattle.sgt_proc.specs.Flaws.{number, HasFlaw};

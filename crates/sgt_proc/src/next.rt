@@ -1,3 +1,4 @@
+//! What a procedure does next.
 use sgt_model::{Answers, Key};
 
 /// What a procedure does next.

@@ -1,3 +1,4 @@
+//! A position in a procedure, with the registers and answers there.
 ghost use Rattle.std.specs.Prelude.{◌≡◌, ◌≤◌, ◌<◌, Ok, IfErr};
 ghost use Rattle.arrayvec.specs.ArrayVec.{array_vec_len};
 ghost use Rattle.sgt_model.specs.Syntax.{Block};

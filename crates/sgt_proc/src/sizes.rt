@@ -1,3 +1,4 @@
+//! How many statements a procedure has.
 ghost use Rattle.std.specs.Prelude.{◌≡◌, min};
 ghost use Rattle.sgt_model.specs.Syntax.{empty};
 ghost use Rattle.sgt_model.specs.ProcedureTexts.{in_front, block_of};

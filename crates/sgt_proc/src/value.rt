@@ -1,3 +1,4 @@
+//! The values of expressions and conditions.
 ghost use Rattle.std.specs.Prelude.{◌≡◌, ◌+ℤ◌, ◌-ℤ◌, ◌*ℤ◌, None, Ok, slice_get, slice_index_or};
 ghost use Rattle.sgt_model.specs.ProcedureTexts.{expr_text, cond_text};
 ghost use Rattle.sgt_model.specs.Meaning.{got, bounded, divided, found_or, value_of, truth_of};

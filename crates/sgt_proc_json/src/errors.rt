@@ -1,3 +1,4 @@
+//! Why a tree gives no procedure.
 ghost use Rattle.std.specs.Prelude.{◌≡◌, []};
 ghost use Rattle.sgt_proc_json.specs.declared.errors.ReadError.TheVariants as read_error;
 

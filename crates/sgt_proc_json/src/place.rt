@@ -1,3 +1,4 @@
+//! The position of an item in a tree.
 ghost use Rattle.std.specs.Prelude.{◌≡◌, ◌≤◌, [], ◌∷◌, length, take};
 
 use sgt_model::Bounded;

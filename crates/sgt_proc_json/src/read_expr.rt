@@ -1,3 +1,4 @@
+//! The expression that a tree spells.
 ghost use Rattle.std.specs.Prelude.{◌≡◌, Ok, IfOk, IfErr, IfSome, IsNone};
 ghost use Rattle.serde_json.specs.View.{view, items_view};
 ghost use Rattle.serde_json.specs.Data.{array};

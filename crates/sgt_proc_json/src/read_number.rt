@@ -1,3 +1,4 @@
+//! Small whole numbers that trees spell.
 ghost use Rattle.std.specs.Prelude.{◌≡◌, Ok, IfOk, IfErr};
 ghost use Rattle.serde_json.specs.View.{view};
 ghost use Rattle.sgt_proc_json.specs.Readings.{at, byte, short};

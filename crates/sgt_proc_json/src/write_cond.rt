@@ -1,3 +1,4 @@
+//! Conditions as trees.
 ghost use Rattle.std.specs.Prelude.{IfOk};
 ghost use Rattle.serde_json.specs.View.{view};
 ghost use Rattle.sgt_model.specs.ProcedureTexts.{cond_text};

@@ -1,3 +1,4 @@
+//! Small whole numbers as trees.
 ghost use Rattle.serde_json.specs.View.{view};
 ghost use Rattle.sgt_proc_json.specs.Spelling.{Byte, Short};
 

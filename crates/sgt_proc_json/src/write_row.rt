@@ -1,3 +1,4 @@
+//! Lists of a word and items as trees.
 ghost use Rattle.std.specs.Prelude.{◌≡◌, IfOk};
 ghost use Rattle.serde_json.specs.Data.{array, string, no_items, item};
 ghost use Rattle.serde_json.specs.View.{view};

@@ -1,3 +1,4 @@
+//! Procedures as trees.
 ghost use Rattle.std.specs.Prelude.{◌≡◌, Ok, IfOk};
 ghost use Rattle.serde_json.specs.View.{view};
 ghost use Rattle.sgt_model.specs.ProcedureTexts.{procedure_text};

@@ -1,3 +1,4 @@
+//! The accounts of a bank, and the database that they open.
 ghost use Rattle.std.specs.Prelude.{◌≡◌, ◌≢◌, ◌↔◌, [], All, None, IsSome, IfSome, OnOk, OnErr, IfOk, IfErr};
 ghost use Rattle.sgt_model.specs.Contents.{Key};
 ghost use Rattle.sgt_model.specs.Databases.{contents_of};

@@ -1,3 +1,4 @@
+//! The procedure DepositChecking.
 ghost use Rattle.std.specs.Prelude.{◌≡◌, IfOk};
 ghost use Rattle.sgt_model.specs.ProcedureTexts.{procedure_text};
 ghost use Rattle.sgt_smallbank.specs.Texts.{deposit_checking};

@@ -1,3 +1,4 @@
+//! Why accounts open no database.
 ghost use Rattle.std.specs.Prelude.{◌≡◌};
 ghost use Rattle.sgt_smallbank.specs.declared.errors.BadOpening.TheVariants as bad_opening;
 

@@ -1,3 +1,4 @@
+//! The five procedures, checked.
 ghost use Rattle.std.specs.Prelude.{◌≡◌, IfOk, vec_len};
 ghost use Rattle.sgt_model.specs.ProcedureTexts.{procedure_text};
 ghost use Rattle.sgt_proc.specs.Flaws.{IsFlawless};

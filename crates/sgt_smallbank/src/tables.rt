@@ -1,3 +1,5 @@
+//! The tables of SmallBank, and the codes that its procedures raise.
+
 /// The table of the customers by name.
 pub(crate) const ACCOUNT: u8 = 0;
 

@@ -1,3 +1,4 @@
+//! The procedure TransactSaving.
 ghost use Rattle.std.specs.Prelude.{◌≡◌, IfOk};
 ghost use Rattle.sgt_model.specs.ProcedureTexts.{procedure_text};
 ghost use Rattle.sgt_smallbank.specs.Texts.{transact_saving};

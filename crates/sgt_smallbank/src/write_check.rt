@@ -1,3 +1,4 @@
+//! The procedure WriteCheck.
 ghost use Rattle.std.specs.Prelude.{◌≡◌, IfOk, pos};
 ghost use Rattle.sgt_model.specs.ProcedureTexts.{expr_text, in_front, procedure_text};
 ghost use Rattle.sgt_smallbank.specs.Texts.{charge, write_check};

@@ -14,23 +14,23 @@ returns-in_err-text-clause-fault g c =
 
 pub returns-clause-checked : goal.returns-clause-checked
 returns-clause-checked g c =
-    is_told IsChecked (g.S.Source.rest c.args.source.now) (g.T.Sink.held c.args.sink.now) (g.T.Sink.held c.write_all.new.sink)
-    c.in_ok-text.text.items c.in_ok-told.told.lines.items c.in_ok-told.told.sound
+    is_told (IsChecked c.args.output) (g.S.Source.rest c.args.source.now) (g.T.Sink.held c.args.sink.now) (g.T.Sink.held c.write_all.new.sink)
+    c.in_ok-text.text.items c.in_ok-checked.checked.lines.items c.in_ok-checked.checked.sound
     c.in_ok-text.ensures.bytes
     (search rules)
     (search rules)
 
 pub returns-in_default-clause-part : goal.returns-in_default-clause-part
 returns-in_default-clause-part g c = λ _.
-    is_begun IsChecked (g.S.Source.rest c.args.source.now) (g.T.Sink.held c.args.sink.now) (g.T.Sink.held c.write_all.new.sink)
-    c.in_ok-text.text.items c.in_ok-told.told.lines.items c.in_ok-told.told.sound
+    is_begun (IsChecked c.args.output) (g.S.Source.rest c.args.source.now) (g.T.Sink.held c.args.sink.now) (g.T.Sink.held c.write_all.new.sink)
+    c.in_ok-text.text.items c.in_ok-checked.checked.lines.items c.in_ok-checked.checked.sound
     c.in_ok-text.ensures.bytes
     (search rules)
     (search rules)
 
-pub returns-in_err-told-clause-fault : goal.returns-in_err-told-clause-fault
-returns-in_err-told-clause-fault g c =
-    let is : c.from_residual-in_err-told.result ≡ Err c.in_err-told.field-0.0 = search rules in
+pub returns-in_err-checked-clause-fault : goal.returns-in_err-checked-clause-fault
+returns-in_err-checked-clause-fault g c =
+    let is : c.from_residual-in_err-checked.result ≡ Err c.in_err-checked.field-0.0 = search rules in
     subst (λ r. IfErr r (λ f. IfSome (g.S.Source.rest c.args.source.now) (λ input. IsFaultOf input f))) (sym is)
-    (text_fault (g.S.Source.rest c.args.source.now) c.in_ok-text.text.items c.in_err-told.field-0.0 c.in_ok-text.ensures.bytes
+    (text_fault (g.S.Source.rest c.args.source.now) c.in_ok-text.text.items c.in_err-checked.field-0.0 c.in_ok-text.ensures.bytes
     (search rules))

@@ -1,6 +1,4 @@
-use Rattle.std.proofs.Common.{rules, ap, ◌≡◌, ◌∙◌, ◌++◌, OnOk, Ok}
-use Rattle.sgt_textbook.specs.Textbook.{stepping}
-use Rattle.sgt_notation.specs.Transcripts.{access_lines}
+use Rattle.std.proofs.Common.{rules}
 use Rattle.sgt_notation.proofs.OperationLines.{access_line}
 use Rattle.sgt_notation.proofs.operations.append_access.Goals as goal
 

@@ -1,3 +1,4 @@
+//! The fault of a line: the error of its reader, with the number of the line.
 ghost use Rattle.std.specs.Prelude.{◌≡◌};
 ghost use Rattle.sgt_input.specs.Spelled.{at_line};
 

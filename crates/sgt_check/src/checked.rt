@@ -1,0 +1,92 @@
+//! The check of a history that was read: the lines of its output, and its verdict.
+ghost use Rattle.std.specs.Prelude.{◌↔◌, List, IfOk};
+ghost use Rattle.sgt_classes.specs.declared.operation.Operation.{Operation};
+ghost use Rattle.sgt_classes.specs.Classes.{BreaksRecoverability, IsFirstViolation};
+ghost use Rattle.sgt_classes.specs.Histories.{IsWellFormed};
+ghost use Rattle.sgt_classes.specs.Equivalence.{IsSerializable};
+ghost use Rattle.sgt_classes.specs.SerialOrders.{IsSerial};
+ghost use Rattle.sgt_check.specs.Checks.{IsReported, IsOutput, IsVerdict};
+ghost use Rattle.sgt_check.specs.Graphs.{IsDrawn};
+
+use crate::graph_text::append_graph;
+use crate::report::{check_history, serial_unless_commit_ordered};
+use crate::report_text::append_report;
+use sgt_classes::{
+    Serializability, Violation, commit_order_violation, first_conflicts, recoverable_violation,
+};
+use sgt_model::NoMemory;
+use sgt_notation::History;
+use std::alloc::Global;
+
+/// What a check writes.
+#[derive(Clone, Copy, Debug, PartialEq, Eq)]
+pub enum Output {
+    /// The report.
+    Report,
+    /// The serialization graph in DOT, with the cycle of the report.
+    Graph,
+}
+
+/// What a check finds of a history.
+#[derive(Drop)]
+pub(crate) struct Checked {
+    /// The lines of the output.
+    pub lines: Vec<u8>,
+    /// Whether the history is serializable and recoverable.
+    pub sound: bool,
+}
+
+/// Checks the history, for this output.
+pub(crate) fn check_for(
+    alloc: Global,
+    history: &History,
+    output: Output,
+) -> Result<Checked, NoMemory>
+    ensures written { IfOk result (λ c. IsOutput output history.now c.lines.items) }
+    ensures verdict { IfOk result (λ c. IsWellFormed history.now.operations.items → IsVerdict history.now.operations.items c.sound) }
+{
+    match output {
+        Output::Report => check_for_report(alloc, history),
+        Output::Graph => check_for_graph(alloc, history),
+    }
+}
+
+/// Checks the history for all classes, with the report as its output.
+fn check_for_report(alloc: Global, history: &History) -> Result<Checked, NoMemory>
+    ensures written { IfOk result (λ c. IsReported history.now c.lines.items) }
+    ensures verdict { IfOk result (λ c. IsWellFormed history.now.operations.items → IsVerdict history.now.operations.items c.sound) }
+{
+    let report = check_history(alloc, history.operations.as_slice())?;
+    let mut lines = Vec::new(alloc);
+    append_report(&mut lines, history, &report)?;
+    Ok(Checked {
+        lines,
+        sound: is_sound(&report.serializability, &report.recoverable),
+    })
+}
+
+/// Checks the history for the verdict alone, with the graph as its output. It makes no report, but finds its cycle as a report does.
+fn check_for_graph(alloc: Global, history: &History) -> Result<Checked, NoMemory>
+    ensures written { IfOk result (λ c. IsDrawn history.now c.lines.items) }
+    ensures verdict { IfOk result (λ c. IsWellFormed history.now.operations.items → IsVerdict history.now.operations.items c.sound) }
+{
+    let operations = history.operations.as_slice();
+    let commit_ordered = commit_order_violation(alloc, operations)?;
+    let shown = serial_unless_commit_ordered(alloc, operations, &commit_ordered)?;
+    let recoverable = recoverable_violation(alloc, operations)?;
+    let conflicts = first_conflicts(alloc, operations)?;
+    let mut lines = Vec::new(alloc);
+    append_graph(alloc, &mut lines, history, conflicts.as_slice(), &shown)?;
+    Ok(Checked {
+        lines,
+        sound: is_sound(&shown, &recoverable),
+    })
+}
+
+/// Whether a history is serializable and recoverable, by its serial order or cycle and its first violation of recoverability.
+fn is_sound(shown: &Serializability, recoverable: &Option<Violation>) -> bool
+    ensures { (h : List Operation) → (IsSerial shown.now ↔ IsSerializable h)
+        → IsFirstViolation (BreaksRecoverability h) recoverable.now → IsVerdict h result }
+{
+    matches!(shown, Serializability::Serial(_)) && recoverable.is_none()
+}
