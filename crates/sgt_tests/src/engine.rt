@@ -4,9 +4,9 @@
 use json::Scratch;
 use sgt_access::OneList;
 use sgt_engine::{Engine, Ran, run_list};
-use sgt_log::History;
 use sgt_format::{Opening, append_database, append_reply, read_event, read_opening, reply_line};
 use sgt_graph::PairGraph;
+use sgt_log::History;
 use sgt_model::{Args, Asks, Database, Event, Key, Limits, MakeError, NoMemory, Reply, Tid};
 use sgt_records::ListRecords;
 use std::alloc::Global;

@@ -100,16 +100,32 @@ const WORKED: Seen = (false, 1, 2);
 fn a_read_that_failed_is_not_tried_again(rt: HostRuntime) {
     let mut reader = Reader::new(FailsOnce { calls: 0 });
     let mut room = [0; 4];
-    let first = (reader.read(&mut room).is_err(), reader.failures, reader.inner.calls);
-    let second = (reader.read(&mut room).is_err(), reader.failures, reader.inner.calls);
+    let first = (
+        reader.read(&mut room).is_err(),
+        reader.failures,
+        reader.inner.calls,
+    );
+    let second = (
+        reader.read(&mut room).is_err(),
+        reader.failures,
+        reader.inner.calls,
+    );
     assert!(rt; first == FAILED && second == WORKED);
 }
 
 #[test]
 fn a_write_that_failed_is_not_tried_again(rt: HostRuntime) {
     let mut writer = Writer::new(FailsOnce { calls: 0 });
-    let first = (writer.write(b"some").is_err(), writer.failures, writer.inner.calls);
-    let second = (writer.write(b"some").is_err(), writer.failures, writer.inner.calls);
+    let first = (
+        writer.write(b"some").is_err(),
+        writer.failures,
+        writer.inner.calls,
+    );
+    let second = (
+        writer.write(b"some").is_err(),
+        writer.failures,
+        writer.inner.calls,
+    );
     assert!(rt; first == FAILED && second == WORKED);
 }
 

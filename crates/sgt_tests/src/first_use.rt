@@ -1,8 +1,8 @@
 //! The engine of the program, used as the first page of the repository shows it.
 
+use sgt_assembly::{SgtEngine, open_engine};
 use sgt_format::read_opening;
 use sgt_model::{Args, Event, Key, Reply, Tid};
-use sgt_assembly::{SgtEngine, open_engine};
 use std::alloc::Global;
 use std::test::Fail;
 

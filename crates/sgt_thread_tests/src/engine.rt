@@ -74,8 +74,16 @@ fn two_more(alloc: Global) -> Option<(Checked, Checked)> {
     };
     let puts = vec![in alloc; put, Statement::Ask { code: 9 }].ok()?;
     let looks = vec![in alloc; look].ok()?;
-    let first = check(Procedure { args: 0, body: puts }).ok()?;
-    let second = check(Procedure { args: 0, body: looks }).ok()?;
+    let first = check(Procedure {
+        args: 0,
+        body: puts,
+    })
+    .ok()?;
+    let second = check(Procedure {
+        args: 0,
+        body: looks,
+    })
+    .ok()?;
     Some((first, second))
 }
 

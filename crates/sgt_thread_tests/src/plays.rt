@@ -289,9 +289,7 @@ fn wakes_unless_ended<N: Named, W: Wait>(
     stage: &Stage,
     newest: &mut Tid,
 ) {
-    if !is_raised(&stage.has_ended)
-        && starts(rt, shared, session, newest, start(BALANCE, &[2]))
-    {
+    if !is_raised(&stage.has_ended) && starts(rt, shared, session, newest, start(BALANCE, &[2])) {
         let _ = session.make(rt, shared, Event::Commit(*newest));
     }
 }

@@ -5,8 +5,8 @@ ghost use Rattle.sgt_engine.specs.EngineView.{setting_of};
 use crate::engine::{ListEngine, SharedEngine, new_engine, new_engine_at_commit};
 use crate::plays::{Play, all_play};
 use sgt_access::OneList;
-use sgt_log::History;
 use sgt_graph::PairGraph;
+use sgt_log::History;
 use sgt_model::{Entry, Event, Fate, Reply, Tid};
 use sgt_records::ListRecords;
 use sgt_session::{CloseError, Named, Session, Shared};
@@ -293,12 +293,7 @@ const ASKED_BEHIND_TWO: [Told; 7] = [
 ];
 
 /// What is shown, how many threads play what, and what transactions of theirs are told. Of one that is not started nothing is told.
-type Row = (
-    &'static str,
-    u16,
-    Play,
-    &'static [(u32, &'static [Told])],
-);
+type Row = (&'static str, u16, Play, &'static [(u32, &'static [Told])]);
 
 /// The deposit, which is quit once the other waits.
 const QUIT: [Told; 5] = [
