@@ -230,7 +230,7 @@ fn stop<T: Sink>(sink: &mut T, gathered: &mut Vec<u8>, fault: Fault) -> Fault
 }
 
 /// Answers the line of a number: the text of that is added.
-#[inline]
+#[inline(always)]
 fn answer_line<X: Observer>(
     alloc: Global,
     engine: &mut SgtEngine,
