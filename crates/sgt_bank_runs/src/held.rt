@@ -87,7 +87,39 @@ pub fn each_outcome<W: Threads + Wait + Sync + Print>(
     };
     let gates = Gates::new(Plan::LeavesAt(calls));
     run(rt, alloc, limits, &jobs, crew, &gates, Told::Counts)?;
-    println!(rt; "told of {} jobs", gates.finished())
+    println!(rt; "told of {} jobs", gates.finished())?;
+    for number in 0..jobs.len() {
+        match gates.told(number) {
+            Some((count, worker, finish)) => {
+                println!(rt; "job {number}: told {count} times, worker {worker}, {finish:?}")?;
+            }
+            None => println!(rt; "job {number}: told of nothing")?,
+        }
+    }
+    Ok(())
+}
+
+/// Two deposits by two workers. Each, when it is told of its finished job, waits there until the other is told too.
+pub fn finish_together<W: Threads + Wait + Sync + Print>(
+    rt: &W,
+    alloc: Global,
+) -> io::Result<()> {
+    println!(rt; "two workers finish together:")?;
+    let jobs = [
+        job(0, DEPOSIT_CHECKING, &[1, 10]),
+        job(1, DEPOSIT_CHECKING, &[2, 20]),
+    ];
+    let crew = Crew {
+        workers: 2,
+        tries: 100,
+    };
+    let gates = Gates::new(Plan::FinishTogether(2));
+    run(rt, alloc, LIMITS, &jobs, crew, &gates, Told::Counts)?;
+    let workers = match (gates.told(0), gates.told(1)) {
+        (Some(first), Some(second)) => first.1 != second.1,
+        _ => false,
+    };
+    println!(rt; "each in time: {}, by two workers: {workers}", gates.all_in_time())
 }
 
 /// What is refused before any growth, the first fault before the others.

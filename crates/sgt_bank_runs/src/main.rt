@@ -26,7 +26,7 @@ use crate::accounts::{LIMITS, LIMITS_AT_COMMIT};
 use crate::banks::{Crew, tell_bank};
 use crate::crowd::tell_crowd;
 use crate::gates::{Gates, Plan};
-use crate::held::{each_outcome, one_gives_up, refusals, second_commits_first};
+use crate::held::{each_outcome, finish_together, one_gives_up, refusals, second_commits_first};
 use crate::leavers::{all_leave, deep_fall, leave_at_each_call};
 use crate::quits::tell_quits;
 use crate::scripts::tell_scripts;
@@ -64,6 +64,7 @@ fn tell_named_bank<W: Print + Input + Threads + Wait + Sync>(
 /// The runs whose schedule is told, or does not matter.
 fn tell_schedules<W: Print + Threads + Wait + Sync>(rt: &W, alloc: Global) -> io::Result<()> {
     second_commits_first(rt, alloc)?;
+    finish_together(rt, alloc)?;
     one_gives_up(rt, alloc, 1)?;
     one_gives_up(rt, alloc, 2)?;
     each_outcome(rt, alloc, LIMITS, 13)?;

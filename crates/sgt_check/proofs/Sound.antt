@@ -4,8 +4,9 @@ use Rattle.std.specs.Prelude.{Option, Some, None, is_some}
 use Rattle.std.proofs.lemmas.Bool.{true≢false}
 use Rattle.sgt_classes.specs.declared.operation.Operation.{Operation}
 use Rattle.sgt_classes.specs.declared.operation.Violation.{Violation}
+use Rattle.sgt_classes.specs.Histories.{IsWellFormed}
 use Rattle.sgt_classes.specs.Classes.{IsRecoverable, IsFirstViolation}
-use Rattle.sgt_classes.specs.Serializability.{IsSerializable}
+use Rattle.sgt_classes.specs.Equivalence.{IsSerializable}
 use Rattle.sgt_classes.specs.SerialOrders.{IsSerial}
 use Rattle.sgt_check.specs.declared.report.Report.{Report}
 use Rattle.sgt_check.specs.Reports.{IsReport}
@@ -20,7 +21,7 @@ none_told Breaks (Some v) false told is = (λ yes. absurd (true≢false (sym yes
 
 -- where a serial order is shown, no violation of recoverability is told just where the history is serializable and recoverable
 pub sound : (h : List Operation) (r : Report) (none : Bool) → IsSerial r.serializability → is_some r.recoverable ≡ not none
-    → IsReport h r → (none ≡ true) ↔ (IsSerializable h × IsRecoverable h)
-sound h r none serial is report =
+    → IsReport h r → IsWellFormed h → (none ≡ true) ↔ (IsSerializable h × IsRecoverable h)
+sound h r none serial is report well =
     let told = none_told _ r.recoverable none report.recoverable is in
-    (λ yes. (report.serializable.0 serial, told.0 yes), λ both. told.1 both.1)
+    (λ yes. ((report.serializable well).0 serial, told.0 yes), λ both. told.1 both.1)

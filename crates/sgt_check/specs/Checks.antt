@@ -1,7 +1,7 @@
 -- What the check of a text writes, and how it ends.
 use Rattle.std.specs.Prelude.{◌≡◌, ◌<◌, ◌↔◌, ℕ, Bool, true, List, length, ⊤}
 use Rattle.sgt_classes.specs.Classes.{IsRecoverable}
-use Rattle.sgt_classes.specs.Serializability.{IsSerializable}
+use Rattle.sgt_classes.specs.Equivalence.{IsSerializable}
 use Rattle.sgt_notation.specs.declared.history.History.{History}
 use Rattle.sgt_notation.specs.Words.{words_of}
 use Rattle.sgt_notation.specs.Readings.{AreRead, IsFirstFault, texts}

@@ -2,7 +2,7 @@
 use Rattle.std.specs.Prelude.{◌≡◌, ◌↔◌, ℕ, Bool, true, List}
 use Rattle.sgt_classes.specs.declared.graph.Edge.{Edge}
 use Rattle.sgt_classes.specs.Classes.{IsRecoverable}
-use Rattle.sgt_classes.specs.Serializability.{IsSerializable}
+use Rattle.sgt_classes.specs.Equivalence.{IsSerializable}
 use Rattle.sgt_classes.specs.FirstConflicts.{AreFirstConflicts}
 use Rattle.sgt_notation.specs.declared.history.History.{History}
 use Rattle.sgt_notation.specs.Words.{words_of}

@@ -4,9 +4,10 @@ use Rattle.sgt_classes.specs.declared.operation.Operation.{Operation}
 use Rattle.sgt_classes.specs.declared.operation.Violation.{Violation}
 use Rattle.sgt_classes.specs.declared.operation.Action.{Action}
 use Rattle.sgt_classes.specs.declared.operation.Action.TheVariants.{Read, Write, Commit, Abort}
-use Rattle.sgt_classes.specs.Histories.{Does}
+use Rattle.sgt_classes.specs.Histories.{Does, IsWellFormed}
 use Rattle.sgt_classes.specs.Classes.{ReadsFrom, BreaksStrictness, BreaksAvoidance, BreaksRecoverability, BreaksRigorousness, IsFirstViolation}
-use Rattle.sgt_classes.specs.Serializability.{BreaksCommitOrder, IsSerializable}
+use Rattle.sgt_classes.specs.Serializability.{BreaksCommitOrder, IsAcyclic}
+use Rattle.sgt_classes.specs.Equivalence.{IsSerializable}
 use Rattle.sgt_classes.specs.SerialOrders.{IsShown, IsSerial}
 use Rattle.sgt_check.specs.declared.report.Counts.{Counts}
 use Rattle.sgt_check.specs.declared.report.Report.{Report}
@@ -51,7 +52,8 @@ IsWriteOf h (Some v) (Some write) =
 -- what is told of a history: of each class the first violation, or none where the history is of the class
 pub record IsReport (h : List Operation) (r : Report) : Type 0 where
   pub counts : AreCounts h r.counts
-  pub serializable : IsSerial r.serializability ↔ IsSerializable h
+  pub acyclic : IsSerial r.serializability ↔ IsAcyclic h
+  pub serializable : IsWellFormed h → IsSerial r.serializability ↔ IsSerializable h
   pub shown : IsShown h r.serializability
   pub recoverable : IsFirstViolation (BreaksRecoverability h) r.recoverable
   pub dirty_write : IsWriteOf h r.recoverable r.dirty_write

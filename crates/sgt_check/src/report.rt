@@ -1,8 +1,10 @@
 //! What a check finds.
 ghost use Rattle.std.specs.Prelude.{◌↔◌, ◌≡◌, ◌<◌, ◌+◌, ◌-◌, ◌^◌, ◌==◌, ◌||◌, not, if◌then◌else◌, ℕ, is_some, IfOk, OnOk};
 ghost use Rattle.sgt_classes.specs.Tables.{entry_of};
+ghost use Rattle.sgt_classes.specs.Histories.{IsWellFormed};
 ghost use Rattle.sgt_classes.specs.Classes.{BreaksRecoverability, BreaksAvoidance, BreaksStrictness, BreaksRigorousness, IsFirstViolation};
-ghost use Rattle.sgt_classes.specs.Serializability.{BreaksCommitOrder, IsSerializable};
+ghost use Rattle.sgt_classes.specs.Serializability.{BreaksCommitOrder, IsAcyclic};
+ghost use Rattle.sgt_classes.specs.Equivalence.{IsSerializable};
 ghost use Rattle.sgt_classes.specs.SerialOrders.{IsShown, IsSerial};
 ghost use Rattle.sgt_check.specs.Reports.{IsReport, AreCounts, IsWriteOf, commits, aborts};
 
@@ -93,7 +95,8 @@ fn serial_unless_commit_ordered(
 ) -> Result<Serializability, NoMemory>
     requires { IsFirstViolation (BreaksCommitOrder history.now) commit_ordered.now }
     ensures shown { IfOk result (IsShown history.now) }
-    ensures exact { IfOk result (λ shown. IsSerial shown ↔ IsSerializable history.now) }
+    ensures acyclic { IfOk result (λ shown. IsSerial shown ↔ IsAcyclic history.now) }
+    ensures serializable { IfOk result (λ shown. IsWellFormed history.now → IsSerial shown ↔ IsSerializable history.now) }
 {
     commit_ordered_are_serializable();
     match commit_ordered {

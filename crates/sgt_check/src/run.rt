@@ -2,8 +2,9 @@
 ghost use Rattle.std.specs.Prelude.{◌≡◌, ◌≢◌, ◌↔◌, ◌^◌, ◌+◌, ◌<◌, ◌≤◌, ℕ, Bool, List, length, IfOk, IfErr, IfSome, Err, true, take};
 ghost use Rattle.std.specs.Io.KnownBytes.{Appends, Keeps};
 ghost use Rattle.sgt_classes.specs.declared.operation.Operation.{Operation};
+ghost use Rattle.sgt_classes.specs.Histories.{IsWellFormed};
 ghost use Rattle.sgt_classes.specs.Classes.{IsRecoverable};
-ghost use Rattle.sgt_classes.specs.Serializability.{IsSerializable};
+ghost use Rattle.sgt_classes.specs.Equivalence.{IsSerializable};
 ghost use Rattle.sgt_check.specs.Reports.{IsReport};
 ghost use Rattle.sgt_check.specs.Checks.{IsChecked, IsFaultOf};
 
@@ -83,7 +84,7 @@ fn tell_report(alloc: Global, text: &[u8]) -> Result<Told, CheckFault>
 
 /// Whether the history is serializable and recoverable.
 pub(crate) fn is_sound(report: &Report) -> bool
-    ensures { (h : List Operation) → IsReport h report.now → (result ≡ true) ↔ (IsSerializable h × IsRecoverable h) }
+    ensures { (h : List Operation) → IsReport h report.now → IsWellFormed h → (result ≡ true) ↔ (IsSerializable h × IsRecoverable h) }
 {
     matches!(report.serializability, Serializability::Serial(_)) && report.recoverable.is_none()
 }

@@ -3,7 +3,7 @@ use Rattle.std.proofs.Common.{◌<◌, ◌+◌, ℕ, zero, suc, List, [], ◌∷
 use Rattle.sgt_classes.specs.declared.operation.Operation.{Operation}
 use Rattle.sgt_classes.specs.declared.operation.Action.TheVariants.{Commit}
 use Rattle.sgt_classes.specs.Histories.{Does, CommittedBefore}
-use Rattle.sgt_classes.specs.Serializability.{Commits, IsEdge, IsPath, IsCommitOrdered, CommitOrderedAreSerializable}
+use Rattle.sgt_classes.specs.Serializability.{Commits, IsEdge, IsPath, IsCommitOrdered, IsAcyclic}
 
 -- before a transaction commits, those with an edge to it have
 pub edge_earlier : (h : List Operation) (t u d : ℕ) → IsCommitOrdered h → IsEdge h t u → Does h d u Commit → ¬ ¬ CommittedBefore h t d
@@ -38,6 +38,7 @@ commits_of : (h : List Operation) (t u : ℕ) (others : List ℕ) → IsPath h t
 commits_of h t u [] edge = edge.commits_first
 commits_of h t u (v ∷ others) path = path.0.commits_first
 
-pub commit_ordered_serializable : CommitOrderedAreSerializable
-commit_ordered_serializable h ordered t others path =
+-- so the graph has no cycle
+pub commit_ordered_acyclic : (h : List Operation) → IsCommitOrdered h → IsAcyclic h
+commit_ordered_acyclic h ordered t others path =
     let mine = commits_of h t t others path in no_commit h t (mine.0 + 1) mine.0 others ordered path (omega arith) mine.1

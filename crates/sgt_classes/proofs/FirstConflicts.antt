@@ -11,7 +11,7 @@ use Rattle.sgt_classes.specs.declared.graph.Edge.{Edge}
 use Rattle.sgt_classes.specs.declared.first_accesses.Kind.{Kind}
 use Rattle.sgt_classes.specs.declared.first_accesses.Kind.TheVariants.{Any, Writes}
 use Rattle.sgt_classes.specs.Histories.{Does, Uses, item_of}
-use Rattle.sgt_classes.specs.Serializability.{Conflict, IsProjection}
+use Rattle.sgt_classes.specs.Serializability.{Conflict, IsProjectionInPlace}
 use Rattle.sgt_classes.specs.Seen.{HasEdge, IsConflictBy, height}
 use Rattle.sgt_classes.specs.FirstConflicts.{IsNoLater, IsToldBefore, IsFirstConflict, AreFirstConflicts}
 use Rattle.sgt_classes.specs.FirstAccesses.{IsAccess, IsFirstAccess, IsLastFirst, IsSomeAccess, AreRivals, IsRepeated, IsFirstBy, ArePairs, AreConflicts, IsFirstRival, AreToldAbove}
@@ -314,7 +314,7 @@ told_once h e f one other from to before =
     ]
 
 -- the first conflicts of the committed projection are those of the history
-pub first_conflicts_of : (h q : List Operation) (n : ℕ) (es : List Edge) (pairs : ℕ × ℕ → Option ℕ) → IsProjection h q
+pub first_conflicts_of : (h q : List Operation) (n : ℕ) (es : List Edge) (pairs : ℕ × ℕ → Option ℕ) → IsProjectionInPlace h q
     → AreConflicts q (length q) n es pairs → AreFirstConflicts h es
 first_conflicts_of h q n es pairs is are = record {
   are_first = are_first;

@@ -18,3 +18,8 @@ pub mod FirstWaits
 pub mod Taking
 pub mod FirstAccesses
 pub mod FirstConflicts
+pub mod Filters
+pub mod SerialRuns
+pub mod Insertions
+pub mod EdgeDecisions
+pub mod ViewEquivalence

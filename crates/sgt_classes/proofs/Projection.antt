@@ -9,7 +9,7 @@ use Rattle.sgt_classes.specs.declared.operation.Action.{Action}
 use Rattle.sgt_classes.specs.declared.operation.Action.TheVariants.{Read, Write, Abort}
 use Rattle.sgt_classes.specs.declared.graph.Edge.{Edge}
 use Rattle.sgt_classes.specs.Histories.{Does, Uses}
-use Rattle.sgt_classes.specs.Serializability.{Commits, IsEdge, IsEdgeBy, IsProjection, Rises}
+use Rattle.sgt_classes.specs.Serializability.{Commits, IsEdge, IsEdgeBy, IsProjectionInPlace, Rises}
 use Rattle.sgt_classes.specs.Seen.{IsFirstCommit, AreFirstCommits, projected, IsOverwritten, IsConflictBy, HasConflicts}
 use Rattle.sgt_classes.proofs.Places.{before_next, does_same, uses_within}
 use Rattle.sgt_classes.proofs.LatestUses.{first_of}
@@ -67,7 +67,7 @@ does_projected h q commits i t a are each does committed =
     each i op does ∙ ap Some stays
 
 pub projection_of : (h q : List Operation) (commits : ℕ → Option ℕ) → AreFirstCommits h (length h) commits → length q ≡ length h
-    → ((i : ℕ) (op : Operation) → slice_get h i ≡ Some op → slice_get q i ≡ Some (projected commits op)) → IsProjection h q
+    → ((i : ℕ) (op : Operation) → slice_get h i ≡ Some op → slice_get q i ≡ Some (projected commits op)) → IsProjectionInPlace h q
 projection_of h q commits are counted each i t x = (
   (
     λ does. projected_does h q commits i t (Read x) are counted each (λ e. grind (arith, common_steps, e)) does,
@@ -80,16 +80,16 @@ projection_of h q commits are counted each i t x = (
 )
 
 -- a use in the projection is one of the history, by one that commits
-used : (h q : List Operation) (i t x : ℕ) → IsProjection h q → Uses q i t x → Uses h i t x × Commits h t
+used : (h q : List Operation) (i t x : ℕ) → IsProjectionInPlace h q → Uses q i t x → Uses h i t x × Commits h t
 used h q i t x is (inl read) = let both = (is i t x).0.0 read in (inl both.0, both.1)
 used h q i t x is (inr wrote) = let both = (is i t x).1.0 wrote in (inr both.0, both.1)
 
-uses : (h q : List Operation) (i t x : ℕ) → IsProjection h q → Uses h i t x → Commits h t → Uses q i t x
+uses : (h q : List Operation) (i t x : ℕ) → IsProjectionInPlace h q → Uses h i t x → Commits h t → Uses q i t x
 uses h q i t x is (inl read) commits = inl ((is i t x).0.1 (read, commits))
 uses h q i t x is (inr wrote) commits = inr ((is i t x).1.1 (wrote, commits))
 
 -- two operations of the projection that conflict are an edge of the history's graph
-pub edge_by : (h q : List Operation) (e : Edge) → IsProjection h q → IsConflictBy q e → IsEdgeBy h e
+pub edge_by : (h q : List Operation) (e : Edge) → IsProjectionInPlace h q → IsConflictBy q e → IsEdgeBy h e
 edge_by h q e is made =
     let first = used h q e.earlier e.from made.conflict.0 is made.conflict.1 in
     let second = used h q e.later e.to made.conflict.0 is made.conflict.2 in record {
@@ -106,7 +106,7 @@ edge_by h q e is made =
     writes (inr wrote) = inr ((is e.later e.to made.conflict.0).1.0 wrote).0
 
 -- two operations that make an edge of the history's graph conflict in the projection
-pub conflict_by : (h q : List Operation) (e : Edge) → IsProjection h q → IsEdgeBy h e → IsConflictBy q e
+pub conflict_by : (h q : List Operation) (e : Edge) → IsProjectionInPlace h q → IsEdgeBy h e → IsConflictBy q e
 conflict_by h q e is edge = record {
   differ = edge.differ;
   order = edge.order;
@@ -166,7 +166,7 @@ rises_along q es rank x has rises (suc n) i t j u near less differ first second 
 ]
 
 -- and along each edge of the graph
-pub rises_all : (h q : List Operation) (es : List Edge) → IsProjection h q → HasConflicts q es (length q) → (rank : ℕ → ℕ)
+pub rises_all : (h q : List Operation) (es : List Edge) → IsProjectionInPlace h q → HasConflicts q es (length q) → (rank : ℕ → ℕ)
     → Rises rank es → (t u : ℕ) → IsEdge h t u → rank t < rank u
 rises_all h q es is has rank rises t u edge =
     let i : ℕ = edge.place in

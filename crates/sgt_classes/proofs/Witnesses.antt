@@ -1,18 +1,18 @@
--- A serial order shows that a history is serializable, and a cycle that it is not.
+-- A serial order shows that the serialization graph has no cycle. Edges that form a cycle show that it has one.
 use Rattle.std.proofs.Common.{◌≡◌, ◌<◌, ◌+◌, ◌-◌, ℕ, suc, List, [], ◌∷◌, Some, refl, subst, arith}
 use Rattle.std.specs.Prelude.{length, slice_get, slice_index_or}
 use Rattle.std.proofs.lemmas.Grind.{common_steps}
 use Rattle.std.proofs.lemmas.Option.{slice_get-get_or}
 use Rattle.sgt_classes.specs.declared.operation.Operation.{Operation}
 use Rattle.sgt_classes.specs.declared.graph.Edge.{Edge}
-use Rattle.sgt_classes.specs.Serializability.{Commits, IsEdge, IsEdgeBy, IsPath, IsSerialOrder, SerialOrdersAreEnough, CyclesAreEnough}
+use Rattle.sgt_classes.specs.Serializability.{Commits, IsEdge, IsEdgeBy, IsPath, IsCycle, IsAcyclic, IsSerialOrder}
 
--- who has a path commits
+-- a transaction with a path commits
 commits_of : (h : List Operation) (t u : ℕ) (others : List ℕ) → IsPath h t others u → Commits h t
 commits_of h t u [] edge = edge.commits_first
 commits_of h t u (v ∷ others) path = path.0.commits_first
 
--- along a path the places in a serial order rise
+-- along a path the positions in a serial order rise
 places_rise : (h : List Operation) (order : List ℕ) (i j t u : ℕ) (others : List ℕ) → IsSerialOrder h order → IsPath h t others u
     → slice_get order i ≡ Some t → slice_get order j ≡ Some u → i < j
 places_rise h order i j t u [] serial edge first second = serial.leads_on i j t u edge first second
@@ -22,8 +22,8 @@ places_rise h order i j t u (v ∷ others) serial path first second =
     let far = places_rise h order between.0 j v u others serial path.1 between.1 second in
     omega (arith, near, far)
 
-pub serial_order_enough : SerialOrdersAreEnough
-serial_order_enough h order serial t others path =
+pub serial_order_acyclic : (h : List Operation) (order : List ℕ) → IsSerialOrder h order → IsAcyclic h
+serial_order_acyclic h order serial t others path =
     let at = (serial.are_committed t).0 (commits_of h t t others path) in
     let less = places_rise h order at.0 at.0 t t others serial path at.1 at.1 in omega (arith, less)
 
@@ -51,9 +51,9 @@ path_of h e l (f ∷ rest) are follow last =
     let rest_of = path_of h f l rest (λ i g at. are (suc i) g at) (λ i g k at next. follow (suc i) g k at next) last in
     (f.from ∷ rest_of.0, (subst (λ v. IsEdge h e.from v) (follow 0 e f refl refl) (edge_of h e (are 0 e refl)), rest_of.1))
 
-pub cycle_enough : CyclesAreEnough
-cycle_enough h [] cycle = λ serializable. let less = cycle.some in omega (arith, less)
-cycle_enough h (e ∷ rest) cycle = λ serializable. serializable e.from path.0 path.1
+pub cycle_not_acyclic : (h : List Operation) (edges : List Edge) → IsCycle h edges → ¬ IsAcyclic h
+cycle_not_acyclic h [] cycle = λ acyclic. let less = cycle.some in omega (arith, less)
+cycle_not_acyclic h (e ∷ rest) cycle = λ acyclic. acyclic e.from path.0 path.1
   where
     last : Edge
     last = slice_index_or (e ∷ rest) (length rest) e

@@ -28,6 +28,10 @@ AbortedBefore h t j = (i : ℕ) × (i < j) × Does h i t Abort
 abbrev pub EndedBefore : List Operation → ℕ → ℕ → Type 0
 EndedBefore h t j = (i : ℕ) × (i < j) × Ends h i t
 
+-- Well formed: no transaction does anything after its commit or abort.
+abbrev pub IsWellFormed : List Operation → Type 0
+IsWellFormed h = (i t : ℕ) (a : Action) → Does h i t a → ¬ EndedBefore h t i
+
 -- the item that an action reads or writes
 abbrev pub item_of : Action → Option ℕ
 item_of (Read x) = Some x

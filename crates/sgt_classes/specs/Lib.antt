@@ -8,3 +8,5 @@ pub mod SerialOrders
 pub mod Sorting
 pub mod FirstConflicts
 pub mod FirstAccesses
+pub mod Equivalence
+pub mod ViewEquivalence

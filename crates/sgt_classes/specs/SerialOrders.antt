@@ -4,8 +4,9 @@ use Rattle.sgt_classes.specs.declared.operation.Operation.{Operation}
 use Rattle.sgt_classes.specs.declared.operation.Action.TheVariants.{Commit}
 use Rattle.sgt_classes.specs.declared.serial.Serializability.{Serializability}
 use Rattle.sgt_classes.specs.declared.serial.Serializability.TheVariants.{Serial, Cycle}
-use Rattle.sgt_classes.specs.Histories.{Does, CommittedBefore}
+use Rattle.sgt_classes.specs.Histories.{Does, CommittedBefore, IsWellFormed}
 use Rattle.sgt_classes.specs.Serializability.{Commits, IsEdge, IsSerialOrder, IsCycle}
+use Rattle.sgt_classes.specs.Equivalence.{IsSerialRun, IsSerializable, serial_history}
 
 -- at place i of the order u may come: it has not come before, and all that have an edge to it have
 pub record MayComeAt (h : List Operation) (order : List ℕ) (i u : ℕ) : Type 0 where
@@ -17,10 +18,12 @@ pub record MayComeAt (h : List Operation) (order : List ℕ) (i u : ℕ) : Type 
 abbrev pub TakesFirst : List Operation → List ℕ → Type 0
 TakesFirst h order = (i t u d : ℕ) → slice_get order i ≡ Some t → MayComeAt h order i u → Does h d u Commit → CommittedBefore h t (d + 1)
 
--- a serial order that takes always the one that committed first, or a cycle
+-- A serial order, of the transactions that may come next always the one that committed first, with its equivalent serial history. Or a
+-- cycle; then, if the history is well formed, no serial history is equivalent.
 abbrev pub IsShown : List Operation → Serializability → Type 0
-IsShown h (Serial order) = IsSerialOrder h order.items × TakesFirst h order.items
-IsShown h (Cycle edges) = IsCycle h edges.items
+IsShown h (Serial order) =
+    IsSerialOrder h order.items × TakesFirst h order.items × IsSerialRun h (serial_history h order.items)
+IsShown h (Cycle edges) = IsCycle h edges.items × (IsWellFormed h → ¬ IsSerializable h)
 
 -- it is a serial order that is shown
 abbrev pub IsSerial : Serializability → Type 0

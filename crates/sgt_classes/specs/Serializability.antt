@@ -1,4 +1,4 @@
--- Serializable and commit ordered histories (Bernstein, Hadzilacos and Goodman (1987), chapter 2), of the committed
+-- The serialization graph and commit ordered histories (Bernstein, Hadzilacos and Goodman (1987), chapter 2), of the committed
 -- projection: the operations of those that commit.
 use Rattle.std.specs.Prelude.{◌≡◌, ◌≢◌, ◌<◌, ◌⊎◌, ◌↔◌, ℕ, List, [], ◌∷◌, Some, slice_get, length, ◌-◌, ◌+◌}
 use Rattle.sgt_classes.specs.declared.operation.Operation.{Operation}
@@ -29,10 +29,9 @@ abbrev pub IsPath : List Operation → ℕ → List ℕ → ℕ → Type 0
 IsPath h t [] u = IsEdge h t u
 IsPath h t (v ∷ others) u = IsEdge h t v × IsPath h v others u
 
--- Serializable: the serialization graph has no cycle. That such a history has a serial one of the same reads and final writes
--- is the book's serializability theorem.
-abbrev pub IsSerializable : List Operation → Type 0
-IsSerializable h = (t : ℕ) (others : List ℕ) → ¬ IsPath h t others t
+-- the serialization graph has no cycle
+abbrev pub IsAcyclic : List Operation → Type 0
+IsAcyclic h = (t : ℕ) (others : List ℕ) → ¬ IsPath h t others t
 
 -- Commit ordered: of two operations of committed transactions that conflict, the transaction of the earlier one commits first.
 -- Here the one of the operation at place j commits while the other, of the conflicting one at place i, still has to.
@@ -51,10 +50,6 @@ pub record BreaksCommitOrder (h : List Operation) (i j : ℕ) : Type 0 where
 abbrev pub IsCommitOrdered : List Operation → Type 0
 IsCommitOrdered h = (i j : ℕ) → ¬ BreaksCommitOrder h i j
 
--- a commit ordered history is serializable
-abbrev pub CommitOrderedAreSerializable : Type 0
-CommitOrderedAreSerializable = (h : List Operation) → IsCommitOrdered h → IsSerializable h
-
 -- the edge is one of the serialization graph, by its two operations
 pub record IsEdgeBy (h : List Operation) (e : Edge) : Type 0 where
   pub differ : e.from ≢ e.to
@@ -63,9 +58,9 @@ pub record IsEdgeBy (h : List Operation) (e : Edge) : Type 0 where
   pub order : e.earlier < e.later
   pub conflict : Conflict h e.earlier e.from e.later e.to
 
--- The committed projection: the reads and the writes of those that commit, at their places.
-abbrev pub IsProjection : List Operation → List Operation → Type 0
-IsProjection h q = (i t x : ℕ) → (Does q i t (Read x) ↔ (Does h i t (Read x) × Commits h t))
+-- The committed projection in place: the reads and writes of the transactions that commit, each where it is in the history.
+abbrev pub IsProjectionInPlace : List Operation → List Operation → Type 0
+IsProjectionInPlace h q = (i t x : ℕ) → (Does q i t (Read x) ↔ (Does h i t (Read x) × Commits h t))
     × (Does q i t (Write x) ↔ (Does h i t (Write x) × Commits h t))
 
 -- numbers of transactions that rise along the edges
@@ -91,11 +86,3 @@ pub record IsCycle (h : List Operation) (edges : List Edge) : Type 0 where
   pub follow : (i : ℕ) (e f : Edge) → slice_get edges i ≡ Some e → slice_get edges (i + 1) ≡ Some f → e.to ≡ f.from
   pub closes : (e f : Edge) → slice_get edges 0 ≡ Some e → slice_get edges (length edges - 1) ≡ Some f → f.to ≡ e.from
   pub once : (i j : ℕ) (e f : Edge) → slice_get edges i ≡ Some e → slice_get edges j ≡ Some f → e.from ≡ f.from → i ≡ j
-
--- what has a serial order of its committed transactions is serializable
-abbrev pub SerialOrdersAreEnough : Type 0
-SerialOrdersAreEnough = (h : List Operation) (order : List ℕ) → IsSerialOrder h order → IsSerializable h
-
--- what has a cycle is not serializable
-abbrev pub CyclesAreEnough : Type 0
-CyclesAreEnough = (h : List Operation) (edges : List Edge) → IsCycle h edges → ¬ IsSerializable h

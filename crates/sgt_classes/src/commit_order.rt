@@ -4,6 +4,7 @@ ghost use Rattle.sgt_classes.specs.Classes.{IsFirstViolation};
 ghost use Rattle.sgt_classes.specs.Tables.{entry_of};
 ghost use Rattle.sgt_classes.specs.SerialOrders.{TakesFirst};
 ghost use Rattle.sgt_classes.specs.Serializability.{BreaksCommitOrder, IsCommitOrdered, IsSerialOrder};
+ghost use Rattle.sgt_classes.specs.Equivalence.{IsSerialRun, serial_history};
 ghost use Rattle.sgt_classes.specs.Seen.{AreFirstCommits, KnowsLatestUses, later_use, use_after, use_of};
 
 use crate::operation::{Action, Operation, Violation};
@@ -32,7 +33,8 @@ pub fn commit_order_violation(
 }
 
 /// The committed transactions in the order of their first commits. Where the history is commit ordered this is a serial order, of
-/// those that may come next always the one that committed first.
+/// those that may come next always the one that committed first. One after another in this order, they are a serial history that is
+/// conflict equivalent to the committed projection.
 ///
 /// Bernstein, Hadzilacos and Goodman (1987), chapter 2: serializability theorem.
 ///
@@ -41,6 +43,7 @@ pub fn serial_commit_order(alloc: Global, history: &[Operation]) -> Result<Vec<u
     requires { IsCommitOrdered history.now }
     ensures serial { IfOk result (λ order. IsSerialOrder history.now order.items) }
     ensures first { IfOk result (λ order. TakesFirst history.now order.items) }
+    ensures equivalent { IfOk result (λ order. IsSerialRun history.now (serial_history history.now order.items)) }
 {
     let mut left = first_commits(alloc, history)?;
     let mut order = Vec::new(alloc);

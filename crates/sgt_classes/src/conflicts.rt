@@ -10,7 +10,7 @@ ghost use Rattle.sgt_classes.specs.FirstAccesses.{KnowsFirsts, KnowsConflicts, A
 
 use crate::commit_order::first_commits;
 use crate::first_accesses::{FirstAccesses, Kind, set_pair};
-use crate::graph::{Edge, committed_projection};
+use crate::graph::{Edge, projection_in_place};
 use crate::operation::{Action, Operation};
 use sgt_model::NoMemory;
 use std::alloc::Global;
@@ -32,7 +32,7 @@ pub fn first_conflicts(alloc: Global, history: &[Operation]) -> Result<Vec<Edge>
     ensures { IfOk result (λ edges. AreFirstConflicts history.now edges.items) }
 {
     let commits = first_commits(alloc, history)?;
-    let projection = committed_projection(alloc, history, &commits)?;
+    let projection = projection_in_place(alloc, history, &commits)?;
     let conflicts = Conflicts::of_projection(alloc, projection.as_slice())?;
     Ok(conflicts.edges)
 }

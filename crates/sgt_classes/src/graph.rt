@@ -4,7 +4,7 @@ ghost use Rattle.sgt_classes.specs.declared.operation.Operation.{Operation};
 ghost use Rattle.sgt_classes.specs.declared.operation.Action.{Action};
 ghost use Rattle.sgt_classes.specs.declared.operation.Action.TheVariants.{Write};
 ghost use Rattle.sgt_classes.specs.Histories.{Does, Uses};
-ghost use Rattle.sgt_classes.specs.Serializability.{Conflict, IsProjection, ReachAll};
+ghost use Rattle.sgt_classes.specs.Serializability.{Conflict, IsProjectionInPlace, ReachAll};
 ghost use Rattle.sgt_classes.specs.Tables.{entry_of};
 ghost use Rattle.sgt_classes.specs.Seen.{AreFirstCommits, KnowsAccesses, IsGraph, HasEdge, HasConflicts, HasWriteConflicts, HasReadConflicts};
 
@@ -52,7 +52,7 @@ pub fn edges_of_committed(
     requires { AreFirstCommits history.now (length history.now) (entry_of commits.now) }
     ensures { IfOk result (λ edges. ReachAll history.now edges.items) }
 {
-    let projection = committed_projection(alloc, history, commits)?;
+    let projection = projection_in_place(alloc, history, commits)?;
     let graph = Graph::of_projection(alloc, projection.as_slice())?;
     Ok(graph.edges)
 }
@@ -172,17 +172,17 @@ impl Graph {
     }
 }
 
-/// The history with an abort in place of each operation of a transaction that does not commit.
+/// The committed projection in place: the history with an abort in place of each operation of a transaction that does not commit.
 ///
-/// Bernstein, Hadzilacos and Goodman (1987), chapter 2: committed projection; here each operation keeps its place.
-pub fn committed_projection(
+/// Bernstein, Hadzilacos and Goodman (1987), chapter 2: committed projection; here each operation keeps its position.
+pub fn projection_in_place(
     alloc: Global,
     history: &[Operation],
     commits: &Table,
 ) -> Result<Vec<Operation>, NoMemory>
     requires { AreFirstCommits history.now (length history.now) (entry_of commits.now) }
     ensures same_length { IfOk result (λ q. length q.items ≡ length history.now) }
-    ensures projection { IfOk result (λ q. IsProjection history.now q.items) }
+    ensures projection { IfOk result (λ q. IsProjectionInPlace history.now q.items) }
 {
     let mut projection = Vec::new(alloc);
     for place in 0..history.len() {

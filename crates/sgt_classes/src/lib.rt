@@ -38,7 +38,9 @@ pub use conflicts::first_conflicts;
 pub use graph::{Edge, serialization_edges};
 pub use laws::{
     avoiding_are_recoverable, commit_ordered_are_serializable, cycles_are_enough,
-    rigorous_are_strict, serial_orders_are_enough, strict_avoid_cascading_aborts,
+    equivalence_laws, equivalent_are_view_equivalent, rigorous_are_strict,
+    serial_orders_are_enough, serial_runs_are_complete, serial_runs_read_alike,
+    serializability_theorem, strict_avoid_cascading_aborts,
 };
 pub use operation::{Action, Operation, Violation};
 pub use recoverable::recoverable_violation;

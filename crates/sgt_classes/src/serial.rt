@@ -4,8 +4,9 @@ ghost use Rattle.std.specs.BTreeMap.{get};
 ghost use Rattle.std.specs.Ordering.{nat_cmp};
 ghost use Rattle.sgt_classes.specs.declared.graph.Edge.{Edge};
 ghost use Rattle.sgt_classes.specs.declared.operation.Action.TheVariants.{Commit};
-ghost use Rattle.sgt_classes.specs.Histories.{Does};
-ghost use Rattle.sgt_classes.specs.Serializability.{IsEdgeBy, IsSerializable, ReachAll};
+ghost use Rattle.sgt_classes.specs.Histories.{Does, IsWellFormed};
+ghost use Rattle.sgt_classes.specs.Serializability.{IsAcyclic, IsEdgeBy, ReachAll};
+ghost use Rattle.sgt_classes.specs.Equivalence.{IsSerializable};
 ghost use Rattle.sgt_classes.specs.Seen.{AreFirstCommits};
 ghost use Rattle.sgt_classes.specs.SerialOrders.{IsShown, IsSerial};
 ghost use Rattle.sgt_classes.specs.Tables.{entry_of, table_len};
@@ -34,9 +35,16 @@ pub enum Serializability {
     Cycle(Vec<Edge>),
 }
 
-/// Whether the history is serializable, with a serial order of its committed transactions or a cycle of its serialization graph.
+/// Whether the history is serializable.
 ///
-/// Bernstein, Hadzilacos and Goodman (1987), chapter 2: serialization graph, of the committed projection.
+/// - If so: a serial order of its committed transactions. One after another in this order, they are a serial history that is
+///   conflict equivalent to the committed projection.
+/// - If not: a cycle of the serialization graph. Then no serial history is conflict equivalent to the committed projection.
+///
+/// An answer about the graph holds of every list of operations. That a cycle excludes every serial history holds if no
+/// transaction does anything after its end.
+///
+/// Bernstein, Hadzilacos and Goodman (1987), chapter 2: serializability theorem.
 ///
 /// It costs what `serialization_edges` costs, and for each of those edges and each commit fifteen look-ups in a table at most.
 pub fn serial_order_or_cycle(
@@ -44,7 +52,8 @@ pub fn serial_order_or_cycle(
     history: &[Operation],
 ) -> Result<Serializability, NoMemory>
     ensures shown { IfOk result (IsShown history.now) }
-    ensures exact { IfOk result (λ shown. IsSerial shown ↔ IsSerializable history.now) }
+    ensures acyclic { IfOk result (λ shown. IsSerial shown ↔ IsAcyclic history.now) }
+    ensures serializable { IfOk result (λ shown. IsWellFormed history.now → IsSerial shown ↔ IsSerializable history.now) }
 {
     let mut waits = Waits::of_history(alloc, history)?;
     waits.sort(alloc, history)
@@ -123,7 +132,7 @@ impl Waits {
         requires edges { ReachAll history.now self.old.edges.items }
         requires left { AreFirstCommits history.now (length history.now) (entry_of self.old.left) }
         ensures shown { IfOk result (IsShown history.now) }
-        ensures exact { IfOk result (λ shown. IsSerial shown ↔ IsSerializable history.now) }
+        ensures acyclic { IfOk result (λ shown. IsSerial shown ↔ IsAcyclic history.now) }
     {
         let mut order = Vec::new(alloc);
         while let Some(transaction) = self.take_first()? {

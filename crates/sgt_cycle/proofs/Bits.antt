@@ -85,3 +85,10 @@ complement_set a i fits low = ap (λ x. nat_eq x 1) (bit_at_not w32 a i fits low
 pub least_set : (a : ℕ) → 0 < a → a < 2 ^ 32 → (trailing_zeros w32 a < 32) × (is_set a (trailing_zeros w32 a) ≡ true)
 unfolding is_set
 least_set a some fits = let h = bit_at-trailing_zeros w32 a some fits in (h.0, ap (λ x. nat_eq x 1) h.1)
+
+pub none_below : (a j : ℕ) → 0 < a → a < 2 ^ 32 → is_set a j ≡ true → trailing_zeros w32 a ≤ j
+unfolding is_set
+none_below a j some fits set = elim (cases_lt j (trailing_zeros w32 a)) [
+  | inl lower ↦ absurd (omega (arith, (bit_at-trailing_zeros w32 a some fits).2 j lower, eqb-true (bit_at a j) 1 set))
+  | inr above ↦ above
+]

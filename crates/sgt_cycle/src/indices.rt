@@ -50,6 +50,7 @@ pub fn minus(set: u32, other: u32) -> u32
 /// The least index of the set.
 pub fn least(set: u32) -> Option<u8>
     ensures some { IfSome result (λ i. (i < 32) × (is_set set i ≡ true)) }
+    ensures least { IfSome result (λ i. (j : ℕ) → is_set set j ≡ true → i ≤ j) }
     ensures none { IsNone result → (i : ℕ) → is_set set i ≡ false }
 {
     if set == 0 {

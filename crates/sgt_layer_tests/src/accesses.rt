@@ -65,9 +65,10 @@ fn forget<A: Accesses>(accesses: &mut A, t: u32)
     accesses.forget(Tid(t));
 }
 
-/// Whether these are the rivals of an access.
+/// Whether these are the rivals of an access, and it says that there are any exactly where one is wanted.
 fn are_rivals<A: Accesses>(accesses: &A, t: u32, key: Key, kind: Kind, wanted: &[Tid]) -> bool
     requires { length (A.list accesses.now) ≤ 32 }
 {
-    accesses.rivals(Tid(t), key, kind).as_slice() == wanted
+    let has_any = accesses.has_rival(Tid(t), key, kind);
+    accesses.rivals(Tid(t), key, kind).as_slice() == wanted && has_any != wanted.is_empty()
 }

@@ -1,9 +1,8 @@
 -- The history that a text spells, and the first fault of a text that spells none.
 use Rattle.std.specs.Prelude.{◌≡◌, ℕ, ⊤, List, length, map, take, Some, slice_get, if◌then◌else◌}
 use Rattle.std.specs.List.{AllZip}
-use Rattle.sgt_classes.specs.Histories.{Does, EndedBefore}
+use Rattle.sgt_classes.specs.Histories.{EndedBefore, IsWellFormed}
 use Rattle.sgt_classes.specs.declared.operation.Operation.{Operation}
-use Rattle.sgt_classes.specs.declared.operation.Action.{Action}
 use Rattle.sgt_notation.specs.Words.{Word}
 use Rattle.sgt_notation.specs.Spellings.{is_within, IsSpelled, IsOperation}
 use Rattle.sgt_notation.specs.declared.fault.NotationFault.{NotationFault}
@@ -22,7 +21,7 @@ texts h = map (λ text. text.items) h.items.items
 -- items have one text.
 pub record AreRead (ws : List Word) (items : List (List ℕ)) (operations : List Operation) : Type 0 where
   pub spelled : AllZip (λ (w : Word) (op : Operation). IsSpelled w.text items op) ws operations
-  pub ends_are_last : (i t : ℕ) (a : Action) → Does operations i t a → ¬ EndedBefore operations t i
+  pub ends_are_last : IsWellFormed operations
   pub apart : (x y : ℕ) (text : List ℕ) → slice_get items x ≡ Some text → slice_get items y ≡ Some text → x ≡ y
 
 -- the word is at fault behind these operations: it spells none, or one of a transaction that has ended

@@ -1,4 +1,4 @@
-ghost use Rattle.std.specs.Prelude.{◌≡◌, ◌+◌, ◌<◌, ◌≤◌, false, List, [], ◌∷◌, ◌++◌, All, length, vec_len, vec_capacity, IfOk, MatchResult};
+ghost use Rattle.std.specs.Prelude.{◌≡◌, ◌+◌, ◌<◌, ◌≤◌, ◌&&◌, false, List, [], ◌∷◌, ◌++◌, All, length, vec_len, vec_capacity, IfOk, MatchResult};
 ghost use Rattle.std.specs.List.{sum_by};
 ghost use Rattle.sgt_model.specs.declared.event.Event.TheVariants.{Commit};
 ghost use Rattle.sgt_session.specs.declared.receipt.Receipt.{Receipt};
@@ -137,7 +137,8 @@ impl<N: Named> Session<N> {
         if shared.sessions > 1 && matches!(event, Event::Start { .. }) {
             self.receipts.touch_room();
         }
-        self.make_one(rt, shared, event, false)
+        self.make_one(rt, shared, event, false)?;
+        Ok(())
     }
 
     /// Commits, and waits where another transaction has to end first: it makes the event anew after each wake, until the reply
@@ -173,35 +174,34 @@ impl<N: Named> Session<N> {
             (λ _. self.new ≡ self.old ++ waits) }
     {
         for _ in rt.forever() {
-            self.make_one(rt, shared, Event::Commit(t), true)?;
-            if !self.last_entry().is_wait() {
+            if !self.make_one(rt, shared, Event::Commit(t), true)? {
                 return Ok(());
             }
         }
         unreachable!()
     }
 
-    /// One event, with its receipt filed. Where the reply tells to wait, and it `may_wait`, it begins to do so in the same hold
-    /// of the lock, and returns after a wake.
+    /// One event, with its receipt filed. If the reply is `Waits` and the call `may_wait`, it begins to wait in the same hold of
+    /// the lock, and returns after a wake. Returns whether it waited.
     fn make_one<R: Records, A: Accesses, G: Graph, W: Wait>(
         &mut self,
         rt: &W,
         shared: &Shared<N, R, A, G>,
         event: Event,
         may_wait: bool,
-    ) -> Result<(), NoMemory>
+    ) -> Result<bool, NoMemory>
         ensures { MatchResult result
-            (λ _. (r : Receipt) × (r.event ≡ event) × (self.new ≡ self.old ++ r ∷ []))
+            (λ waited. (r : Receipt) × (r.event ≡ event) × (self.new ≡ self.old ++ r ∷ []) × (waited ≡ (may_wait && is_wait r.reply)))
             (λ _. self.new ≡ self.old) }
     {
         make_receipt_room(&mut self.receipts, &mut self.own, &event)?;
         let (turn, mut round) = shared.lock_policy.lock(rt, &shared.round, &event);
         round.apply(event, &mut self.share, &mut self.receipts)?;
         let entry = self.receipts.last_entry();
-        shared.waiters.end_hold(rt, turn, round, &entry, may_wait);
+        let waited = shared.waiters.end_hold(rt, turn, round, &entry, may_wait);
         note(&mut self.own, &entry);
         shared.waiters.wake_after(&entry);
-        Ok(())
+        Ok(waited)
     }
 
     /// A share with no part, of this session's ledger.

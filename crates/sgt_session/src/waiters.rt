@@ -1,5 +1,6 @@
-ghost use Rattle.std.specs.Prelude.{◌≡◌};
-ghost use Rattle.sgt_model.specs.Questions.{is_ending};
+//! Commits that wait for the end of another transaction, and what wakes them.
+ghost use Rattle.std.specs.Prelude.{◌≡◌, ◌&&◌};
+ghost use Rattle.sgt_model.specs.Questions.{is_ending, is_wait};
 
 use crate::lock_policy::Turn;
 use sgt_log::EntryRef;
@@ -19,8 +20,8 @@ impl Waiters {
         }
     }
 
-    /// Ends the hold of the lock of a call that was answered with this entry, and then its turn. Where the reply tells to wait, and it
-    /// `may_wait`, it begins to do so in that hold, and returns after a wake.
+    /// Ends the hold of the lock of a call that was answered with this entry, and then its turn. If the reply is `Waits` and the call
+    /// `may_wait`, it begins to wait in that hold, and returns after a wake. Returns whether it waited.
     pub fn end_hold<'l, W: Wait, T>(
         &self,
         rt: &W,
@@ -28,13 +29,17 @@ impl Waiters {
         guard: MutexGuard<'l, T>,
         entry: &EntryRef<'_>,
         may_wait: bool,
-    ) {
-        if may_wait && entry.is_wait() {
+    ) -> bool
+        ensures { result ≡ (may_wait && is_wait entry.now.reply) }
+    {
+        let waits = may_wait && entry.is_wait();
+        if waits {
             drop(self.ended.wait(rt, guard));
         } else {
             drop(guard);
         }
         drop(turn);
+        waits
     }
 
     /// Wakes all who wait where the entry ends a live transaction, and tells whether it did. No other entry lets a commit go

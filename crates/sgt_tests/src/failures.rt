@@ -51,6 +51,68 @@ fn writes(call: Call, bytes: &[u8]) -> (bool, u64) {
     (is_failed, writer.failures)
 }
 
+/// Fails at its first call and works from then on. It counts its calls.
+#[derive(Drop)]
+struct FailsOnce {
+    calls: u32,
+}
+
+impl FailsOnce {
+    /// Whether this call works.
+    fn works(&mut self) -> bool {
+        self.calls = self.calls.saturating_add(1);
+        self.calls > 1
+    }
+}
+
+impl Read for FailsOnce {
+    fn read(&mut self, room: &mut [u8]) -> io::Result<usize> {
+        if self.works() {
+            Ok(room.len())
+        } else {
+            Err(io::Error::from(ErrorKind::Interrupted))
+        }
+    }
+}
+
+impl Write for FailsOnce {
+    fn write(&mut self, bytes: &[u8]) -> io::Result<usize> {
+        if self.works() {
+            Ok(bytes.len())
+        } else {
+            Err(io::Error::from(ErrorKind::Interrupted))
+        }
+    }
+
+    fn flush(&mut self) -> io::Result<()> {
+        Ok(())
+    }
+}
+
+/// Whether a call failed, how many failures are counted after it, and how many calls were made of what stands below.
+type Seen = (bool, u64, u32);
+
+const FAILED: Seen = (true, 1, 1);
+
+const WORKED: Seen = (false, 1, 2);
+
+#[test]
+fn a_read_that_failed_is_not_tried_again(rt: HostRuntime) {
+    let mut reader = Reader::new(FailsOnce { calls: 0 });
+    let mut room = [0; 4];
+    let first = (reader.read(&mut room).is_err(), reader.failures, reader.inner.calls);
+    let second = (reader.read(&mut room).is_err(), reader.failures, reader.inner.calls);
+    assert!(rt; first == FAILED && second == WORKED);
+}
+
+#[test]
+fn a_write_that_failed_is_not_tried_again(rt: HostRuntime) {
+    let mut writer = Writer::new(FailsOnce { calls: 0 });
+    let first = (writer.write(b"some").is_err(), writer.failures, writer.inner.calls);
+    let second = (writer.write(b"some").is_err(), writer.failures, writer.inner.calls);
+    assert!(rt; first == FAILED && second == WORKED);
+}
+
 #[test]
 fn only_calls_that_fail_are_counted(rt: HostRuntime) {
     let (all, nothing) = (reads(Call::TakesAll), reads(Call::TakesNothing));

@@ -74,20 +74,20 @@ each_at a [] j t at = absurd (cc)
 each_at a (u ∷ l) zero t at = ap (λ v. Some (does v a)) (some_is u t at)
 each_at a (u ∷ l) (suc j) t at = each_at a l j t at
 
-each_is : (a : Action) (l : List ℕ) (j t : ℕ) (b : Action) → slice_get (each_does a l) j ≡ Some (does t b)
+pub each_is : (a : Action) (l : List ℕ) (j t : ℕ) (b : Action) → slice_get (each_does a l) j ≡ Some (does t b)
     → (a ≡ b) × (slice_get l j ≡ Some t)
 each_is a [] j t b at = absurd (cc)
 each_is a (u ∷ l) zero t b at = let same = some_is (does u a) (does t b) at in
     (ap (λ (o : Operation). o.action) same, ap (λ (o : Operation). Some o.transaction) same)
 each_is a (u ∷ l) (suc j) t b at = each_is a l j t b at
 
-alone : (u j t : ℕ) → slice_get (u ∷ []) j ≡ Some t → (j ≡ 0) × (u ≡ t)
+pub alone : (u j t : ℕ) → slice_get (u ∷ []) j ≡ Some t → (j ≡ 0) × (u ≡ t)
 alone u zero t at = (refl, some_is u t at)
 alone u (suc j) t at = absurd (cc)
 
 -- of the event
 
-named_is : (event : Event) (j t : ℕ) → slice_get (named event) j ≡ Some t → (j ≡ 0) × (concerns event t ≡ true)
+pub named_is : (event : Event) (j t : ℕ) → slice_get (named event) j ≡ Some t → (j ≡ 0) × (concerns event t ≡ true)
 named_is (Start p args) j t at = absurd (cc)
 named_is (Step u) j t at = let a = alone u j t at in (a.0, eq-eqb u t a.1)
 named_is (Commit u) j t at = let a = alone u j t at in (a.0, eq-eqb u t a.1)

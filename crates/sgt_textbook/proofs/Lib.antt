@@ -4,5 +4,6 @@ pub mod Histories
 pub mod ReadingFrom
 pub mod Edges
 pub mod SerialOrder
+pub mod Ends
 pub mod Numbering
 pub mod Examples

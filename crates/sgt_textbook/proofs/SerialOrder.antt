@@ -12,8 +12,8 @@ use Rattle.sgt_model.specs.CommitOrder.{CommitsBefore}
 use Rattle.sgt_model.specs.Laws.{CommitsAlwaysInOrder, CommitsAlwaysInLine}
 use Rattle.sgt_model.proofs.Facts.{end-live, live-not_committed, committed-stays, commit-case}
 use Rattle.sgt_classes.specs.declared.operation.Action.TheVariants as action
-use Rattle.sgt_textbook.specs.Textbook.{committed_in, commit_order}
-use Rattle.sgt_textbook.specs.Laws.{CommitOrdersAreSerial}
+use Rattle.sgt_classes.specs.Serializability.{IsSerialOrder}
+use Rattle.sgt_textbook.specs.Textbook.{IsNumbering, textbook, committed_in, commit_order}
 use Rattle.sgt_textbook.proofs.Places.{split_at, in_first, in_second}
 use Rattle.sgt_textbook.proofs.Entries.{tells}
 use Rattle.sgt_textbook.proofs.Histories.{commit_committed, committed_commits, conflict_commits}
@@ -91,7 +91,8 @@ listed_in_turn in_line number s (e ∷ past) h i j t u b first second =
     go rest (inr b) (inl x) (inr y) = let p = y.0 in omega (arith, x.0, p)
     go rest (inr b) (inr x) y = absurd (once_only s e past h t x.1 ((in_line s past h.0).of_committed t u b).0)
 
-pub commit_order_serial : CommitsAlwaysInOrder → CommitsAlwaysInLine → CommitOrdersAreSerial
+pub commit_order_serial : CommitsAlwaysInOrder → CommitsAlwaysInLine → (number : Key → ℕ) → IsNumbering number → (s : Setting)
+    (past : List Entry) → Legal s past → IsSerialOrder (textbook number past) (commit_order past)
 commit_order_serial in_order in_line number injective s past h = record {
   once = listed_once number s past h;
   are_committed = λ t. (

@@ -10,7 +10,10 @@ use Rattle.sgt_model.specs.Legality.{Legal}
 use Rattle.sgt_model.specs.Laws.{InEach}
 use Rattle.sgt_classes.specs.declared.operation.Operation.{Operation}
 use Rattle.sgt_classes.specs.Classes.{ReadsFrom, AvoidsCascadingAborts, IsRecoverable}
-use Rattle.sgt_classes.specs.Serializability.{IsEdge, IsCommitOrdered, IsSerializable, IsSerialOrder}
+use Rattle.sgt_classes.specs.Histories.{IsWellFormed}
+use Rattle.sgt_classes.specs.Serializability.{IsEdge, IsCommitOrdered, IsSerialOrder}
+use Rattle.sgt_classes.specs.Equivalence.{IsSerializable, IsSerialRun, committed_projection, serial_history}
+use Rattle.sgt_classes.specs.ViewEquivalence.{AreViewEquivalent}
 use Rattle.sgt_textbook.specs.Textbook.{IsNumbering, textbook, commit_order}
 
 -- what holds of the textbook's history of every legal one, for each numbering of its keys
@@ -23,11 +26,15 @@ pub record TextbookLaws (past : List Entry) : Type 0 where
   pub serializable : (number : Key → ℕ) → IsNumbering number → IsSerializable (textbook number past)
   pub recoverable : (number : Key → ℕ) → IsNumbering number → IsRecoverable (textbook number past)
 
+-- it is well formed: no transaction does anything after its commit or abort
+abbrev pub AreWellFormed : Type 0
+AreWellFormed = OfEachTextbook IsWellFormed
+
 -- it is commit ordered: where operations of two committed transactions conflict, that of the earlier one commits first
 abbrev pub AreCommitOrdered : Type 0
 AreCommitOrdered = OfEachTextbook IsCommitOrdered
 
--- it is serializable: its serialization graph has no cycle
+-- it is serializable: its committed projection is conflict equivalent to a serial history
 abbrev pub AreSerializable : Type 0
 AreSerializable = OfEachTextbook IsSerializable
 
@@ -49,10 +56,19 @@ abbrev pub ReadsAgree : Type 0
 ReadsAgree = (number : Key → ℕ) → IsNumbering number → InEach (λ s past. (w r : ℕ) → w ≢ r →
     ReadsSomewhere (textbook number past) w r ↔ ReadFrom past r w)
 
--- its committed transactions in the order of their commits are a serial order of it
+-- Its committed transactions in the order of their commits are a serial order of it. One after another in this order, they are a serial
+-- history that is conflict equivalent to its committed projection.
 abbrev pub CommitOrdersAreSerial : Type 0
-CommitOrdersAreSerial =
-    (number : Key → ℕ) → IsNumbering number → InEach (λ s past. IsSerialOrder (textbook number past) (commit_order past))
+CommitOrdersAreSerial = (number : Key → ℕ) → IsNumbering number
+    → InEach (λ s past. IsSerialOrder (textbook number past) (commit_order past)
+    × IsSerialRun (textbook number past) (serial_history (textbook number past) (commit_order past)))
+
+-- This serial history is view equivalent to its committed projection: each read reads from the same write, and the final writes are the
+-- same.
+abbrev pub CommitOrdersReadAlike : Type 0
+CommitOrdersReadAlike = (number : Key → ℕ) → IsNumbering number
+    → InEach (λ s past. AreViewEquivalent (committed_projection (textbook number past))
+    (serial_history (textbook number past) (commit_order past)))
 
 -- there is a numbering of all keys
 abbrev pub KeysCanBeNumbered : Type 0

@@ -4,8 +4,8 @@ ghost use Rattle.std.specs.Prelude.{◌≡◌, [], IfSome};
 use sgt_access::OneList;
 use sgt_engine::{Engine, run_list};
 use sgt_graph::PairGraph;
-use sgt_model::{Args, Asks, Database, Event, Limits};
-use sgt_proc::Checked;
+use sgt_model::{Args, Asks, Database, Event, Expr, Limits, Procedure, Statement};
+use sgt_proc::{Checked, check};
 use sgt_records::ListRecords;
 use sgt_session::Shared;
 use sgt_smallbank::{Account, opening, procedures};
@@ -22,6 +22,12 @@ pub const DEPOSIT_CHECKING: u16 = 1;
 pub const TRANSACT_SAVING: u16 = 2;
 
 pub const WRITE_CHECK: u16 = 4;
+
+/// Stores 1 at record 7 of table 3, and raises code 9. It takes no arguments.
+pub const PUT_AND_RAISE: u16 = 5;
+
+/// Reads that record, and raises code 8 where there is none.
+pub const READ_IT: u16 = 6;
 
 const LIMITS: Limits = Limits {
     live: 32,
@@ -51,6 +57,42 @@ pub fn new_engine(alloc: Global) -> Option<ListEngine>
 {
     let (database, procedures) = parts(alloc)?;
     Engine::new(alloc, database, procedures, LIMITS).ok()
+}
+
+/// The procedures `PUT_AND_RAISE` and `READ_IT`.
+fn two_more(alloc: Global) -> Option<(Checked, Checked)> {
+    let put = Statement::Put {
+        table: 3,
+        id: Expr::Num(7),
+        value: Expr::Num(1),
+    };
+    let look = Statement::Look {
+        reg: 0,
+        table: 3,
+        id: Expr::Num(7),
+        absent: 8,
+    };
+    let puts = vec![in alloc; put, Statement::Ask { code: 9 }].ok()?;
+    let looks = vec![in alloc; look].ok()?;
+    let first = check(Procedure { args: 0, body: puts }).ok()?;
+    let second = check(Procedure { args: 0, body: looks }).ok()?;
+    Some((first, second))
+}
+
+/// An engine with the five accounts and the two procedures more, which reports codes at the commit. Nothing was done yet.
+pub fn new_engine_at_commit(alloc: Global) -> Option<ListEngine>
+    ensures { IfSome result (λ engine. engine.past ≡ []) }
+{
+    let (database, mut procedures) = parts(alloc)?;
+    let (first, second) = two_more(alloc)?;
+    procedures.push(first).ok()?;
+    procedures.push(second).ok()?;
+    let limits = Limits {
+        live: 32,
+        begins: 4_000_000_000,
+        asks: Asks::AtCommit,
+    };
+    Engine::new(alloc, database, procedures, limits).ok()
 }
 
 /// An engine with the five accounts, where these events were done.

@@ -1,6 +1,8 @@
 //! What threads do that share an engine, each with a session of its own.
 
-use crate::engine::{BALANCE, DEPOSIT_CHECKING, SharedEngine, TRANSACT_SAVING, start};
+use crate::engine::{
+    BALANCE, DEPOSIT_CHECKING, PUT_AND_RAISE, READ_IT, SharedEngine, TRANSACT_SAVING, start,
+};
 use sgt_model::{Event, Reply, Tid};
 use sgt_session::{Named, Session};
 use std::sync::Wait;
@@ -26,6 +28,10 @@ pub enum Play {
     AskAtOnce,
     /// The first puts in twice, and two others ask for the balance meanwhile.
     AskBehindTwo,
+    /// The first deposits and then quits, and the second, which has read the deposit, waits meanwhile.
+    WaitForQuit,
+    /// The first stores and raises a code at its commit, and the second, which has read what it stored, waits meanwhile.
+    WaitForRefusal,
 }
 
 /// What a thread does at one time. Its transactions are told by how many it has started behind them; it starts them one after
@@ -47,6 +53,15 @@ enum Deed {
     Commits(u32),
     /// Goes on only where its session has so many receipts.
     Counts(usize),
+    /// Quits a transaction.
+    Quits(u32),
+    /// Starts a transaction of this procedure with these arguments, and makes one step.
+    StartsShort(u16, &'static [i64]),
+    /// Tells the others that its last call has returned.
+    TellsEnd,
+    /// Looks until the second seat's thread has told that. If it does not in time, starts one more transaction and commits it, so
+    /// that a thread that no end has woken goes on, and the play ends.
+    WakesUnlessEnded,
 }
 
 /// Deposits 1.00, and commits once the other has asked to commit.
@@ -99,6 +114,45 @@ const ASKS_BEHIND_OWN: [Deed; 6] = [
     Deed::CallsCommit(0),
 ];
 
+/// Deposits 1.00, and quits once the other has asked to commit. Its end has to wake the other.
+const DEPOSITS_AND_QUITS: [Deed; 6] = [
+    Deed::Starts(DEPOSIT_CHECKING, &[1, 100]),
+    Deed::Tells,
+    Deed::Awaits(1),
+    Deed::LetsCall(0, 5),
+    Deed::Quits(0),
+    Deed::WakesUnlessEnded,
+];
+
+/// Asks for the balance once all is stored, commits behind whom it has read from, and tells when that call has returned.
+const ASKS_AND_TELLS: [Deed; 5] = [
+    Deed::Needs(0),
+    Deed::Starts(BALANCE, &[1]),
+    Deed::Tells,
+    Deed::Commits(0),
+    Deed::TellsEnd,
+];
+
+/// Stores, and commits once the other has asked to commit. Its procedure raises a code, so the commit is refused, and that end has
+/// to wake the other.
+const STORES_AND_RAISES: [Deed; 6] = [
+    Deed::StartsShort(PUT_AND_RAISE, &[]),
+    Deed::Tells,
+    Deed::Awaits(1),
+    Deed::LetsCall(0, 3),
+    Deed::Commits(0),
+    Deed::WakesUnlessEnded,
+];
+
+/// Reads what was stored, commits behind the one that stored it, and tells when that call has returned.
+const READS_AND_TELLS: [Deed; 5] = [
+    Deed::Needs(0),
+    Deed::StartsShort(READ_IT, &[]),
+    Deed::Tells,
+    Deed::Commits(0),
+    Deed::TellsEnd,
+];
+
 /// What the thread of this seat does in a play.
 fn deeds(play: Play, seat: usize) -> &'static [Deed] {
     match (play, seat) {
@@ -107,6 +161,10 @@ fn deeds(play: Play, seat: usize) -> &'static [Deed] {
         (Play::AskAtOnce, _) => &ASKS_BEHIND_OWN,
         (Play::AskBehindTwo, 0) => &PUTS_IN_TWICE,
         (Play::AskBehindTwo, _) => &ASKS_TWICE,
+        (Play::WaitForQuit, 0) => &DEPOSITS_AND_QUITS,
+        (Play::WaitForQuit, _) => &ASKS_AND_TELLS,
+        (Play::WaitForRefusal, 0) => &STORES_AND_RAISES,
+        (Play::WaitForRefusal, _) => &READS_AND_TELLS,
     }
 }
 
@@ -116,6 +174,8 @@ fn deeds(play: Play, seat: usize) -> &'static [Deed] {
 struct Stage {
     play: Play,
     has_told: [AtomicBool; 3],
+    /// Whether the last call of the second seat's thread has returned.
+    has_ended: AtomicBool,
 }
 
 /// Waits for a flag, and tells whether it was raised in time.
@@ -204,6 +264,38 @@ fn starts<N: Named, W: Wait>(
     }
 }
 
+/// Starts a transaction, which is the newest one then, and makes one step.
+fn starts_short<N: Named, W: Wait>(
+    rt: &W,
+    shared: &SharedEngine<N>,
+    session: &mut Session<N>,
+    newest: &mut Tid,
+    event: Event,
+) -> bool {
+    match started(rt, shared, session, event) {
+        Some(t) => {
+            *newest = t;
+            session.make(rt, shared, Event::Step(t)).is_ok()
+        }
+        None => false,
+    }
+}
+
+/// Starts a transaction and commits it, unless the other's last call returns in time. The history shows it if it was needed.
+fn wakes_unless_ended<N: Named, W: Wait>(
+    rt: &W,
+    shared: &SharedEngine<N>,
+    session: &mut Session<N>,
+    stage: &Stage,
+    newest: &mut Tid,
+) {
+    if !is_raised(&stage.has_ended)
+        && starts(rt, shared, session, newest, start(BALANCE, &[2]))
+    {
+        let _ = session.make(rt, shared, Event::Commit(*newest));
+    }
+}
+
 /// The transaction behind which a thread has started so many.
 fn before(newest: Tid, behind: u32) -> Tid {
     Tid(newest.0.saturating_sub(behind))
@@ -235,6 +327,14 @@ fn does<N: Named, W: Wait>(
                 .is_ok()
         }
         Deed::Counts(count) => session.receipts().len() == *count,
+        Deed::Quits(behind) => {
+            session
+                .make(rt, shared, Event::Quit(before(*newest, *behind)))
+                .is_ok()
+        }
+        Deed::StartsShort(procedure, args) => {
+            starts_short(rt, shared, session, newest, start(*procedure, args))
+        }
         _ => true,
     }
 }
@@ -249,6 +349,10 @@ fn meets(stage: &Stage, seat: usize, deed: &Deed) -> bool {
     match deed {
         Deed::Tells => {
             flag(stage, seat).store(true, Ordering::SeqCst);
+            true
+        }
+        Deed::TellsEnd => {
+            stage.has_ended.store(true, Ordering::SeqCst);
             true
         }
         Deed::Needs(other) => is_raised(flag(stage, *other)),
@@ -273,6 +377,9 @@ fn plays<N: Named, W: Wait>(
         if !meets(stage, seat, deed) || !does(rt, shared, session, &mut newest, deed) {
             break;
         }
+        if matches!(deed, Deed::WakesUnlessEnded) {
+            wakes_unless_ended(rt, shared, session, stage, &mut newest);
+        }
     }
 }
 
@@ -290,6 +397,7 @@ pub fn all_play<N: Named + Send + Sync, R: Threads + Wait + Sync>(
             AtomicBool::new(false),
             AtomicBool::new(false),
         ],
+        has_ended: AtomicBool::new(false),
     };
     let stage = &stage;
     thread::for_each_mut(

@@ -2,12 +2,12 @@
 ghost use Rattle.std.specs.Prelude.{◌≡◌, ◌≤◌, [], IsTrue};
 ghost use Rattle.sgt_engine.specs.EngineView.{setting_of};
 
-use crate::engine::{ListEngine, SharedEngine, new_engine};
+use crate::engine::{ListEngine, SharedEngine, new_engine, new_engine_at_commit};
 use crate::plays::{Play, all_play};
 use sgt_access::OneList;
 use sgt_log::History;
 use sgt_graph::PairGraph;
-use sgt_model::{Entry, Event, Reply, Tid};
+use sgt_model::{Entry, Event, Fate, Reply, Tid};
 use sgt_records::ListRecords;
 use sgt_session::{CloseError, Named, Session, Shared};
 use std::alloc::Global;
@@ -123,7 +123,11 @@ fn left_by<R: Threads + Wait + Sync>(
     if threads < 1 || threads > 3 {
         return None;
     }
-    played(rt, alloc, new_engine(alloc)?, threads, play)
+    let engine = match play {
+        Play::WaitForRefusal => new_engine_at_commit(alloc)?,
+        _ => new_engine(alloc)?,
+    };
+    played(rt, alloc, engine, threads, play)
 }
 
 /// Cuts the history of an engine off, and tells whether that was done.
@@ -159,6 +163,10 @@ enum Told {
     Wrote(i64),
     Waits(u32),
     Committed(Option<i64>),
+    Quit,
+    Refused(u16),
+    /// It has fallen with this one before.
+    Fell(u32),
 }
 
 /// What is compared of the reply to a step.
@@ -175,6 +183,8 @@ fn ended(reply: &Reply) -> Option<Told> {
     match reply {
         Reply::Waits(first) => Some(Told::Waits(first.0)),
         Reply::Committed(answers) => Some(Told::Committed(answers.as_slice().first().copied())),
+        Reply::Refused { code, .. } => Some(Told::Refused(*code)),
+        Reply::Over(Fate::Fell(first)) => Some(Told::Fell(first.0)),
         _ => None,
     }
 }
@@ -193,6 +203,7 @@ fn compared(entry: &Entry, t: Tid) -> Option<Told> {
         Event::Start { .. } if is_started(&entry.reply, t) => Some(Told::Started),
         Event::Step(s) if *s == t => stepped(&entry.reply),
         Event::Commit(s) if *s == t => ended(&entry.reply),
+        Event::Quit(s) if *s == t => Some(Told::Quit),
         _ => None,
     }
 }
@@ -211,21 +222,27 @@ fn waits_again(all: &[Told], count: usize, one: &Told) -> bool {
     matches!(one, Told::Waits(_)) && count > 0 && is_at(all, count - 1, one)
 }
 
-/// Whether the transaction was told just this, each wait once or more often.
+/// How often a commit may be told once more to wait for the same one. A wake without cause is rare; a commit that asks again and
+/// again in place of waiting is told so thousands of times.
+const MOST_REPEATS: u32 = 8;
+
+/// Whether the transaction was told just this, each wait once or a few times more.
 fn is_told(history: &History, t: Tid, all: &[Told]) -> bool {
     let mut count: usize = 0;
+    let mut repeats: u32 = 0;
     for place in 0..history.len() {
         let entry = history.at(place);
         if let Some(one) = compared(&entry, t) {
-            if !waits_again(all, count, &one) {
-                if !is_at(all, count, &one) {
-                    return false;
-                }
+            if waits_again(all, count, &one) {
+                repeats = repeats.saturating_add(1);
+            } else if is_at(all, count, &one) {
                 count = count.saturating_add(1);
+            } else {
+                return false;
             }
         }
     }
-    count == all.len()
+    count == all.len() && repeats <= MOST_REPEATS
 }
 
 /// Whether each of these transactions was told just this.
@@ -275,27 +292,74 @@ const ASKED_BEHIND_TWO: [Told; 7] = [
     Told::Committed(Some(1650)),
 ];
 
-/// What is shown, how many threads play what, and what two transactions of theirs are told.
-type Row = (&'static str, u16, Play, [(u32, &'static [Told]); 2]);
+/// What is shown, how many threads play what, and what transactions of theirs are told. Of one that is not started nothing is told.
+type Row = (
+    &'static str,
+    u16,
+    Play,
+    &'static [(u32, &'static [Told])],
+);
 
-const ROWS: [Row; 3] = [
+/// The deposit, which is quit once the other waits.
+const QUIT: [Told; 5] = [
+    Told::Started,
+    Told::Looked(Some(101)),
+    Told::Looked(Some(1000)),
+    Told::Wrote(1100),
+    Told::Quit,
+];
+
+/// It has read the deposit that is quit, and is told so at its commit.
+const FELL: [Told; 6] = [
+    Told::Started,
+    Told::Looked(Some(101)),
+    Told::Looked(Some(500)),
+    Told::Looked(Some(1100)),
+    Told::Waits(0),
+    Told::Fell(0),
+];
+
+/// It stores, and is refused at its commit.
+const REFUSED: [Told; 3] = [Told::Started, Told::Wrote(1), Told::Refused(9)];
+
+/// It has read what the refused one stored.
+const FELL_WITH_REFUSED: [Told; 4] = [
+    Told::Started,
+    Told::Looked(Some(1)),
+    Told::Waits(0),
+    Told::Fell(0),
+];
+
+const ROWS: [Row; 5] = [
     (
         "two sessions meet",
         2,
         Play::Meet,
-        [(0, &DEPOSITED), (1, &ASKED)],
+        &[(0, &DEPOSITED), (1, &ASKED)],
     ),
     (
         "a call that has to wait returns at once",
         1,
         Play::AskAtOnce,
-        [(0, &DEPOSITED), (1, &ASKED)],
+        &[(0, &DEPOSITED), (1, &ASKED)],
     ),
     (
         "an end wakes all that wait for it",
         3,
         Play::AskBehindTwo,
-        [(2, &ASKED_BEHIND_TWO), (3, &ASKED_BEHIND_TWO)],
+        &[(2, &ASKED_BEHIND_TWO), (3, &ASKED_BEHIND_TWO)],
+    ),
+    (
+        "a quit wakes who waits for it",
+        2,
+        Play::WaitForQuit,
+        &[(0, &QUIT), (1, &FELL), (2, &[])],
+    ),
+    (
+        "a refusal wakes who waits for it",
+        2,
+        Play::WaitForRefusal,
+        &[(0, &REFUSED), (1, &FELL_WITH_REFUSED), (2, &[])],
     ),
 ];
 

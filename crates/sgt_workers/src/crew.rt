@@ -17,7 +17,8 @@ use std::sync::{Mutex, Wait};
 use std::thread;
 use std::thread::{PromisedHandle, Scope, Threads};
 
-/// Runs the jobs in a thread for each session, and gives the sessions back. Each worker takes room for so many calls.
+/// Runs the jobs in a thread for each session, and gives the sessions back, with the putter of the jobs, which has joined what each
+/// worker took. Each worker takes room for so many calls.
 ///
 /// `NoMemory` where a growth was refused; `Spawn` where a thread could not be made: then no job was put.
 pub fn run_sessions<
@@ -37,8 +38,9 @@ pub fn run_sessions<
     tries: u32,
     calls: usize,
     sessions: Vec<Session<N>>,
-) -> Result<Vec<Session<N>>, PoolError>
+) -> Result<(Putter, Vec<Session<N>>), PoolError>
     requires { vec_len sessions ≤ 16 }
+    ensures joined { IfOk result (λ r. r.0.unjoined ≡ 0) }
     ensures error { IfErr result IsRunError }
 {
     // It holds all jobs at once, so that nobody waits for room in it.
@@ -229,13 +231,15 @@ fn join_all<N: Named, W: Threads>(
     ended
 }
 
-/// Joins the passes of the feed one by one, and gives the sessions.
+/// Joins the passes of the feed one by one, and gives the sessions with the putter, of whose takers none is left unjoined.
 fn join_passes<N: Named>(
     alloc: Global,
     putter: Putter,
     ended: Vec<Ended<N>>,
-) -> Result<Vec<Session<N>>, PoolError>
-    requires { All (λ e. e.stub.feed ≡ putter.feed) ended.items }
+) -> Result<(Putter, Vec<Session<N>>), PoolError>
+    requires feed { All (λ e. e.stub.feed ≡ putter.feed) ended.items }
+    requires all { vec_len ended ≡ putter.unjoined }
+    ensures joined { IfOk result (λ r. r.0.unjoined ≡ 0) }
     ensures error { IfErr result IsRunError }
 {
     let Ok(mut sessions) = Vec::with_capacity(alloc, ended.len()) else {
@@ -247,5 +251,5 @@ fn join_passes<N: Named>(
         putter = putter.join(stub);
         sessions.push_reserved(session);
     }
-    Ok(sessions)
+    Ok((putter, sessions))
 }

@@ -135,7 +135,7 @@ fn run_named<
         return Err(PoolError::NoMemory);
     };
     let calls = calls / usize::from(workers);
-    let sessions = run_sessions(
+    let (_putter, sessions) = run_sessions(
         rt, alloc, &shared, gate, outcomes, jobs, tries, calls, sessions,
     )?;
     let Ok(

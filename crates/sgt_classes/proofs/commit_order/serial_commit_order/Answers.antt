@@ -4,6 +4,7 @@ use Rattle.sgt_classes.specs.declared.operation.Operation.{Operation}
 use Rattle.sgt_classes.specs.declared.operation.Action.TheVariants.{Read, Commit}
 use Rattle.sgt_classes.specs.Tables.{entry_of}
 use Rattle.sgt_classes.proofs.Places.{there, does_at}
+use Rattle.sgt_classes.proofs.SerialRuns.{serial_order_runs}
 use Rattle.sgt_classes.proofs.CommitOrders.{IsCommitOrder, order_begins, order_grows, order_stays, order_serial, some_of, none_of}
 use Rattle.sgt_classes.proofs.commit_order.serial_commit_order.Goals.{then-eq+then-contains_key+in_ok-push, else-eq, else-eq-via-then-eq+else-contains_key, else-eq-via-else-eq}
 use Rattle.sgt_classes.proofs.commit_order.serial_commit_order.Goals as goal
@@ -44,3 +45,8 @@ returns-clause-serial c = (order_serial c.args.history.now c.loop-place.place c.
 pub returns-clause-first : goal.returns-clause-first
 returns-clause-first c = (order_serial c.args.history.now c.loop-place.place c.loop-place.order.items (entry_of c.loop-place.left)
     (omega (arith, c.loop-place-test.false)) c.loop-place.invariant).1
+
+pub returns-clause-equivalent : goal.returns-clause-equivalent
+returns-clause-equivalent c = serial_order_runs c.args.history.now c.loop-place.order.items
+    (order_serial c.args.history.now c.loop-place.place c.loop-place.order.items (entry_of c.loop-place.left)
+    (omega (arith, c.loop-place-test.false)) c.loop-place.invariant).0

@@ -1,4 +1,4 @@
-use Rattle.sgt_classes.proofs.Witnesses.{serial_order_enough}
+use Rattle.sgt_classes.proofs.EdgeDecisions.{serial_order_enough}
 use Rattle.sgt_classes.proofs.laws.serial_orders_are_enough.Goals as goal
 
 pub returns : goal.returns

@@ -16,6 +16,7 @@ loop-one-preserved g c =
     let push = c.push_reserved.ensures in
     let count = ap length steps.0 in
     let same = ap (λ (p : PutterState). p.feed) c.join-putter.ensures.joined in
+    let fewer = ap (λ (p : PutterState). p.unjoined) c.join-putter.ensures.joined in
     let rest = (first_and_rest c.loop-one.one-iterator.rest.items c.next.new.self.rest.items c.in-Some.one
     (λ e. e.stub.feed ≡ c.loop-one.putter.feed) steps.0 i.2).1 in
-    (tt, tt, (λ k d lt. rest k d lt ∙ sym same), omega (arith, i.3, push.len, count), omega (arith, i.4, push.capacity))
+    (tt, tt, (λ k d lt. rest k d lt ∙ sym same), omega (arith, i.3, push.len, count), omega (arith, i.4, push.capacity), omega (arith, i.5, fewer, count))

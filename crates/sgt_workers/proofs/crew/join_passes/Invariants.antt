@@ -7,3 +7,4 @@ invariant-loop-one g l =
     × All (λ e. e.stub.feed ≡ l.putter.feed) l.one-iterator.rest.items
     × (vec_len l.sessions + length l.one-iterator.rest.items ≡ vec_len l.fn.ended)
     × (vec_len l.fn.ended ≤ vec_capacity l.sessions)
+    × (length l.one-iterator.rest.items ≡ l.putter.unjoined)

@@ -4,7 +4,9 @@ use Rattle.sgt_classes.specs.Tables.{entry_of}
 use Rattle.sgt_classes.specs.Serializability.{IsCycle, IsSerialOrder, ReachAll}
 use Rattle.sgt_classes.specs.Sorting.{IsFirstFree}
 use Rattle.sgt_classes.proofs.Orderings.{AreOrdered, none_ordered, one_ordered, all_ordered}
-use Rattle.sgt_classes.proofs.Witnesses.{serial_order_enough, cycle_enough}
+use Rattle.sgt_classes.proofs.Witnesses.{serial_order_acyclic, cycle_not_acyclic}
+use Rattle.sgt_classes.proofs.SerialRuns.{serial_order_runs}
+use Rattle.sgt_classes.proofs.EdgeDecisions.{cycle_enough}
 use Rattle.sgt_classes.proofs.serial.Waits.sort.Goals as goal
 
 pub loop-order-init : goal.loop-order-init
@@ -48,17 +50,19 @@ loop-order-preserved c =
 
 pub returns-in_ok-cycle-in-Some-first_left-clause-shown : goal.returns-in_ok-cycle-in-Some-first_left-clause-shown
 returns-in_ok-cycle-in-Some-first_left-clause-shown c =
-    let edges : c.take_first.new.self.edges.items ≡ c.loop-order.self.edges.items = search rules in
-    c.in_ok-cycle-in-Some-first_left.ensures c.args.history.now
-    (λ k e at. c.loop-order.invariant.reach.are_edges k e (subst (λ l. slice_get l k ≡ Some e) edges at))
-
-pub returns-in_ok-cycle-in-Some-first_left-clause-exact : goal.returns-in_ok-cycle-in-Some-first_left-clause-exact
-returns-in_ok-cycle-in-Some-first_left-clause-exact c =
     let h = c.args.history.now in
     let edges : c.take_first.new.self.edges.items ≡ c.loop-order.self.edges.items = search rules in
     let cycle : IsCycle h c.in_ok-cycle-in-Some-first_left.field-0.items = c.in_ok-cycle-in-Some-first_left.ensures h
     (λ k e at. c.loop-order.invariant.reach.are_edges k e (subst (λ l. slice_get l k ≡ Some e) edges at)) in
-    (λ never. absurd never, cycle_enough h c.in_ok-cycle-in-Some-first_left.field-0.items cycle)
+    (cycle, (cycle_enough h c.in_ok-cycle-in-Some-first_left.field-0.items cycle).1)
+
+pub returns-in_ok-cycle-in-Some-first_left-clause-acyclic : goal.returns-in_ok-cycle-in-Some-first_left-clause-acyclic
+returns-in_ok-cycle-in-Some-first_left-clause-acyclic c =
+    let h = c.args.history.now in
+    let edges : c.take_first.new.self.edges.items ≡ c.loop-order.self.edges.items = search rules in
+    let cycle : IsCycle h c.in_ok-cycle-in-Some-first_left.field-0.items = c.in_ok-cycle-in-Some-first_left.ensures h
+    (λ k e at. c.loop-order.invariant.reach.are_edges k e (subst (λ l. slice_get l k ≡ Some e) edges at)) in
+    (λ never. absurd never, cycle_not_acyclic h c.in_ok-cycle-in-Some-first_left.field-0.items cycle)
 
 pub returns-in-None-clause-shown : goal.returns-in-None-clause-shown
 returns-in-None-clause-shown c =
@@ -68,14 +72,14 @@ returns-in-None-clause-shown c =
     let serial : IsSerialOrder h c.loop-order.order.items =
     all_ordered h c.loop-order.self.edges.items c.loop-order.order.items (entry_of c.loop-order.self.left)
     c.loop-order.invariant.reach c.loop-order.invariant.ordered (subst (λ m. (t : ℕ) → entry_of m t ≡ None) same gone) in
-    (serial, c.loop-order.invariant.ordered.takes_first)
+    (serial, c.loop-order.invariant.ordered.takes_first, serial_order_runs h c.loop-order.order.items serial)
 
-pub returns-in-None-clause-exact : goal.returns-in-None-clause-exact
-returns-in-None-clause-exact c =
+pub returns-in-None-clause-acyclic : goal.returns-in-None-clause-acyclic
+returns-in-None-clause-acyclic c =
     let h = c.args.history.now in
     let gone : (t : ℕ) → entry_of c.take_first.new.self.left t ≡ None = search rules in
     let same : c.take_first.new.self.left ≡ c.loop-order.self.left = search rules in
     let serial : IsSerialOrder h c.loop-order.order.items =
     all_ordered h c.loop-order.self.edges.items c.loop-order.order.items (entry_of c.loop-order.self.left)
     c.loop-order.invariant.reach c.loop-order.invariant.ordered (subst (λ m. (t : ℕ) → entry_of m t ≡ None) same gone) in
-    (λ _. serial_order_enough h c.loop-order.order.items serial, λ _. tt)
+    (λ _. serial_order_acyclic h c.loop-order.order.items serial, λ _. tt)

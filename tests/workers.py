@@ -1,10 +1,10 @@
 #!/usr/bin/env python3
 """Runs banks where memory is refused, banks whose workers leave, and quits for which there is no memory.
 
-    tests/workers crates/sgt/out/sgt crates/sgt_bank_runs/out/sgt_bank_runs
+    tests/workers.py crates/sgt/out/sgt crates/sgt_bank_runs/out/sgt_bank_runs
 
-The second program tells the history behind a bank's report, which is compared with the definitions as `legal.py` beside this
-file has them. The library of `failing.c` is made with `cc`, as in `tests/hostile`. Each case is told as there, and the last
+The second program tells the history behind a bank's report, which is compared with the definitions as `helpers/legal.py`
+has them. The library of `c/failing.c` is made with `cc`, as in `tests/hostile.py`. Each case is told as there, and the last
 line counts them.
 """
 
@@ -13,8 +13,8 @@ import sys
 from collections import Counter
 
 sys.dont_write_bytecode = True
-from cases import Differs, same, tell_failing  # noqa: E402
-from legal import IN_TWO_STEPS, Checker, Illegal, database_text, rows_of  # noqa: E402
+from helpers.cases import Differs, same, tell_failing  # noqa: E402
+from helpers.legal import IN_TWO_STEPS, Checker, Illegal, database_text, rows_of  # noqa: E402
 
 ALL = 10**18
 DEPOSITS = ((1, 100), (2, 1), (1, 1))

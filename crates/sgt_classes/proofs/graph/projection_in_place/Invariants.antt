@@ -3,7 +3,7 @@ use Rattle.std.specs.Prelude.{length, slice_get}
 use Rattle.sgt_classes.specs.Tables.{entry_of}
 use Rattle.sgt_classes.specs.declared.operation.Operation.{Operation}
 use Rattle.sgt_classes.specs.Seen.{projected}
-use Rattle.sgt_classes.proofs.graph.committed_projection.Given as goal
+use Rattle.sgt_classes.proofs.graph.projection_in_place.Given as goal
 
 abbrev pub invariant-loop-place : goal.invariant-loop-place
 invariant-loop-place l = record {

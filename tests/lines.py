@@ -2,11 +2,11 @@
 """Draws hostile lines, runs each in a script behind a good opening, and compares what the script writes and how it ends with what
 another reader of lines says, which is written apart: JSON as Python reads it, less what it takes beyond JSON.
 
-    tests/lines crates/sgt_bank_runs/out/sgt_bank_runs
+    tests/lines.py crates/sgt_bank_runs/out/sgt_bank_runs
 
 The program runs many scripts in one process. The drawn lines are events; records; events, records, openings and trees of JSON that are changed at
 some places; trees; texts with escapes; bytes that are no text; deep nesting; long numbers; lines about as long as one may be.
-Each case is told as in `tests/program`, and the last line counts them.
+Each case is told as in `tests/program.py`, and the last line counts them.
 """
 
 import json
@@ -19,7 +19,7 @@ import sys
 from collections import Counter
 
 sys.dont_write_bytecode = True
-from cases import Differs, same, tell  # noqa: E402
+from helpers.cases import Differs, same, tell  # noqa: E402
 
 SEED, LINES, LINES_OF_A_RUN = 1, 1_000_000, 20_000
 

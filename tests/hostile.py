@@ -1,16 +1,16 @@
 #!/usr/bin/env python3
 """Runs the built program where memory is refused, where reads and writes fail, and on lines that are none.
 
-    tests/hostile crates/sgt/out/sgt
+    tests/hostile.py crates/sgt/out/sgt
 
-A library of a few calls, `failing.c` beside this file, is made with `cc` and loaded before the C library. Each case is told as
-in `tests/program`, and the last line counts them.
+A library of a few calls, `c/failing.c`, is made with `cc` and loaded before the C library. Each case is told as
+in `tests/program.py`, and the last line counts them.
 """
 
 import sys
 
 sys.dont_write_bytecode = True
-from cases import FOREVER, Differs, same, tell_failing  # noqa: E402
+from helpers.cases import FOREVER, Differs, same, tell_failing  # noqa: E402
 
 # The most bytes of a line, and of an input.
 LONGEST_LINE = 65_536

@@ -1,7 +1,7 @@
 #!/usr/bin/env python3
 """Lists the lemmas of crates/*/proofs that nothing uses.
 
-Run it anywhere in the repository: tools/unused_lemmas [CRATE..]. It reads the repository alone, and proves nothing. Each line
+Run it anywhere in the repository: tools/unused_lemmas.py [CRATE..]. It reads the repository alone, and proves nothing. Each line
 of its answer is a file, a line and a name. It ends with status 1 where it lists any.
 
 A lemma is used if an answer, an invariant, a definition of specs/, a `using(..)` in src/, or a worked history names it, or a

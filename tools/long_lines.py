@@ -1,7 +1,7 @@
 #!/usr/bin/env python3
 """Lists the lines of proofs that are longer than 140 characters.
 
-Run it anywhere in the repository: tools/long_lines [CRATE..]. It reads crates/*/proofs alone. Each line of its answer is a file, a
+Run it anywhere in the repository: tools/long_lines.py [CRATE..]. It reads crates/*/proofs alone. Each line of its answer is a file, a
 line and how many characters it has; the last line counts them. It ends with status 1 where there are any. Imports do not
 count: a `use` is one line.
 """

@@ -6,6 +6,7 @@ A `History` looks at all pairs of operations. A `LongHistory` goes once over the
 
 import heapq
 from collections import defaultdict
+from itertools import permutations
 from typing import NamedTuple
 
 ACCESSES, ENDS = "rw", "ca"
@@ -25,6 +26,57 @@ class Operation(NamedTuple):
 def conflict(one, other):
     """Two operations on one item by two transactions, of which one writes."""
     return one.item == other.item != "" and one.transaction != other.transaction and "w" in (one.kind, other.kind)
+
+
+# Conflict equivalence. It uses no graph.
+
+
+def committed_projection(operations):
+    """The operations of the transactions that commit."""
+    committed = {it.transaction for it in operations if it.kind == "c"}
+    return [it for it in operations if it.transaction in committed]
+
+
+def by_transaction(operations):
+    """The operations of each transaction, in their order."""
+    own = defaultdict(list)
+    for it in operations:
+        own[it.transaction].append(it)
+    return dict(own)
+
+
+def ordered_conflicts(operations):
+    """Pairs of conflicting operations of transactions that do not abort, the earlier one first. An operation is the n-th of its
+    transaction."""
+    aborted = {it.transaction for it in operations if it.kind == "a"}
+    counts, before, pairs = defaultdict(int), [], set()
+    for it in operations:
+        counts[it.transaction] += 1
+        name = it.transaction, counts[it.transaction]
+        if it.transaction not in aborted:
+            pairs |= {(other, name) for other, earlier in before if conflict(earlier, it)}
+            before.append((name, it))
+    return pairs
+
+
+def are_equivalent(one, other):
+    """The two histories have the same operations, those of each transaction in the same order, and order conflicting operations of
+    transactions that do not abort the same way."""
+    return by_transaction(one) == by_transaction(other) and ordered_conflicts(one) == ordered_conflicts(other)
+
+
+def serial_history(operations, order):
+    """The operations of these transactions, one transaction after another."""
+    own = by_transaction(operations)
+    return [it for transaction in order for it in own[transaction]]
+
+
+def equivalent_orders(operations):
+    """Every order of the committed transactions in which they are a serial history that is equivalent to the committed projection.
+    The history is serializable if there is one."""
+    projection = committed_projection(operations)
+    orders = permutations(by_transaction(projection))
+    return {order for order in orders if are_equivalent(projection, serial_history(projection, order))}
 
 
 class History:

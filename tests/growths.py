@@ -1,19 +1,18 @@
 #!/usr/bin/env python3
 """Refuses each growth of a worked row's events on `Engine::apply` in turn.
 
-    tests/growths crates/sgt_engine_runs/out/sgt_engine_runs
+    tests/growths.py crates/sgt_engine_runs/out/sgt_engine_runs
 
 The program runs the events of the row `two_level_cascade`, and tells what it finds where one is refused memory; and it cuts the
-history off behind them. `failing.c` beside this file refuses it. Each case is told, and the last line counts them.
+history off behind them. `c/failing.c` refuses it. Each case is told, and the last line counts them.
 """
 
-import pathlib
 import sys
 
 sys.dont_write_bytecode = True
-from cases import FOREVER, Differs, same, tell_failing  # noqa: E402
+from helpers.cases import FOREVER, TESTS, Differs, same, tell_failing  # noqa: E402
 
-CRATE = pathlib.Path(__file__).resolve().parent.parent / "crates" / "sgt_engine_runs"
+CRATE = TESTS.parent / "crates" / "sgt_engine_runs"
 RUNS = (CRATE / "stdout").read_text().splitlines(True)
 
 # Without a word the program runs the row first.

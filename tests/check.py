@@ -1,11 +1,12 @@
 #!/usr/bin/env python3
-"""Compares the reports of `sgt check` with the book's definitions, as `textbook.py` beside this file has them.
+"""Compares the reports of `sgt check` with the book's definitions, as `helpers/textbook.py` has them.
 
-    tests/check crates/sgt/out/sgt
+    tests/check.py crates/sgt/out/sgt
 
 All histories of few operations are checked, up to the names of transactions and items; longer ones that are drawn; and some of up
-to a million operations, of which time and memory are told and not compared. Several programs run at once. The last line counts the
-cases.
+to a million operations, of which time and memory are told and not compared. Of all but the last, every order of the committed
+transactions is tried: the report has to say yes, and one of these orders, exactly where one gives an equivalent serial history.
+Several programs run at once. The last line counts the cases.
 """
 
 import hashlib
@@ -18,8 +19,8 @@ from concurrent.futures import ProcessPoolExecutor
 from itertools import chain, islice
 
 sys.dont_write_bytecode = True
-from cases import SECONDS, Differs, same, tell  # noqa: E402
-from textbook import ACCESSES, ENDS, History, LongHistory, Operation  # noqa: E402
+from helpers.cases import SECONDS, Differs, same, tell  # noqa: E402
+from helpers.textbook import ACCESSES, ENDS, History, LongHistory, Operation, equivalent_orders  # noqa: E402
 
 # All histories of so many transactions, items, accesses of each transaction and operations at most.
 FEW = ((2, 2, 2, 6), (3, 2, 1, 6), (3, 2, 4, 4))
@@ -192,19 +193,34 @@ def drawn_history(draw):
     return operations + [Operation("c", it) for it in live if draw.random() < 0.8]
 
 
+def compare_with_orders(operations, text):
+    """Compares the report with every serial history of the committed transactions, by the definition of equivalence alone."""
+    orders = equivalent_orders(operations)
+    line = text.splitlines()[1]
+    is_yes = line.startswith("serializable yes:")
+    same("whether an order gives an equivalent serial history", bool(orders), is_yes)
+    told = tuple(int(it) for it in line.split()[2:] if it != "none")
+    if is_yes and told not in orders:
+        raise Differs(f"the serial history in this order is not equivalent: {line!r}")
+    return is_yes
+
+
 def compare_each(program, histories):
-    """Compares the reports on them with both models, and gives how many there were."""
-    count = 0
+    """Compares the reports on them with both models and with all serial histories. Gives how many there were, and how many are not
+    serializable."""
+    count = cyclic = 0
     for operations in histories:
         report = Report(History(operations))
         try:
             long = LongHistory(operations)
             same("what the models find", (report.order, report.firsts), (long.serial_order(), long.first_violations()))
-            report.compare(*report_on(program, operations))
+            status, text = report_on(program, operations)
+            report.compare(status, text)
+            cyclic += not compare_with_orders(operations, text)
         except Differs as why:
             raise Differs(f"{' '.join(map(str, operations))}: {why}") from None
         count += 1
-    return count
+    return count, cyclic
 
 
 def compare_all(program, share):
@@ -310,7 +326,8 @@ def rigorous_report(report):
 
 
 def told_of(begun):
-    return f"{sum(it.result() for it in begun):,} histories"
+    count, cyclic = map(sum, zip(*(it.result() for it in begun)))
+    return f"{count:,} histories, {cyclic:,} of them not serializable"
 
 
 def compares_all_short_histories(begun):

@@ -1,7 +1,7 @@
 #!/usr/bin/env python3
 """Tries the wrong bodies of tools/edits, which the test command does not try: the prover has to refuse each.
 
-Run it anywhere in the repository: tools/try_edits [CRATE..]. An edit stands in tools/edits/CRATE/NAME.edit and is written as those
+Run it anywhere in the repository: tools/try_edits.py [CRATE..]. An edit stands in tools/edits/CRATE/NAME.edit and is written as those
 of crates/CRATE/must-fail. It works on a copy of the repository in which these edits stand in place of those, and has `rt must-fail`
 try them there; what earlier checks have kept of the crates below is taken over. A crate takes as long as a check of it from
 nothing, and half a minute for each further edit. It ends with status 1 where an edit is not refused.

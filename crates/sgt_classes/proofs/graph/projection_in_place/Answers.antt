@@ -8,8 +8,8 @@ use Rattle.sgt_classes.specs.Seen.{projected}
 use Rattle.sgt_classes.proofs.Places.{there}
 use Rattle.sgt_classes.proofs.Edges.{longer}
 use Rattle.sgt_classes.proofs.Projection.{projected_pushed, projection_of}
-use Rattle.sgt_classes.proofs.graph.committed_projection.Goals as goal
-use Rattle.sgt_classes.proofs.graph.committed_projection.Goals.{then-not-contains_key, else-not-contains_key}
+use Rattle.sgt_classes.proofs.graph.projection_in_place.Goals as goal
+use Rattle.sgt_classes.proofs.graph.projection_in_place.Goals.{then-not-contains_key, else-not-contains_key}
 
 pub loop-place-preserved : goal.loop-place-preserved
 loop-place-preserved c =

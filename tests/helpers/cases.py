@@ -1,11 +1,12 @@
-"""What the scripts beside this file share: how cases are told, and a program of which calls fail."""
+"""What the test programs share: how cases run and are reported, and a program of which calls fail."""
 
 import os
 import pathlib
 import subprocess
 import tempfile
 
-HERE = pathlib.Path(__file__).resolve().parent
+TESTS = pathlib.Path(__file__).resolve().parent.parent
+C_SOURCES = TESTS / "c"
 SECONDS = 60
 
 # No program makes so many allocations.
@@ -68,7 +69,7 @@ def tell_failing(cases, *paths, of="sgt"):
     """As `tell`, with each of these programs under the library of `failing.c`, which is made first."""
     with tempfile.TemporaryDirectory() as folder:
         library = os.path.join(folder, "failing.so")
-        made = ["cc", "-O1", "-shared", "-fPIC", "-o", library, str(HERE / "failing.c"), "-ldl"]
+        made = ["cc", "-O1", "-shared", "-fPIC", "-o", library, str(C_SOURCES / "failing.c"), "-ldl"]
         try:
             subprocess.run(made, check=True)
         except (OSError, subprocess.CalledProcessError) as why:

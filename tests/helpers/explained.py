@@ -8,7 +8,7 @@ import json
 import random
 import re
 
-from legal import IN_TWO_STEPS, Run, key_text
+from helpers.legal import IN_TWO_STEPS, Run, key_text
 
 OPENING = '{{"limits":[8,100000{asks}],"accounts":[[1,101,500,1000],[2,102,300,200],[3,103,0,90]],"procedures":[' + IN_TWO_STEPS + "]}}\n"
 

@@ -1,10 +1,10 @@
 #!/usr/bin/env python3
 """Runs the built program as a user does, and compares what it writes to standard output and standard error, and its status.
 
-    tests/program crates/sgt/out/sgt
+    tests/program.py crates/sgt/out/sgt
 
 A case that differs is told with what was wanted and what came. The last line counts the cases. What the program tells of its
-own usage stands in the files beside this one.
+own usage stands in `expected`.
 """
 
 import os
@@ -20,15 +20,16 @@ import time
 from itertools import permutations
 
 sys.dont_write_bytecode = True
-import explained  # noqa: E402
-from cases import HERE, SECONDS, Differs, same, tell  # noqa: E402
-from worked import PROGRAMS, Bank, drawn  # noqa: E402
+from helpers import explained  # noqa: E402
+from helpers.cases import SECONDS, TESTS, Differs, same, tell  # noqa: E402
+from helpers.worked import PROGRAMS, Bank, drawn  # noqa: E402
 
-EXAMPLES = HERE.parent / "examples"
-INPUTS = HERE / "inputs"
+EXAMPLES = TESTS.parent / "examples"
+INPUTS = TESTS / "inputs"
+EXPECTED = TESTS / "expected"
 
 # What is told of scripts of those two with `--explain`, each worked out by hand.
-EXPLANATIONS = HERE / "explanations"
+EXPLANATIONS = EXPECTED / "explanations"
 
 # The most bytes that an input may have.
 LONGEST_INPUT = 16_777_216
@@ -58,7 +59,7 @@ GRAPH = """digraph serialization {
 
 
 def usage(name):
-    return (HERE / name).read_text()
+    return (EXPECTED / f"{name}.txt").read_text()
 
 
 class Program:

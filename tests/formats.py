@@ -2,9 +2,9 @@
 """Runs the built program on tables of lines, openings and procedures, and compares what each row is answered with what the pages of
 formats and of the language say.
 
-    tests/formats crates/sgt/out/sgt
+    tests/formats.py crates/sgt/out/sgt
 
-Each case is told as in `tests/program`, and the last line counts them.
+Each case is told as in `tests/program.py`, and the last line counts them.
 """
 
 import os
@@ -15,7 +15,7 @@ import tempfile
 import threading
 
 sys.dont_write_bytecode = True
-from cases import SECONDS, Differs, same, tell  # noqa: E402
+from helpers.cases import SECONDS, Differs, same, tell  # noqa: E402
 
 # The most bytes of a line, and of an input.
 LONGEST_LINE = 65_536

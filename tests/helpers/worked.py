@@ -4,7 +4,7 @@ committed records against each other, by no run of any procedure."""
 import json
 import random
 
-from cases import Differs, same
+from helpers.cases import Differs, same
 
 
 class Bank:

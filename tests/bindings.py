@@ -1,8 +1,8 @@
 #!/usr/bin/env python3
 """Calls the library from other languages.
 
-    tests/bindings
-    tests/bindings behind-ci
+    tests/bindings.py
+    tests/bindings.py behind-ci
 
 It makes the library by `bindings/build`, which proves `crates/sgt_c` first where nothing kept of it stands in its `out/`; behind
 `rt ci` it builds over the crates that this has just proved. Each example
@@ -18,9 +18,9 @@ import sys
 import tempfile
 
 sys.dont_write_bytecode = True
-from cases import HERE, Differs, same, tell  # noqa: E402
+from helpers.cases import C_SOURCES, TESTS, Differs, same, tell  # noqa: E402
 
-TOP = pathlib.Path(__file__).resolve().parent.parent
+TOP = TESTS.parent
 BINDINGS = TOP / "bindings"
 OUT = BINDINGS / "out"
 STORY = (BINDINGS / "bank.out").read_text()
@@ -102,7 +102,7 @@ def counts_the_money_of_four_threads(room):
 
 
 def tells_the_status_of_each_call(room):
-    told = run([built(room, "cc", C_FLAGS, HERE / "calls.c")])
+    told = run([built(room, "cc", C_FLAGS, C_SOURCES / "calls.c")])
     count = told.split()[0]
     same("what is told", f"{count} checks, 0 failed\n", told)
     return f"{count} checks"
@@ -119,7 +119,7 @@ def is_clean_under_sanitizers(room):
     if not has_sanitizers(room, "cc"):
         return "left out: cc has no sanitizers here"
     c = BINDINGS / "c"
-    for source, extra in ((c / "bank.c", []), (c / "transfers.c", []), (c / "refused.c", WRAPS), (c / "threads.c", []), (HERE / "calls.c", [])):
+    for source, extra in ((c / "bank.c", []), (c / "transfers.c", []), (c / "refused.c", WRAPS), (c / "threads.c", []), (C_SOURCES / "calls.c", [])):
         run([built(room, "cc", C_FLAGS, source, SANITIZERS + extra)])
     return None
 

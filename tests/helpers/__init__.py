@@ -1,0 +1,1 @@
+"""Modules that the test programs share."""
