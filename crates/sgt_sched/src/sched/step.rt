@@ -87,8 +87,8 @@ impl<R: Records, A: Accesses, G: Graph> Sched<R, A, G> {
         self.make_access(t, index, key, operation, &Tids::new(), Link::default())
     }
 
-    // The same, where others have conflicting accesses.
-    #[inline(never)]
+    // The same, where others have conflicting accesses. Each kind of access has its own copy of it.
+    #[inline(always)]
     fn access_after(
         &mut self,
         t: Tid,
