@@ -1,3 +1,4 @@
+//! One access, and which others it conflicts with.
 ghost use Rattle.std.specs.Prelude.{◌≡◌, ◌≢◌, true, ◌↔◌, IsTrue};
 ghost use Rattle.sgt_model.specs.AccessList.{is_conflicting};
 

@@ -1,3 +1,4 @@
+//! The calls of a list of accesses, and what each says of it.
 ghost use Rattle.std.specs.Prelude.{◌≡◌, ◌≢◌, ℕ, true, List, [], ◌∷◌, ◌++◌, ◌↔◌, IsTrue, OnOk};
 ghost use Rattle.sgt_model.specs.Contents.{Key};
 ghost use Rattle.sgt_model.specs.AccessList.{ListedAccess, lists_conflicting, is_listed, forgotten};

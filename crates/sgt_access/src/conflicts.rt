@@ -1,3 +1,4 @@
+//! The conflicts of an access with a list of others.
 ghost use Rattle.std.specs.Prelude.{◌≡◌, ◌≢◌, ℕ, true, ◌↔◌, IsTrue};
 ghost use Rattle.sgt_model.specs.AccessList.{lists_conflicting, is_listed};
 ghost use Rattle.sgt_model.specs.Walks.{Member, Rising, AtMost};

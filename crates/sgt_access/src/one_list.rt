@@ -1,3 +1,4 @@
+//! Accesses in one plain list.
 use crate::access::Access;
 use crate::accesses::Accesses;
 use crate::conflicts::{has_rival_among, rivals_among};

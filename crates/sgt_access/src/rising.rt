@@ -1,3 +1,4 @@
+//! Adding to a list of transactions in their order.
 ghost use Rattle.std.specs.Prelude.{◌≡◌, ℕ, ◌<◌, length, ◌⊎◌, ◌↔◌};
 ghost use Rattle.sgt_model.specs.Walks.{Member, Rising};
 

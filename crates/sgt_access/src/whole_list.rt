@@ -1,3 +1,4 @@
+//! A list of accesses that keeps every call it has had: it is for proofs.
 ghost use Rattle.std.specs.Prelude.{◌≡◌, [], ◌∷◌, ◌++◌};
 ghost use Rattle.sgt_model.specs.AccessList.{forgotten};
 

@@ -1,3 +1,4 @@
+//! The engine that the program runs: which layers it has, and how an opening makes one.
 ghost use Rattle.std.specs.Prelude.{◌≡◌, ◌++◌, [], IfOk};
 ghost use Rattle.sgt_model.specs.Bounds.{AreInRange};
 ghost use Rattle.sgt_engine.specs.EngineView.{setting_of};

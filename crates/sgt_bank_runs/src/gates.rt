@@ -1,3 +1,4 @@
+//! Gates that hold workers back or let them leave, by a plan.
 use sgt_workers::{Gate, Outcome, Pass};
 use std::sync::atomic::{AtomicU64, AtomicUsize, Ordering};
 use std::thread;

@@ -1,10 +1,11 @@
+//! The struct of an event for C, and how it is written.
 ghost use Rattle.std.specs.Prelude.{◌≡◌, take};
 ghost use Rattle.sgt_model.specs.declared.event.Event.TheVariants as event;
 ghost use Rattle.sgt_c.specs.EventStructs.{HoldsEvent};
 
 use sgt_model::{Args, Event};
 
-/// What was into of the engine, for C. `kind` says which of the other fields are of this event.
+/// What was asked of the engine, for C. `kind` says which of the other fields are of this event.
 #[repr(C)]
 #[derive(Drop)]
 pub struct SgtEvent {

@@ -1,3 +1,4 @@
+//! The struct of a fault for C, and how it is written.
 ghost use Rattle.std.specs.Prelude.{◌≡◌, ◌≤◌, length, take};
 ghost use Rattle.sgt_c.specs.FaultStructs.{HoldsFault};
 

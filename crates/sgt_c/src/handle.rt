@@ -1,3 +1,4 @@
+//! The handle in which C keeps an engine.
 ghost use Rattle.std.specs.Prelude.{◌≡◌, Some, None, option_map};
 ghost use Rattle.std.specs.Option.{is_some};
 

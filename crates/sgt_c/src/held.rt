@@ -1,3 +1,4 @@
+//! What an open handle holds.
 ghost use Rattle.std.specs.Prelude.{◌≡◌, IfOk};
 
 use sgt_assembly::SgtEngine;

@@ -1,3 +1,4 @@
+//! The struct of a reply for C, and how it is written.
 ghost use Rattle.std.specs.Prelude.{◌≡◌, take};
 ghost use Rattle.sgt_model.specs.declared.reply.Reply.TheVariants as reply;
 ghost use Rattle.sgt_c.specs.ReplyStructs.{HoldsReply, HoldsCause};

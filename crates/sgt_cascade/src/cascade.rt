@@ -1,3 +1,4 @@
+//! Cascading aborts: which transactions abort with one that they have read from.
 ghost use Rattle.std.specs.Prelude.{◌≡◌, ◌≢◌, ◌↔◌, ℕ};
 ghost use Rattle.sgt_model.specs.State.{Has};
 ghost use Rattle.sgt_model.specs.Walks.{Member, Reaches, Rising};

@@ -1,3 +1,4 @@
+//! Whom a commit waits for, and what a commit and an abort do in the layers.
 ghost use Rattle.std.specs.Prelude.{◌≡◌, ℕ, false, not, ◌&&◌, nat_eq, IfSome, IsNone};
 ghost use Rattle.std.specs.Option.{option_or};
 ghost use Rattle.sgt_model.specs.Contents.{Key};

@@ -1,3 +1,4 @@
+//! A path in a graph that is given as rows of bits.
 ghost use Rattle.std.specs.Prelude.{◌≡◌, ◌<◌, IfSome, IsNone};
 ghost use Rattle.sgt_cycle.specs.Indices.{is_bit, indices};
 ghost use Rattle.sgt_cycle.specs.Walk.{IsWalk, NoWalk};

@@ -1,3 +1,4 @@
+//! A path in a graph that is given as a list of links.
 ghost use Rattle.std.specs.Prelude.{◌≡◌, ◌↔◌, ℕ, IsTrue, IfSome, IsNone};
 ghost use Rattle.sgt_model.specs.Walks.{AtMost};
 ghost use Rattle.sgt_cycle.specs.Links.{is_link, occurs};

@@ -1,3 +1,4 @@
+//! The engine: a scheduler with the history of its events and replies.
 ghost use Rattle.std.specs.Prelude.{◌≡◌, ℕ, true, [], Result, Ok, Err, IfOk, OnOk, OnErr, IsTrue, ◌↔◌, reverse};
 ghost use Rattle.std.specs.Option.{option_copied};
 ghost use Rattle.std.specs.Result.{IsOk};

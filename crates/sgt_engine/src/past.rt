@@ -1,3 +1,4 @@
+//! What is left of an engine that takes no more events.
 use sgt_log::History;
 use sgt_model::Database;
 

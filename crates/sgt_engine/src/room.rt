@@ -1,3 +1,4 @@
+//! Room in the history for an event and for the ends of the live transactions, and the entry that fills it.
 ghost use Rattle.std.specs.Prelude.{◌≡◌, ◌+◌, ◌<◌, ◌≤◌, [], ◌∷◌, ◌++◌, length, OnOk};
 ghost use Rattle.std.specs.Result.{IsOk};
 ghost use Rattle.sgt_sched.specs.Briefs.{in_full};

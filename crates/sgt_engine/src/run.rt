@@ -1,3 +1,4 @@
+//! A list of events, run on a new engine.
 ghost use Rattle.std.specs.Prelude.{◌≡◌, ◌≤◌, Result, Ok, Err, IfOk, ◌↔◌, length, take};
 ghost use Rattle.sgt_model.specs.Aborts.{AbortsHaveCause};
 ghost use Rattle.sgt_model.specs.Bounds.{AreInRange};
@@ -32,6 +33,8 @@ pub struct Ran<R: Records, A: Accesses, G: Graph> {
 /// Makes an engine, and applies the events in their order, all of them unless a growth is refused.
 ///
 /// `BadLimits` where a limit is out of its range, tested first; `NoMemory` where a growth was refused before the first event.
+///
+/// Only tests call this. It is part of the specification: it says of a whole list what [`Engine::apply`] says of one event.
 pub fn run_list<R: Records, A: Accesses, G: Graph>(
     alloc: Global,
     opening: Database,

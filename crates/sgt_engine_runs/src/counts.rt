@@ -1,3 +1,4 @@
+//! A count of the replies of each kind in a history.
 use sgt_log::History;
 use sgt_model::{Cause, Reply, Tids};
 use std::fmt;

@@ -1,3 +1,4 @@
+//! Digests of what an engine has answered and of what it holds.
 use crate::refusals::Refusals;
 use sgt_access::Accesses;
 use sgt_engine::Engine;

@@ -1,3 +1,5 @@
+//! A generator of numbers.
+
 /// A generator of numbers that look random: the linear congruential one of the C standard's example, which keeps 31 bits and
 /// gives all but the lowest 16 of them.
 #[derive(Drop)]

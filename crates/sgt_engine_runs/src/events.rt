@@ -1,3 +1,4 @@
+//! The events of the drawn list, by a drawn number.
 use sgt_model::{Args, Event, Tid};
 
 /// A start of one of SmallBank's procedures by its number: the name, and behind it an amount, or the name that an Amalgamate goes

@@ -1,3 +1,5 @@
+//! A count of the calls that were refused memory.
+
 /// How many calls were refused memory. The count stays at the greatest number of its type.
 #[derive(Drop)]
 pub struct Refusals {

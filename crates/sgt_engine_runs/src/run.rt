@@ -1,3 +1,4 @@
+//! A run of events on an engine, with what it prints after each.
 use sgt_access::Accesses;
 use sgt_engine::{CutError, Engine};
 use sgt_format::append_reply;

@@ -1,3 +1,4 @@
+//! A graph in bit sets, with what each node reaches: the one that the program uses.
 ghost use Rattle.std.specs.Prelude.{◌≡◌, ℕ, ◌<◌, true, false, not, ◌||◌, ◌&&◌, nat_eq, IsTrue};
 ghost use Rattle.sgt_cycle.specs.Indices.{is_set, is_bit};
 ghost use Rattle.sgt_graph.specs.BitGraphs.{is_placed, is_pair, IsIndexVerdict, IsBitGraph, IsLinkOf};

@@ -1,3 +1,4 @@
+//! The calls of a serialization graph, and what each says of its nodes and edges.
 ghost use Rattle.std.specs.Prelude.{◌≡◌, ◌≢◌, ℕ, List, Bool, true, false, not, ◌||◌, ◌&&◌, ◌⊎◌, ◌↔◌, nat_eq, IfSome, IsNone};
 ghost use Rattle.sgt_model.specs.Walks.{AtMost, Member};
 ghost use Rattle.sgt_graph.specs.declared.verdict.Link.{Link};
@@ -50,6 +51,8 @@ pub trait Graph: Drop + Send {
             ↔ ((pairs self.old u v ≡ true) ⊎ ((v ≡ t) × Member u preds.now)) };
 
     /// Whether pairs from all the preds to t would leave the graph without a cycle.
+    ///
+    /// The scheduler calls this only to tell whether an event would end its transaction; a step makes a plan.
     fn test(&self, t: Tid, preds: &Tids) -> Verdict
         requires node { nodes self.now t ≡ true }
         requires preds { (u : ℕ) → Member u preds.now → (nodes self.now u ≡ true) × (u ≢ t) }
@@ -62,6 +65,8 @@ pub trait Graph: Drop + Send {
     }
 
     /// Adds pairs from all the preds to t, unless a cycle would come: then nothing changes.
+    ///
+    /// Only tests call this. It is part of the specification: a plan and its link, as one call.
     fn insert(&mut self, t: Tid, preds: &Tids) -> Verdict
         requires node { nodes self.old t ≡ true }
         requires preds { (u : ℕ) → Member u preds.now → (nodes self.old u ≡ true) × (u ≢ t) }

@@ -1,3 +1,4 @@
+//! A graph as plain lists of nodes and edges.
 ghost use Rattle.std.specs.Prelude.{◌≡◌, ℕ, ⊤, true, not, ◌||◌, ◌&&◌, nat_eq, length, ◌≤◌, min, unwrap_or};
 ghost use Rattle.std.specs.List.{filter};
 ghost use Rattle.sgt_model.specs.Walks.{Reaches};

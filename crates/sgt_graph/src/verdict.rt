@@ -1,3 +1,4 @@
+//! What a graph answers where edges are to be added.
 use sgt_model::Tids;
 
 /// What the graph says of pairs that are to lead to a transaction.

@@ -1,3 +1,4 @@
+//! Tests of bounded lists and of the database.
 use sgt_model::{Args, Database, Key, NoMemory, Tid, Tids, is_value};
 use std::alloc::Global;
 use std::test::Fail;

@@ -1,3 +1,4 @@
+//! An entry, read where it stands in the history.
 ghost use Rattle.std.specs.Prelude.{◌≡◌, ◌↔◌, IsTrue};
 ghost use Rattle.sgt_model.specs.Fates.{is_start};
 ghost use Rattle.sgt_model.specs.Questions.{named_by, started_in, over_in};

@@ -1,3 +1,4 @@
+//! The cause of an abort and the end of a transaction in few bytes, as the history keeps them.
 ghost use Rattle.std.specs.Prelude.{◌≡◌, ◌+◌, ◌≤◌, ℕ, List, length, vec_len, vec_capacity};
 ghost use Rattle.sgt_log.specs.Spans.{HasMore};
 ghost use Rattle.sgt_log.specs.ShortEntries.{cause_of, fate_of, IsCause, IsFate};

@@ -1,3 +1,4 @@
+//! An event with its reply in few bytes, as the history keeps them.
 ghost use Rattle.std.specs.Prelude.{◌≡◌, ◌+◌, ◌≤◌, length, vec_len, vec_capacity};
 ghost use Rattle.sgt_log.specs.Spans.{HasMore};
 ghost use Rattle.sgt_log.specs.ShortEntries.{entry_of, IsEntry};

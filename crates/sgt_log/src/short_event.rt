@@ -1,3 +1,4 @@
+//! An event in few bytes, as the history keeps it.
 ghost use Rattle.std.specs.Prelude.{◌≡◌, ◌+◌, ◌≤◌, ℤ, List, length, vec_len, vec_capacity};
 ghost use Rattle.sgt_log.specs.Spans.{HasMore};
 ghost use Rattle.sgt_log.specs.ShortEntries.{event_of, IsEvent};

@@ -1,3 +1,4 @@
+//! A reply in few bytes, as the history keeps it.
 ghost use Rattle.std.specs.Prelude.{◌≡◌, ◌+◌, ◌≤◌, ℕ, ℤ, List, length, vec_len, vec_capacity};
 ghost use Rattle.sgt_model.specs.declared.reply.Reply.TheVariants.{Aborted};
 ghost use Rattle.sgt_log.specs.Spans.{part_of, HasMore, IsWithin};

@@ -1,3 +1,4 @@
+//! A part of a list.
 ghost use Rattle.std.specs.Prelude.{◌≡◌, ◌+◌, ◌≤◌, ◌++◌, length, vec_len, vec_capacity};
 ghost use Rattle.sgt_log.specs.Spans.{part_of, IsWithin};
 

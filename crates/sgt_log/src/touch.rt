@@ -1,3 +1,4 @@
+//! Writing to a list's memory before it is used, so that the system gives it the pages.
 ghost use Rattle.std.specs.Prelude.{◌≡◌, ◌+◌, min, vec_len, vec_capacity};
 
 /// Writes once to the memory behind a list, that of so many items at most, so far as the list has it, and tells up to which

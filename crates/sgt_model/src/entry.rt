@@ -1,3 +1,4 @@
+//! One entry of a history.
 use crate::event::Event;
 use crate::reply::Reply;
 

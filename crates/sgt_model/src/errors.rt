@@ -1,3 +1,4 @@
+//! Errors that every layer shares.
 ghost use Rattle.std.specs.Prelude.{◌≡◌};
 
 use std::alloc::{AllocError, AllocFailed};

@@ -1,3 +1,4 @@
+//! Events, with their arguments and answers.
 ghost use Rattle.std.specs.Prelude.{◌≡◌, ◌↔◌, IsTrue};
 ghost use Rattle.sgt_model.specs.Questions.{named_by, started_in, over_in};
 

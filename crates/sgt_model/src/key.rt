@@ -1,3 +1,4 @@
+//! Keys, and the ranges of tables and values.
 ghost use Rattle.std.specs.Prelude.{◌≡◌, ◌≤◌, ◌↔◌, IsSome, IfSome, IsTrue};
 ghost use Rattle.sgt_model.specs.Numbers.{IsValue, is_value};
 

@@ -1,3 +1,4 @@
+//! The limits of an engine, and when a code that a procedure raises is reported.
 ghost use Rattle.std.specs.Prelude.{◌≡◌, ◌≤◌, ◌↔◌, IsTrue};
 ghost use Rattle.sgt_model.specs.Bounds.{AreInRange};
 

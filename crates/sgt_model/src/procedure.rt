@@ -1,3 +1,5 @@
+//! A procedure as its text has it: statements, expressions and conditions.
+
 /// A procedure, as it is written. Its text is to be checked before it runs: the ranges below are what a check asks for. It
 /// has no loops and calls no other, so it always comes to its end or asks a code.
 #[derive(Drop)]

@@ -1,3 +1,4 @@
+//! Replies, how transactions end, and why they abort.
 ghost use Rattle.std.specs.Prelude.{◌≡◌, ◌↔◌, IsTrue};
 ghost use Rattle.sgt_model.specs.Questions.{started_number, refuses_start, is_wait, is_commit, is_ask, is_quit, is_ending, tells_end};
 

@@ -1,3 +1,4 @@
+//! The number of a transaction.
 use std::marker::Model;
 
 /// The number of a transaction: how many were started before it.

@@ -1,3 +1,4 @@
+//! The pending values of one key, by several writers.
 ghost use Rattle.std.specs.Prelude.{◌≡◌, ◌<◌, None, false, length, nat_eq, [], ◌∷◌};
 ghost use Rattle.std.specs.List.{last_or, position_from};
 ghost use Rattle.sgt_model.specs.Chains.{chain_without, write_last, value_in, writes_in};

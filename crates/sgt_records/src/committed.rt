@@ -1,3 +1,4 @@
+//! The committed values by key.
 ghost use Rattle.std.specs.Prelude.{◌≡◌, true, IfSome, IfOk, OnOk};
 ghost use Rattle.sgt_model.specs.Numbers.{IsValue};
 ghost use Rattle.sgt_model.specs.Contents.{Key, put_in};

@@ -1,3 +1,4 @@
+//! The records by key, with the chains of the keys that several live transactions have written.
 ghost use Rattle.std.specs.Prelude.{◌≡◌, ℕ, ◌<◌, Some, false, cond, length, [], IfSome, IfOk, OnOk};
 ghost use Rattle.std.specs.Option.{option_or};
 ghost use Rattle.slab.specs.Slab.{HasRoomFor};

@@ -1,3 +1,4 @@
+//! Records as an ordered map with one list of the pending writes.
 ghost use Rattle.sgt_records.specs.Pendings.{ArePending};
 
 use crate::committed::Committed;

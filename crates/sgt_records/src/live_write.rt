@@ -1,3 +1,4 @@
+//! Which live transaction has written which record.
 use sgt_model::{Key, Tid};
 
 /// Which live transaction has written which key, and the index of the key's record.

@@ -1,3 +1,4 @@
+//! What is kept of one key.
 ghost use Rattle.std.specs.Prelude.{◌≡◌};
 ghost use Rattle.sgt_records.specs.Slots.{chain_at};
 ghost use Rattle.sgt_records.specs.Tops.{top_of};

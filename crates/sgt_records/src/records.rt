@@ -1,3 +1,4 @@
+//! The calls of a store of records, and what each says of its committed and pending values.
 ghost use Rattle.std.specs.Prelude.{◌≡◌, ℕ, ℤ, ◌<◌, false, cond, length, List, [], Option, IfSome, IfOk, OnOk};
 ghost use Rattle.std.specs.List.{last_or};
 ghost use Rattle.std.specs.Option.{option_or};

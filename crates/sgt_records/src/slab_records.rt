@@ -1,3 +1,4 @@
+//! Records in a list, with chains in a slab: the store that the program uses.
 ghost use Rattle.sgt_records.specs.LiveWrites.{AreLive, TellIndices};
 ghost use Rattle.sgt_records.specs.Tables.{index_in, record_in};
 

@@ -1,3 +1,4 @@
+//! The records with the index of each by its key.
 ghost use Rattle.std.proofs.Props.{props};
 ghost use Rattle.sgt_records.specs.Indices.{AreIndices};
 

@@ -1,3 +1,4 @@
+//! The newest value of a key, as a read finds it.
 ghost use Rattle.std.specs.Prelude.{◌≡◌};
 ghost use Rattle.sgt_records.specs.Tops.{value_of_top};
 

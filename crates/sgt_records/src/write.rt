@@ -1,3 +1,4 @@
+//! A write of a live transaction.
 use sgt_model::{Key, Tid};
 
 /// A live transaction's write.

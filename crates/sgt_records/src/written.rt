@@ -1,3 +1,4 @@
+//! What live transactions have written at one key.
 use sgt_model::Tid;
 
 mod by_writer;

@@ -1,3 +1,4 @@
+//! Whether arguments fit a procedure.
 ghost use Rattle.std.specs.Prelude.{◌≡◌};
 ghost use Rattle.sgt_model.specs.StartReply.{args_fit};
 

@@ -1,3 +1,4 @@
+//! A reply in short, which the scheduler returns in place of a whole one.
 ghost use Rattle.std.specs.Prelude.{◌≡◌, ◌≢◌};
 ghost use Rattle.sgt_model.specs.declared.reply.Reply.{Reply};
 ghost use Rattle.sgt_sched.specs.declared.brief.Brief.TheVariants.{Placed};

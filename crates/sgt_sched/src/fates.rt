@@ -1,3 +1,4 @@
+//! How each transaction ended that was started.
 ghost use Rattle.std.specs.Prelude.{◌≡◌, ◌+◌, ◌<◌, ◌≤◌, ◌^◌, [], ◌∷◌, ◌++◌, length, Some, None, OnOk, slice_get, slice_set, vec_len, vec_capacity};
 ghost use Rattle.sgt_sched.specs.FateList.{AreKept, HasWalk, HasStartRoom, fate_of_end, live_in};
 ghost use Rattle.sgt_sched.specs.SchedulerView.{fate_at};

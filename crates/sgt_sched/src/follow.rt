@@ -1,3 +1,4 @@
+//! New edges into a transaction that makes an access.
 ghost use Rattle.std.specs.Prelude.{◌≡◌, ◌≢◌, ℕ, true, [], ◌⊎◌, ◌↔◌};
 ghost use Rattle.sgt_model.specs.Walks.{Member};
 ghost use Rattle.sgt_cycle.specs.Walk.{NoWalk};

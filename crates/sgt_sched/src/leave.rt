@@ -1,3 +1,4 @@
+//! What a transaction that has ended leaves in the lists of the scheduler: nothing.
 ghost use Rattle.std.specs.Prelude.{◌≡◌};
 ghost use Rattle.sgt_model.specs.Walks.{Rising};
 ghost use Rattle.sgt_sched.specs.LiveList.{numbers, others_live};

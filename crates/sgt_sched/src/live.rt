@@ -1,3 +1,4 @@
+//! The list of the live transactions.
 ghost use Rattle.std.specs.Prelude.{◌≡◌, ◌≤◌, [], ◌∷◌, ◌++◌, length, Some, OnOk, OnErr, position};
 ghost use Rattle.sgt_model.specs.Walks.{Rising};
 ghost use Rattle.sgt_sched.specs.LiveList.{numbers, has_number, progress_at, with_look, with_store, changed, others_live};

@@ -1,3 +1,4 @@
+//! Who has read from whom, among the live transactions.
 ghost use Rattle.std.specs.Prelude.{◌≡◌, ◌<◌};
 ghost use Rattle.std.specs.Vec.{vec_len, vec_capacity};
 ghost use Rattle.sgt_sched.specs.Steps.{with_source};

@@ -1,3 +1,4 @@
+//! One live transaction, and how far its procedure has come.
 ghost use Rattle.std.specs.Prelude.{◌≡◌};
 ghost use Rattle.sgt_model.specs.Left.{next_left};
 ghost use Rattle.sgt_proc.specs.Nexts.{seen, StoresValue};

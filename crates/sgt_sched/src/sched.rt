@@ -1,3 +1,4 @@
+//! The scheduler: its parts, and the calls that only look at it. The other calls stand in files of their own.
 ghost use Rattle.std.specs.Prelude.{◌≡◌, true, length, position, Result, Ok, Err, Some, IfOk, OnErr, IfSome, IsSome, IsTrue, ◌↔◌};
 ghost use Rattle.std.specs.Result.{IsOk};
 ghost use Rattle.sgt_model.specs.declared.reply.Reply.{Reply};

@@ -1,3 +1,4 @@
+//! Cutting the history off, so that the engine goes on with an empty one.
 ghost use Rattle.std.specs.Prelude.{◌≡◌, Err, IfOk, OnOk, OnErr, ◌↔◌, reverse};
 ghost use Rattle.sgt_model.specs.Aborts.{AbortsHaveCause};
 ghost use Rattle.sgt_model.specs.CommitOrder.{CommitsInOrder};

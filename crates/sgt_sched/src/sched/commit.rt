@@ -24,6 +24,8 @@ impl<R: Records, A: Accesses, G: Graph> Sched<R, A, G> {
     /// end; `Waits` with the least live predecessor, where there is one; else `Committed` with the procedure's answers. A
     /// procedure that asks a code is at its end where asks are answered at the commit, and then `Refused` stands in the place of
     /// `Committed`.
+    ///
+    /// Only tests call this. It is part of the specification; the engine calls [`Sched::answer`].
     pub fn commit(&mut self, t: Tid) -> Reply
         ensures { Turns (CommitEffect (asks_of self.old) t) self.old result self.new }
     {

@@ -14,6 +14,8 @@ impl<R: Records, A: Accesses, G: Graph> Sched<R, A, G> {
     /// Aborts a transaction, as its caller asks. This takes no memory.
     ///
     /// Answers: `Unknown` where it was never started; `Over` where it has ended; else `Aborted`.
+    ///
+    /// Only tests call this. It is part of the specification; the engine calls [`Sched::answer`].
     pub fn quit(&mut self, t: Tid) -> Reply
         ensures { Turns (QuitEffect t) self.old result self.new }
     {

@@ -19,6 +19,8 @@ impl<R: Records, A: Accesses, G: Graph> Sched<R, A, G> {
     /// many as the procedure takes, or one is no value; `Spent` where as many were started as the limits allow; `Full`
     /// where as many are live; else `Started` with the next number. `NoMemory` where a growth was refused; then nothing has
     /// changed.
+    ///
+    /// Only tests call this. It is part of the specification; the engine calls [`Sched::answer`].
     pub fn start(&mut self, procedure: u16, args: &Args) -> Result<Reply, NoMemory>
         ensures { Tries (StartEffect (rules_of self.old) procedure args.now) self.old result self.new }
     {

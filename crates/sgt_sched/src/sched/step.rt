@@ -34,6 +34,8 @@ impl<R: Records, A: Accesses, G: Graph> Sched<R, A, G> {
     /// `Looked` with the last value that is not undone, or `Wrote`. Where asks are answered at the commit, a procedure that asks
     /// is at its end. `NoMemory` where a growth was refused; then nothing has changed. A step that ends the transaction takes no
     /// memory.
+    ///
+    /// Only tests call this. It is part of the specification; the engine calls [`Sched::answer`].
     pub fn step(&mut self, t: Tid) -> Result<Reply, NoMemory>
         ensures done { Tries (StepEffect (asks_of self.old) t) self.old result self.new }
         ensures no_memory { EndsOne (asks_of self.old) (Step t) (state self.old) → IsOk result }
