@@ -35,19 +35,7 @@ code_line fell (AskedCode code ∷ results) = text (reply.Refused code fell)
 abbrev pub line_telling : List RunResult → Reply → List ℕ
 line_telling results (reply.Committed answers) = answers_line results
 line_telling results (reply.Refused code fell) = code_line fell results
-line_telling results (reply.Started t) = text (reply.Started t)
-line_telling results reply.NoProcedure = text reply.NoProcedure
-line_telling results reply.BadArgs = text reply.BadArgs
-line_telling results reply.Spent = text reply.Spent
-line_telling results reply.Full = text reply.Full
-line_telling results reply.Unknown = text reply.Unknown
-line_telling results (reply.Over ended) = text (reply.Over ended)
-line_telling results (reply.Looked k v) = text (reply.Looked k v)
-line_telling results (reply.Wrote k v) = text (reply.Wrote k v)
-line_telling results reply.Ended = text reply.Ended
-line_telling results reply.NotEnded = text reply.NotEnded
-line_telling results (reply.Waits t) = text (reply.Waits t)
-line_telling results (reply.Aborted why fell) = text (reply.Aborted why fell)
+line_telling results r = text r
 
 -- the results behind the first
 abbrev pub later_results : List RunResult → List RunResult
