@@ -158,14 +158,14 @@ fn ends_otherwise(
 }
 
 /// Whether the list ends with the other.
-fn ends_with(values: &[u32], end: &[u32]) -> bool
+pub(crate) fn ends_with(values: &[u32], end: &[u32]) -> bool
     ensures { (front : List ℕ) → values.now ≡ front ++ end.now → IsTrue result }
 {
     end.len() <= values.len() && &values[values.len() - end.len()..] == end
 }
 
 /// What the operations of the transaction before the place append to the key.
-fn own_before(
+pub(crate) fn own_before(
     alloc: Global,
     history: &[Transaction],
     by: usize,

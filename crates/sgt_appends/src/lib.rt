@@ -1,16 +1,24 @@
 //! Whether what the clients of a database observed was serializable, as Elle's list-append model asks it, with a proof.
 #![tactic(auto)]
 
+mod appends;
 mod check;
 mod contents;
 mod fault;
+mod graph;
 mod index;
 mod laws;
+mod lines;
 mod order;
+mod reads;
+mod solver;
+mod sorting;
+#[cfg(test)]
+mod tests;
 mod transaction;
 mod witness;
 
-pub use check::{Answer, Verdict, Witness, judge};
+pub use check::{Answer, Verdict, Witness, check_appends, judge};
 pub use contents::Contents;
 pub use fault::{Fault, is_fault};
 pub use index::{Index, appends_once};
@@ -19,5 +27,7 @@ pub use laws::{
     orders_are_enough, raised_are_enough,
 };
 pub use order::is_serial_run;
+pub use solver::solve;
+pub use sorting::{Link, Sorted, sort};
 pub use transaction::{Operation, Status, Transaction};
 pub use witness::{Edge, Reason, is_cycle};

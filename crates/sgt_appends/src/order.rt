@@ -49,7 +49,7 @@ fn names_each(alloc: Global, history: &[Transaction], order: &[usize]) -> Result
 }
 
 /// A mark for each transaction, and none is set.
-fn none_named(alloc: Global, len: usize) -> Result<Vec<bool>, NoMemory>
+pub(crate) fn none_named(alloc: Global, len: usize) -> Result<Vec<bool>, NoMemory>
     ensures len { IfOk result (λ named. length named.items ≡ len) }
     ensures none { IfOk result (λ named. (t : ℕ) → get_or named.items t false ≡ false) }
 {
