@@ -3,11 +3,11 @@ use Rattle.std.proofs.Common.{◌≡◌, ◌≢◌, ◌<◌, ◌==◌, ℕ, suc,
 use Rattle.std.proofs.lemmas.Bool.{cases_eq, ne_eqb, eq-eqb}
 use Rattle.sgt_appends.specs.declared.transaction.Transaction.{Transaction}
 use Rattle.sgt_appends.specs.declared.transaction.Status.TheVariants.{Committed}
-use Rattle.sgt_appends.specs.Lists.{Has, IsOnce}
+use Rattle.sgt_appends.specs.Lists.{Has, IsOnce, StandsBefore}
 use Rattle.sgt_appends.specs.Runs.{Contents, nothing, after_all, SeesAll, operations_of, IsRun, Ended, IsSerialRun, IsSerializable}
 use Rattle.sgt_appends.specs.Precedences.{appended, Appends, Reads, AppendsOnce, Precedes, IsPath}
 use Rattle.sgt_appends.specs.Guides.{appended_by}
-use Rattle.sgt_appends.proofs.Words.{Has-append_left, Has-append_right, Has-append_cases, stands_after}
+use Rattle.sgt_appends.proofs.Words.{Has-append_left, Has-append_right, Has-append_cases, stands_after, StandsBefore-cons}
 use Rattle.sgt_appends.proofs.Running.{left_by, sees_read, appended_has, has_appended}
 
 -- the place of t in the order, or its length where t is not in it
@@ -174,3 +174,23 @@ path_first h order t (v ∷ others) u once serial path =
 
 pub cycle_enough : (h : List Transaction) (t : ℕ) (others : List ℕ) → AppendsOnce h → IsPath h t others t → ¬ IsSerializable h
 cycle_enough h t others once path run = omega (arith, path_first h run.0 t others t once run.1 path)
+
+-- what has the smaller place stands before
+place_stand : (order : List ℕ) (t u : ℕ) → place_of order t < place_of order u → Has order u → StandsBefore order t u
+place_stand [] t u less has = absurd has
+place_stand (x ∷ order) t u less has = elim (cases_eq x u) [
+  | inl e ↦ absurd (omega (arith, less, here order x u e))
+  | inr differ ↦ elim (cases_eq x t) [
+    | inl e ↦ ([], order, ap (λ y. y ∷ order) e, later has differ)
+    | inr other ↦ StandsBefore-cons x order t u
+        (place_stand order t u (omega (arith, less, further order x t other, further order x u differ)) (later has differ))
+  ]
+]
+  where
+    later : Has (x ∷ order) u → x ≢ u → Has order u
+    later (inl e) differ = absurd (differ e)
+    later (inr there) differ = there
+
+pub precedes_obeyed : (h : List Transaction) (order : List ℕ) (t u : ℕ) → AppendsOnce h → IsSerialRun h order → Precedes h t u
+    → Has order u → StandsBefore order t u
+precedes_obeyed h order t u once serial precedes has = place_stand order t u (precedes_first h order t u once serial precedes) has

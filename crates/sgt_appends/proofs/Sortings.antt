@@ -7,7 +7,7 @@ use Rattle.std.proofs.lemmas.Grind.{common_steps}
 use Rattle.std.proofs.lemmas.Option.{slice_get_within, slice_get-get_or}
 use Rattle.sgt_appends.specs.declared.sorting.Link.{Link}
 use Rattle.sgt_appends.specs.Lists.{Has, Rises}
-use Rattle.sgt_appends.specs.Graphs.{IsAmong, LeadTo, LeadBack, Pass, IsLinkTo, AreWithin, AreChained, IsSorted, AreOrdered, IsReached, AreAmong, IsRound, RiseAlong, unmet}
+use Rattle.sgt_appends.specs.Graphs.{IsAmong, LeadTo, LeadBack, Pass, IsLinkTo, AreWithin, AreChained, IsSorted, AreOrdered, IsReached, RiseAlong, unmet}
 use Rattle.sgt_appends.proofs.Words.{Has-append_left, Has-append_right, Has-append_cases}
 
 pub among_at : (links : List Link) (e : ℕ) (l : Link) → slice_get links e ≡ Some l → IsAmong links l

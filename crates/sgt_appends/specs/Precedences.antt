@@ -5,7 +5,7 @@ use Rattle.sgt_appends.specs.declared.transaction.Operation.TheVariants.{Append,
 use Rattle.sgt_appends.specs.declared.transaction.Status.TheVariants.{Committed}
 use Rattle.sgt_appends.specs.declared.transaction.Transaction.{Transaction}
 use Rattle.sgt_appends.specs.Lists.{Has, IsOnce, StandsBefore}
-use Rattle.sgt_appends.specs.Runs.{operations_of, Ended, IsSerializable}
+use Rattle.sgt_appends.specs.Runs.{operations_of, Ended, IsSerialRun, IsSerializable}
 
 -- the values that the operations append to the key
 abbrev pub appended : ℕ → List Operation → List ℕ
@@ -70,6 +70,11 @@ pub record WereSeen (h : List Transaction) (t u : ℕ) : Type 0 where
 -- what was observed says that t precedes u
 abbrev pub Precedes : List Transaction → ℕ → ℕ → Type 0
 Precedes h t u = (t ≢ u) × (WasSeen h t u ⊎ (WasMissed h t u ⊎ WereSeen h t u))
+
+-- in each serial run what precedes another stands before it
+abbrev pub PrecedencesAreObeyed : Type 0
+PrecedencesAreObeyed = (h : List Transaction) (order : List ℕ) (t u : ℕ) → AppendsOnce h → IsSerialRun h order → Precedes h t u
+    → Has order u → StandsBefore order t u
 
 -- a path of precedences from t through the others to u
 abbrev pub IsPath : List Transaction → ℕ → List ℕ → ℕ → Type 0

@@ -7,7 +7,7 @@ use crate::index::appends_once;
 use crate::order::is_serial_run;
 use crate::solver::solve;
 use crate::transaction::Transaction;
-use crate::witness::{Edge, is_cycle};
+use crate::witness::{Edge, all_hold, is_cycle};
 use sgt_model::NoMemory;
 use std::alloc::Global;
 
@@ -78,7 +78,7 @@ pub fn judge(alloc: Global, history: &[Transaction], answer: Answer) -> Result<V
             }
         }
         Answer::Cycle(edges) => {
-            if is_cycle(history, edges.as_slice()) {
+            if is_cycle(history, edges.as_slice()) && all_hold(history, edges.as_slice()) {
                 Ok(Verdict::Violated(Witness::Cycle(edges)))
             } else {
                 Ok(Verdict::Unsure)

@@ -57,7 +57,7 @@ pub fn is_fault(
 }
 
 /// The key that is read there.
-fn key_read(history: &[Transaction], reader: usize, read: usize) -> Option<u32> {
+pub(crate) fn key_read(history: &[Transaction], reader: usize, read: usize) -> Option<u32> {
     match history.get(reader)?.operations.get(read)? {
         Operation::Read { key, .. } => Some(*key),
         Operation::Append { .. } => None,
@@ -254,7 +254,7 @@ fn none_appends(history: &[Transaction], key: u32, value: u32) -> bool
 }
 
 /// Whether one of the operations appends the value to the key.
-fn appends(operations: &[Operation], of: u32, what: u32) -> bool
+pub(crate) fn appends(operations: &[Operation], of: u32, what: u32) -> bool
     ensures { IsTrue result ↔ Has (appended of operations.now) what }
 {
     for operation in operations {

@@ -1,9 +1,14 @@
 //! Laws of the definitions. A body has nothing to do: the law is its contract.
-ghost use Rattle.sgt_appends.specs.Precedences.{CyclesAreEnough};
+ghost use Rattle.sgt_appends.specs.Precedences.{CyclesAreEnough, PrecedencesAreObeyed};
 ghost use Rattle.sgt_appends.specs.Guides.{GuidesAreEnough};
 ghost use Rattle.sgt_appends.specs.Faults.{FaultsAreEnough};
 ghost use Rattle.sgt_appends.specs.Orders.{OrdersAreEnough};
 ghost use Rattle.sgt_appends.specs.Linear.{FewEdgesAreEnough, RaisedAreEnough};
+
+/// In each serial run what precedes another stands before it.
+pub fn precedences_are_obeyed()
+    ensures { PrecedencesAreObeyed }
+{}
 
 /// What must precede itself has no serial run.
 pub fn cycles_are_enough()

@@ -1,30 +1,29 @@
 //! Histories of a few transactions, checked.
 
-use crate::check::{Verdict, Witness, check_appends};
+use crate::anomaly::{Anomaly, name_of};
+use crate::check::{Verdict, check_appends};
 use crate::transaction::{Operation, Status, Transaction};
 use sgt_model::NoMemory;
 use std::alloc::Global;
 use std::test::Fail;
 
-/// A transaction that appends the values to the key.
-fn appender(
-    alloc: Global,
-    status: Status,
-    key: u32,
-    values: &[u32],
-) -> Result<Transaction, NoMemory> {
+/// A transaction that appends the values to key 0.
+fn appender(alloc: Global, status: Status, values: &[u32]) -> Result<Transaction, NoMemory> {
     let mut operations = Vec::new(alloc);
     for value in values {
-        operations.push(Operation::Append { key, value: *value })?;
+        operations.push(Operation::Append {
+            key: 0,
+            value: *value,
+        })?;
     }
     Ok(Transaction { status, operations })
 }
 
-/// A committed transaction that saw the values at the key.
-fn reader(alloc: Global, key: u32, seen: &[u32]) -> Result<Transaction, NoMemory> {
+/// A committed transaction that saw the values at key 0.
+fn reader(alloc: Global, seen: &[u32]) -> Result<Transaction, NoMemory> {
     let mut operations = Vec::new(alloc);
     operations.push(Operation::Read {
-        key,
+        key: 0,
         values: Vec::from_slice(alloc, seen)?,
     })?;
     Ok(Transaction {
@@ -33,27 +32,46 @@ fn reader(alloc: Global, key: u32, seen: &[u32]) -> Result<Transaction, NoMemory
     })
 }
 
-/// One appends 1 and 2 to key 0, with the status, and another sees the values there.
-fn one_reader(alloc: Global, status: Status, seen: &[u32]) -> Result<Verdict, NoMemory> {
+/// One appends 1 and 2, with the status, and another sees the values.
+fn one_reader(alloc: Global, status: Status, seen: &[u32]) -> Result<Vec<Transaction>, NoMemory> {
     let mut history = Vec::new(alloc);
-    history.push(appender(alloc, status, 0, [1, 2].as_slice())?)?;
-    history.push(reader(alloc, 0, seen)?)?;
-    check_appends(alloc, history.as_slice())
+    history.push(appender(alloc, status, [1, 2].as_slice())?)?;
+    history.push(reader(alloc, seen)?)?;
+    Ok(history)
+}
+
+/// Whether the history is serializable.
+fn is_serial(alloc: Global, history: &[Transaction]) -> Result<bool, NoMemory> {
+    let verdict = check_appends(alloc, history)?;
+    Ok(matches!(&verdict, Verdict::Serial(_)))
+}
+
+/// What the witness is called that shows that the history is not serializable.
+fn named(alloc: Global, history: &[Transaction]) -> Result<Option<Anomaly>, NoMemory> {
+    match check_appends(alloc, history)? {
+        Verdict::Violated(witness) => Ok(Some(name_of(history, &witness))),
+        _ => Ok(None),
+    }
 }
 
 #[test]
 fn one_reader_of_one_appender(rt: HostRuntime) -> Result<(), Fail> {
     let alloc = rt.alloc();
     let whole = one_reader(alloc, Status::Unknown, [1, 2].as_slice())?;
-    assert!(rt; matches!(&whole, Verdict::Serial(_)));
+    assert!(rt; is_serial(alloc, whole.as_slice())?);
     let nothing = one_reader(alloc, Status::Unknown, [].as_slice())?;
-    assert!(rt; matches!(&nothing, Verdict::Serial(_)));
+    assert!(rt; is_serial(alloc, nothing.as_slice())?);
     let part = one_reader(alloc, Status::Unknown, [1].as_slice())?;
-    assert!(rt; matches!(&part, Verdict::Violated(Witness::Cycle(_))));
+    assert!(rt; matches!(&named(alloc, part.as_slice())?, Some(Anomaly::G1b)));
     let aborted = one_reader(alloc, Status::Aborted, [1, 2].as_slice())?;
-    assert!(rt; matches!(&aborted, Verdict::Violated(Witness::Fault { .. })));
+    assert!(rt; matches!(&named(alloc, aborted.as_slice())?, Some(Anomaly::G1a)));
     let swapped = one_reader(alloc, Status::Committed, [2, 1].as_slice())?;
-    assert!(rt; matches!(&swapped, Verdict::Violated(Witness::Fault { .. })));
+    assert!(rt;
+        matches!(
+            &named(alloc, swapped.as_slice())?,
+            Some(Anomaly::IncompatibleOrder)
+        )
+    );
     Ok(())
 }
 
@@ -61,11 +79,10 @@ fn one_reader_of_one_appender(rt: HostRuntime) -> Result<(), Fail> {
 fn forked_versions_are_a_cycle(rt: HostRuntime) -> Result<(), Fail> {
     let alloc = rt.alloc();
     let mut history = Vec::new(alloc);
-    history.push(appender(alloc, Status::Committed, 0, [1].as_slice())?)?;
-    history.push(appender(alloc, Status::Unknown, 0, [2].as_slice())?)?;
-    history.push(reader(alloc, 0, [1].as_slice())?)?;
-    history.push(reader(alloc, 0, [2].as_slice())?)?;
-    let verdict = check_appends(alloc, history.as_slice())?;
-    assert!(rt; matches!(&verdict, Verdict::Violated(Witness::Cycle(_))));
+    history.push(appender(alloc, Status::Committed, [1].as_slice())?)?;
+    history.push(appender(alloc, Status::Unknown, [2].as_slice())?)?;
+    history.push(reader(alloc, [1].as_slice())?)?;
+    history.push(reader(alloc, [2].as_slice())?)?;
+    assert!(rt; matches!(&named(alloc, history.as_slice())?, Some(Anomaly::G2Item)));
     Ok(())
 }

@@ -4,6 +4,7 @@ ghost use Rattle.sgt_appends.specs.Lists.{Has, StandsBefore};
 ghost use Rattle.sgt_appends.specs.Runs.{IsSerializable};
 ghost use Rattle.sgt_appends.specs.Precedences.{Appends, HasSeen, AppendsOnce, Precedes, WasSeen, WasMissed, WereSeen};
 ghost use Rattle.sgt_appends.specs.Walks.{Reaches, ReadAt};
+ghost use Rattle.sgt_appends.specs.Witnesses.{AllPrecede};
 
 use crate::transaction::{Operation, Status, Transaction};
 
@@ -54,6 +55,18 @@ pub fn is_cycle(history: &[Transaction], edges: &[Edge]) -> bool
         at = edge.to;
     }
     at == start
+}
+
+/// Whether each edge is by what was observed.
+pub fn all_hold(history: &[Transaction], edges: &[Edge]) -> bool
+    ensures { IsTrue result → AllPrecede history.now edges.now }
+{
+    for edge in edges {
+        if !holds(history, edge) {
+            return false;
+        }
+    }
+    true
 }
 
 /// Whether what was observed says that the one precedes the other.

@@ -1,9 +1,8 @@
-use Rattle.std.proofs.Common.{rules, ◌<◌, ℕ, length, get_or, subst, sym, ◌∙◌, arith}
+use Rattle.std.proofs.Common.{rules, ◌<◌, length, get_or, ◌∙◌, arith}
 use Rattle.std.proofs.Math.ListN.{length-set}
 use Rattle.std.proofs.lemmas.Option.{slice_get-get_or}
 use Rattle.sgt_appends.specs.declared.sorting.Link.{Link}
 use Rattle.sgt_appends.specs.declared.witness.Reason.TheVariants.{Seen}
-use Rattle.sgt_appends.specs.Graphs.{AreChained}
 use Rattle.sgt_appends.proofs.Sortings.{among_at, chain_one}
 use Rattle.sgt_appends.proofs.sorting.chain.Goals as goal
 

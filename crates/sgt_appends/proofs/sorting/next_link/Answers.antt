@@ -1,5 +1,4 @@
-use Rattle.std.proofs.Common.{rules, ◌≡◌, ◌<◌, ◌≤◌, ◌-◌, ℕ, List, Some, get_or, length, sym, subst, arith}
-use Rattle.std.specs.Prelude.{slice_get}
+use Rattle.std.proofs.Common.{rules, ◌<◌, ◌≤◌, ◌-◌, ℕ, List, get_or, length, arith}
 use Rattle.std.proofs.lemmas.Option.{slice_get_within}
 use Rattle.sgt_appends.specs.declared.sorting.Link.{Link}
 use Rattle.sgt_appends.specs.declared.witness.Reason.TheVariants.{Seen}

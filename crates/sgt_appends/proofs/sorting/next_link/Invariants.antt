@@ -1,4 +1,4 @@
-use Rattle.std.proofs.Common.{◌≡◌, get_or}
+use Rattle.std.proofs.Common.{get_or}
 use Rattle.sgt_appends.specs.Graphs.{IsSorted}
 use Rattle.sgt_appends.proofs.sorting.next_link.Given as goal
 

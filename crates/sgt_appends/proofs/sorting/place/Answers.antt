@@ -1,8 +1,7 @@
-use Rattle.std.proofs.Common.{rules, ◌≡◌, ◌<◌, ◌+◌, ◌++◌, ◌∷◌, [], ℕ, get_or, length, subst, sym, arith}
+use Rattle.std.proofs.Common.{rules, ◌≡◌, ◌<◌, ◌+◌, ◌++◌, ◌∷◌, [], get_or, length, subst, sym}
 use Rattle.std.specs.Prelude.{slice_set}
-use Rattle.std.proofs.lemmas.Grind.{common_steps}
 use Rattle.sgt_appends.specs.Graphs.{IsSorted, AreOrdered}
-use Rattle.sgt_appends.proofs.Sortings.{place_one, order_one, set_here, new_still}
+use Rattle.sgt_appends.proofs.Sortings.{place_one, order_one, new_still}
 use Rattle.sgt_appends.proofs.sorting.place.Goals as goal
 
 pub returns-in_ok-push-clause-sorted : goal.returns-in_ok-push-clause-sorted

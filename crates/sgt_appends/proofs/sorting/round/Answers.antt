@@ -1,6 +1,5 @@
 use Rattle.std.proofs.Common.{rules, ◌≡◌, ◌++◌, ◌∷◌, [], sym, subst, ◌∙◌}
-use Rattle.sgt_appends.specs.declared.sorting.Link.{Link}
-use Rattle.sgt_appends.specs.Graphs.{IsAmong, LeadTo}
+use Rattle.sgt_appends.specs.Graphs.{LeadTo}
 use Rattle.sgt_appends.proofs.Sortings.{round_one, round_on, among_one, never_empty}
 use Rattle.sgt_appends.proofs.sorting.round.Goals as goal
 

@@ -1,4 +1,4 @@
-use Rattle.std.proofs.Common.{◌≡◌, ◌≢◌, ◌⊎◌, ◌∷◌, [], ℕ, length}
+use Rattle.std.proofs.Common.{◌≢◌, ◌⊎◌, ◌∷◌, [], ℕ, length}
 use Rattle.sgt_appends.specs.declared.sorting.Link.{Link}
 use Rattle.sgt_appends.specs.Graphs.{IsAmong, LeadTo, LeadBack, Pass}
 use Rattle.sgt_appends.proofs.sorting.round.Given as goal

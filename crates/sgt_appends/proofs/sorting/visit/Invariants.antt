@@ -1,4 +1,4 @@
-use Rattle.std.proofs.Common.{◌≡◌, ◌<◌, ◌⊎◌, ◌+◌, ◌*◌, ℕ, true, false, length, get_or}
+use Rattle.std.proofs.Common.{◌≡◌, ◌+◌, ◌*◌, ℕ, true, false, length, get_or}
 use Rattle.sgt_appends.specs.Graphs.{IsSorted, AreOrdered, IsReached, unmet}
 use Rattle.sgt_appends.proofs.sorting.visit.Given as goal
 

@@ -1,6 +1,5 @@
-use Rattle.std.proofs.Common.{rules, ◌≡◌, ◌<◌, ℕ, length, get_or, refl, sym, subst, ◌∙◌, arith}
+use Rattle.std.proofs.Common.{refl, ◌∙◌, arith}
 use Rattle.std.proofs.lemmas.Grind.{common_steps}
-use Rattle.sgt_appends.specs.Graphs.{AreOrdered}
 use Rattle.sgt_appends.proofs.Sortings.{none_sorted, none_ordered, all_rise}
 use Rattle.sgt_appends.proofs.sorting.visit_all.Goals as goal
 
