@@ -1,0 +1,26 @@
+-- What the tables of the program hold.
+use Rattle.std.specs.Prelude.{◌≡◌, ℕ, List, [], Option, Some, None, Bool, true, false, length}
+use Rattle.std.proofs.Common.{get_or}
+use Rattle.sgt_appends.specs.declared.transaction.Transaction.{Transaction}
+use Rattle.sgt_appends.specs.Lists.{Has, IsOnce}
+use Rattle.sgt_appends.specs.Runs.{MayRun}
+use Rattle.std.specs.BTreeMap.{get}
+use Rattle.std.specs.Ordering.{nat_cmp}
+use Rattle.std.specs.Global.{Vec}
+use Rattle.sgt_appends.specs.declared.contents.Contents.{Contents}
+
+abbrev pub items_or_none : Option (Vec ℕ) → List ℕ
+items_or_none None = []
+items_or_none (Some list) = list.items
+
+-- the list that stands at the key
+abbrev pub stands : Contents → ℕ → List ℕ
+stands contents key = items_or_none (get nat_cmp contents.lists key)
+
+-- the transactions are named once each, may have taken effect, and just they are marked
+pub record IsNamed (h : List Transaction) (ts : List ℕ) (marks : List Bool) : Type 0 where
+  pub once : IsOnce ts
+  pub may_run : (t : ℕ) → Has ts t → MayRun h t
+  pub marked : (t : ℕ) → Has ts t → get_or marks t false ≡ true
+  pub named : (t : ℕ) → get_or marks t false ≡ true → Has ts t
+  pub long : length marks ≡ length h

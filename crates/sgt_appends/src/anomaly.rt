@@ -1,0 +1,115 @@
+//! The names that witnesses have in the literature. They are tested, not proved.
+
+use crate::check::Witness;
+use crate::fault::{Fault, appends, key_read};
+use crate::transaction::Transaction;
+use crate::witness::{Edge, Reason};
+
+/// What a witness is called.
+///
+/// Adya (1999), chapter 3: phenomena G0 to G2; Kingsbury and Alvaro, Elle (VLDB 2020): the others.
+#[derive(Clone, Copy, Debug, PartialEq, Eq)]
+pub enum Anomaly {
+    /// A cycle of appends alone.
+    G0,
+    /// A read of a value that only an aborted transaction appends.
+    G1a,
+    /// A read of some of the values that a transaction appends.
+    G1b,
+    /// A cycle of appends and reads that saw them.
+    G1c,
+    /// A cycle with one read that missed an append.
+    GSingle,
+    /// A cycle with more reads that missed an append.
+    G2Item,
+    /// Two values of a transaction were seen against its order.
+    IncompatibleOrder,
+    /// A read contradicts what its own transaction appends.
+    Internal,
+    /// A read of a value that no transaction appends.
+    Unwritten,
+    /// A value was seen twice in one list.
+    Duplicate,
+}
+
+/// What the witness of the history is called.
+pub fn name_of(history: &[Transaction], witness: &Witness) -> Anomaly {
+    match witness {
+        Witness::Cycle(edges) => of_cycle(edges.as_slice()),
+        Witness::Fault {
+            reader,
+            read,
+            fault,
+        } => of_fault(history, *reader, *read, fault),
+    }
+}
+
+/// What the cycle is called.
+fn of_cycle(edges: &[Edge]) -> Anomaly {
+    let mut sees = false;
+    let mut misses = false;
+    let mut misses_more = false;
+    for edge in edges {
+        match edge.reason {
+            Reason::Seen { .. } => sees = true,
+            Reason::Missed { .. } => {
+                misses_more = misses_more || misses;
+                misses = true;
+            }
+            Reason::InOrder { .. } => (),
+        }
+    }
+    if misses_more {
+        Anomaly::G2Item
+    } else if is_intermediate(edges) {
+        Anomaly::G1b
+    } else if misses {
+        Anomaly::GSingle
+    } else if sees {
+        Anomaly::G1c
+    } else {
+        Anomaly::G0
+    }
+}
+
+/// Whether one read saw a value of a transaction and missed another.
+fn is_intermediate(edges: &[Edge]) -> bool {
+    match edges {
+        [first, second] => match (first.reason, second.reason) {
+            (Reason::Seen { read, .. }, Reason::Missed { read: other, .. }) => read == other,
+            (Reason::Missed { read, .. }, Reason::Seen { read: other, .. }) => read == other,
+            _ => false,
+        },
+        _ => false,
+    }
+}
+
+/// What the fault of the read is called.
+fn of_fault(history: &[Transaction], reader: usize, read: usize, fault: &Fault) -> Anomaly {
+    match fault {
+        Fault::Unwritten(value) => {
+            if is_appended(history, reader, read, *value) {
+                Anomaly::G1a
+            } else {
+                Anomaly::Unwritten
+            }
+        }
+        Fault::Twice(_) => Anomaly::Duplicate,
+        Fault::Swapped { .. } => Anomaly::IncompatibleOrder,
+        Fault::EndsOtherwise => Anomaly::Internal,
+        Fault::Ahead { .. } => Anomaly::Internal,
+    }
+}
+
+/// Whether a transaction appends the value to the key that is read there.
+fn is_appended(history: &[Transaction], reader: usize, read: usize, value: u32) -> bool {
+    let Some(key) = key_read(history, reader, read) else {
+        return false;
+    };
+    for transaction in history {
+        if appends(transaction.operations.as_slice(), key, value) {
+            return true;
+        }
+    }
+    false
+}

@@ -1,0 +1,103 @@
+//! The verdict on a history.
+ghost use Rattle.std.specs.Prelude.{IfOk};
+ghost use Rattle.sgt_appends.specs.Verdicts.{IsRight};
+
+use crate::fault::{Fault, is_fault};
+use crate::index::appends_once;
+use crate::order::is_serial_run;
+use crate::solver::solve;
+use crate::transaction::Transaction;
+use crate::witness::{Edge, all_hold, is_cycle};
+use sgt_model::NoMemory;
+use std::alloc::Global;
+
+/// What a solver answers. Nobody has to trust it.
+#[derive(Debug, Drop, PartialEq, Eq)]
+pub enum Answer {
+    /// An order of the transactions.
+    Order(Vec<usize>),
+    /// Precedences that lead back to where they begin.
+    Cycle(Vec<Edge>),
+    /// A fault of a read, which stands at this place of the reader.
+    Fault {
+        reader: usize,
+        read: usize,
+        fault: Fault,
+    },
+}
+
+/// What shows that a history is not serializable.
+#[derive(Debug, Drop, PartialEq, Eq)]
+pub enum Witness {
+    /// Precedences that lead back to where they begin.
+    Cycle(Vec<Edge>),
+    /// A fault of a read, which stands at this place of the reader.
+    Fault {
+        reader: usize,
+        read: usize,
+        fault: Fault,
+    },
+}
+
+/// Whether what the clients observed was serializable, with what shows it.
+#[derive(Debug, Drop, PartialEq, Eq)]
+pub enum Verdict {
+    /// It was: a serial run.
+    Serial(Vec<usize>),
+    /// It was not: a cycle of precedences, or a fault of a read.
+    Violated(Witness),
+    /// Nothing is said, since a value is appended twice to a key.
+    AppendedTwice,
+    /// Nothing is said, since the answer shows nothing.
+    Unsure,
+}
+
+/// Whether what the clients saw is serializable, with a serial run or a witness against all orders.
+///
+/// The time is about linear in the size of the history, n log n.
+pub fn check_appends(alloc: Global, history: &[Transaction]) -> Result<Verdict, NoMemory>
+    ensures { IfOk result (IsRight history.now) }
+{
+    let answer = solve(alloc, history)?;
+    judge(alloc, history, answer)
+}
+
+/// The verdict that the answer shows.
+pub fn judge(alloc: Global, history: &[Transaction], answer: Answer) -> Result<Verdict, NoMemory>
+    ensures { IfOk result (IsRight history.now) }
+{
+    if !appends_once(alloc, history)? {
+        return Ok(Verdict::AppendedTwice);
+    }
+    match answer {
+        Answer::Order(order) => {
+            if is_serial_run(alloc, history, order.as_slice())? {
+                Ok(Verdict::Serial(order))
+            } else {
+                Ok(Verdict::Unsure)
+            }
+        }
+        Answer::Cycle(edges) => {
+            if is_cycle(history, edges.as_slice()) && all_hold(history, edges.as_slice()) {
+                Ok(Verdict::Violated(Witness::Cycle(edges)))
+            } else {
+                Ok(Verdict::Unsure)
+            }
+        }
+        Answer::Fault {
+            reader,
+            read,
+            fault,
+        } => {
+            if is_fault(alloc, history, reader, read, &fault)? {
+                Ok(Verdict::Violated(Witness::Fault {
+                    reader,
+                    read,
+                    fault,
+                }))
+            } else {
+                Ok(Verdict::Unsure)
+            }
+        }
+    }
+}

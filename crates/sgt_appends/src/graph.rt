@@ -1,0 +1,255 @@
+//! The graph of the transactions and the ends of the lines: what must come before what, by few links.
+//!
+//! Its nodes are the transactions, and for each line its end, after all who saw the whole line and before all who append
+//! a value that is not in it.
+ghost use Rattle.std.specs.Prelude.{◌≡◌, ◌<◌, ℕ, [], OnOk, IfOk};
+ghost use Rattle.sgt_appends.specs.Graphs.{AreWithin};
+
+use crate::appends::Appends;
+use crate::lines::{Line, Lines};
+use crate::reads::{Read, read_of};
+use crate::sorting::Link;
+use crate::transaction::{Operation, Status, Transaction};
+use crate::witness::{Edge, Reason};
+use sgt_model::NoMemory;
+use std::alloc::Global;
+use std::collections::BTreeSet;
+
+/// Links between nodes below a number.
+#[derive(Drop)]
+pub struct Graph {
+    pub nodes: usize,
+    pub links: Vec<Link>,
+}
+
+impl Graph {
+    /// No links between nodes below the number.
+    pub fn new(alloc: Global, nodes: usize) -> Self
+        ensures { AreWithin result.links.items result.nodes }
+    {
+        Graph {
+            nodes,
+            links: Vec::new(alloc),
+        }
+    }
+
+    /// Adds the link, if its nodes are below the number and differ.
+    fn add(&mut self, link: Link) -> Result<(), NoMemory>
+        requires { AreWithin self.old.links.items self.old.nodes }
+        ensures { OnOk result (AreWithin self.new.links.items self.new.nodes) }
+    {
+        if link.from < self.nodes && link.to < self.nodes && link.from != link.to {
+            self.links.push(link)?;
+        }
+        Ok(())
+    }
+
+    /// Adds the links from and to the transactions of the history.
+    pub fn add_all(
+        &mut self,
+        alloc: Global,
+        history: &[Transaction],
+        appends: &Appends,
+        lines: &Lines,
+    ) -> Result<(), NoMemory>
+        requires { AreWithin self.old.links.items self.old.nodes }
+        ensures { OnOk result (AreWithin self.new.links.items self.new.nodes) }
+    {
+        for (number, transaction) in history.iter().enumerate() {
+            for position in 0..transaction.operations.len() {
+                if let Some(read) = read_of(history, number, position) {
+                    self.add_seen(appends, read)?;
+                    self.add_missed(alloc, history.len(), appends, lines, read)?;
+                }
+                self.add_unseen(history, lines, number, position)?;
+            }
+        }
+        Ok(())
+    }
+
+    /// Adds the links that the values which the read saw make: from who appends one to who appends the next, and from
+    /// who appends the last of others to the reader.
+    fn add_seen(&mut self, appends: &Appends, read: Read<'_>) -> Result<(), NoMemory>
+        requires { AreWithin self.old.links.items self.old.nodes }
+        ensures { OnOk result (AreWithin self.new.links.items self.new.nodes) }
+    {
+        let mut before: Option<(usize, usize)> = None;
+        let mut last: Option<(usize, usize)> = None;
+        for value in read.seen {
+            if let Some((by, append)) = appends.find(read.key, *value) {
+                if let Some((from, first)) = before {
+                    let reason = Reason::InOrder {
+                        first,
+                        second: append,
+                        reader: read.reader,
+                        read: read.position,
+                    };
+                    self.add(Link {
+                        from,
+                        to: by,
+                        reason,
+                    })?;
+                }
+                before = Some((by, append));
+                if by != read.reader {
+                    last = Some((by, append));
+                }
+            }
+        }
+        if let Some((from, append)) = last {
+            let reason = Reason::Seen {
+                append,
+                read: read.position,
+            };
+            self.add(Link {
+                from,
+                to: read.reader,
+                reason,
+            })?;
+        }
+        Ok(())
+    }
+
+    /// Adds the link from the reader to who appends the first value of the line that it does not know, or to the line's end.
+    fn add_missed(
+        &mut self,
+        alloc: Global,
+        transactions: usize,
+        appends: &Appends,
+        lines: &Lines,
+        read: Read<'_>,
+    ) -> Result<(), NoMemory>
+        requires { AreWithin self.old.links.items self.old.nodes }
+        ensures { OnOk result (AreWithin self.new.links.items self.new.nodes) }
+    {
+        let Some(line) = lines.find(read.key) else {
+            return Ok(());
+        };
+        let (to, append) = match first_unknown(alloc, appends, line, read)? {
+            Some(found) => found,
+            None => match transactions.checked_add(line.number) {
+                Some(end) => (end, 0),
+                None => return Err(NoMemory),
+            },
+        };
+        let reason = Reason::Missed {
+            read: read.position,
+            append,
+        };
+        self.add(Link {
+            from: read.reader,
+            to,
+            reason,
+        })
+    }
+
+    /// Adds the link from the end of the line to the transaction, if it appends at the position a value that is not in the line.
+    fn add_unseen(
+        &mut self,
+        history: &[Transaction],
+        lines: &Lines,
+        number: usize,
+        position: usize,
+    ) -> Result<(), NoMemory>
+        requires { AreWithin self.old.links.items self.old.nodes }
+        ensures { OnOk result (AreWithin self.new.links.items self.new.nodes) }
+    {
+        let Some(end) = end_before(history, lines, number, position) else {
+            return Ok(());
+        };
+        let reason = Reason::Missed {
+            read: 0,
+            append: position,
+        };
+        self.add(Link {
+            from: end,
+            to: number,
+            reason,
+        })
+    }
+}
+
+/// The end of the line in which the value is not that the transaction appends at the position.
+fn end_before(
+    history: &[Transaction],
+    lines: &Lines,
+    number: usize,
+    position: usize,
+) -> Option<usize> {
+    let transaction = history.get(number)?;
+    if transaction.status == Status::Aborted {
+        return None;
+    }
+    match transaction.operations.get(position)? {
+        Operation::Append { key, value } => {
+            if lines.contains(*key, *value) {
+                return None;
+            }
+            history.len().checked_add(lines.find(*key)?.number)
+        }
+        Operation::Read { .. } => None,
+    }
+}
+
+/// Who appends the first value of the line that the reader neither saw nor appends, and where.
+fn first_unknown(
+    alloc: Global,
+    appends: &Appends,
+    line: &Line,
+    read: Read<'_>,
+) -> Result<Option<(usize, usize)>, NoMemory> {
+    let mut seen = BTreeSet::new(alloc);
+    for value in read.seen {
+        seen.insert(*value)?;
+    }
+    for value in line.values.as_slice() {
+        if !seen.contains(value) {
+            if let Some((by, append)) = appends.find(read.key, *value) {
+                if by != read.reader {
+                    return Ok(Some((by, append)));
+                }
+            }
+        }
+    }
+    Ok(None)
+}
+
+/// The edges between transactions that the links of a cycle make. Two links through the end of a line make one edge.
+pub fn edges_of(alloc: Global, transactions: usize, cycle: &[Link]) -> Result<Vec<Edge>, NoMemory> {
+    let mut edges = Vec::new(alloc);
+    for (place, link) in cycle.iter().enumerate() {
+        if link.from < transactions {
+            let mut edge = Edge {
+                from: link.from,
+                to: link.to,
+                reason: link.reason,
+            };
+            if link.to >= transactions {
+                if let Some(next) = next_of(cycle, place) {
+                    edge.to = next.to;
+                    edge.reason = joined(link.reason, next.reason);
+                }
+            }
+            edges.push(edge)?;
+        }
+    }
+    Ok(edges)
+}
+
+/// The link after the one at the place; after the last one the first.
+fn next_of(cycle: &[Link], place: usize) -> Option<Link> {
+    match cycle.get(place.checked_add(1)?) {
+        Some(next) => Some(*next),
+        None => cycle.first().copied(),
+    }
+}
+
+/// The reason of an edge through the end of a line: the read by the one link and the append by the other.
+fn joined(read: Reason, append: Reason) -> Reason {
+    match (read, append) {
+        (Reason::Missed { read, .. }, Reason::Missed { append, .. }) => {
+            Reason::Missed { read, append }
+        }
+        (other, _) => other,
+    }
+}

@@ -1,0 +1,56 @@
+//! Whether what the clients of a database saw is serializable, in the list-append model of Elle.
+//!
+//! Clients append values to lists and read whole lists. A serial order runs the committed transactions one after another,
+//! from empty lists, and every read returns just what its client saw; of those whose end no client knows any may take part.
+//! The definitions stand in `specs/Runs.antt`.
+//!
+//! Kingsbury and Alvaro, Elle: Inferring Isolation Anomalies from Experimental Observations (VLDB 2020).
+//!
+//! Proved:
+//! - `Serial`: the order is such an order. `Violated`: there is none, and each edge of a cycle is by what was observed.
+//! - Every such order obeys the edges (`precedences_are_obeyed`). An order by ranks that rise along few of them, with no
+//!   fault of a read, is such an order (`raised_are_enough`).
+//! - The sort of the graph: ranks that rise along all links, or a cycle of them.
+//!
+//! Not proved: that the solver's answers always show it, so `Unsure` is possible; the names of the anomalies; the time.
+//! A value appended twice to a key gets `AppendedTwice`. An unknown transaction must have no reads: where it has some, they
+//! are taken as those of a committed one if the order has it, and the verdict may be `Unsure`.
+//!
+//! ```
+//! // the first appends 1 and 2 to key 0, and the second saw 1 alone: it saw the first in part
+//! let verdict = check_appends(alloc, &history)?;      // Violated: the second comes after the first, and before it
+//! ```
+#![tactic(auto)]
+
+mod anomaly;
+mod appends;
+mod check;
+mod contents;
+mod fault;
+mod graph;
+mod index;
+mod laws;
+mod lines;
+mod order;
+mod reads;
+mod solver;
+mod sorting;
+#[cfg(test)]
+mod tests;
+mod transaction;
+mod witness;
+
+pub use anomaly::{Anomaly, name_of};
+pub use check::{Answer, Verdict, Witness, check_appends, judge};
+pub use contents::Contents;
+pub use fault::{Fault, is_fault};
+pub use index::{Index, appends_once};
+pub use laws::{
+    cycles_are_enough, faults_are_enough, few_edges_are_enough, guides_are_enough,
+    orders_are_enough, precedences_are_obeyed, raised_are_enough,
+};
+pub use order::is_serial_run;
+pub use solver::solve;
+pub use sorting::{Link, Sorted, sort};
+pub use transaction::{Operation, Status, Transaction};
+pub use witness::{Edge, Reason, all_hold, is_cycle};
