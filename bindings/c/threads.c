@@ -1,6 +1,7 @@
 /* Four threads on one engine under one mutex: 80,000 deposits of 1, and the money is counted. */
 #include <inttypes.h>
 #include <pthread.h>
+#include <stdbool.h>
 #include <stdio.h>
 #include <string.h>
 
@@ -13,11 +14,17 @@ static sgt_engine engine;
 static pthread_mutex_t lock = PTHREAD_MUTEX_INITIALIZER;
 static pthread_cond_t ended = PTHREAD_COND_INITIALIZER;
 
-/* One event. The caller holds the lock. Who waits for an end is told of each. */
+/* Whether the reply ends a live transaction. A commit that waits may go on after each such end, and after no other reply. */
+static bool ends_one(const sgt_reply *reply)
+{
+    return reply->kind == SGT_COMMITTED || reply->kind == SGT_ABORTED || reply->kind == SGT_REFUSED;
+}
+
+/* One event. The caller holds the lock. Each end of a transaction wakes all that wait for one. */
 static void ask(uint32_t (*event)(sgt_engine *, uint32_t, sgt_reply *), uint32_t tid, sgt_reply *reply)
 {
     if (event(&engine, tid, reply) != SGT_OK) reply->kind = 0;
-    if (reply->kind == SGT_COMMITTED || reply->kind == SGT_ABORTED) pthread_cond_broadcast(&ended);
+    if (ends_one(reply)) pthread_cond_broadcast(&ended);
 }
 
 /* One deposit, which is given up where it is aborted. Between two of its events other threads make theirs. */
