@@ -189,6 +189,14 @@ fn ended(reply: &Reply) -> Option<Told> {
     }
 }
 
+/// What is compared of the reply to a quit. One of a transaction that has ended is not.
+fn quit(reply: &Reply) -> Option<Told> {
+    match reply {
+        Reply::Aborted { .. } => Some(Told::Quit),
+        _ => None,
+    }
+}
+
 /// Whether a reply tells that this transaction was started.
 fn is_started(reply: &Reply, t: Tid) -> bool {
     match reply {
@@ -203,7 +211,7 @@ fn compared(entry: &Entry, t: Tid) -> Option<Told> {
         Event::Start { .. } if is_started(&entry.reply, t) => Some(Told::Started),
         Event::Step(s) if *s == t => stepped(&entry.reply),
         Event::Commit(s) if *s == t => ended(&entry.reply),
-        Event::Quit(s) if *s == t => Some(Told::Quit),
+        Event::Quit(s) if *s == t => quit(&entry.reply),
         _ => None,
     }
 }
