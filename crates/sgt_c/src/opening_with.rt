@@ -1,11 +1,11 @@
 //! Opening a handle on rows of the caller's.
 ghost use Rattle.std.specs.Prelude.{◌≡◌, ◌≢◌, ◌≤◌, ◌↔◌, None, IsSome, IfSome, IfOk, IfErr, OnOk};
 ghost use Rattle.std.specs.List.{All};
-ghost use Rattle.sgt_model.specs.Contents.{Key};
+ghost use Rattle.sgt_model.specs.Contents.{Key, put_in};
 ghost use Rattle.sgt_model.specs.Databases.{contents_of};
 ghost use Rattle.sgt_format.specs.Openings.{Refuses};
 ghost use Rattle.sgt_c.specs.Openings.{OpenedWith, RefusedAs};
-ghost use Rattle.sgt_c.specs.Rows.{IsRow, with_rows};
+ghost use Rattle.sgt_c.specs.Rows.{IsRow, row_of, with_rows};
 
 use crate::fault_struct::{SgtFault, write_fault};
 use crate::handle::Handle;
@@ -71,8 +71,17 @@ fn put_rows(database: &mut Database, rows: &[SgtRow]) -> Result<(), NoMemory>
     ensures { OnOk result ((k : Key) → contents_of database.new k ≡ with_rows (contents_of database.old) rows.now k) }
 {
     for row in rows {
-        let (key, value) = keyed_row(row);
-        database.put(key, value)?;
+        put_row(database, row)?;
     }
     Ok(())
+}
+
+/// Puts a row in, in place of the value that its key has, or as a new one.
+fn put_row(database: &mut Database, row: &SgtRow) -> Result<(), NoMemory>
+    requires { IsRow row.now }
+    ensures { OnOk result ((k : Key) →
+        contents_of database.new k ≡ put_in (contents_of database.old) (row_of row.now).0 row.now.value k) }
+{
+    let (key, value) = keyed_row(row);
+    database.put(key, value)
 }
