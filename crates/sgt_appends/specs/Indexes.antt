@@ -10,6 +10,7 @@ use Rattle.sgt_appends.specs.Lists.{Has, IsOnce}
 use Rattle.sgt_appends.specs.Runs.{operations_of}
 use Rattle.sgt_appends.specs.Precedences.{appended, Appends}
 
+-- by the key, then by the value
 abbrev pub pair_cmp : ℕ × ℕ → ℕ × ℕ → Ordering
 pair_cmp a b = ordering_then (nat_cmp a.0 b.0) (nat_cmp a.1 b.1)
 

@@ -13,6 +13,7 @@ ClimbsFrom h rank k x [] = Unit {0}
 ClimbsFrom h rank k x (y ∷ ys) =
     ((t u : ℕ) → Appends h t k x → Appends h u k y → t ≢ u → rank t < rank u) × ClimbsFrom h rank k y ys
 
+-- the same, from the first value of a list on
 abbrev pub Climbs : List Transaction → (ℕ → ℕ) → ℕ → List ℕ → Type 0
 Climbs h rank k [] = Unit {0}
 Climbs h rank k (x ∷ xs) = ClimbsFrom h rank k x xs

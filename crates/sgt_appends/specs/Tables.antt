@@ -9,6 +9,7 @@ use Rattle.std.specs.Ordering.{nat_cmp}
 use Rattle.std.specs.Global.{Vec}
 use Rattle.sgt_appends.specs.declared.contents.Contents.{Contents}
 
+-- the items of a list, none where there is no list
 abbrev pub items_or_none : Option (Vec ℕ) → List ℕ
 items_or_none None = []
 items_or_none (Some list) = list.items

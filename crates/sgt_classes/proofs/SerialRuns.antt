@@ -9,7 +9,7 @@ use Rattle.sgt_classes.specs.declared.operation.Action.{Action}
 use Rattle.sgt_classes.specs.declared.operation.Action.TheVariants.{Read, Write, Commit, Abort}
 use Rattle.sgt_classes.specs.Histories.{Does, Uses, IsWellFormed}
 use Rattle.sgt_classes.specs.Serializability.{Commits, Conflict, IsEdge, IsPath, IsAcyclic, IsSerialOrder}
-use Rattle.sgt_classes.specs.Equivalence.{AbortReply, is_commit, has_committed, committed_projection, operations_of, IsSameOperation, IsWhollyBefore, IsSerialHistory, IsSerialRun, IsSerializable, serial_history}
+use Rattle.sgt_classes.specs.Equivalence.{Aborts, is_commit, has_committed, committed_projection, operations_of, IsSameOperation, IsWhollyBefore, IsSerialHistory, IsSerialRun, IsSerializable, serial_history}
 use Rattle.sgt_classes.proofs.Places.{does_at}
 use Rattle.sgt_classes.proofs.EdgeChains.{same_at}
 use Rattle.sgt_classes.proofs.ClosedWalks.{nothing_there}
@@ -132,7 +132,7 @@ commit_or_abort h t i j well commits aborts = go (cases_order i j)
     go (inr (inl before)) = well j t Abort aborts (i, before, inl commits)
     go (inr (inr after)) = well i t Commit commits (j, after, inr aborts)
 
-pub never_aborts : (h : List Operation) (t : ℕ) → IsWellFormed h → Commits h t → ¬ AbortReply (committed_projection h) t
+pub never_aborts : (h : List Operation) (t : ℕ) → IsWellFormed h → Commits h t → ¬ Aborts (committed_projection h) t
 never_aborts h t well commits aborts =
     let w = from_projection h aborts.0 t Abort aborts.1 in commit_or_abort h t commits.0 w.0 well commits.1 w.1
 

@@ -8,7 +8,7 @@ use Rattle.sgt_classes.specs.declared.operation.Action.TheVariants.{Read, Write,
 use Rattle.sgt_classes.specs.Histories.{Does, Ends, IsWellFormed}
 use Rattle.sgt_classes.specs.Classes.{ReadsFrom}
 use Rattle.sgt_classes.specs.Serializability.{Conflict}
-use Rattle.sgt_classes.specs.Equivalence.{AbortReply, has_committed, operations_of, committed_projection, IsSameOperation, AreEquivalent, EquivalenceLaws, SerialRunsAreComplete}
+use Rattle.sgt_classes.specs.Equivalence.{Aborts, has_committed, operations_of, committed_projection, IsSameOperation, AreEquivalent, EquivalenceLaws, SerialRunsAreComplete}
 use Rattle.sgt_classes.specs.ViewEquivalence.{NoneAborts, ReadsInitial, IsFinalWrite, EquivalentAreViewEquivalent, SerialRunsReadAlike}
 use Rattle.sgt_classes.proofs.EdgeChains.{same_at}
 use Rattle.sgt_classes.proofs.Filters.{kept_there, kept_rises, kept_apart}
@@ -59,7 +59,7 @@ conflict_turned h i t j u c = (c.0, c.2, c.1, swap c.3)
     swap (inr wrote) = inl wrote
 
 -- if t has the same operations in both and aborts in one, it aborts in the other
-aborts_there : (g h : List Operation) (t : ℕ) → operations_of g t ≡ operations_of h t → AbortReply g t → AbortReply h t
+aborts_there : (g h : List Operation) (t : ℕ) → operations_of g t ≡ operations_of h t → Aborts g t → Aborts h t
 aborts_there g h t same aborts =
     let w = same_there g h t aborts.0 Abort same aborts.1 in (w.0, does_there t g h aborts.0 w.0 Abort w.1 aborts.1)
 
@@ -87,7 +87,7 @@ symmetric g h e = record {
       (λ aborts. remains (aborts_there g h u (e.same_operations u) aborts)) conflict first second less (cases_order k l);
 }
   where
-    go : (t u i j k l : ℕ) → t ≢ u → ¬ AbortReply g t → ¬ AbortReply g u → Conflict h i t j u → IsSameOperation t h i g k
+    go : (t u i j k l : ℕ) → t ≢ u → ¬ Aborts g t → ¬ Aborts g u → Conflict h i t j u → IsSameOperation t h i g k
         → IsSameOperation u h j g l → i < j → (k ≡ l) ⊎ ((k < l) ⊎ (l < k)) → k < l
     go t u i j k l differ stays remains conflict first second less (inl same) =
         let here : Does g l t first.action = subst (λ n. Does g n t first.action) same first.there in

@@ -10,8 +10,8 @@ use Rattle.sgt_classes.specs.Histories.{Does, IsWellFormed}
 use Rattle.sgt_classes.specs.Serializability.{Commits, Conflict, IsAcyclic, IsSerialOrder, IsCycle, IsCommitOrdered}
 
 -- t aborts
-abbrev pub AbortReply : List Operation → ℕ → Type 0
-AbortReply h t = (i : ℕ) × Does h i t Abort
+abbrev pub Aborts : List Operation → ℕ → Type 0
+Aborts h t = (i : ℕ) × Does h i t Abort
 
 -- whether the action is a commit
 abbrev pub is_commit : Action → Bool
@@ -43,7 +43,7 @@ pub record IsSameOperation (t : ℕ) (g : List Operation) (i : ℕ) (h : List Op
 -- operations of two transactions that do not abort are in the same order in both.
 pub record AreEquivalent (g h : List Operation) : Type 0 where
   pub same_operations : (t : ℕ) → operations_of g t ≡ operations_of h t
-  pub same_order : (t u i j k l : ℕ) → t ≢ u → ¬ AbortReply g t → ¬ AbortReply g u → Conflict g i t j u
+  pub same_order : (t u i j k l : ℕ) → t ≢ u → ¬ Aborts g t → ¬ Aborts g u → Conflict g i t j u
       → IsSameOperation t g i h k → IsSameOperation u g j h l → i < j → k < l
 
 -- all operations of t come before all operations of u

@@ -4,11 +4,11 @@ use Rattle.sgt_classes.specs.declared.operation.Operation.{Operation}
 use Rattle.sgt_classes.specs.declared.operation.Action.TheVariants.{Read, Write}
 use Rattle.sgt_classes.specs.Histories.{Does, AbortedBefore, IsWellFormed}
 use Rattle.sgt_classes.specs.Classes.{ReadsFrom}
-use Rattle.sgt_classes.specs.Equivalence.{AbortReply, operations_of, committed_projection, IsSameOperation, AreEquivalent, IsSerialRun}
+use Rattle.sgt_classes.specs.Equivalence.{Aborts, operations_of, committed_projection, IsSameOperation, AreEquivalent, IsSerialRun}
 
 -- no transaction aborts
 abbrev pub NoneAborts : List Operation → Type 0
-NoneAborts h = (t : ℕ) → ¬ AbortReply h t
+NoneAborts h = (t : ℕ) → ¬ Aborts h t
 
 -- at j, t reads the initial value of the item: each transaction that has written it before has aborted before
 abbrev pub ReadsInitial : List Operation → ℕ → ℕ → ℕ → Type 0
@@ -16,15 +16,15 @@ ReadsInitial h j t x = Does h j t (Read x) × ((k u : ℕ) → k < j → Does h 
 
 -- at i, t makes the final write of the item: t does not abort, and each transaction that writes it later does
 abbrev pub IsFinalWrite : List Operation → ℕ → ℕ → ℕ → Type 0
-IsFinalWrite h i t x = Does h i t (Write x) × (¬ AbortReply h t) × ((k u : ℕ) → i < k → Does h k u (Write x) → AbortReply h u)
+IsFinalWrite h i t x = Does h i t (Write x) × (¬ Aborts h t) × ((k u : ℕ) → i < k → Does h k u (Write x) → Aborts h u)
 
 -- View equivalence. The two histories have the same operations. Of transactions that do not abort, each read reads from the same
 -- write in both, or the initial value in both. The final writes are the same.
 pub record AreViewEquivalent (g h : List Operation) : Type 0 where
   pub same_operations : (t : ℕ) → operations_of g t ≡ operations_of h t
-  pub same_reads : (i j k l x w r : ℕ) → ¬ AbortReply g w → ¬ AbortReply g r → IsSameOperation w g i h k → IsSameOperation r g j h l
+  pub same_reads : (i j k l x w r : ℕ) → ¬ Aborts g w → ¬ Aborts g r → IsSameOperation w g i h k → IsSameOperation r g j h l
       → ReadsFrom g i j x w r ↔ ReadsFrom h k l x w r
-  pub same_initial_reads : (j l x r : ℕ) → ¬ AbortReply g r → IsSameOperation r g j h l → ReadsInitial g j r x ↔ ReadsInitial h l r x
+  pub same_initial_reads : (j l x r : ℕ) → ¬ Aborts g r → IsSameOperation r g j h l → ReadsInitial g j r x ↔ ReadsInitial h l r x
   pub same_final_writes : (i k x t : ℕ) → IsSameOperation t g i h k → IsFinalWrite g i t x ↔ IsFinalWrite h k t x
 
 -- if no transaction aborts, conflict equivalent histories are view equivalent
