@@ -1,0 +1,134 @@
+"""The payment of examples/payments in SQLite, with WAL and synchronous FULL.
+
+    sqlite_queue.py serve FILE            behind the same server: one transaction for each batch
+    sqlite_queue.py pay FILE CLIENTS SECONDS   processes that pay without a server: one transaction for each payment
+"""
+
+import multiprocessing
+import pathlib
+import random
+import sqlite3
+import sys
+import time
+from typing import NamedTuple
+
+sys.path.insert(0, str(pathlib.Path(__file__).resolve().parents[2] / "examples" / "payments"))
+from bank import load_procedures  # noqa: E402
+from payments import Server, run  # noqa: E402
+from sgt import Kind, Reply  # noqa: E402
+
+ACCOUNTS, CENTS, DAY, LIMIT = 1000, 100_000_000, 20_000, 1_000_000
+
+
+def opened(path: str) -> sqlite3.Connection:
+    database = sqlite3.connect(path, timeout=60, isolation_level=None)
+    database.execute("pragma journal_mode=wal")
+    database.execute("pragma synchronous=full")
+    return database
+
+
+def made(path: str) -> sqlite3.Connection:
+    database = opened(path)
+    database.execute("create table balance(account integer primary key, cents integer not null)")
+    database.execute("create table payment(id integer primary key, payer, payee, amount, from_has, to_has)")
+    database.execute("create table spent(account, day, cents, primary key(account, day)) without rowid")
+    database.execute("begin")
+    database.executemany("insert into balance values(?,?)", ((account, CENTS) for account in range(ACCOUNTS)))
+    database.execute("commit")
+    return database
+
+
+class Told(NamedTuple):
+    """What pay.json answers: a code, or what payer and payee have."""
+
+    code: int
+    answers: tuple = ()
+
+
+def pay(database: sqlite3.Connection, number: int, payer: int, payee: int, amount: int) -> Told:
+    """As procedures/pay.json."""
+    run_one = database.execute
+    earlier = run_one("select payer,payee,amount,from_has,to_has from payment where id=?", (number,)).fetchone()
+    if earlier:
+        return Told(0, earlier[3:]) if earlier[:3] == (payer, payee, amount) else Told(7)
+    if amount < 1:
+        return Told(1)
+    if payer == payee:
+        return Told(2)
+    has = run_one("select cents from balance where account=?", (payer,)).fetchone()
+    gets = run_one("select cents from balance where account=?", (payee,)).fetchone()
+    fee = amount // 100
+    if not has or not gets:
+        return Told(3 if not has else 4)
+    if has[0] < amount + fee:
+        return Told(5)
+    spent = run_one("select cents from spent where account=? and day=?", (payer, DAY)).fetchone()
+    so_far = (spent[0] if spent else 0) + amount
+    if so_far > LIMIT:
+        return Told(6)
+    run_one("insert or replace into spent values(?,?,?)", (payer, DAY, so_far))
+    run_one("update balance set cents=cents-? where account=?", (amount + fee, payer))
+    run_one("update balance set cents=cents+? where account=?", (amount, payee))
+    run_one("update balance set cents=cents+? where account=0", (fee,))
+    answers = (has[0] - amount - fee, gets[0] + amount)
+    run_one("insert into payment values(?,?,?,?,?,?)", (number, payer, payee, amount, *answers))
+    return Told(0, answers)
+
+
+class Bank:
+    """In place of the engine, for the server of payments.py."""
+
+    def __init__(self, database: sqlite3.Connection) -> None:
+        self.seq, self.texts, self.database = 0, {}, database
+
+    def run(self, _: str, args: list) -> Reply:
+        if not self.database.in_transaction:
+            self.database.execute("begin immediate")
+        told = pay(self.database, *args)
+        return Reply(Kind.REFUSED, code=told.code) if told.code else Reply(Kind.COMMITTED, answers=told.answers)
+
+    def cut_if_long(self) -> bool:
+        return False
+
+
+class Journal:
+    """In place of the journal: the batch is one transaction."""
+
+    def __init__(self, database: sqlite3.Connection) -> None:
+        self.database = database
+
+    def append(self, _: list) -> None:
+        self.database.execute("commit")
+
+    def mark(self, _: int) -> None:
+        if self.database.in_transaction:
+            self.database.execute("commit")
+
+
+def worker(path: str, seconds: float, seed: int, queue: multiprocessing.Queue) -> None:
+    database, draw, done, end = opened(path), random.Random(seed), 0, time.monotonic() + seconds
+    while time.monotonic() < end:
+        payer = draw.randrange(1, ACCOUNTS)
+        database.execute("begin immediate")
+        pay(database, draw.randrange(9 * 10**14), payer, (payer + draw.randrange(1, ACCOUNTS)) % ACCOUNTS, draw.randrange(1, 100))
+        database.execute("commit")
+        done += 1
+    queue.put(done)
+
+
+def main() -> None:
+    command, path = sys.argv[1:3]
+    database = made(path)
+    if command == "serve":
+        procedures = {"pay": load_procedures(pathlib.Path(__file__).resolve().parents[2] / "examples" / "payments" / "procedures")["pay"]}
+        run(Server(Bank(database), Journal(database), procedures, 0), time.perf_counter())
+        return
+    clients, seconds = int(sys.argv[3]), float(sys.argv[4])
+    queue: multiprocessing.Queue = multiprocessing.Queue()
+    for seed in range(clients):
+        multiprocessing.Process(target=worker, args=(path, seconds, seed, queue), daemon=True).start()
+    print(sum(queue.get(timeout=120) for _ in range(clients)) / seconds)
+
+
+if __name__ == "__main__":
+    main()

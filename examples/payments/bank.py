@@ -1,0 +1,82 @@
+"""The bank: an engine that runs the procedures of a folder, and the number of its last journaled call."""
+
+import json
+import pathlib
+import struct
+import sys
+from typing import NamedTuple, Optional, Sequence
+
+sys.path.insert(0, str(pathlib.Path(__file__).resolve().parents[2] / "bindings" / "python"))
+from sgt import Engine, Kind, Reply, Row  # noqa: E402
+
+FIRST_OWN = 5  # SmallBank's five procedures come first in every engine
+ENTRIES = 1_000_000  # the history is cut after so many entries, or as many as there are records
+ROW = struct.Struct("<IIqq")  # table, nothing, number, value
+
+
+class Damaged(Exception):
+    """The journal or a snapshot can't be trusted."""
+
+
+class Procedure(NamedTuple):
+    """A procedure of the folder, with what a client sends and gets."""
+
+    name: str
+    request: tuple[str, ...]  # the keys of a request; clients can't ask for a procedure without any
+    done: Optional[str]  # a key that is true in the reply if it committed
+    reply: tuple[str, ...]  # the keys of its answers
+    refused: dict[int, str]  # what each code means
+    text: list  # as docs/LANGUAGE.md has it
+    writes: bool  # whether it can write at all; a call that can't is not journaled
+
+
+def load_procedures(folder: pathlib.Path) -> dict[str, Procedure]:
+    """The procedures of a folder, by name."""
+    found = {}
+    for path in sorted(folder.glob("*.json")):
+        file = json.loads(path.read_text())
+        reasons = {int(code): reason for code, reason in file.get("refused", {}).items()}
+        request, reply, text = tuple(file.get("request", ())), tuple(file.get("reply", ())), file["procedure"]
+        found[path.stem] = Procedure(path.stem, request, file.get("done"), reply, reasons, text, '"put"' in json.dumps(text))
+    return found
+
+
+class Bank:
+    """An engine from a snapshot on. `seq` counts the journaled calls from the first opening on."""
+
+    def __init__(self, seq: int, texts: dict[str, list], rows: bytes) -> None:
+        """`texts` are the procedures by name, and `rows` the database as `rows()` returns it."""
+        self.seq, self.texts = seq, texts
+        self._numbers = {name: FIRST_OWN + place for place, name in enumerate(texts)}
+        self._engine = Engine(limits=(1, 4_000_000_000, 1), procedures=list(texts.values()))
+        self._engine.put([Row(table, number, value) for table, _, number, value in ROW.iter_unpack(rows)])
+        self._records = len(rows) // ROW.size
+
+    def run(self, name: str, args: Sequence[int]) -> Reply:
+        """Runs a call as a transaction of its own. The reply is COMMITTED with its answers, or REFUSED with a code."""
+        return self._engine.run(self._numbers[name], *args)[1]
+
+    def replay(self, seq: int, name: str, args: Sequence[int]) -> None:
+        """Runs a call of the journal. It committed when it was journaled, so it commits again, or the journal is not this bank's."""
+        reply = self.run(name, args) if name in self._numbers else None
+        if seq != self.seq + 1 or reply is None or reply.kind is not Kind.COMMITTED:
+            raise Damaged(f"call {seq} of the journal, {name} {args}, after call {self.seq}: the engine replies {reply}")
+        self.seq = seq
+
+    def rows(self) -> bytes:
+        """The committed database."""
+        rows = self._engine.rows()
+        self._records = len(rows)
+        return b"".join(ROW.pack(row.table, 0, row.number, row.value) for row in rows)
+
+    def cut_if_long(self) -> bool:
+        """Frees the history when it is time: it costs memory, and a cut costs a pass over the records. The database stays."""
+        is_long = len(self._engine) >= max(ENTRIES, self._records)
+        if is_long:
+            self._engine.cut()
+        return is_long
+
+
+def first_rows(accounts: int, cents: int) -> bytes:
+    """The database of a new journal: accounts from 0 on, each with so many cents. Account 0 gets the fees."""
+    return b"".join(ROW.pack(1, 0, account, cents) for account in range(accounts))

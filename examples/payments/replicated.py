@@ -1,0 +1,156 @@
+#!/usr/bin/env python3
+"""The queue of payments with its journal in a Redis stream, for more than one machine.
+
+A batch is one entry of the stream, with the id N-0, where N rises by one. Redis refuses an id that is not above the last one. Who appends
+batch N has appended or read batch N-1. So the accepted batches are one chain, and of two primaries one is refused, before it replies, and ends.
+
+What Redis promises: with `appendonly yes` and `appendfsync always` a batch is on the disk of its machine before it is accepted.
+What it does not promise: its replication is asynchronous. A failover of Redis itself may lose what was acknowledged.
+"""
+
+import argparse
+import json
+import pathlib
+import socket
+import sys
+import time
+from typing import Iterator, Union
+
+from bank import Bank, Damaged, Procedure, first_rows, load_procedures
+from journal import Record, pack_snapshot, read, unpack_snapshot
+from payments import Server, run
+
+
+class RedisJournal:
+    """A stream, and beside it a hash of snapshots, each named by the batch that it stands after."""
+
+    def __init__(self, name: str, port: int, follows: bool) -> None:
+        self.name, self.batch, self.follows = name, 0, follows
+        self._socket = socket.create_connection(("127.0.0.1", port))
+        self._socket.setsockopt(socket.IPPROTO_TCP, socket.TCP_NODELAY, 1)
+        self._replies = self._socket.makefile("rb")
+
+    def start(self, first: Bank) -> Bank:
+        """Recovers. Two servers that start at once agree on the first snapshot."""
+        self.ask("HSETNX", self.name + ":rows", 0, pack_snapshot(first))
+        self.batch = max(map(int, self.ask("HKEYS", self.name + ":rows")))
+        bank = unpack_snapshot(self.ask("HGET", self.name + ":rows", self.batch), f"Redis: the snapshot after batch {self.batch}")
+        self.catch_up(bank)
+        return bank
+
+    def catch_up(self, bank: Bank) -> None:
+        """Runs the calls of the batches that were not read yet."""
+        for record in self.calls(bank.seq):
+            bank.replay(record.seq, record.name, record.args)
+
+    def calls(self, seq: int) -> Iterator[Record]:
+        while entries := self.ask("XRANGE", self.name, f"({self.batch}-0", "+", "COUNT", 1000):
+            for entry, (_, data) in entries:
+                if entry != b"%d-0" % (self.batch + 1):
+                    raise Damaged(f"Redis: batch {self.batch + 1} is missing; the next one is {entry.decode()}")
+                records, length = read(data, seq, f"Redis: batch {self.batch + 1}")
+                if length != len(data):
+                    raise Damaged(f"Redis: batch {self.batch + 1} is damaged at byte {length}")
+                yield from records
+                seq, self.batch = seq + len(records), self.batch + 1
+
+    def append(self, records: list[Record]) -> None:
+        """Returns once Redis has the batch. `Damaged` if another primary has appended one since."""
+        self.ask("XADD", self.name, f"{self.batch + 1}-0", "calls", b"".join(record.line() for record in records))
+        self.batch += 1
+
+    def check(self) -> None:
+        """Before replies that append nothing: a primary that was replaced would report old balances."""
+        last = self.ask("XREVRANGE", self.name, "+", "-", "COUNT", 1)
+        if last and int(last[0][0].split(b"-")[0]) > self.batch:
+            raise Damaged(f"Redis: another primary has appended after batch {self.batch}")
+
+    def cut(self, bank: Bank) -> None:
+        """A snapshot is named by its batch, so a late one of a primary that was replaced does no harm. A follower writes none."""
+        if self.follows:
+            return
+        self.ask("HSET", self.name + ":rows", self.batch, pack_snapshot(bank))
+        self.ask("XTRIM", self.name, "MINID", f"{self.batch + 1}-0")
+        older = [key for key in self.ask("HKEYS", self.name + ":rows") if int(key) < self.batch]
+        if older:
+            self.ask("HDEL", self.name + ":rows", *older)
+
+    def ask(self, *words: Union[bytes, str, int]):
+        """Redis's reply to a command."""
+        parts = [word if isinstance(word, bytes) else str(word).encode() for word in words]
+        self._socket.sendall(b"*%d\r\n" % len(parts) + b"".join(b"$%d\r\n%s\r\n" % (len(part), part) for part in parts))
+        return self._reply()
+
+    def _reply(self):
+        line = self._replies.readline()
+        kind, rest = line[:1], line[1:-2]
+        if kind == b"$":
+            return None if rest == b"-1" else self._replies.read(int(rest) + 2)[:-2]
+        if kind == b"*":
+            return [self._reply() for _ in range(int(rest))]
+        if kind not in (b"+", b":"):
+            raise Damaged(f"Redis: {line.decode().strip() or 'gone'}")
+        return int(rest) if kind == b":" else rest
+
+
+class Replica(Server):
+    """A primary, or a follower until it is promoted."""
+
+    def __init__(self, bank: Bank, journal: RedisJournal, procedures: dict[str, Procedure], port: int) -> None:
+        super().__init__(bank, journal, procedures, port)
+        self.journal: RedisJournal = journal
+
+    def answer(self, line: bytes) -> dict:
+        """The reply to a request. What a follower reads may be as old as IDLE says."""
+        if not self.journal.follows:
+            return super().answer(line)
+        try:
+            asked = json.loads(line)
+        except (ValueError, RecursionError):
+            return {"error": "not JSON"}
+        if asked == {"promote": True}:
+            self.journal.catch_up(self.bank)
+            self.journal.follows = False
+            return {"promoted": self.bank.seq}
+        procedure = self.requests.get(frozenset(asked)) if isinstance(asked, dict) else None
+        return {"error": "this is a follower"} if procedure is not None and procedure.writes else super().answer(line)
+
+    def begin_day(self) -> None:
+        if not self.journal.follows:
+            super().begin_day()
+
+    def before_replies(self) -> None:
+        """A follower reads on. A primary has its batch accepted, or sees that it is the primary still."""
+        if self.journal.follows:
+            self.journal.catch_up(self.bank)
+        elif self.batch:
+            self.journal.append(self.batch)
+            self.batch = []
+        else:
+            self.journal.check()
+
+
+def main() -> None:
+    parser = argparse.ArgumentParser(description=__doc__)
+    parser.add_argument("name", help="of the stream")
+    parser.add_argument("--redis-port", type=int, default=6379)
+    parser.add_argument("--port", type=int, default=0)
+    parser.add_argument("--follow", action="store_true", help="follow the primary until promoted")
+    parser.add_argument("--procedures", type=pathlib.Path, default=pathlib.Path(__file__).resolve().parent / "procedures")
+    parser.add_argument("--accounts", type=int, default=1000, help="of a new journal")
+    parser.add_argument("--cents", type=int, default=100_000, help="that each of them has")
+    words = parser.parse_args()
+    begin, procedures = time.perf_counter(), load_procedures(words.procedures)
+    texts = {name: it.text for name, it in procedures.items()}
+    try:
+        journal = RedisJournal(words.name, words.redis_port, words.follow)
+        bank = journal.start(Bank(0, texts, first_rows(words.accounts, words.cents)))
+        if bank.texts != texts:
+            raise Damaged("Redis: the stream was written with other procedures")
+        run(Replica(bank, journal, procedures, words.port), begin)
+    except (Damaged, OSError) as why:
+        sys.exit(f"replicated: {why}")
+
+
+if __name__ == "__main__":
+    main()

@@ -1,0 +1,32 @@
+"""Runs a Python program, and notes for each file how long it was when its last fsync returned.
+
+    NOTE_FSYNC=FILE [CUT_AFTER=ENTRIES] noting_fsync.py PROGRAM WORD..
+
+A kill loses nothing of the page cache. With these notes a test can take away what only stood there, as a loss of power may.
+CUT_AFTER has the bank of `examples/payments` cut its history after so many entries.
+"""
+
+import os
+import pathlib
+import runpy
+import sys
+
+note = os.open(os.environ["NOTE_FSYNC"], os.O_WRONLY | os.O_CREAT | os.O_APPEND, 0o600)
+fsync = os.fsync
+
+
+def noting(file):
+    number = file if isinstance(file, int) else file.fileno()
+    fsync(number)
+    name = os.readlink(f"/proc/self/fd/{number}")
+    os.write(note, b"%s %d\n" % (name.encode(), os.fstat(number).st_size))
+
+
+os.fsync = noting
+sys.argv = sys.argv[1:]
+sys.path.insert(0, str(pathlib.Path(sys.argv[0]).resolve().parent))
+if "CUT_AFTER" in os.environ:
+    import bank
+
+    bank.ENTRIES = int(os.environ["CUT_AFTER"])
+runpy.run_path(sys.argv[0], run_name="__main__")

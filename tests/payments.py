@@ -1,0 +1,537 @@
+#!/usr/bin/env python3
+"""Tests the durable queue of payments of `examples/payments`.
+
+    tests/payments.py [ROUNDS [SEED]]
+
+It runs the server as a user does, with the library of `bindings/out`, which has to be made: the replies; a crash under load, ROUNDS
+times (30), with what no fsync had kept taken away or garbled; a journal cut at each byte and with a flipped bit in each line; a full disk;
+an fsync that fails; another program's procedures; a forged journal; and a failover over Redis, if the machine has it. Each case is
+reported, and the last line counts them.
+"""
+
+import contextlib
+import json
+import os
+import pathlib
+import random
+import re
+import resource
+import select
+import shutil
+import signal
+import socket
+import subprocess
+import sys
+import tempfile
+import threading
+import time
+
+sys.dont_write_bytecode = True
+from helpers.cases import C_SOURCES, TESTS, Differs, same, tell  # noqa: E402
+
+PAYMENTS = TESTS.parent / "examples" / "payments"
+sys.path.insert(0, str(PAYMENTS))
+from bank import ROW, Bank, Damaged, load_procedures  # noqa: E402
+from journal import FileJournal, Record, parse  # noqa: E402
+from replicated import RedisJournal  # noqa: E402
+
+SECONDS = 60
+PROCEDURES = {name: it.text for name, it in load_procedures(PAYMENTS / "procedures").items()}
+FEE_OF = 100  # an amount has a fee of one of so many cents
+CLIENTS, ACCOUNTS, CENTS = 32, 20, 5_000
+LIMIT = 1_000_000
+
+
+class Server:
+    """A server, killed at the end."""
+
+    def __init__(self, *words, before=None, env=None, wrapper=(), program="payments.py"):
+        command = [sys.executable, *wrapper, str(PAYMENTS / program), *map(str, words), "--port", "0"]
+        self.process = subprocess.Popen(
+            command, stdout=subprocess.PIPE, stderr=subprocess.PIPE, text=True, preexec_fn=before, env={**os.environ, **(env or {})}
+        )
+        self.said = []
+        for line in self.process.stdout:
+            self.said.append(line.rstrip("\n"))
+            if found := re.match(r"serving on port (\d+) after call (\d+)", line):
+                self.port, self.seq = int(found[1]), int(found[2])
+                return
+        raise Differs(f"the server did not start: {self.process.communicate()[1]}")
+
+    def __enter__(self):
+        return self
+
+    def __exit__(self, *_):
+        self.process.kill()
+        self.process.communicate()
+
+    def connect(self):
+        return socket.create_connection(("127.0.0.1", self.port), timeout=SECONDS)
+
+    def ask(self, *requests):
+        """The replies to these requests, sent at once."""
+        with self.connect() as client:
+            client.sendall(b"".join((it if isinstance(it, bytes) else json.dumps(it).encode()) + b"\n" for it in requests))
+            replies = client.makefile()
+            lines = [replies.readline() for _ in requests]
+        return [json.loads(line) if line else None for line in lines]
+
+    def end(self):
+        """Ends it as a user does. Its status and its standard error."""
+        self.process.send_signal(signal.SIGTERM)
+        error = self.process.communicate(timeout=SECONDS)[1]
+        return self.process.returncode, error
+
+
+@contextlib.contextmanager
+def room():
+    with tempfile.TemporaryDirectory(prefix="payments-") as folder:
+        yield pathlib.Path(folder)
+
+
+def run(*words):
+    """Status, standard output and standard error of a command."""
+    ran = subprocess.run([sys.executable, str(PAYMENTS / "payments.py"), *map(str, words)], capture_output=True, text=True, timeout=SECONDS, check=False)
+    return ran.returncode, ran.stdout, ran.stderr
+
+
+def pay(number, payer, payee, amount):
+    return {"id": number, "from": payer, "to": payee, "amount": amount}
+
+
+def asked(server, wanted):
+    """Compares the replies to these requests, sent at once, with those that are wanted."""
+    for (request, reply), came in zip(wanted, server.ask(*[request for request, _ in wanted])):
+        same(str(request), reply, came)
+
+
+def tables(rows):
+    """The records of a database, by table."""
+    found = [{} for _ in range(8)]
+    for table, _, number, value in ROW.iter_unpack(rows):
+        found[table][number] = value
+    return found
+
+
+def recovered(folder):
+    """The number of the last call, and the records by table, as a start recovers them from a copy of the journal. And what was cut off."""
+    with room() as aside:
+        shutil.copytree(folder, aside / "copy")
+        bank, torn = FileJournal(aside / "copy").start(Bank(0, PROCEDURES, b""))
+        return bank.seq, tables(bank.rows()), torn
+
+
+def replies():
+    """Each reply that a client can get."""
+    with room() as folder, Server("serve", folder / "j", "--accounts", 3, "--cents", 2_000_000) as server:
+        wanted = [
+            (pay(17, 1, 2, 250), {"id": 17, "paid": True, "from_has": 1_999_748, "to_has": 2_000_250}),
+            (pay(17, 1, 2, 250), {"id": 17, "paid": True, "from_has": 1_999_748, "to_has": 2_000_250}),
+            (pay(17, 1, 2, 251), {"id": 17, "refused": "the id belongs to another payment"}),
+            (pay(17, 2, 1, 250), {"id": 17, "refused": "the id belongs to another payment"}),
+            (pay(18, 1, 2, 0), {"id": 18, "refused": "the amount is not above zero"}),
+            (pay(18, 1, 1, 5), {"id": 18, "refused": "payer and payee are the same account"}),
+            (pay(18, 7, 1, 5), {"id": 18, "refused": "there is no such payer"}),
+            (pay(18, 1, 7, 5), {"id": 18, "refused": "there is no such payee"}),
+            (pay(18, 1, 2, 1_990_000), {"id": 18, "refused": "the payer does not have that much"}),
+            (pay(18, 1, 2, LIMIT - 249), {"id": 18, "refused": "the payer has reached the limit of the day"}),
+            (pay(18, 1, 2, LIMIT - 250), {"id": 18, "paid": True, "from_has": 990_001, "to_has": 3_000_000}),
+            ({"balance": 0}, {"balance": 0, "has": 2_009_999}),
+            ({"balance": 9}, {"balance": 9, "refused": "there is no such account"}),
+            ({"open": 9, "amount": 70}, {"open": 9, "opened": True, "has": 70}),
+            ({"open": 9, "amount": 70}, {"open": 9, "refused": "there is such an account already"}),
+            ({"open": 8, "amount": -1}, {"open": 8, "refused": "the amount is below zero"}),
+            ({"open": -1, "amount": 1}, {"open": -1, "refused": "an account has a number from 0 to 999999999"}),
+            ({"open": 10, "amount": 999_999_999_999_999}, {"open": 10, "opened": True, "has": 999_999_999_999_999}),
+            (pay(19, 2, 10, 1), {"id": 19, "refused": "a balance would pass fifteen digits"}),
+            ({"balance": 9}, {"balance": 9, "has": 70}),
+        ]
+        asked(server, wanted)
+        no_request = [b"", b"7", b"[1]", b'{"id":1}', b'{"balance":"x"}', b'{"balance":1.0}', b'{"balance":true}', b'{"day":1}', b"\xff", b'{"balance":1000000000000000}']
+        if any("error" not in reply for reply in server.ask(*no_request)):
+            raise Differs("a line that is no request was taken")
+        same("a line that is too long", [None], server.ask(b"x" * 2000 + b"y" * 2000))
+        same("verify", (0, "calls 1 to 6 give the rows of the server\n", ""), run("verify", folder / "j", "--port", server.port))
+        same("a second server", (1, f"payments: {folder / 'j'}: another server has this journal\n"), (lambda r: (r[0], r[2]))(run("serve", folder / "j")))
+        same("the end", (0, ""), server.end())
+        shown = run("show", folder / "j")[1].splitlines()
+        same("show", ["# snapshot after call 0", "2 pay id=17 from=1 to=2 amount=250", "5 open open=9 amount=70"], [shown[0], shown[2], shown[5]])
+    return f"{len(wanted)} replies"
+
+
+class Load:
+    """Clients that pay in a closed loop, each on a connection of its own, and what they were told."""
+
+    def __init__(self, draw):
+        self.draw, self.ids = draw, 0
+        self.acknowledged, self.asked, self.refused, self.unanswered = {}, {}, set(), []
+        self.again = 0
+
+    def request(self):
+        """A payment: a new one, or one that had no answer before a crash."""
+        if self.unanswered and self.draw.random() < 0.5:
+            return self.unanswered.pop()
+        self.ids += 1
+        payer = self.draw.randrange(1, ACCOUNTS)
+        payee = (payer + self.draw.randrange(1, ACCOUNTS)) % ACCOUNTS
+        self.asked[self.ids] = pay(self.ids, payer, payee, self.draw.randrange(1, 2_000))
+        return self.asked[self.ids]
+
+    def run(self, server, seconds):
+        """Pays until the server is gone, or the time is over."""
+        clients, end = {}, time.monotonic() + seconds
+        poll = select.epoll()
+
+        def send(client):
+            request = self.request()
+            clients[client.fileno()] = client, request
+            client.sendall(json.dumps(request).encode() + b"\n")
+
+        with contextlib.suppress(ConnectionError):
+            for _ in range(CLIENTS):
+                client = server.connect()
+                poll.register(client, select.EPOLLIN)
+                clients[client.fileno()] = client, None
+                send(client)
+        while clients and time.monotonic() < end:
+            for number, _ in poll.poll(0.1):
+                client, request = clients[number]
+                try:
+                    data = client.recv(4_096)
+                    if data:
+                        self.note(request, json.loads(data))
+                        clients[number] = client, None
+                        send(client)
+                        continue
+                except ConnectionError:
+                    pass
+                self.close(clients, number)
+        for number in list(clients):
+            self.close(clients, number)
+
+    def close(self, clients, number):
+        client, request = clients.pop(number)
+        client.close()
+        if request is not None:
+            self.unanswered.append(request)
+
+    def note(self, request, reply):
+        number = request["id"]
+        same("the id of a reply", number, reply["id"])
+        if "refused" in reply:
+            self.refused.add(number)
+            return
+        told = reply["from_has"], reply["to_has"]
+        self.again += number in self.acknowledged
+        same(f"the answer to payment {number}", self.acknowledged.get(number, told), told)
+        self.acknowledged[number] = told
+
+    def judge(self, seq, found, opened=ACCOUNTS * CENTS):
+        """Each acknowledged payment is there once, as it was asked and answered; no refused one is; and no money is lost."""
+        _, balance, payer, payee, amount, from_has, to_has, _ = found
+        wanted = {account: CENTS for account in range(ACCOUNTS)}
+        for number in payer:
+            request = self.asked.get(number)
+            same(f"payment {number}", request, pay(number, payer[number], payee[number], amount[number]))
+            fee = amount[number] // FEE_OF
+            for account, change in ((payer[number], -amount[number] - fee), (payee[number], amount[number]), (0, fee)):
+                wanted[account] += change
+        same("the balances", wanted, balance)
+        same("the sum of all balances", opened, sum(balance.values()))
+        lost = [number for number, told in self.acknowledged.items() if (from_has.get(number), to_has.get(number)) != told]
+        same("acknowledged payments that are not there", [], lost)
+        same("refused payments that are there", set(), self.refused & set(payer))
+
+
+def lose_power(folder, safe, draw):
+    """What a loss of power may do to the bytes that were written, but were not on disk. Whether it did."""
+    calls = sorted(folder.glob("*.calls"))[-1]
+    data = bytearray(calls.read_bytes())
+    start = safe.get(calls.name, 0)
+    if len(data) <= start:
+        return False
+    what = draw.randrange(3)
+    if what == 0:
+        del data[draw.randrange(start, len(data)) :]
+    elif what == 1:
+        for at in range(draw.randrange(start, len(data)), len(data), draw.randrange(1, 300)):
+            data[at] ^= draw.randrange(1, 256)
+    calls.write_bytes(data)
+    return what < 2
+
+
+def synced(path):
+    """The length of each file when its last fsync returned, as tests/helpers/noting_fsync.py writes it."""
+    found = {}
+    for line in path.read_text().splitlines() if path.exists() else []:
+        name, _, size = line.rpartition(" ")
+        if name and size.isdigit():
+            found[pathlib.Path(name).name] = int(size)
+    return found
+
+
+def crashes(rounds, seed):
+    """Kills the server under load, again and again."""
+    draw = random.Random(seed)
+    load, torn, early = Load(draw), 0, 0
+    with room() as folder:
+        notes, journal = folder / "synced", folder / "j"
+        words = ("serve", journal, "--accounts", ACCOUNTS, "--cents", CENTS, "--keep")
+        noting = {"wrapper": [str(TESTS / "helpers" / "noting_fsync.py")], "env": {"NOTE_FSYNC": str(notes), "CUT_AFTER": "20000"}}
+        for number in range(rounds):
+            server = Server(*words, **noting) if number % 10 != 9 else None
+            if server is None:
+                # Killed while it recovers.
+                words_of = [sys.executable, *noting["wrapper"], str(PAYMENTS / "payments.py"), *map(str, words), "--port", "0"]
+                process = subprocess.Popen(words_of, stdout=subprocess.DEVNULL, stderr=subprocess.DEVNULL, env={**os.environ, **noting["env"]})
+                time.sleep(draw.random() * 0.3)
+                process.kill()
+                process.wait()
+                early += 1
+                continue
+            with server:
+                threading.Timer(0.1 + draw.random() * 0.5, server.process.kill).start()
+                load.run(server, SECONDS)
+                server.process.wait()
+            torn += lose_power(journal, synced(notes), draw)
+            if number % 5 == 4:
+                seq, found, _ = recovered(journal)
+                load.judge(seq, found)
+        with Server(*words) as server:
+            seq, found, _ = recovered(journal)
+            same("the last call", seq, server.seq)
+            load.judge(seq, found)
+            same("verify", 0, run("verify", journal, "--port", server.port)[0])
+    if len(load.acknowledged) < 10 * rounds:
+        raise Differs(f"only {len(load.acknowledged)} payments were acknowledged in {rounds} rounds")
+    return f"{rounds} kills, {early} of them in recovery; {len(load.acknowledged)} payments acknowledged, each there once; {torn} torn tails"
+
+
+def a_journal(folder, payments=12):
+    """A journal with some payments, ended well. Its file of calls, and its bytes."""
+    with Server("serve", folder, "--accounts", 3) as server:
+        for number in range(1, payments + 1):
+            server.ask(pay(number, 1, 2, 100 + number))
+        server.end()
+    calls = sorted(folder.glob("*.calls"))[-1]
+    return calls, calls.read_bytes()
+
+
+def torn_tails():
+    """A journal that is cut at each byte of its last batch recovers all before it."""
+    with room() as folder:
+        calls, data = a_journal(folder / "j")
+        whole = data[: data.rindex(b"\n\n")] + b"\n" if b"\n\n" in data else data
+        last = whole.rindex(b"\n", 0, len(whole) - 1) + 1
+        record = parse(whole[last:-1])
+        for length in range(last, len(whole) + 1):
+            calls.write_bytes(whole[:length])
+            seq, found, torn = recovered(folder / "j")
+            is_whole = length == len(whole)
+            same(f"cut at byte {length}: the last call", record.seq - (not is_whole), seq)
+            same(f"cut at byte {length}: what was cut off", 0 if is_whole else length - last, torn)
+            same(f"cut at byte {length}: the payment", is_whole, record.args[0] in found[2])
+        # Of a batch that was not safe any part may be there: here the second of its two calls.
+        batch = [Record(record.seq + more, record.seq, "pay", (100 + more, 1, 2, 5)).line() for more in (1, 2)]
+        for garbled in (b"x" * len(batch[0]) + batch[1], batch[0][:-5] + b"\0\0\0\0\n" + batch[1]):
+            calls.write_bytes(whole + garbled)
+            seq, found, torn = recovered(folder / "j")
+            same("a batch that is there in part", (record.seq, len(garbled)), (seq, torn))
+        calls.write_bytes(whole + b"".join(batch))
+        same("a batch that is there whole", record.seq + 2, recovered(folder / "j")[0])
+    return f"{len(whole) - last + 1} lengths"
+
+
+def damage():
+    """A journal with a flipped bit is refused, and its place is named, unless it is the last mark, which loses nothing."""
+    draw, refused = random.Random(5), 0
+    with room() as folder:
+        calls, data = a_journal(folder / "j")
+        wanted = recovered(folder / "j")[:2]
+        marks = data.rindex(b"\n\n") + 1 if b"\n\n" in data else len(data)
+        for at in range(len(data)):
+            flipped = bytearray(data)
+            flipped[at] ^= 1 << draw.randrange(8)
+            calls.write_bytes(flipped)
+            try:
+                came = recovered(folder / "j")[:2]
+            except Damaged as why:
+                refused += 1
+                if not re.search(r"calls: line \d+, at byte \d+, is damaged", str(why)):
+                    raise Differs(f"byte {at}: {why}") from None
+                continue
+            if at < marks - 1:
+                raise Differs(f"a flipped bit in byte {at} of {len(data)} was not found")
+            same(f"a flipped bit in byte {at}, of the last mark", wanted, came)
+        calls.write_bytes(data)
+        rows = sorted((folder / "j").glob("*.rows"))[-1]
+        snapshot = rows.read_bytes()
+        for at in range(len(snapshot)):
+            flipped = bytearray(snapshot)
+            flipped[at] ^= 1 << draw.randrange(8)
+            rows.write_bytes(flipped)
+            try:
+                recovered(folder / "j")
+            except Damaged:
+                refused += 1
+                continue
+            raise Differs(f"a flipped bit in byte {at} of the snapshot was not found")
+        status, out, error = run("serve", folder / "j")
+        if status != 1 or out or "the snapshot is damaged" not in error:
+            raise Differs(f"a server on a damaged snapshot: {status} {out} {error}")
+    return f"{refused} flipped bits refused"
+
+
+def ends_at_once(server, load):
+    """The server ends with status 1 while clients pay. What it said."""
+    load.run(server, 10)
+    try:
+        error = server.process.communicate(timeout=1)[1]
+    except subprocess.TimeoutExpired:
+        raise Differs("the server goes on") from None
+    same("the status", 1, server.process.returncode)
+    return error
+
+
+def full_disk():
+    """A journal that can't grow ends the server, and what was acknowledged is there."""
+    load = Load(random.Random(7))
+    with room() as folder:
+        words = ("serve", folder / "j", "--accounts", ACCOUNTS, "--cents", CENTS)
+        with Server(*words, before=lambda: resource.setrlimit(resource.RLIMIT_FSIZE, (20_000, 20_000))) as server:
+            error = ends_at_once(server, load)
+        if "File too large" not in error and "full" not in error:
+            raise Differs(f"it says {error}")
+        with Server(*words) as server:
+            load.judge(*recovered(folder / "j")[:2])
+            load.run(server, 0.3)
+        load.judge(*recovered(folder / "j")[:2])
+    return f"{len(load.acknowledged)} acknowledged"
+
+
+def failing_fsync():
+    """An fsync that fails ends the server before it acknowledges, and it is not tried again."""
+    load = Load(random.Random(8))
+    with room() as folder:
+        library = folder / "failing_fsync.so"
+        subprocess.run(["cc", "-O1", "-shared", "-fPIC", "-o", library, C_SOURCES / "failing_fsync.c", "-ldl"], check=True)
+        words = ("serve", folder / "j", "--accounts", ACCOUNTS, "--cents", CENTS)
+        for fails_after in (5, 40):
+            with Server(*words, env={"LD_PRELOAD": str(library), "FSYNC_FAILS_AFTER": str(fails_after)}) as server:
+                error = ends_at_once(server, load)
+            if "Input/output error" not in error:
+                raise Differs(f"it says {error}")
+            load.judge(*recovered(folder / "j")[:2])
+    return f"{len(load.acknowledged)} acknowledged"
+
+
+def other_procedures():
+    """A program with other procedures recovers by the old ones, and goes on with its own."""
+    with room() as folder:
+        procedures = folder / "procedures"
+        shutil.copytree(PAYMENTS / "procedures", procedures)
+        words = ("serve", folder / "j", "--accounts", 3, "--keep")
+        with Server(*words) as server:
+            asked(server, [(pay(1, 1, 2, 1000), {"id": 1, "paid": True, "from_has": 98_990, "to_has": 101_000})])
+            server.end()
+        gift = {"request": ["gift", "amount"], "reply": ["has"], "procedure": [2, [["look", 0, 1, ["arg", 0], 1], ["let", 0, ["sum", ["reg", 0], ["arg", 1]]], ["put", 1, ["arg", 0], ["reg", 0]], ["answer", ["reg", 0]]]]}
+        (procedures / "gift.json").write_text(json.dumps(gift))
+        (procedures / "open.json").unlink()
+        own = (*words, "--procedures", procedures)
+        with Server(*own) as server:
+            asked(server, [({"gift": 2, "amount": 5}, {"gift": 2, "has": 101_005}), ({"balance": 1}, {"balance": 1, "has": 98_990}), ({"gift": 7, "amount": 5}, {"gift": 7, "refused": "code 1"})])
+            server.process.kill()
+        with Server(*own) as server:
+            asked(server, [({"balance": 2}, {"balance": 2, "has": 101_005})])
+            same("verify", 0, run("verify", folder / "j", "--port", server.port)[0])
+
+
+def forged_journal():
+    """A call that was changed, with a checksum that fits, is found by `verify`, but for the calls after the last snapshot by the server alone."""
+    with room() as folder:
+        calls, data = a_journal(folder / "j")
+        with Server("serve", folder / "j") as server:
+            same("verify", 0, run("verify", folder / "j", "--port", server.port)[0])
+            lines = data.split(b"\n")
+            record = parse(lines[3])
+            lines[3] = record._replace(args=(*record.args[:3], record.args[3] + 1)).line().rstrip(b"\n")
+            calls.write_bytes(b"\n".join(lines))
+            status, _, error = run("verify", folder / "j", "--port", server.port)
+            if status != 1 or "do not give what is served" not in error:
+                raise Differs(f"verify of a forged journal: {status} {error}")
+        lines[3] = record._replace(args=(*record.args[:3], 10**12)).line().rstrip(b"\n")
+        calls.write_bytes(b"\n".join(lines))
+        status, _, error = run("serve", folder / "j")
+        if status != 1 or "the engine replies" not in error:
+            raise Differs(f"a start on a call that does not commit: {status} {error}")
+
+
+def rows_of_stream(name, port):
+    """The number of the last call, and the records by table, as a follower recovers them."""
+    bank = RedisJournal(name, port, True).start(Bank(0, PROCEDURES, b""))
+    return bank.seq, tables(bank.rows())
+
+
+def failovers():
+    """A follower takes over from a primary that was killed, and from one that was stopped and wakes later."""
+    redis = shutil.which("redis-server")
+    if redis is None:
+        return "left out: there is no redis-server on this machine"
+    load = Load(random.Random(9))
+    with room() as folder, socket.socket() as free:
+        free.bind(("127.0.0.1", 0))
+        port = free.getsockname()[1]
+        free.close()
+        words = [redis, "--port", str(port), "--dir", str(folder), "--appendonly", "yes", "--appendfsync", "always", "--save", ""]
+        process = subprocess.Popen(words, stdout=subprocess.DEVNULL)
+        try:
+            wait_for(port)
+            own = ("queue", "--redis-port", port, "--accounts", ACCOUNTS, "--cents", CENTS)
+            for is_killed in (True, False):
+                with Server(*own, program="replicated.py") as primary, Server(*own, "--follow", program="replicated.py") as follower:
+                    asked(follower, [(pay(10**9, 1, 2, 1), {"error": "this is a follower"})])
+                    stop = primary.process.kill if is_killed else lambda: primary.process.send_signal(signal.SIGSTOP)
+                    threading.Timer(0.4, stop).start()
+                    load.run(primary, 0.8)
+                    (promoted,) = follower.ask({"promote": True})
+                    same("what a promotion tells", {"promoted"}, set(promoted))
+                    load.run(follower, 0.4)
+                    if not is_killed:
+                        primary.process.send_signal(signal.SIGCONT)
+                        before = dict(load.acknowledged)
+                        load.run(primary, 0.5)
+                        same("what a replaced primary acknowledges", before, load.acknowledged)
+                        error = primary.process.communicate(timeout=SECONDS)[1]
+                        same("the status of a replaced primary", 1, primary.process.returncode)
+                        if "Redis" not in error:
+                            raise Differs(f"a replaced primary says {error}")
+                load.judge(*rows_of_stream("queue", port))
+        finally:
+            process.kill()
+            process.wait()
+    return f"2 failovers, {len(load.acknowledged)} payments acknowledged, each there once"
+
+
+def wait_for(port):
+    """Waits until somebody listens there."""
+    for _ in range(100):
+        with contextlib.suppress(OSError):
+            socket.create_connection(("127.0.0.1", port)).close()
+            return
+        time.sleep(0.05)
+    raise Differs("redis-server did not start")
+
+
+def main():
+    numbers = [int(word) for word in sys.argv[1:]]
+    rounds, seed = (numbers + [30, 1][len(numbers) :])[:2]
+
+    def crash_test():
+        return crashes(rounds, seed)
+
+    crash_test.__name__ = "crashes"
+    return tell([replies, torn_tails, damage, full_disk, failing_fsync, other_procedures, forged_journal, failovers, crash_test], of="payments")
+
+
+if __name__ == "__main__":
+    sys.exit(main())
