@@ -11,7 +11,7 @@ from sgt import Engine, Kind, Reply, Row  # noqa: E402
 
 FIRST_OWN = 5  # SmallBank's five procedures come first in every engine
 ENTRIES = 1_000_000  # the history is cut after so many entries, or as many as there are records
-ROW = struct.Struct("<IIqq")  # table, nothing, number, value
+ROW = struct.Struct("<IIqq")  # of a snapshot: table, nothing, number, value
 
 
 class Damaged(Exception):
@@ -71,10 +71,10 @@ class Bank:
 
     def cut_if_long(self) -> bool:
         """Frees the history when it is time: it costs memory, and a cut costs a pass over the records. The database stays."""
-        is_long = len(self._engine) >= max(ENTRIES, self._records)
-        if is_long:
-            self._engine.cut()
-        return is_long
+        if len(self._engine) < max(ENTRIES, self._records):
+            return False
+        self._engine.cut()
+        return True
 
 
 def first_rows(accounts: int, cents: int) -> bytes:

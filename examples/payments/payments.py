@@ -12,12 +12,12 @@ import sys
 import time
 from typing import Optional
 
+from audit import show, verify
 from bank import Bank, Damaged, Procedure, first_rows, load_procedures
 from journal import FileJournal, Record
 from sgt import LEAST, MOST, Kind
 
 LONGEST = 1000  # bytes of a request
-DAY = 86_400  # seconds
 IDLE = 0.1  # seconds without a request, after which the journal notes what is safe
 
 
@@ -86,7 +86,7 @@ class Server:
 
     def begin_day(self) -> None:
         """Tells the bank the day, as a call: a procedure has no clock, so the day stands in the journal."""
-        day = int(time.time() // DAY)
+        day = int(time.time() // 86_400)
         if day != self.day and "day" in self.procedures:
             self.call(self.procedures["day"], [day])
             self.day = day
@@ -148,39 +148,6 @@ def run(server: Server, begin: float) -> None:
     server.before_replies()
 
 
-def show(words: argparse.Namespace) -> None:
-    """Prints the journal, which is the serial history."""
-    procedures = load_procedures(words.procedures)
-    for bank, records in FileJournal(words.folder).histories():
-        print(f"# snapshot after call {bank.seq}")
-        for record in records:
-            keys = procedures[record.name].request if record.name in procedures else ()
-            print(record.seq, record.name, *(f"{key}={value}" for key, value in zip(keys or ("arg",) * 4, record.args)))
-
-
-def verify(words: argparse.Namespace) -> None:
-    """Replays the journal in a second engine, and compares every row with each snapshot, and with what a server has."""
-    last, wanted, replayed = sys.maxsize, "", None
-    if words.port:
-        with socket.create_connection(("127.0.0.1", words.port)) as server:
-            server.sendall(b'{"rows":true}\n')
-            last, wanted = json.loads(server.makefile().readline()).values()
-    for bank, records in FileJournal(words.folder).histories():
-        if bank.seq > last:
-            break
-        if replayed is not None and (replayed.seq, replayed.rows()) != (bank.seq, bank.rows()):
-            raise Damaged(f"the calls up to {replayed.seq} do not give the snapshot after call {bank.seq}")
-        first, replayed = bank.seq if replayed is None else first, bank
-        for record in records:
-            if record.seq <= last:
-                replayed.replay(record.seq, record.name, record.args)
-    if replayed is None:
-        raise Damaged(f"{words.folder}: there is no journal")
-    if wanted and (last, wanted) != (replayed.seq, hashlib.sha256(replayed.rows()).hexdigest()):
-        raise Damaged(f"the calls up to {replayed.seq} do not give what is served after call {last}")
-    print(f"calls {first + 1} to {replayed.seq} give the rows of {'the server' if wanted else 'each snapshot'}")
-
-
 def main() -> None:
     parser = argparse.ArgumentParser(description=__doc__)
     parser.add_argument("command", choices=("serve", "show", "verify"))
@@ -192,7 +159,9 @@ def main() -> None:
     parser.add_argument("--keep", action="store_true", help="keep the files before the newest snapshot")
     words = parser.parse_args()
     try:
-        {"serve": serve, "show": show, "verify": verify}[words.command](words)
+        if words.command == "serve":
+            return serve(words)
+        show(words.folder, words.procedures) if words.command == "show" else verify(words.folder, words.port)
     except (Damaged, OSError) as why:
         sys.exit(f"payments: {why}")
 
