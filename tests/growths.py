@@ -80,6 +80,17 @@ def quits_from_the_newest_on_where_all_memory_is_refused(program):
     return sweep(program, "newest", lambda _: FOREVER, lambda replies: quits(replies, "newest") + END)
 
 
+def quits_ask_for_no_memory(program):
+    """All later allocations are refused too, and that of the event is the only one: the quits of all who are live make none."""
+    refused = 0
+    for order in ("oldest", "newest"):
+        for number in range(1, program.allocations(order) + 1):
+            asked = program.counted(order, refuse_first=number, refuse_last=FOREVER, count_refused=1)
+            same(f"{order} first, growth {number} and all later ones: allocations", 1, asked)
+            refused += 1
+    return f"{refused} growths refused"
+
+
 def leaves_the_engine_as_it_was_where_a_growth_of_a_cut_was_refused(program):
     """History, committed values and who is live are as before; the same cut succeeds with memory, and numbers begin anew."""
     whole = REPLIES + CUT_ROW + BEHIND
@@ -104,6 +115,7 @@ CASES = [
     goes_on_where_a_growth_was_refused_once,
     quits_from_the_oldest_on_where_all_memory_is_refused,
     quits_from_the_newest_on_where_all_memory_is_refused,
+    quits_ask_for_no_memory,
     leaves_the_engine_as_it_was_where_a_growth_of_a_cut_was_refused,
 ]
 

@@ -5,6 +5,9 @@ Run it anywhere in the repository: tools/edits_apply.py [CRATE..]. It reads the 
 tools/edits/CRATE, and proves nothing, so it takes less than a second. It prints each mutant that does not apply, with the reason.
 The last line counts them, and the status is 1 where one does not apply. Whether the prover refuses a mutant is tried by
 `rt must-fail` and by tools/try_edits.py.
+
+It also reads tools/edits/TRIED, where tools/try_edits.py notes what it tried. A line whose mutant is gone fails too. How many mutants of
+tools/edits have no line is printed, and fails nothing.
 """
 import os
 import sys
@@ -13,6 +16,7 @@ from pathlib import Path
 ROOT = Path(__file__).resolve().parent.parent
 CRATES = ROOT / "crates"
 EDITS = ROOT / "tools" / "edits"
+TRIED = EDITS / "TRIED"
 
 
 def applied(edit, crate):
@@ -42,6 +46,14 @@ def applied(edit, crate):
     return texts
 
 
+def lost_lines():
+    """The lines of TRIED whose mutant is gone, and how many mutants of tools/edits have no line."""
+    lines = TRIED.read_text(encoding="utf-8").splitlines() if TRIED.is_file() else []
+    noted = {tuple(line.split(" ", 2)[:2]): line for line in lines}
+    there = {(edit.parent.name, edit.stem) for edit in EDITS.glob("*/*.edit")}
+    return [line for key, line in noted.items() if key not in there], len(there - noted.keys())
+
+
 def main(names):
     found = [(edit, edit.parent.parent) for edit in sorted(CRATES.glob("*/must-fail/*.edit"))]
     found += [(edit, CRATES / edit.parent.name) for edit in sorted(EDITS.glob("*/*.edit"))]
@@ -53,7 +65,12 @@ def main(names):
         except ValueError as why:
             failed += 1
             print(f"{edit.relative_to(ROOT)}: {why}")
-    print(f"{len(tried) - failed} passed, {failed} failed")
+    lost, untried = lost_lines()
+    for line in lost:
+        print(f"{TRIED.relative_to(ROOT)}: there is no such mutant: {line}")
+    print(f"{untried} mutants of tools/edits have no line in TRIED")
+    failed += len(lost)
+    print(f"{len(tried) + len(lost) - failed} passed, {failed} failed")
     return 1 if failed else 0
 
 

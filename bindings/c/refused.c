@@ -1,6 +1,6 @@
 /*
  * Each allocation is refused in turn, once. The call then answers SGT_NO_MEMORY and has changed nothing, and made again it goes
- * on. Built with -Wl,--wrap=malloc,--wrap=realloc.
+ * on. A commit asks for no memory. Built with -Wl,--wrap=malloc,--wrap=realloc.
  */
 #include <inttypes.h>
 #include <stdio.h>
@@ -129,6 +129,7 @@ static int run(void)
     uint64_t had = 0, has = 0;
     int64_t value = 0;
     uint32_t status;
+    long before_event;
     int refused = 0, added, more, told, cut;
     while ((status = sgt_open_with(&engine, (const uint8_t *)opening, strlen(opening), &own, 1, &fault)) == SGT_NO_MEMORY) {
         if (engine.is_open || engine.at) return -1;
@@ -139,7 +140,9 @@ static int run(void)
         do {
             before = reply;
             if (sgt_entries(&engine, &had) != SGT_OK) return -1;
+            before_event = asked;
             status = event(&engine, number, &reply);
+            if (number % 5 == 4 && asked != before_event) return -1;
             if (sgt_entries(&engine, &has) != SGT_OK || has != had + (status == SGT_OK)) return -1;
             if (status != SGT_OK && memcmp(&before, &reply, sizeof reply) != 0) return -1;
             refused += status == SGT_NO_MEMORY;

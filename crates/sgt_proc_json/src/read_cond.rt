@@ -1,5 +1,5 @@
 //! The condition that a tree spells.
-ghost use Rattle.std.specs.Prelude.{◌≡◌, Ok, IfOk, IfErr, IfSome, IsNone};
+ghost use Rattle.std.specs.Prelude.{◌≡◌, Ok, IfOk, IfErr, IfSome, IsNone, length};
 ghost use Rattle.serde_json.specs.Data.{array};
 ghost use Rattle.serde_json.specs.Find.{as_str};
 ghost use Rattle.serde_json.specs.View.{view, items_view};
@@ -8,6 +8,7 @@ ghost use Rattle.sgt_model.specs.Syntax.{ExprText};
 ghost use Rattle.sgt_proc_json.specs.Operations.{tested};
 ghost use Rattle.sgt_proc_json.specs.Readings.{Reading, at, here, two, expression, comparison, condition};
 ghost use Rattle.sgt_proc_json.specs.Refusals.{Tells};
+ghost use Rattle.sgt_proc_json.specs.declared.errors.ReadError.TheVariants.{NoMemory};
 
 use crate::errors::ReadError;
 use crate::read_expr::expr_at;
@@ -55,6 +56,7 @@ pub(crate) fn cond_at(alloc: Global, position: u64, tree: &Value) -> Result<Cond
 fn read_row(alloc: Global, items: &[Value]) -> Result<Cond, ReadError>
     ensures ok { IfOk result (λ c. condition (array (items_view items.now)) ≡ Ok (cond_text c)) }
     ensures err { IfErr result (Tells (condition (array (items_view items.now)))) }
+    ensures memory { IfErr result (λ error. error ≡ NoMemory → length items.now ≡ 3) }
 {
     match items {
         [word, a, b] => comparison(alloc, word, a, b),

@@ -1,5 +1,5 @@
 //! The expression that a tree spells.
-ghost use Rattle.std.specs.Prelude.{◌≡◌, Ok, IfOk, IfErr, IfSome, IsNone};
+ghost use Rattle.std.specs.Prelude.{◌≡◌, ◌≢◌, Ok, IfOk, IfErr, IfSome, IsNone, length};
 ghost use Rattle.serde_json.specs.View.{view, items_view};
 ghost use Rattle.serde_json.specs.Data.{array};
 ghost use Rattle.serde_json.specs.Find.{as_str};
@@ -8,6 +8,7 @@ ghost use Rattle.sgt_model.specs.Syntax.{ExprText};
 ghost use Rattle.sgt_proc_json.specs.Operations.{operated};
 ghost use Rattle.sgt_proc_json.specs.Readings.{Reading, at, byte, here, two, arg_or_reg, arithmetic, expression};
 ghost use Rattle.sgt_proc_json.specs.Refusals.{Tells};
+ghost use Rattle.sgt_proc_json.specs.declared.errors.ReadError.TheVariants.{NoMemory};
 
 use crate::errors::ReadError;
 use crate::read_number::byte_at;
@@ -73,6 +74,7 @@ fn read_expr(alloc: Global, tree: &Value) -> Result<Expr, ReadError>
 fn read_row(alloc: Global, items: &[Value]) -> Result<Expr, ReadError>
     ensures ok { IfOk result (λ e. expression (array (items_view items.now)) ≡ Ok (expr_text e)) }
     ensures err { IfErr result (Tells (expression (array (items_view items.now)))) }
+    ensures memory { IfErr result (λ error. error ≡ NoMemory → length items.now ≡ 3) }
 {
     match items {
         [word, n] => arg_or_reg(word, n),
@@ -94,6 +96,7 @@ fn arg_or_reg(word: &Value, n: &Value) -> Result<Expr, ReadError>
         arg_or_reg (as_str (view word.now)) (at 1 (byte (view n.now))) ≡ Ok (expr_text e)) }
     ensures err { IfErr result
         (Tells (arg_or_reg (as_str (view word.now)) (at 1 (byte (view n.now))))) }
+    ensures exact { IfErr result (λ error. error ≢ NoMemory) }
 {
     match word.as_str() {
         Some("arg") => Ok(Expr::Arg(byte_at(1, n)?)),

@@ -1,8 +1,9 @@
 //! Small whole numbers that trees spell.
-ghost use Rattle.std.specs.Prelude.{◌≡◌, Ok, IfOk, IfErr};
+ghost use Rattle.std.specs.Prelude.{◌≡◌, ◌≢◌, Ok, IfOk, IfErr};
 ghost use Rattle.serde_json.specs.View.{view};
 ghost use Rattle.sgt_proc_json.specs.Readings.{at, byte, short};
 ghost use Rattle.sgt_proc_json.specs.Refusals.{Tells};
+ghost use Rattle.sgt_proc_json.specs.declared.errors.ReadError.TheVariants.{NoMemory};
 
 use crate::errors::ReadError;
 use serde_json::Value;
@@ -11,6 +12,7 @@ use serde_json::Value;
 pub(crate) fn byte_at(position: u64, tree: &Value) -> Result<u8, ReadError>
     ensures ok { IfOk result (λ n. at position (byte (view tree.now)) ≡ Ok n) }
     ensures err { IfErr result (Tells (at position (byte (view tree.now)))) }
+    ensures exact { IfErr result (λ error. error ≢ NoMemory) }
 {
     match u8::try_from(short_at(position, tree)?) {
         Ok(n) => Ok(n),
@@ -22,6 +24,7 @@ pub(crate) fn byte_at(position: u64, tree: &Value) -> Result<u8, ReadError>
 pub(crate) fn short_at(position: u64, tree: &Value) -> Result<u16, ReadError>
     ensures ok { IfOk result (λ n. at position (short (view tree.now)) ≡ Ok n) }
     ensures err { IfErr result (Tells (at position (short (view tree.now)))) }
+    ensures exact { IfErr result (λ error. error ≢ NoMemory) }
 {
     match tree.as_i64() {
         Some(n) => match u16::try_from(n) {

@@ -1,11 +1,12 @@
 //! The statements that trees spell.
-ghost use Rattle.std.specs.Prelude.{◌≡◌, Ok, IfOk, IfErr, codes};
+ghost use Rattle.std.specs.Prelude.{◌≡◌, ◌≢◌, ◌≤◌, Ok, IfOk, IfErr, codes, length};
 ghost use Rattle.serde_json.specs.Data.{array};
 ghost use Rattle.serde_json.specs.Find.{as_str};
 ghost use Rattle.serde_json.specs.View.{view, items_view};
 ghost use Rattle.sgt_model.specs.ProcedureTexts.{in_front, block_of};
 ghost use Rattle.sgt_proc_json.specs.Readings.{at, is_word, statement, block, one_item, two_items, three_items, four_items};
-ghost use Rattle.sgt_proc_json.specs.Refusals.{Tells};
+ghost use Rattle.sgt_proc_json.specs.Refusals.{Tells, IsList};
+ghost use Rattle.sgt_proc_json.specs.declared.errors.ReadError.TheVariants.{NoMemory};
 ghost use Rattle.sgt_proc_json.specs.Rows.{is_if, if_row, branches, other_row, ask_of, answer_of, let_of, put_of, look_of, find_of};
 
 use crate::errors::ReadError;
@@ -97,6 +98,7 @@ fn branches(alloc: Global, items: &[Value]) -> Result<(Vec<Statement>, Vec<State
 fn other_row(alloc: Global, items: &[Value]) -> Result<Statement, ReadError>
     ensures ok { IfOk result (λ s. other_row (items_view items.now) ≡ Ok (in_front s)) }
     ensures err { IfErr result (Tells (other_row (items_view items.now))) }
+    ensures memory { IfErr result (λ error. error ≡ NoMemory → (2 ≤ length items.now) × (length items.now ≤ 5)) }
 {
     match items {
         [word, a] => one_item(alloc, word, a),
@@ -179,6 +181,7 @@ fn four_items(
 fn ask_of(a: &Value) -> Result<Statement, ReadError>
     ensures ok { IfOk result (λ s. ask_of (view a.now) ≡ Ok (in_front s)) }
     ensures err { IfErr result (Tells (ask_of (view a.now))) }
+    ensures exact { IfErr result (λ error. error ≢ NoMemory) }
 {
     Ok(Statement::Ask {
         code: short_at(1, a)?,
@@ -265,6 +268,7 @@ pub(crate) fn block_at(
 ) -> Result<Vec<Statement>, ReadError>
     ensures ok { IfOk result (λ list. at position (block (view tree.now)) ≡ Ok (block_of list.items)) }
     ensures err { IfErr result (Tells (at position (block (view tree.now)))) }
+    ensures memory { IfErr result (λ error. error ≡ NoMemory → IsList (view tree.now)) }
 {
     let list = match tree {
         Value::Array(items) => read_statements(alloc, items.as_slice()),

@@ -5,7 +5,7 @@ ghost use Rattle.serde_json.specs.View.{view, items_view};
 ghost use Rattle.sgt_model.specs.ProcedureTexts.{procedure_text};
 ghost use Rattle.sgt_proc_json.specs.Spelling.{Spells, SpellsNone};
 ghost use Rattle.sgt_proc_json.specs.Readings.{reading};
-ghost use Rattle.sgt_proc_json.specs.Refusals.{Tells};
+ghost use Rattle.sgt_proc_json.specs.Refusals.{Tells, HasBody};
 ghost use Rattle.sgt_proc_json.specs.declared.errors.ReadError.TheVariants.{NoMemory};
 
 use crate::errors::ReadError;
@@ -21,12 +21,14 @@ use std::alloc::Global;
 ///
 /// # Errors
 ///
-/// `Shape` with the place of the first misfit, where the tree spells none, and `NoMemory`.
+/// `Shape` with the place of the first misfit, where the tree spells none; and `NoMemory`, but only where the tree is a list of a count
+/// of arguments and a list.
 pub fn read(alloc: Global, tree: &Value) -> Result<Procedure, ReadError>
     ensures spells { IfOk result (λ p. Spells (procedure_text p) (view tree.now)) }
     ensures procedure { IfOk result (λ p. reading (view tree.now) ≡ Ok (procedure_text p)) }
     ensures shape { IfErr result (Tells (reading (view tree.now))) }
     ensures none { IfErr result (λ error. error ≢ NoMemory → SpellsNone (view tree.now)) }
+    ensures memory { IfErr result (λ error. error ≡ NoMemory → HasBody (view tree.now)) }
 {
     read_tree(alloc, tree)
 }
@@ -35,6 +37,7 @@ pub fn read(alloc: Global, tree: &Value) -> Result<Procedure, ReadError>
 fn read_tree(alloc: Global, tree: &Value) -> Result<Procedure, ReadError>
     ensures procedure { IfOk result (λ p. reading (view tree.now) ≡ Ok (procedure_text p)) }
     ensures shape { IfErr result (Tells (reading (view tree.now))) }
+    ensures memory { IfErr result (λ error. error ≡ NoMemory → HasBody (view tree.now)) }
 {
     match tree {
         Value::Array(items) => read_items(alloc, items.as_slice()),
@@ -47,6 +50,7 @@ fn read_items(alloc: Global, items: &[Value]) -> Result<Procedure, ReadError>
     ensures procedure { IfOk result
         (λ p. reading (array (items_view items.now)) ≡ Ok (procedure_text p)) }
     ensures shape { IfErr result (Tells (reading (array (items_view items.now)))) }
+    ensures memory { IfErr result (λ error. error ≡ NoMemory → HasBody (array (items_view items.now))) }
 {
     match items {
         [args, body] => Ok(Procedure {

@@ -1,4 +1,5 @@
 pub mod Filed
 pub mod Merging
+pub mod Newest
 pub mod Owns
 pub mod Crossing

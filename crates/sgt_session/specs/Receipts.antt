@@ -28,6 +28,10 @@ entry_of r = record { event = r.event; reply = r.reply }
 abbrev pub ReceiptStands : List Entry → Receipt → Type 0
 ReceiptStands history r = slice_get history r.number ≡ Some (entry_of r)
 
+-- this is the newest entry of a past, which is read newest entry first
+abbrev pub IsNewest : Entry → List Entry → Type 0
+IsNewest entry past = (before : List Entry) × (past ≡ entry ∷ before)
+
 -- a commit of t that has to wait
 abbrev pub IsWaitOf : ℕ → Receipt → Type 0
 IsWaitOf t r = (r.event ≡ Commit t) × (is_wait r.reply ≡ true)

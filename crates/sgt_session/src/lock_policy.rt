@@ -1,4 +1,5 @@
 //! How a call takes the engine's lock.
+use crate::own::ReceiptRoom;
 use sgt_model::Event;
 use std::sync::{Mutex, MutexGuard, Wait};
 use std::thread;
@@ -42,12 +43,14 @@ impl LockPolicy {
     /// A start has time: nobody waits yet for a transaction that is not there. The calls of a live one are to be over soon, since
     /// others may have to wait for its end. So under load few transactions are live at once, and few conflict.
     ///
-    /// The turn is to be dropped behind the lock, so that the next start is not woken while the lock is held.
+    /// The turn is to be dropped behind the lock, so that the next start is not woken while the lock is held. The room for the call's
+    /// receipt is there before the lock is taken.
     pub fn lock<'l, W: Wait, T>(
         &'l self,
         rt: &W,
         lock: &'l Mutex<T>,
         event: &Event,
+        _room: ReceiptRoom,
     ) -> (Turn<'l>, MutexGuard<'l, T>) {
         if let Some(guard) = lock.try_lock() {
             return (None, guard);

@@ -11,6 +11,11 @@ use crate::receipts::Receipts;
 use sgt_log::EntryRef;
 use sgt_model::{Event, NoMemory, Tid};
 
+/// Stands for the room that a call needs: only `make_receipt_room` gives it, and the engine's lock is taken for nothing less. So no
+/// thread waits for the lock while the receipts of another one grow.
+#[derive(Drop)]
+pub struct ReceiptRoom(());
+
 /// Takes the room that a call of this event needs, whatever it is answered: for its receipt, and for the receipt of one end of
 /// each transaction that is open after it. A quit of an open one has it, and takes no memory.
 ///
@@ -19,7 +24,7 @@ pub fn make_receipt_room(
     receipts: &mut Receipts,
     own: &mut Vec<Tid>,
     event: &Event,
-) -> Result<(), NoMemory>
+) -> Result<ReceiptRoom, NoMemory>
     requires { vec_len own.old ≤ receipts.old.room }
     ensures receipts { receipts.new.receipts ≡ receipts.old.receipts }
     ensures own { own.new.items ≡ own.old.items }
@@ -34,7 +39,7 @@ pub fn make_receipt_room(
     if matches!(event, Event::Start { .. }) {
         own.reserve(1)?;
     }
-    Ok(())
+    Ok(ReceiptRoom(()))
 }
 
 /// How many receipts there has to be room for.

@@ -195,8 +195,8 @@ impl<N: Named> Session<N> {
             (λ waited. (r : Receipt) × (r.event ≡ event) × (self.new ≡ self.old ++ r ∷ []) × (waited ≡ (may_wait && is_wait r.reply)))
             (λ _. self.new ≡ self.old) }
     {
-        make_receipt_room(&mut self.receipts, &mut self.own, &event)?;
-        let (turn, mut round) = shared.lock_policy.lock(rt, &shared.round, &event);
+        let room = make_receipt_room(&mut self.receipts, &mut self.own, &event)?;
+        let (turn, mut round) = shared.lock_policy.lock(rt, &shared.round, &event, room);
         round.apply(event, &mut self.share, &mut self.receipts)?;
         let entry = self.receipts.last_entry();
         let waited = shared.waiters.end_hold(rt, turn, round, &entry, may_wait);

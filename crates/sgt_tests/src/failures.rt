@@ -1,8 +1,10 @@
-//! A reader counts a call that failed, a writer also one that took nothing of something, and neither counts another.
+//! A reader counts a call that failed, a writer also one that took nothing of something, and neither counts another. The text of a
+//! failure that no input shows.
 
-use sgt_input::{Reader, Sink, Source, Writer};
+use sgt_input::{Fault, Reader, Sink, Source, Writer};
 use std::io;
 use std::io::{ErrorKind, Read, Write};
+use std::test::Fail;
 
 /// What each call of a reader or a writer does.
 #[derive(Drop)]
@@ -143,4 +145,10 @@ fn only_calls_that_fail_are_counted(rt: HostRuntime) {
         writes(Call::Fails, b"some"),
     );
     assert!(rt; nothing == (true, 1) && failure == (true, 1));
+}
+
+#[test]
+fn receipts_that_differ_show(rt: HostRuntime) -> Result<(), Fail> {
+    assert!(rt; Fault::Mismatch.to_string(rt.alloc())?.as_str() == "receipts differ");
+    Ok(())
 }
