@@ -154,7 +154,7 @@ recoverable_next h p before here k j less broken = elim (before_next j p less) [
 ]
 
 -- what breaks recoverability is a dirty read
-dirty_of : (h : List Operation) (k p : ℕ) (broken : BreaksRecoverability h k p) → BreaksAvoidance h broken.write k
+pub dirty_of : (h : List Operation) (k p : ℕ) (broken : BreaksRecoverability h k p) → BreaksAvoidance h broken.write k
 dirty_of h k p broken = record {
   item = broken.item;
   writer = broken.writer;
