@@ -1,5 +1,5 @@
 -- The classes lie within one another.
-use Rattle.std.proofs.Common.{inl, inr, arith}
+use Rattle.std.proofs.Common.{inl, inr}
 use Rattle.sgt_classes.specs.Histories.{EndedBefore}
 use Rattle.sgt_classes.specs.Classes.{RigorousAreStrict, StrictAvoidCascadingAborts, AvoidingAreRecoverable}
 use Rattle.sgt_classes.proofs.DirtyReads.{dirty_of}
