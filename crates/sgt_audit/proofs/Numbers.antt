@@ -5,7 +5,7 @@ use Rattle.std.proofs.lemmas.Bool.{cases_eq, true≢false, eqb-true, eq-eqb, ne_
 use Rattle.std.specs.List.{filter, list_any}
 use Rattle.sgt_model.specs.Walks.{Member, Distinct, Rising}
 use Rattle.sgt_model.proofs.Counted.{filter-both, filter-same}
-use Rattle.sgt_model.proofs.Listed.{kept_member, member_kept}
+use Rattle.sgt_model.proofs.Listed.{kept_member, distinct_kept}
 
 or_true : (b : Bool) → (b || true) ≡ true
 or_true true = refl
@@ -106,14 +106,6 @@ one_less g (x ∷ xs) d m = go (one_less g xs d.1) (nat_eq g x) refl
         later : Member g (x ∷ xs) → Member g xs
         later (inl same) = absurd (true≢false (sym (eq-eqb g x same) ∙ e))
         later (inr k) = k
-
-distinct_kept : (f : ℕ → Bool) (xs : List ℕ) → Distinct xs → Distinct (filter f xs)
-distinct_kept f [] d = tt
-distinct_kept f (x ∷ xs) d = go (f x) (distinct_kept f xs d.1)
-  where
-    go : (b : Bool) → Distinct (filter f xs) → Distinct (cond b (x ∷ filter f xs) (filter f xs))
-    go true rest = ((λ m. d.0 (member_kept f x xs m).1), rest)
-    go false rest = rest
 
 -- of a list without repetition as many are left as it has more than those that are taken out of it
 pub some_less : (gone xs : List ℕ) → Distinct gone → Distinct xs → ((u : ℕ) → Member u gone → Member u xs)

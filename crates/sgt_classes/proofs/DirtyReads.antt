@@ -9,7 +9,7 @@ use Rattle.sgt_classes.specs.declared.operation.Action.TheVariants.{Read, Write,
 use Rattle.sgt_classes.specs.Histories.{Does, CommittedBefore}
 use Rattle.sgt_classes.specs.Classes.{BreaksAvoidance, BreaksRecoverability, IsRecoverable}
 use Rattle.sgt_classes.specs.Seen.{IsDirtyRead, IsLastDirtyRead, AreDirtyReads, IsCleanBy, AreCleanAbove, IsRecoverableBefore, height}
-use Rattle.sgt_classes.proofs.Places.{before_next}
+use Rattle.sgt_classes.proofs.Places.{operation_at, doer_at, done_at, before_next}
 use Rattle.sgt_classes.proofs.Sources.{same_doer, same_action}
 
 -- what is read comes from one writer
@@ -154,7 +154,7 @@ recoverable_next h p before here k j less broken = elim (before_next j p less) [
 ]
 
 -- what breaks recoverability is a dirty read
-dirty_of : (h : List Operation) (k p : ℕ) (broken : BreaksRecoverability h k p) → BreaksAvoidance h broken.write k
+pub dirty_of : (h : List Operation) (k p : ℕ) (broken : BreaksRecoverability h k p) → BreaksAvoidance h broken.write k
 dirty_of h k p broken = record {
   item = broken.item;
   writer = broken.writer;
@@ -164,6 +164,12 @@ dirty_of h k p broken = record {
   uncommitted = λ (committed : CommittedBefore h broken.writer k).
       broken.uncommitted (committed.0, omega (arith, committed.1, broken.earlier), committed.2);
 }
+
+-- what is known of each committer at a place is known of the one that commits there
+pub clean_at : (h : List Operation) (p i : ℕ) (o : Option ℕ) → p < length h → (operation_at h p).action ≡ Commit → o ≡ Some i
+    → ((t : ℕ) → Does h p t Commit → AreCleanAbove h p t o) → AreCleanAbove h p (doer_at h p) (Some i)
+clean_at h p i o within commits is all =
+    subst (λ r. AreCleanAbove h p (doer_at h p) r) is (all _ (done_at h p Commit within commits))
 
 -- a commit after clean reads alone
 pub recoverable_clean : (h : List Operation) (p t : ℕ) → Does h p t Commit → AreCleanAbove h p t None → (k : ℕ)

@@ -11,7 +11,7 @@ use Rattle.sgt_classes.specs.declared.graph.Edge.{Edge}
 use Rattle.sgt_classes.specs.Histories.{Does, Uses, item_of}
 use Rattle.sgt_classes.specs.Serializability.{Conflict}
 use Rattle.sgt_classes.specs.Seen.{IsLastWrite, AreLastWrites, IsLastRead, IsOverwritten, HasEdge, IsConflictBy, IsNextConflict, HasConflicts, HasReadConflicts, HasWriteConflicts, AreConnectedAbove, height}
-use Rattle.sgt_classes.proofs.Places.{before_next, does_same, uses_item, item_uses}
+use Rattle.sgt_classes.proofs.Places.{doer_at, operation_at, done_at, done_by, before_next, does_same, uses_item, item_uses}
 use Rattle.sgt_classes.proofs.Sources.{same_doer, same_action}
 
 -- what stands in a list with one more at the end
@@ -48,6 +48,17 @@ has_kept es new t u has = (has.0, has.1, kept_pushed es new has.1 has.0 has.2, h
 pub has_new : (es : List Edge) (new : Edge) → HasEdge (es ++ new ∷ []) new.from new.to
 has_new es new = (length es, new, at_end es new, refl, refl)
 
+-- the edge by two operations, and it is one of who does the one to who does the other
+abbrev pub edge_by : List Operation → ℕ → ℕ → Edge
+edge_by q i j = record { from = doer_at q i; to = doer_at q j; earlier = i; later = j }
+
+pub has_edge_by : (q : List Operation) (es : List Edge) (i j : ℕ) → i < j → j < length q → (t u : ℕ) (a b : Action) → Does q i t a
+    → Does q j u b → HasEdge (es ++ edge_by q i j ∷ []) t u
+has_edge_by q es i j order within t u a b does does_later =
+    subst (λ v. HasEdge (es ++ edge_by q i j ∷ []) t v) (done_by q j u b within does_later)
+    (subst (λ v. HasEdge (es ++ edge_by q i j ∷ []) v (doer_at q j)) (done_by q i t a (omega (arith, order, within)) does)
+    (has_new es (edge_by q i j)))
+
 -- one more edge by two operations that conflict
 pub conflicts_pushed : (q : List Operation) (es : List Edge) (new : Edge)
     → ((k : ℕ) (e : Edge) → slice_get es k ≡ Some e → IsConflictBy q e) → IsConflictBy q new
@@ -68,6 +79,13 @@ write_next q p i t u x (Some m) last next wrote = elim (cases_lt i m) [
     | inr apart ↦ absurd (last.2 i t (omega (arith, most, apart)) next.order wrote)
   ]
 ]
+
+-- what is known of each writer at a place is known of the one that writes there
+pub connected_at : (q : List Operation) (es : List Edge) (p x i : ℕ) (o : Option ℕ) → p < length q
+    → (operation_at q p).action ≡ Write x → o ≡ Some i
+    → ((u y : ℕ) → Does q p u (Write y) → AreConnectedAbove q es p y u o) → AreConnectedAbove q es p x (doer_at q p) (Some i)
+connected_at q es p x i o within writes is all =
+    subst (λ r. AreConnectedAbove q es p x (doer_at q p) r) is (all _ x (done_at q p (Write x) within writes))
 
 -- a read of the item that the operation writes conflicts with it
 pub read_conflict : (q : List Operation) (p m x r w : ℕ) → Does q p w (Write x) → Does q m r (Read x) → (t u : ℕ) (a b : Action)

@@ -1,7 +1,8 @@
 -- The classes lie within one another.
-use Rattle.std.proofs.Common.{inl, inr, arith}
-use Rattle.sgt_classes.specs.Histories.{CommittedBefore, EndedBefore}
+use Rattle.std.proofs.Common.{inl, inr}
+use Rattle.sgt_classes.specs.Histories.{EndedBefore}
 use Rattle.sgt_classes.specs.Classes.{RigorousAreStrict, StrictAvoidCascadingAborts, AvoidingAreRecoverable}
+use Rattle.sgt_classes.proofs.DirtyReads.{dirty_of}
 
 pub rigorous_strict : RigorousAreStrict
 rigorous_strict h rigorous i j broken = rigorous i j (inl broken)
@@ -25,12 +26,4 @@ strict_avoids h strict i j broken = strict i j record {
     ]
 
 pub avoiding_recoverable : AvoidingAreRecoverable
-avoiding_recoverable h avoids k j broken = avoids broken.write k record {
-  item = broken.item;
-  writer = broken.writer;
-  reader = broken.reader;
-  differ = broken.differ;
-  reads = broken.reads;
-  uncommitted = λ (committed : CommittedBefore h broken.writer k).
-      broken.uncommitted (committed.0, omega (arith, committed.1, broken.earlier), committed.2);
-}
+avoiding_recoverable h avoids k j broken = avoids broken.write k (dirty_of h k j broken)

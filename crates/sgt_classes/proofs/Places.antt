@@ -49,15 +49,28 @@ one_ender h i t u (inl a) (inr b) = grind (arith, common_steps, does_same h i _ 
 one_ender h i t u (inr a) (inl b) = grind (arith, common_steps, does_same h i _ t Commit a b)
 one_ender h i t u (inr a) (inr b) = grind (arith, common_steps, does_same h i _ t Abort a b)
 
--- an operation within the history, as it is read
-pub there : (h : List Operation) (i : ℕ) → i < length h
-    → slice_get h i ≡ Some (slice_index_or h i (record { transaction = 0; action = Read 0 }))
+-- the operation at a place, as it is read, and who does it
+abbrev pub operation_at : List Operation → ℕ → Operation
+operation_at h i = slice_index_or h i (record { transaction = 0; action = Read 0 })
+
+abbrev pub doer_at : List Operation → ℕ → ℕ
+doer_at h i = (operation_at h i).transaction
+
+-- it stands there within the history
+pub there : (h : List Operation) (i : ℕ) → i < length h → slice_get h i ≡ Some (operation_at h i)
 there h i within = slice_get-get_or h i _ within
 
 -- what it does
 pub does_at : (h : List Operation) (i : ℕ) (op : Operation) (a : Action) → slice_get h i ≡ Some op → op.action ≡ a
     → Does h i op.transaction a
 does_at h i op a at same = at ∙ ap (λ (b : Action). Some (record { transaction = op.transaction; action = b })) same
+
+-- what is done at a place within the history, and by nobody else
+pub done_at : (h : List Operation) (i : ℕ) (a : Action) → i < length h → (operation_at h i).action ≡ a → Does h i (doer_at h i) a
+done_at h i a within same = does_at h i (operation_at h i) a (there h i within) same
+
+pub done_by : (h : List Operation) (i t : ℕ) (a : Action) → i < length h → Does h i t a → doer_at h i ≡ t
+done_by h i t a within does = ap (λ (o : Operation). o.transaction) (does_same h i (operation_at h i) t a (there h i within) does)
 
 -- who uses an item does it within the history
 pub uses_within : (h : List Operation) (i t x : ℕ) → Uses h i t x → i < length h

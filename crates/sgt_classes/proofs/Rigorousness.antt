@@ -10,7 +10,7 @@ use Rattle.sgt_classes.specs.declared.operation.Action.TheVariants.{Read, Write}
 use Rattle.sgt_classes.specs.Histories.{Does, EndedBefore}
 use Rattle.sgt_classes.specs.Classes.{BreaksStrictness, OverwritesReader, BreaksRigorousness, IsRigorous}
 use Rattle.sgt_classes.specs.Seen.{IsOverwritten, IsLastRead, AreReads, AreFineAbove, IsStrictBefore, IsRigorousBefore, height}
-use Rattle.sgt_classes.proofs.Places.{before_next, ended_later, uses_within}
+use Rattle.sgt_classes.proofs.Places.{operation_at, doer_at, done_at, done_by, before_next, ended_later, uses_within}
 use Rattle.sgt_classes.proofs.Sources.{same_doer, same_action}
 
 -- what is overwritten stays so
@@ -41,6 +41,17 @@ earlier_kept h p t a earlier at other are k u x less does = elim (before_next k 
   | inl before ↦ are k u x before does
   | inr e ↦ absurd (other x (same_action h p t u a _ at (subst (λ n. Does h n u (Read x)) e does)))
 ]
+
+-- what is known of each writer at a place is known of the one that writes there
+pub fine_at : (h : List Operation) (p x i : ℕ) (o : Option ℕ) → p < length h → (operation_at h p).action ≡ Write x → o ≡ Some i
+    → ((t y : ℕ) → Does h p t (Write y) → AreFineAbove h p y t o) → AreFineAbove h p x (doer_at h p) (Some i)
+fine_at h p x i o within writes is all =
+    subst (λ r. AreFineAbove h p x (doer_at h p) r) is (all _ x (done_at h p (Write x) within writes))
+
+-- and the read at which it ends is by the one that does it
+pub read_by : (h : List Operation) (p x t i : ℕ) → p < length h → AreFineAbove h p x t (Some i) → Does h i (doer_at h i) (Read x)
+read_by h p x t i within top = subst (λ r. Does h i r (Read x))
+    (sym (done_by h i top.1.0 (Read x) (omega (arith, top.0, within)) top.1.1)) top.1.1
 
 -- an end changes nothing
 pub end_reads : (h : List Operation) (p t : ℕ) (a : Action) (lasts earlier : ℕ → Option ℕ) → Does h p t a → ((x : ℕ) → a ≢ Read x)

@@ -10,7 +10,7 @@ use Rattle.sgt_classes.specs.Histories.{Does, AbortedBefore, CommittedBefore}
 use Rattle.sgt_classes.specs.Classes.{ReadsFrom, BreaksAvoidance, AvoidsCascadingAborts}
 use Rattle.sgt_classes.specs.Seen.{IsTopWrite, AreBelow, AreDone, AreSources, AvoidsBefore, height}
 use Rattle.std.proofs.lemmas.Option.{slice_get_within}
-use Rattle.sgt_classes.proofs.Places.{does_same, before_next}
+use Rattle.sgt_classes.proofs.Places.{doer_at, there, does_same, before_next}
 
 -- who has done it before a place has done it before a later one
 done_later : (h : List Operation) (t i j : ℕ) → i ≤ j → AbortedBefore h t i → AbortedBefore h t j
@@ -244,6 +244,9 @@ pub top_write : (h : List Operation) (j x i : ℕ) (w : Operation) → slice_get
     → Does h i w.transaction (Write x)
 top_write h j x i w at top =
     subst (λ t. Does h i t (Write x)) (sym (ap (λ (o : Operation). o.transaction) (does_same h i w top.1.0 (Write x) at top.1.1))) top.1.1
+
+pub top_done : (h : List Operation) (j x i : ℕ) → j < length h → IsTopWrite h j x (Some i) → Does h i (doer_at h i) (Write x)
+top_done h j x i within top = top_write h j x i _ (there h i (omega (arith, top.0, within))) top
 
 -- who writes there, by the operation that is read there
 pub writer_is : (h : List Operation) (i t x : ℕ) (w : Operation) → slice_get h i ≡ Some w → Does h i t (Write x) → w.transaction ≡ t

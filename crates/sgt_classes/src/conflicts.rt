@@ -17,8 +17,8 @@ use std::alloc::Global;
 use std::collections::BTreeMap;
 
 /// All edges of the serialization graph, each by the first two operations that make it: those whose later one comes first, and
-/// of these those whose earlier one does. They are told by their later operations, and those of one later operation from the
-/// last earlier one back.
+/// of these those whose earlier one does. They stand in the order of their later operations, and those of one later operation
+/// from the last earlier one back.
 ///
 /// Bernstein, Hadzilacos and Goodman (1987), chapter 2: serialization graph, of the committed projection.
 ///
@@ -27,7 +27,7 @@ use std::collections::BTreeMap;
 ///
 /// # Errors
 ///
-/// `NoMemory` where a growth was refused.
+/// `NoMemory` if an allocation failed.
 pub fn first_conflicts(alloc: Global, history: &[Operation]) -> Result<Vec<Edge>, NoMemory>
     ensures { IfOk result (λ edges. AreFirstConflicts history.now edges.items) }
 {
@@ -40,7 +40,7 @@ pub fn first_conflicts(alloc: Global, history: &[Operation]) -> Result<Vec<Edge>
 /// The first conflicts of a committed projection before a place.
 #[derive(Drop)]
 pub struct Conflicts {
-    /// They, as edges of the serialization graph, in the order in which they are told.
+    /// They, as edges of the serialization graph, in the order in which they were found.
     edges: Vec<Edge>,
     /// For two transactions that have an edge the place of its later operation.
     told: BTreeMap<(u32, u32), usize>,
@@ -61,7 +61,7 @@ impl Conflicts {
         Ok(conflicts)
     }
 
-    /// Tells the first conflicts of the committed projection, where none is told and no operation is noted yet.
+    /// Adds the first conflicts of the committed projection, where there is none and no operation is noted yet.
     fn tell_all(
         &mut self,
         operations: &[Operation],
@@ -83,7 +83,7 @@ impl Conflicts {
         Ok(())
     }
 
-    /// Tells the first conflicts of which the operation at the place is the later one.
+    /// Adds the first conflicts of which the operation at the place is the later one.
     fn tell_at(
         &mut self,
         operations: &[Operation],
@@ -113,8 +113,8 @@ impl Conflicts {
         }
     }
 
-    /// Tells the conflicts of the operation at the place with the first accesses to the item, from the last one back. Those
-    /// before `told` an operation of its transaction has told.
+    /// Adds the conflicts of the operation at the place with the first accesses to the item, from the last one back. Those
+    /// before `told` were added with an earlier operation of its transaction.
     fn tell_back(
         &mut self,
         operations: &[Operation],
@@ -141,7 +141,7 @@ impl Conflicts {
         Ok(())
     }
 
-    /// Tells the conflict of two operations, if they are not of one transaction and theirs have no edge.
+    /// Adds the conflict of two operations, if they are not of one transaction and theirs have no edge.
     fn tell(
         &mut self,
         operations: &[Operation],

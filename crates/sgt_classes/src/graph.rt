@@ -43,7 +43,7 @@ pub fn serialization_edges(alloc: Global, history: &[Operation]) -> Result<Vec<E
     edges_of_committed(alloc, history, &commits)
 }
 
-/// The edges that `serialization_edges` tells, where it is known who commits.
+/// The edges that `serialization_edges` returns, for a caller that knows who commits.
 pub fn edges_of_committed(
     alloc: Global,
     history: &[Operation],

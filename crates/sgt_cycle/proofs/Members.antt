@@ -1,9 +1,8 @@
 -- Members of lists: where they stand, what a push adds, and how many different ones there can be.
-use Rattle.std.specs.Prelude.{◌≡◌, ◌≢◌, ℕ, ◌<◌, ◌≤◌, ◌+◌, ◌⊎◌, ◌↔◌, List, [], ◌∷◌, ◌++◌, length, slice_index, slice_index_or}
-use Rattle.std.proofs.Common.{take, add-one, zero, suc, refl, sym, ◌∙◌, ap, subst, inl, inr, arith}
+use Rattle.std.specs.Prelude.{◌≡◌, ◌≢◌, ℕ, ◌<◌, ◌+◌, ◌⊎◌, ◌↔◌, List, [], ◌∷◌, ◌++◌, length, slice_index, slice_index_or}
+use Rattle.std.proofs.Common.{take, add-one, zero, suc, refl, sym, subst, inl, inr, arith}
 use Rattle.std.proofs.Math.Seq.{take-suc}
 use Rattle.sgt_model.specs.Walks.{Member, Distinct}
-use Rattle.sgt_model.proofs.Paths.{Within}
 
 -- a member stands at some index
 pub member_at : (x : ℕ) (xs : List ℕ) → Member x xs → (i : ℕ) × (i < length xs) × ((d : ℕ) → slice_index_or xs i d ≡ x)
@@ -69,20 +68,3 @@ distinct_apart [] d i j rises below same = omega arith
 distinct_apart (x ∷ xs) d i zero rises below same = omega arith
 distinct_apart (x ∷ xs) d zero (suc j) rises below same = d.0 (subst (λ y. Member y xs) (sym same) (at_member xs j 0 (omega arith)))
 distinct_apart (x ∷ xs) d (suc i) (suc j) rises below same = distinct_apart xs d.1 i j (omega arith) (omega arith) same
-
--- a list without one of its members
-removed : (x : ℕ) (ys : List ℕ) → Member x ys → (zs : List ℕ) × (length ys ≡ suc (length zs))
-    × ((y : ℕ) → Member y ys → y ≢ x → Member y zs)
-removed x [] m = elim m [ ]
-removed x (y ∷ ys) (inl e) = (ys, refl, λ z m other. elim m [ inl same ↦ absurd (other (same ∙ sym e)) | inr k ↦ k ])
-removed x (y ∷ ys) (inr m) = let (zs, long, keep) = removed x ys m in
-    (y ∷ zs, ap suc long, λ z k other. elim k [ inl same ↦ inl same | inr j ↦ inr (keep z j other) ])
-
--- different numbers that are all among some others are no more than those
-pub distinct_fits : (xs ys : List ℕ) → Distinct xs → Within xs ys → length xs ≤ length ys
-distinct_fits [] ys d w = omega arith
-distinct_fits (x ∷ xs) ys d w =
-    let (zs, long, keep) = removed x ys (w x (inl refl)) in
-    let rest : length xs ≤ length zs =
-    distinct_fits xs zs d.1 (λ y m. keep y (w y (inr m)) (λ same. d.0 (subst (λ z. Member z xs) same m))) in
-    omega arith

@@ -6,7 +6,8 @@ use Rattle.sgt_model.specs.Walks.{PathOf, last_of, Member, Distinct}
 use Rattle.sgt_model.proofs.Paths.{Within, last_of-append}
 use Rattle.sgt_cycle.specs.Indices.{is_set, is_bit, indices_below, indices}
 use Rattle.sgt_cycle.specs.Walk.{Holds, IsWalk, NoWalk, Follows}
-use Rattle.sgt_cycle.proofs.Members.{member_push, distinct_push, distinct_fits}
+use Rattle.sgt_model.proofs.Conditions.{distinct_fits}
+use Rattle.sgt_cycle.proofs.Members.{member_push, distinct_push}
 use Rattle.sgt_cycle.proofs.Searched.{closed_path}
 use Rattle.sgt_cycle.proofs.Bits.{none_in}
 

@@ -10,7 +10,8 @@ use Rattle.sgt_model.proofs.Paths.{Within}
 use Rattle.sgt_cycle.specs.Links.{is_link, is_end}
 use Rattle.sgt_cycle.specs.Walk.{Holds, NoWalk}
 use Rattle.sgt_cycle.specs.Search.{LeadsBack}
-use Rattle.sgt_cycle.proofs.Members.{member_at, at_member, any_default, member_append, member_push, member_take, distinct_push, distinct_fits}
+use Rattle.sgt_model.proofs.Conditions.{distinct_fits}
+use Rattle.sgt_cycle.proofs.Members.{member_at, at_member, any_default, member_append, member_push, member_take, distinct_push}
 use Rattle.sgt_cycle.proofs.Links.{link_ends}
 
 -- the first i targets, each once

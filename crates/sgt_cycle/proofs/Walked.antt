@@ -7,7 +7,8 @@ use Rattle.sgt_model.proofs.Paths.{Within, path-append, last_of-append}
 use Rattle.sgt_cycle.specs.Links.{is_link, occurs}
 use Rattle.sgt_cycle.specs.Walk.{Holds, Follows}
 use Rattle.sgt_cycle.specs.Search.{LeadsBack}
-use Rattle.sgt_cycle.proofs.Members.{at_member, any_default, member_push, distinct_apart, distinct_push, distinct_fits}
+use Rattle.sgt_model.proofs.Conditions.{distinct_fits}
+use Rattle.sgt_cycle.proofs.Members.{at_member, any_default, member_push, distinct_apart, distinct_push}
 use Rattle.sgt_cycle.proofs.Links.{link_ends}
 
 -- a walk from the source to the number at an index, all of it at that index or after

@@ -2,13 +2,14 @@
 use Rattle.std.specs.Prelude.{ℕ, List, Option, slice_get}
 use Rattle.std.specs.Option.{option_and_then}
 use Rattle.sgt_model.specs.declared.entry.Entry.{Entry}
-use Rattle.sgt_model.specs.Progress.{Call as Asked, call_in}
+use Rattle.sgt_model.specs.Progress.{call_in}
+use Rattle.sgt_model.specs.Progress as progress
 use Rattle.sgt_explain.specs.declared.progress.Call.{Call}
 
 -- the procedure and the arguments that it names
-abbrev pub called : Call → Asked
+abbrev pub called : Call → progress.Call
 called c = record { procedure = c.procedure; args = c.args }
 
 -- the call by which the entry at this place starts t, if it does
-abbrev pub placed_call : List Entry → (t place : ℕ) → Option Asked
+abbrev pub placed_call : List Entry → (t place : ℕ) → Option progress.Call
 placed_call entries t place = option_and_then (λ (e : Entry). call_in e.event e.reply t) (slice_get entries place)

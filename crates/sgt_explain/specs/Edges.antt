@@ -1,5 +1,5 @@
--- What is told of an edge: the accesses by which one transaction comes before another. Of those that would do, the first in the
--- history are told, so that there is one answer.
+-- What an explained edge says: the accesses by which one transaction comes before another. Of those that would do it names the
+-- first in the history, so that there is one answer.
 use Rattle.std.specs.Prelude.{◌≡◌, ◌⊎◌, ℕ, true, List, Some, None, IsSome}
 use Rattle.sgt_model.specs.declared.entry.Entry.{Entry}
 use Rattle.sgt_model.specs.declared.kind.Kind.{Kind}
@@ -7,7 +7,7 @@ use Rattle.sgt_model.specs.declared.kind.Kind.TheVariants.{Look, Store}
 use Rattle.sgt_model.specs.Contents.{Key}
 use Rattle.sgt_model.specs.Pairs.{one_stores, FollowsIn}
 use Rattle.sgt_model.specs.Aborts.{IsAccessBy}
-use Rattle.sgt_explain.specs.declared.edge.Earlier.{Earlier as Told}
+use Rattle.sgt_explain.specs.declared.edge.Earlier.{Earlier}
 use Rattle.sgt_explain.specs.declared.edge.Edge.{Edge}
 use Rattle.sgt_explain.specs.Firsts.{IsFirst, FirstOrNone}
 use Rattle.sgt_explain.specs.Places.{entries_before, placed_access}
@@ -16,8 +16,8 @@ use Rattle.sgt_explain.specs.Places.{entries_before, placed_access}
 abbrev pub ConflictsAt : List Entry → ℕ → Key → (earlier later : Kind) → ℕ → Type 0
 ConflictsAt entries t key earlier later place = IsAccessBy (placed_access entries place) t key earlier × (one_stores earlier later ≡ true)
 
--- told are t's first look and its first store before the end that conflict with an access of that kind of the key
-pub record TellsEarlier (entries : List Entry) (end t : ℕ) (key : Key) (kind : Kind) (told : Told) : Type 0 where
+-- t's first read and its first write before the end that conflict with an access of that kind of the key
+pub record TellsEarlier (entries : List Entry) (end t : ℕ) (key : Key) (kind : Kind) (told : Earlier) : Type 0 where
   pub looked : FirstOrNone (ConflictsAt entries t key Look kind) end told.looked
   pub stored : FirstOrNone (ConflictsAt entries t key Store kind) end told.stored
   pub one : IsSome told.looked ⊎ IsSome told.stored
@@ -26,7 +26,7 @@ pub record TellsEarlier (entries : List Entry) (end t : ℕ) (key : Key) (kind :
 abbrev pub FollowsAt : List Entry → (t u place : ℕ) → Type 0
 FollowsAt entries t u place = FollowsIn (entries_before entries place) (placed_access entries place) t u
 
--- told are u's access at this place, and t's that come before it and conflict with it
+-- u's access at this place, and those of t that come before it and conflict with it
 pub record TellsAccess (entries : List Entry) (t u place : ℕ) (edge : Edge) : Type 0 where
   pub from : edge.from ≡ t
   pub to : edge.to ≡ u
@@ -34,14 +34,13 @@ pub record TellsAccess (entries : List Entry) (t u place : ℕ) (edge : Edge) : 
   pub access : IsAccessBy (placed_access entries place) u edge.key edge.kind
   pub earlier : TellsEarlier entries place t edge.key edge.kind edge.earlier
 
--- told is why t comes before u in the entries before the end: u's first access that an earlier one of t's conflicts with
+-- why t comes before u in the entries before the end: u's first access that an earlier one of t's conflicts with
 pub record TellsPair (entries : List Entry) (end t u : ℕ) (edge : Edge) : Type 0 where
   pub at : ℕ
   pub first : IsFirst (FollowsAt entries t u) end at
   pub access : TellsAccess entries t u at edge
 
--- told is why t would come before u behind the entries before the end, by an access of that kind of the key that u was about
--- to make
+-- why t would come before u after the entries before the end: by an access of that kind of the key, which u was about to make
 pub record TellsPending (entries : List Entry) (end t u : ℕ) (key : Key) (kind : Kind) (edge : Edge) : Type 0 where
   pub from : edge.from ≡ t
   pub to : edge.to ≡ u

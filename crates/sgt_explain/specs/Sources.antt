@@ -1,4 +1,4 @@
--- What is told of one that falls: its first look that found a value of one that is aborted there, or falls there too.
+-- Why a transaction is aborted in cascade: its first read of a value of one that is aborted there, in cascade or not.
 use Rattle.std.specs.Prelude.{◌≡◌, ◌≢◌, ◌⊎◌, ℕ, List, Some}
 use Rattle.sgt_model.specs.declared.entry.Entry.{Entry}
 use Rattle.sgt_model.specs.declared.kind.Kind.TheVariants.{Look}
@@ -9,7 +9,7 @@ use Rattle.sgt_explain.specs.declared.source.Source.{Source}
 use Rattle.sgt_explain.specs.Firsts.{IsFirst}
 use Rattle.sgt_explain.specs.Places.{entries_before, placed_access, placed_named, placed_falls}
 
--- the entry at this place aborts v, or v falls there
+-- the entry at this place aborts v, in cascade or not
 abbrev pub IsUndoneAt : List Entry → (end v : ℕ) → Type 0
 IsUndoneAt entries end v = (placed_named entries end ≡ Some v) ⊎ Member v (placed_falls entries end)
 
@@ -21,14 +21,14 @@ ReadsAt entries t v place = (t ≢ v) × LooksFrom (entries_before entries place
 abbrev pub ReadsUndoneAt : List Entry → (end t place : ℕ) → Type 0
 ReadsUndoneAt entries end t place = (v : ℕ) × IsUndoneAt entries end v × ReadsAt entries t v place
 
--- told is t's look at this place, which read from another
+-- t's read at this place, which is from another
 pub record TellsLook (entries : List Entry) (t place : ℕ) (told : Source) : Type 0 where
   pub reader : told.reader ≡ t
   pub place_is : told.place ≡ place
   pub look : IsAccessBy (placed_access entries place) t told.key Look
   pub reads : ReadsAt entries t told.source place
 
--- told is t's first look before the end that read from one that is undone there
+-- t's first read, before the end, from one that is undone there
 pub record TellsSource (entries : List Entry) (end t : ℕ) (told : Source) : Type 0 where
   pub first : IsFirst (ReadsUndoneAt entries end t) end told.place
   pub look : TellsLook entries t told.place told

@@ -13,14 +13,14 @@ use Rattle.sgt_explain.specs.Places.{entries_before, placed_named}
 use Rattle.sgt_explain.specs.Edges.{TellsPair, TellsPending}
 
 -- an edge of a walk leads from one to the next; from the last, which has no next, to the first. That last edge is made by an
--- access of that kind of the key, which the first was about to make behind the entries before the end
+-- access of that kind of the key, which the first was about to make after the entries before the end
 abbrev pub TellsFrom : List Entry → (end : ℕ) → Key → Kind → Edge → (one next first : Option ℕ) → Type 0
 TellsFrom entries end key kind edge None next first = ⊥
 TellsFrom entries end key kind edge (Some t) (Some u) first = TellsPair entries end t u edge
 TellsFrom entries end key kind edge (Some t) None None = ⊥
 TellsFrom entries end key kind edge (Some t) None (Some u) = TellsPending entries end t u key kind edge
 
--- told is edge number n of the walk, from 0
+-- this is edge number n of the walk, from 0
 abbrev pub TellsEdge : List Entry → (end : ℕ) → Key → Kind → List ℕ → (n : ℕ) → Edge → Type 0
 TellsEdge entries end key kind walk n edge =
     TellsFrom entries end key kind edge (slice_get walk n) (slice_get walk (n + 1)) (slice_get walk 0)

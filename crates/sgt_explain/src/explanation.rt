@@ -20,11 +20,11 @@ pub struct Pending {
     pub kind: Kind,
 }
 
-/// Adds the lines that tell why the entry at this place aborts whom it aborts: those of the edges of its walk, where it aborts by
-/// a cycle and the access that was about to be made is given, and then those of the ones that fall. Of another entry it adds none.
-/// The list is as for `append_edge`.
+/// Adds the lines that say why the entry at this place aborts transactions. First come the lines of the edges of its cycle, if it
+/// aborts by one and the access that was about to be made is given; then those of the transactions that it aborts in cascade. For
+/// any other entry it adds none. The list is as for `append_edge`.
 ///
-/// `NoMemory` where the growth was refused; the text is as it was then.
+/// `NoMemory` if an allocation failed; then the text is unchanged.
 pub fn append_explanation(
     text: &mut Vec<u8>,
     history: &History,

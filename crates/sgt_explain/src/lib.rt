@@ -1,16 +1,18 @@
-//! Why transactions were aborted, told from a history: for an abort by a cycle the accesses that make each edge of its walk, and
-//! for one that fell with an abort the look by which it had read from one that was undone.
+//! Why transactions were aborted, read from a history. For an abort by a cycle: the accesses that make each edge of the cycle.
+//! For a transaction that was aborted in cascade: its read from one that was undone.
 //!
-//! An engine says of an abort whom it concerns: a walk, and those that fall. Here the history is searched for the accesses behind
-//! that, each named by its place: how many entries stand before it. Nothing is kept for this while a history grows, so an abort
-//! that nobody asks about costs nothing. What is asked costs passes over the entries before the abort: for an edge one, and at
-//! most two for each access of its second transaction; for one that fell one, and about two for each of its looks.
+//! The reply of an abort names a cycle and the transactions that are aborted in cascade. This crate searches the history for the
+//! accesses that brought it about. It names each by its place: how many entries stand before it. Nothing is stored for this while
+//! a history grows, so an abort that nobody asks about costs nothing. An answer costs passes over the entries before the abort:
 //!
-//! [`cycle_edge`] tells an edge, [`fall_source`] the look of one that fell; [`append_explanation`] tells both of an abort as lines of
+//! - an edge: one pass, and at most two for each access of its second transaction;
+//! - a cascading abort: one pass, and about two for each of its reads.
+//!
+//! [`cycle_edge`] returns an edge, [`fall_source`] the read of a cascading abort, and [`append_explanation`] writes both as lines of
 //! text.
 //!
-//! It runs nothing and writes nothing, and knows no procedures: which access the aborted transaction was about to make is for the
-//! caller to say. [`call_before`] and [`progress_before`] tell what a procedure needs to say that.
+//! It runs nothing and knows no procedures. So the caller says which access the aborted transaction was about to make;
+//! [`call_before`] and [`progress_before`] return what a procedure needs for that.
 //!
 //! ```
 //! // What the transaction that is aborted at a place was about to do.

@@ -29,8 +29,8 @@ pub struct Progress {
     pub made: usize,
 }
 
-/// What a transaction was started with in the entries before a place; none where none of them starts it. With how far it has
-/// come, this tells what its procedure does next.
+/// What a transaction was started with in the entries before a place; none if none of them starts it. This and its progress say
+/// what its procedure does next.
 pub fn call_before(history: &History, place: usize, t: Tid) -> Option<Call>
     ensures call { IfSome result (λ call. call_of (entries_before history.now.entries place) t ≡ called call) }
     ensures none { IfNone result

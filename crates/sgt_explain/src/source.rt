@@ -24,10 +24,10 @@ pub struct Source {
     pub place: usize,
 }
 
-/// Why transaction number `number`, from 0, of those that fall with the abort at this place falls: its first look that found a
-/// value of the one that is aborted, or of another one that falls.
+/// Why transaction number `number`, from 0, of those that the entry at this place aborts in cascade is aborted: its first read of a
+/// value of another one that is aborted there.
 ///
-/// It is none where nobody is aborted there, no more fall, or no such look is there. In a legal history each that falls has one.
+/// None if nobody is aborted there, if there are no more, or if there is no such read. In a legal history each has one.
 pub fn fall_source(history: &History, place: usize, number: usize) -> Option<Source>
     ensures told { IfSome result (λ source. (t : ℕ) → slice_get (placed_falls history.now.entries place) number ≡ Some t
         → TellsSource history.now.entries place t source) }

@@ -7,14 +7,14 @@ use itoa::{Buffer, Integer};
 use sgt_model::{Key, Kind, NoMemory};
 use std::alloc::AllocError;
 
-/// Adds a line that tells an edge of the walk by which the entry at this place aborts a transaction, as
-/// `line 12: 1 would write 2/101, which 0 read at line 8 and wrote at line 10` where its later access was about to be made, and
-/// else as `line 12: 0 wrote 2/102 at line 10, which 1 read at line 7`. It begins with the line of the abort.
+/// Adds the line of an edge of the cycle by which the entry at this place aborts a transaction. If its later access was about to be
+/// made, the line reads `line 12: 1 would write 2/101, which 0 read at line 8 and wrote at line 10`; else it reads
+/// `line 12: 0 wrote 2/102 at line 10, which 1 read at line 7`. The line of the abort comes first.
 ///
-/// The list has the number of each entry's line, by the place of the entry; where it ends earlier, an entry is told as
-/// `entry 7`, by its place from 0.
+/// The list has the number of each entry's line, by the place of the entry. An entry past its end is named `entry 7`, by its place
+/// from 0.
 ///
-/// `NoMemory` where the growth was refused; the text is as it was then.
+/// `NoMemory` if an allocation failed; then the text is unchanged.
 pub fn append_edge(
     text: &mut Vec<u8>,
     edge: &Edge,
@@ -30,10 +30,10 @@ pub fn append_edge(
     Ok(())
 }
 
-/// Adds a line that tells by which look one that falls with the abort at this place had read from one that is undone there, as
-/// `line 12: 3 read 2/101 of 1 at line 9`. It begins with the line of the abort; the list is as for `append_edge`.
+/// Adds the line of a transaction that the entry at this place aborts in cascade: its read from one that is undone there, as
+/// `line 12: 3 read 2/101 of 1 at line 9`. The line of the abort comes first. The list is as for `append_edge`.
 ///
-/// `NoMemory` where the growth was refused; the text is as it was then.
+/// `NoMemory` if an allocation failed; then the text is unchanged.
 pub fn append_source(
     text: &mut Vec<u8>,
     source: &Source,

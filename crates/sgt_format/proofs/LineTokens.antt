@@ -33,9 +33,9 @@ use Rattle.serde_json.specs.Data as tree
 use Rattle.serde_json.specs.Find.{as_i64}
 use Rattle.serde_json.specs.Read.{number_of, of_items, of_json, read}
 use Rattle.sgt_model.specs.declared.event.Event.{Event}
-use Rattle.sgt_proc_json.specs.Trees.{whole, natural as natural_of}
+use Rattle.sgt_proc_json.specs.Trees.{whole, natural}
 use Rattle.sgt_format.specs.Trees.{tree_of, list, listed, each}
-use Rattle.sgt_format.specs.EventLines.{arguments, procedure as procedure_in, of_transaction, of_procedure, event_from, event_in, event_of}
+use Rattle.sgt_format.specs.EventLines.{arguments, procedure, of_transaction, of_procedure, event_from, event_in, event_of}
 use Rattle.sgt_format.specs.JobLines.{job_call, job_in, job_of}
 use Rattle.sgt_format.specs.LineTokens.{whole_number, whole_numbers, tree_at, event_at, job_at}
 use Rattle.sgt_format.specs.ScriptLines.{script_line_from, script_line_in, script_line_of}
@@ -47,12 +47,12 @@ use Rattle.sgt_format.proofs.Numerals.{one_number_more}
 
 -- a word and a number
 pub transaction : (w s : List ℕ) (n : ℤ) → whole_number s ≡ Some n
-    → event_at (begin_array ∷ string w ∷ number s ∷ end_array ∷ []) ≡ option_and_then (of_transaction w) (natural_of 32 n)
+    → event_at (begin_array ∷ string w ∷ number s ∷ end_array ∷ []) ≡ option_and_then (of_transaction w) (natural 32 n)
 unfolding value items
 transaction w s n is = by_number (number_of s) refl
   where
     by_number : (o : Option Num) → number_of s ≡ o
-        → event_at (begin_array ∷ string w ∷ number s ∷ end_array ∷ []) ≡ option_and_then (of_transaction w) (natural_of 32 n)
+        → event_at (begin_array ∷ string w ∷ number s ∷ end_array ∷ []) ≡ option_and_then (of_transaction w) (natural 32 n)
     by_number None e = absurd (cc)
     by_number (Some m) e = let read : as_i64 m ≡ Some n = sym (ap (option_and_then as_i64) e) ∙ is in rw e (rw read refl)
 
@@ -153,20 +153,20 @@ tree_of_call w s m texts trees e are =
 -- what such a tree means, by its word, its number and its list
 abbrev MeansCall : {A : Type 0} → (Data → Option A) → (List ℕ → ℕ → List ℤ → Option A) → Type 0
 MeansCall meaning of_call = (w : List ℕ) (m : Num) (trees : Items) → meaning (call_tree w m trees)
-    ≡ option_and_then (λ n. option_and_then (of_call w n) (arguments (tree.array trees))) (procedure_in (tree.number m))
+    ≡ option_and_then (λ n. option_and_then (of_call w n) (arguments (tree.array trees))) (procedure (tree.number m))
 
 called : {A : Type 0} (meaning : Data → Option A) (of_call : List ℕ → ℕ → List ℤ → Option A) → MeansCall meaning of_call
     → (w s : List ℕ) (n : ℤ) (texts : List (List ℕ)) (args : List ℤ) → whole_number s ≡ Some n → whole_numbers texts ≡ Some args
     → length texts ≤ 4
-    → option_and_then meaning (tree_at (call_tokens w s texts)) ≡ option_and_then (λ p. of_call w p args) (natural_of 16 n)
+    → option_and_then meaning (tree_at (call_tokens w s texts)) ≡ option_and_then (λ p. of_call w p args) (natural 16 n)
 called {A} meaning of_call means w s n texts args is are few = by_number (number_of s) refl
   where
     by_tree : (m : Num) → as_i64 m ≡ Some n → (all : Listed texts args)
-        → meaning (call_tree w m all.trees) ≡ option_and_then (λ p. of_call w p args) (natural_of 16 n)
+        → meaning (call_tree w m all.trees) ≡ option_and_then (λ p. of_call w p args) (natural 16 n)
     by_tree m read all = means w m all.trees ∙ rw (read, all.many) (rw (le-leb _ _ few, all.numbers_are) refl)
 
     by_number : (o : Option Num) → number_of s ≡ o
-        → option_and_then meaning (tree_at (call_tokens w s texts)) ≡ option_and_then (λ p. of_call w p args) (natural_of 16 n)
+        → option_and_then meaning (tree_at (call_tokens w s texts)) ≡ option_and_then (λ p. of_call w p args) (natural 16 n)
     by_number None e = absurd (cc)
     by_number (Some m) e =
         let all : Listed texts args = numbers_listed texts args are in
@@ -196,7 +196,7 @@ last_list old e f g texts one two three four = cc
 -- a word and a transaction, token after token
 pub spelled_transaction : (old d e : List Token) (w s : List ℕ) (n : ℤ) (t : ℕ) (found : Option Event)
     → old ≡ begin_array ∷ string w ∷ number s ∷ d → d ≡ end_array ∷ e → e ≡ []
-    → whole_number s ≡ Some n → natural_of 32 n ≡ Some t → found ≡ of_transaction w t
+    → whole_number s ≡ Some n → natural 32 n ≡ Some t → found ≡ of_transaction w t
     → IfSome found (λ event. event_at old ≡ Some event)
 spelled_transaction old d e w s n t None one two three is small found = tt
 spelled_transaction old d e w s n t (Some event) one two three is small found =
@@ -207,7 +207,7 @@ spelled_transaction old d e w s n t (Some event) one two three is small found =
 spelled_call : {A : Type 0} (meaning : Data → Option A) (of_call : List ℕ → ℕ → List ℤ → Option A) → MeansCall meaning of_call
     → (old d : List Token) (w s : List ℕ) (n : ℤ) (p : ℕ) (texts : List (List ℕ)) (args : List ℤ) (found : Option A)
     → old ≡ begin_array ∷ string w ∷ number s ∷ d → d ≡ begin_array ∷ (map number texts ++ end_array ∷ end_array ∷ [])
-    → whole_number s ≡ Some n → whole_numbers texts ≡ Some args → length texts ≤ 4 → natural_of 16 n ≡ Some p
+    → whole_number s ≡ Some n → whole_numbers texts ≡ Some args → length texts ≤ 4 → natural 16 n ≡ Some p
     → found ≡ of_call w p args
     → IfSome found (λ asked. option_and_then meaning (tree_at old) ≡ Some asked)
 spelled_call meaning of_call means old d w s n p texts args None one two is are few small found = tt
@@ -220,7 +220,7 @@ spelled_call meaning of_call means old d w s n p texts args (Some asked) one two
 pub spelled_start : (old d : List Token) (w s : List ℕ) (n : ℤ) (p : ℕ) (texts : List (List ℕ)) (args : List ℤ)
     (found : Option Event) → old ≡ begin_array ∷ string w ∷ number s ∷ d → d ≡ begin_array ∷ (map number texts ++ end_array ∷
     end_array ∷ [])
-    → whole_number s ≡ Some n → whole_numbers texts ≡ Some args → length texts ≤ 4 → natural_of 16 n ≡ Some p
+    → whole_number s ≡ Some n → whole_numbers texts ≡ Some args → length texts ≤ 4 → natural 16 n ≡ Some p
     → found ≡ of_procedure w p args → IfSome found (λ event. event_at old ≡ Some event)
 spelled_start = spelled_call event_in of_procedure (λ w m trees. refl)
 
@@ -228,7 +228,7 @@ spelled_start = spelled_call event_in of_procedure (λ w m trees. refl)
 pub spelled_job : (old d : List Token) (w s : List ℕ) (n : ℤ) (p : ℕ) (texts : List (List ℕ)) (args : List ℤ)
     (found : Option JobCall) → old ≡ begin_array ∷ string w ∷ number s ∷ d → d ≡ begin_array ∷ (map number texts ++ end_array ∷
     end_array ∷ [])
-    → whole_number s ≡ Some n → whole_numbers texts ≡ Some args → length texts ≤ 4 → natural_of 16 n ≡ Some p
+    → whole_number s ≡ Some n → whole_numbers texts ≡ Some args → length texts ≤ 4 → natural 16 n ≡ Some p
     → found ≡ job_call w p args → IfSome found (λ call. job_at old ≡ Some call)
 spelled_job = spelled_call job_in job_call (λ w m trees. refl)
 

@@ -91,22 +91,24 @@ not_limits trees two three = by_numbers (each whole trees) refl
 more_than_four : (n : ℕ) → 4 < n → nat_le n 4 ≡ false
 more_than_four n many = grind arith
 
+-- what is read from at most four numbers is read from the arguments of an event
+by_arguments : {X : Type 0} (read : List ℤ → Option X)
+    → ((trees : List Data) → 4 < length trees → option_and_then read (each whole trees) ≡ None) → (trees : Option (List Data))
+    → option_and_then read (option_and_then (each whole) trees) ≡ option_and_then read (option_and_then arguments_from trees)
+by_arguments read too_many None = refl
+by_arguments read too_many (Some []) = refl
+by_arguments read too_many (Some (a ∷ [])) = refl
+by_arguments read too_many (Some (a ∷ b ∷ [])) = refl
+by_arguments read too_many (Some (a ∷ b ∷ c ∷ [])) = refl
+by_arguments read too_many (Some (a ∷ b ∷ c ∷ d ∷ [])) = refl
+by_arguments read too_many (Some (a ∷ b ∷ c ∷ d ∷ e ∷ rest)) =
+    let trees = a ∷ b ∷ c ∷ d ∷ e ∷ rest in
+    too_many trees (omega arith)
+    ∙ sym (ap (λ few. option_and_then read (cond few (each whole trees) None)) (more_than_four (length trees) (omega arith)))
+
 -- limits are those of at most four numbers
 pub limits_by_arguments : (tree : Data) → limit_numbers tree ≡ option_and_then limits_from (arguments tree)
-limits_by_arguments tree = by_list (list tree)
-  where
-    by_list : (trees : Option (List Data)) → option_and_then limits_from (option_and_then (each whole) trees)
-        ≡ option_and_then limits_from (option_and_then arguments_from trees)
-    by_list None = refl
-    by_list (Some []) = refl
-    by_list (Some (a ∷ [])) = refl
-    by_list (Some (a ∷ b ∷ [])) = refl
-    by_list (Some (a ∷ b ∷ c ∷ [])) = refl
-    by_list (Some (a ∷ b ∷ c ∷ d ∷ [])) = refl
-    by_list (Some (a ∷ b ∷ c ∷ d ∷ e ∷ rest)) =
-        let trees = a ∷ b ∷ c ∷ d ∷ e ∷ rest in
-        not_limits trees (omega arith) (omega arith)
-        ∙ sym (ap (λ few. option_and_then limits_from (cond few (each whole trees) None)) (more_than_four (length trees) (omega arith)))
+limits_by_arguments tree = by_arguments limits_from (λ trees many. not_limits trees (omega (arith, many)) (omega (arith, many))) (list tree)
 
 -- a list of more or fewer than four is no account
 pub account_from-length : (numbers : List ℤ) → length numbers ≢ 4 → account_from numbers ≡ None
@@ -126,20 +128,7 @@ not_four trees other = by_numbers (each whole trees) refl
 
 -- an account is that of at most four numbers
 pub account_by_arguments : (tree : Data) → account_in tree ≡ option_and_then account_from (arguments tree)
-account_by_arguments tree = by_list (list tree)
-  where
-    by_list : (trees : Option (List Data)) → option_and_then account_from (option_and_then (each whole) trees)
-        ≡ option_and_then account_from (option_and_then arguments_from trees)
-    by_list None = refl
-    by_list (Some []) = refl
-    by_list (Some (a ∷ [])) = refl
-    by_list (Some (a ∷ b ∷ [])) = refl
-    by_list (Some (a ∷ b ∷ c ∷ [])) = refl
-    by_list (Some (a ∷ b ∷ c ∷ d ∷ [])) = refl
-    by_list (Some (a ∷ b ∷ c ∷ d ∷ e ∷ rest)) =
-        let trees = a ∷ b ∷ c ∷ d ∷ e ∷ rest in
-        not_four trees (omega arith)
-        ∙ sym (ap (λ few. option_and_then account_from (cond few (each whole trees) None)) (more_than_four (length trees) (omega arith)))
+account_by_arguments tree = by_arguments account_from (λ trees many. not_four trees (omega (arith, many))) (list tree)
 
 -- an object has as many members as its map has entries
 pub count_members : (members : List (String Global × Value)) → count (members_view members) ≡ length members

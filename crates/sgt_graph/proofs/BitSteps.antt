@@ -14,7 +14,7 @@ use Rattle.sgt_graph.specs.Graphs.{IsLeastPred}
 use Rattle.sgt_graph.specs.Verdicts.{IsVerdict, Inserts}
 use Rattle.sgt_graph.specs.declared.verdict.Verdict.{Verdict}
 use Rattle.sgt_graph.specs.declared.verdict.Verdict.TheVariants.{Accepted, Closes}
-use Rattle.sgt_graph.proofs.Room.{distinct_fits}
+use Rattle.sgt_model.proofs.Conditions.{distinct_fits}
 use Rattle.sgt_graph.proofs.RowSteps.{none_in, leads_step, leads_join}
 use Rattle.sgt_graph.proofs.Placed.{same_test, placed, at_from, at_parts, placed_at, at_placed, pair_from, pair_at, accepted, closes, inserted}
 

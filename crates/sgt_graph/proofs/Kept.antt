@@ -5,13 +5,14 @@ use Rattle.std.proofs.Common.{refl, sym, ◌∙◌, subst, inl, inr, arith, leng
 use Rattle.std.proofs.lemmas.Bool.{eqb-true, or_cases, and_from, and_parts, or_left, both_ways, false_from_ne_true}
 use Rattle.sgt_model.specs.Walks.{Member, Distinct, Reaches, AtMost, Acyclic}
 use Rattle.sgt_model.proofs.Paths.{acyclic_grows, acyclic_map, no_way_back}
-use Rattle.sgt_model.proofs.Listed.{member_kept}
+use Rattle.sgt_model.proofs.Listed.{distinct_kept}
 use Rattle.sgt_model.proofs.Room.{member_append}
 use Rattle.sgt_cycle.specs.Links.{is_link, occurs}
 use Rattle.sgt_cycle.specs.Walk.{Holds}
+use Rattle.sgt_model.proofs.Conditions.{distinct_fits}
 use Rattle.sgt_graph.specs.PairGraphs.{is_node, is_apart, Once, IsPairGraph}
 use Rattle.sgt_graph.proofs.Lists.{node_member, member_node, node_push, node_without, pair_here, pair_there, pair_push, pushed_cases, pair_without, end_node}
-use Rattle.sgt_graph.proofs.Room.{distinct_fits, pairs_fit}
+use Rattle.sgt_graph.proofs.Room.{pairs_fit}
 
 -- no nodes and no pairs
 pub kept_none : IsPairGraph [] []
@@ -28,15 +29,6 @@ distinct_push (x ∷ xs) u d new = (
   (λ m. elim (member_append x xs u m) [ inl k ↦ d.0 k | inr e ↦ new (inl (sym e)) ]),
   distinct_push xs u d.1 (λ m. new (inr m)),
 )
-
--- some of them
-distinct_kept : (f : ℕ → Bool) (xs : List ℕ) → Distinct xs → Distinct (filter f xs)
-distinct_kept f [] d = tt
-distinct_kept f (x ∷ xs) d = go (f x) (distinct_kept f xs d.1)
-  where
-    go : (b : Bool) → Distinct (filter f xs) → Distinct (cond b (x ∷ filter f xs) (filter f xs))
-    go true rest = ((λ m. d.0 (member_kept f x xs m).1), rest)
-    go false rest = rest
 
 few_kept : (f : ℕ → Bool) (xs : List ℕ) → length (filter f xs) ≤ length xs
 few_kept f [] = omega arith

@@ -1,29 +1,11 @@
 -- How many nodes and pairs there can be.
 use Rattle.std.specs.Prelude.{◌≡◌, ◌≢◌, ℕ, ◌≤◌, ◌+◌, true, ◌⊎◌, List, [], ◌∷◌, ◌++◌, length}
-use Rattle.std.proofs.Common.{zero, suc, refl, sym, ◌∙◌, ap, subst, inl, inr, arith, length-append}
+use Rattle.std.proofs.Common.{zero, suc, refl, sym, ◌∙◌, ap, inl, inr, arith, length-append}
 use Rattle.std.proofs.lemmas.Bool.{both_ways}
-use Rattle.sgt_model.specs.Walks.{Member, Distinct}
-use Rattle.sgt_model.proofs.Paths.{Within}
+use Rattle.sgt_model.specs.Walks.{Member}
 use Rattle.sgt_cycle.specs.Links.{is_link}
 use Rattle.sgt_graph.specs.PairGraphs.{Once}
 use Rattle.sgt_graph.proofs.Lists.{pair_cases, pair_here, pair_there}
-
--- a list without one of its members
-removed : (x : ℕ) (ys : List ℕ) → Member x ys → (zs : List ℕ) × (length ys ≡ suc (length zs))
-    × ((y : ℕ) → Member y ys → y ≢ x → Member y zs)
-removed x [] m = elim m [ ]
-removed x (y ∷ ys) (inl e) = (ys, refl, λ z m other. elim m [ inl same ↦ absurd (other (same ∙ sym e)) | inr k ↦ k ])
-removed x (y ∷ ys) (inr m) = let (zs, long, keep) = removed x ys m in
-    (y ∷ zs, ap suc long, λ z k other. elim k [ inl same ↦ inl same | inr j ↦ inr (keep z j other) ])
-
--- different numbers that are all among some others are no more than those
-pub distinct_fits : (xs ys : List ℕ) → Distinct xs → Within xs ys → length xs ≤ length ys
-distinct_fits [] ys d w = omega arith
-distinct_fits (x ∷ xs) ys d w =
-    let (zs, long, keep) = removed x ys (w x (inl refl)) in
-    let rest : length xs ≤ length zs =
-    distinct_fits xs zs d.1 (λ y m. keep y (w y (inr m)) (λ same. d.0 (subst (λ z. Member z xs) same m))) in
-    omega arith
 
 -- each pair is there once, and never the other way round
 OneWay : List (ℕ × ℕ) → Type 0

@@ -26,6 +26,11 @@ use Rattle.sgt_model.proofs.Paths.{last_is_member}
 use Rattle.sgt_model.proofs.Facts.{some_is, member_from, member_to, conflicts-access, follows-access}
 use Rattle.sgt_model.proofs.Sources.{read-precedes}
 
+-- a legal history, and what shows that one more reply to it is legal: the oldest entry stands first
+infixl 4 ◌▸◌
+abbrev pub ◌▸◌ : {A B : Type 0} → A → B → A × B
+legal ▸ reply_is_legal = (legal, reply_is_legal)
+
 -- on lists of numbers
 
 -- the number is in the list

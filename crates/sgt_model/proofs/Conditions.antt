@@ -1,15 +1,16 @@
 -- The conditions of the layers' calls, from what holds of the state at every moment.
-use Rattle.std.proofs.Common.{◌≡◌, ◌≢◌, ℕ, suc, ◌<◌, ◌≤◌, ℤ, true, false, List, [], ◌∷◌, nat_eq, refl, sym, ap, inl, inr, ◌∙◌, arith}
+use Rattle.std.proofs.Common.{◌≡◌, ◌≢◌, ℕ, suc, ◌<◌, ◌≤◌, ℤ, true, false, List, [], ◌∷◌, nat_eq, refl, sym, ap, subst, inl, inr, ◌∙◌, arith}
 use Rattle.std.specs.Prelude.{length}
 use Rattle.std.proofs.lemmas.Bool.{or_cases, eqb-true, eq-eqb, both_ways, or_left, or_right}
 use Rattle.sgt_model.specs.declared.kind.Kind.TheVariants.{Store}
 use Rattle.sgt_model.specs.Contents.{Key}
-use Rattle.sgt_model.specs.Walks.{Member}
+use Rattle.sgt_model.specs.Walks.{Member, Distinct}
 use Rattle.sgt_model.specs.Chains.{writes_in}
 use Rattle.sgt_model.specs.ChainOrder.{EachAfter, InOrder, IsFirstIn, IsLastIn}
 use Rattle.sgt_model.specs.State.{State, PairIn}
 use Rattle.sgt_model.specs.Blocks.{Blocks}
 use Rattle.sgt_model.specs.Soundness.{Sound}
+use Rattle.sgt_model.proofs.Paths.{Within}
 use Rattle.sgt_model.proofs.ChainOrder.{is_first, is_last}
 
 module _ (most : ℕ) (c : State) (sound : Sound most c) where
@@ -31,12 +32,21 @@ module _ (most : ℕ) (c : State) (sound : Sound most c) where
   next_no_node h = absurd (let lt = sound.begun c.start_count h in omega arith)
 
 -- a number of a list is left out
-pub removed : (x : ℕ) (ys : List ℕ) → Member x ys → (zs : List ℕ) × (length ys ≡ suc (length zs)) × ((y : ℕ) → Member y ys → y ≢ x
+removed : (x : ℕ) (ys : List ℕ) → Member x ys → (zs : List ℕ) × (length ys ≡ suc (length zs)) × ((y : ℕ) → Member y ys → y ≢ x
     → Member y zs)
 removed x [] m = absurd m
 removed x (y ∷ ys) (inl e) = (ys, refl, λ z m other. elim m [ inl same ↦ absurd (other (same ∙ sym e)) | inr k ↦ k ])
 removed x (y ∷ ys) (inr m) = let (zs, long, keep) = removed x ys m in
     (y ∷ zs, ap suc long, λ z k other. elim k [ inl same ↦ inl same | inr j ↦ inr (keep z j other) ])
+
+-- different numbers that are all among some others are no more than those
+pub distinct_fits : (xs ys : List ℕ) → Distinct xs → Within xs ys → length xs ≤ length ys
+distinct_fits [] ys d w = omega arith
+distinct_fits (x ∷ xs) ys d w =
+    let (zs, long, keep) = removed x ys (w x (inl refl)) in
+    let rest : length xs ≤ length zs =
+    distinct_fits xs zs d.1 (λ y m. keep y (w y (inr m)) (λ same. d.0 (subst (λ z. Member z xs) same m))) in
+    omega arith
 
 -- a chain in order, of an order that relates none to itself, is no longer than a list that has all its writers
 chain_fits : (R : ℕ → ℕ → Type 0) → ((a b : ℕ) → R a b → a ≢ b) → (c : List (ℕ × ℤ)) (ys : List ℕ) → InOrder R c

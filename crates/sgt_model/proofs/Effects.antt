@@ -270,37 +270,34 @@ asked_commit s past t code r e alive AtCommit (inr h) = subst (λ x. Effect s pa
 
 -- a step
 
+access_at : (s : Setting) (past : List Entry) (access : Access) {r given : Reply} → r ≡ given
+    → access_in (Step access.by) given ≡ Some access → is_start given ≡ false → EndsNone given → live past access.by ≡ true
+    → ((rest : List ℕ) → Closes past access.by access.key access.kind rest → ⊥) → Fits (next_of s past access.by) access
+    → (access.kind ≡ Look → access.value ≡ visible s.opening past access.key) → Effect s past (Step access.by) r
+access_at s past access is access_is no_start ends_none alive free fits found =
+    subst (λ x. Effect s past (Step access.by) x) (sym is) (accesses (record {
+      access = access;
+      event_is = refl;
+      access_is = access_is;
+      no_start = no_start;
+      ends_none = ends_none;
+      is_live = alive;
+      free = free;
+      fits = fits;
+      found = found;
+    }))
+
 step_at : (s : Setting) (past : List Entry) (t : ℕ) (r : Reply) (n : Next) → next_of s past t ≡ n → live past t ≡ true
     → StepReply s past t n r → Effect s past (Step t) r
 step_at s past t r (Looks k) e alive (inl h) = refuse_at s past t k Look r alive (subst (λ n. Wants n k Look) (sym e) (refl, refl)) h
 step_at s past t r (Looks k) e alive (inr h) =
     let access : Access = record { by = t; key = k; kind = Look; value = visible s.opening past k } in
-    subst (λ x. Effect s past (Step t) x) (sym h.is)
-    (accesses (record {
-      access = access;
-      event_is = refl;
-      access_is = refl;
-      no_start = refl;
-      ends_none = tt;
-      is_live = alive;
-      free = h.free;
-      fits = subst (λ n. Fits n access) (sym e) (refl, refl);
-      found = λ look. refl;
-    }))
+    access_at s past access h.is refl refl tt alive h.free (subst (λ n. Fits n access) (sym e) (refl, refl)) (λ look. refl)
 step_at s past t r (Puts k v) e alive (inl h) = refuse_at s past t k Store r alive (subst (λ n. Wants n k Store) (sym e) (refl, refl)) h
-step_at s past t r (Puts k v) e alive (inr h) = let access : Access = record { by = t; key = k; kind = Store; value = Some v } in
-    subst (λ x. Effect s past (Step t) x) (sym h.is)
-    (accesses (record {
-      access = access;
-      event_is = refl;
-      access_is = refl;
-      no_start = refl;
-      ends_none = tt;
-      is_live = alive;
-      free = h.free;
-      fits = subst (λ n. Fits n access) (sym e) (refl, refl, refl);
-      found = λ (look : Store ≡ Look). absurd (cc);
-    }))
+step_at s past t r (Puts k v) e alive (inr h) =
+    let access : Access = record { by = t; key = k; kind = Store; value = Some v } in
+    access_at s past access h.is refl refl tt alive h.free (subst (λ n. Fits n access) (sym e) (refl, refl, refl))
+    (λ (look : Store ≡ Look). absurd (cc))
 step_at s past t r (Ends answers) e alive h = idle_at h (record { no_start = refl; no_access = refl; ends_none = tt })
 step_at s past t r (Raises code) e alive h = asked_step s past t code r e alive s.rules.limits.asks h
 

@@ -8,16 +8,13 @@ use Rattle.sgt_model.specs.declared.reply.Fate.TheVariants as fate
 use Rattle.sgt_model.specs.declared.entry.Entry.{Entry}
 use Rattle.sgt_model.specs.Values.{settled}
 use Rattle.sgt_model.specs.Legality.{Legal, LegalReply}
-use Rattle.sgt_model.proofs.Computed.{made_by, aborts_by, refused_by, commits_by, waits_by}
+use Rattle.sgt_model.proofs.Computed.{◌▸◌, made_by, aborts_by, refused_by, commits_by, waits_by}
 use Rattle.sgt_model.proofs.ExampleSettings.{small_bank, entry, small_bank_copy, small_bank_twice}
 
--- a reader of a reader falls too
-abbrev pub two_level_cascade : List Entry
-two_level_cascade =
-    entry (Quit 1) (reply.Over (fate.Fell 0))
-    ∷ entry (Step 2) (reply.Over (fate.Fell 0))
-    ∷ entry (Quit 0) (reply.Aborted cause.Quit (1 ∷ 2 ∷ []))
-    ∷ entry (Step 2) (reply.Looked (2, pos 102) (Some (pos 1710)))
+-- 1 has read from 0, and 2 from 1
+abbrev pub two_levels : List Entry
+two_levels =
+    entry (Step 2) (reply.Looked (2, pos 102) (Some (pos 1710)))
     ∷ entry (Step 2) (reply.Looked (1, pos 102) (Some (pos 0)))
     ∷ entry (Step 2) (reply.Looked (0, pos 2) (Some (pos 102)))
     ∷ entry (Start 0 (pos 2 ∷ [])) (reply.Started 2)
@@ -36,80 +33,30 @@ two_level_cascade =
     ∷ entry (Start 1 (pos 1 ∷ pos 10 ∷ [])) (reply.Started 0)
     ∷ []
 
+-- a reader of a reader falls too
+abbrev pub two_level_cascade : List Entry
+two_level_cascade =
+    entry (Quit 1) (reply.Over (fate.Fell 0))
+    ∷ entry (Step 2) (reply.Over (fate.Fell 0))
+    ∷ entry (Quit 0) (reply.Aborted cause.Quit (1 ∷ 2 ∷ []))
+    ∷ two_levels
+
 two_level_cascade-legal : Legal (small_bank 8 100) two_level_cascade
-two_level_cascade-legal = (
-  (
-    (
-      (
-        (
-          (
-            (
-              (
-                (
-                  (
-                    (
-                      (
-                        (
-                          (
-                            (
-                              (
-                                (
-                                  (
-                                    (
-                                      (
-                                        tt,
-                                        refl,
-                                      ),
-                                      inr (made_by (0 ∷ []) refl),
-                                    ),
-                                    inr (made_by (0 ∷ []) refl),
-                                  ),
-                                  inr (made_by (0 ∷ []) refl),
-                                ),
-                                refl,
-                              ),
-                              inr (made_by (1 ∷ []) refl),
-                            ),
-                            inr (made_by (1 ∷ []) refl),
-                          ),
-                          inr (made_by (1 ∷ []) refl),
-                        ),
-                        inr (made_by (1 ∷ []) refl),
-                      ),
-                      inr (made_by (1 ∷ []) refl),
-                    ),
-                    inr (made_by (1 ∷ []) refl),
-                  ),
-                  inr (made_by (1 ∷ []) refl),
-                ),
-                inr (made_by (1 ∷ []) refl),
-              ),
-              refl,
-            ),
-            inr (made_by (2 ∷ []) refl),
-          ),
-          inr (made_by (2 ∷ []) refl),
-        ),
-        inr (made_by (2 ∷ []) refl),
-      ),
-      aborts_by (1 ∷ 2 ∷ []) ((1 ∷ []) ∷ (1 ∷ 2 ∷ []) ∷ []) (0 ∷ 1 ∷ 2 ∷ []) refl refl refl,
-    ),
-    refl,
-  ),
-  refl,
-)
+two_level_cascade-legal =
+    tt ▸ refl ▸ inr (made_by (0 ∷ []) refl) ▸ inr (made_by (0 ∷ []) refl) ▸ inr (made_by (0 ∷ []) refl) ▸ refl
+    ▸ inr (made_by (1 ∷ []) refl) ▸ inr (made_by (1 ∷ []) refl) ▸ inr (made_by (1 ∷ []) refl)
+    ▸ inr (made_by (1 ∷ []) refl) ▸ inr (made_by (1 ∷ []) refl) ▸ inr (made_by (1 ∷ []) refl)
+    ▸ inr (made_by (1 ∷ []) refl) ▸ inr (made_by (1 ∷ []) refl) ▸ refl ▸ inr (made_by (2 ∷ []) refl)
+    ▸ inr (made_by (2 ∷ []) refl) ▸ inr (made_by (2 ∷ []) refl)
+    ▸ aborts_by (1 ∷ 2 ∷ []) ((1 ∷ []) ∷ (1 ∷ 2 ∷ []) ∷ []) (0 ∷ 1 ∷ 2 ∷ []) refl refl refl ▸ refl ▸ refl
 
 two_level_cascade-checking : settled (small_bank 8 100).opening two_level_cascade (2, pos 101) ≡ Some (pos 1000)
 two_level_cascade-checking = refl
 
--- three that look at each other's records in a ring: the last to store would close a cycle
-abbrev pub ring_of_three : List Entry
-ring_of_three =
-    entry (Commit 0) (reply.Committed ([]))
-    ∷ entry (Commit 1) (reply.Committed ([]))
-    ∷ entry (Commit 0) (reply.Waits 1)
-    ∷ entry (Step 2) (reply.Aborted (cause.Cycle (2 ∷ 1 ∷ 0 ∷ [])) ([]))
-    ∷ entry (Step 1) (reply.Wrote (2, pos 103) (pos 200))
+-- each of three has read a record. 0 and 1 have written what 1 and 2 have read
+abbrev pub ring : List Entry
+ring =
+    entry (Step 1) (reply.Wrote (2, pos 103) (pos 200))
     ∷ entry (Step 0) (reply.Wrote (2, pos 102) (pos 1000))
     ∷ entry (Step 2) (reply.Looked (2, pos 103) (Some (pos 300)))
     ∷ entry (Step 1) (reply.Looked (2, pos 102) (Some (pos 200)))
@@ -119,44 +66,21 @@ ring_of_three =
     ∷ entry (Start 5 (pos 101 ∷ pos 102 ∷ [])) (reply.Started 0)
     ∷ []
 
+-- three that look at each other's records in a ring: the last to store would close a cycle
+abbrev pub ring_of_three : List Entry
+ring_of_three =
+    entry (Commit 0) (reply.Committed ([]))
+    ∷ entry (Commit 1) (reply.Committed ([]))
+    ∷ entry (Commit 0) (reply.Waits 1)
+    ∷ entry (Step 2) (reply.Aborted (cause.Cycle (2 ∷ 1 ∷ 0 ∷ [])) ([]))
+    ∷ ring
+
 ring_of_three-legal : Legal small_bank_copy ring_of_three
-ring_of_three-legal = (
-  (
-    (
-      (
-        (
-          (
-            (
-              (
-                (
-                  (
-                    (
-                      (
-                        tt,
-                        refl,
-                      ),
-                      refl,
-                    ),
-                    refl,
-                  ),
-                  inr (made_by (0 ∷ []) refl),
-                ),
-                inr (made_by (1 ∷ []) refl),
-              ),
-              inr (made_by (2 ∷ []) refl),
-            ),
-            inr (made_by (0 ∷ []) refl),
-          ),
-          inr (made_by (1 ∷ 0 ∷ []) refl),
-        ),
-        inl (refused_by (1 ∷ 0 ∷ []) ([]) ([]) (2 ∷ []) refl refl refl refl),
-      ),
-      inl (waits_by refl),
-    ),
-    inr (commits_by refl),
-  ),
-  inr (commits_by refl),
-)
+ring_of_three-legal =
+    tt ▸ refl ▸ refl ▸ refl ▸ inr (made_by (0 ∷ []) refl) ▸ inr (made_by (1 ∷ []) refl) ▸ inr (made_by (2 ∷ []) refl)
+    ▸ inr (made_by (0 ∷ []) refl) ▸ inr (made_by (1 ∷ 0 ∷ []) refl)
+    ▸ inl (refused_by (1 ∷ 0 ∷ []) ([]) ([]) (2 ∷ []) refl refl refl refl) ▸ inl (waits_by refl)
+    ▸ inr (commits_by refl) ▸ inr (commits_by refl)
 
 ring_of_three-first : settled small_bank_copy.opening ring_of_three (2, pos 101) ≡ Some (pos 1000)
 ring_of_three-first = refl
@@ -180,28 +104,9 @@ cycle_and_cascade =
     ∷ []
 
 cycle_and_cascade-legal : Legal small_bank_twice cycle_and_cascade
-cycle_and_cascade-legal = (
-  (
-    (
-      (
-        (
-          (
-            (
-              tt,
-              refl,
-            ),
-            refl,
-          ),
-          inr (made_by (0 ∷ []) refl),
-        ),
-        inr (made_by (1 ∷ []) refl),
-      ),
-      inl (refused_by (1 ∷ []) (1 ∷ []) ((1 ∷ []) ∷ []) (0 ∷ 1 ∷ []) refl refl refl refl),
-    ),
-    refl,
-  ),
-  refl,
-)
+cycle_and_cascade-legal =
+    tt ▸ refl ▸ refl ▸ inr (made_by (0 ∷ []) refl) ▸ inr (made_by (1 ∷ []) refl)
+    ▸ inl (refused_by (1 ∷ []) (1 ∷ []) ((1 ∷ []) ∷ []) (0 ∷ 1 ∷ []) refl refl refl refl) ▸ refl ▸ refl
 
 cycle_and_cascade-record : settled small_bank_twice.opening cycle_and_cascade (3, pos 7) ≡ None
 cycle_and_cascade-record = refl
@@ -216,19 +121,8 @@ asked =
     ∷ []
 
 asked-legal : Legal (small_bank 8 100) asked
-asked-legal = (
-  (
-    (
-      (
-        tt,
-        refl,
-      ),
-      inr (made_by (0 ∷ []) refl),
-    ),
-    aborts_by ([]) ([]) (0 ∷ []) refl refl refl,
-  ),
-  refl,
-)
+asked-legal =
+    tt ▸ refl ▸ inr (made_by (0 ∷ []) refl) ▸ aborts_by ([]) ([]) (0 ∷ []) refl refl refl ▸ refl
 
 -- who is to ask cannot commit, and can be quit
 abbrev pub asking_is_no_end : List Entry
@@ -243,28 +137,8 @@ asking_is_no_end =
     ∷ []
 
 asking_is_no_end-legal : Legal (small_bank 8 100) asking_is_no_end
-asking_is_no_end-legal = (
-  (
-    (
-      (
-        (
-          (
-            (
-              tt,
-              refl,
-            ),
-            inr (made_by (0 ∷ []) refl),
-          ),
-          refl,
-        ),
-        aborts_by ([]) ([]) (0 ∷ []) refl refl refl,
-      ),
-      refl,
-    ),
-    refl,
-  ),
-  refl,
-)
+asking_is_no_end-legal =
+    tt ▸ refl ▸ inr (made_by (0 ∷ []) refl) ▸ refl ▸ aborts_by ([]) ([]) (0 ∷ []) refl refl refl ▸ refl ▸ refl ▸ refl
 
 -- a store that three walks would close: the reply may name any of them, and is else the same
 abbrev pub several_walks : List Entry
@@ -280,31 +154,9 @@ several_walks =
     ∷ []
 
 several_walks-legal : Legal small_bank_copy several_walks
-several_walks-legal = (
-  (
-    (
-      (
-        (
-          (
-            (
-              (
-                tt,
-                refl,
-              ),
-              refl,
-            ),
-            refl,
-          ),
-          inr (made_by (0 ∷ []) refl),
-        ),
-        inr (made_by (1 ∷ []) refl),
-      ),
-      inr (made_by (2 ∷ []) refl),
-    ),
-    inr (made_by (0 ∷ []) refl),
-  ),
-  inr (made_by (1 ∷ []) refl),
-)
+several_walks-legal =
+    tt ▸ refl ▸ refl ▸ refl ▸ inr (made_by (0 ∷ []) refl) ▸ inr (made_by (1 ∷ []) refl) ▸ inr (made_by (2 ∷ []) refl)
+    ▸ inr (made_by (0 ∷ []) refl) ▸ inr (made_by (1 ∷ []) refl)
 
 several_walks-first : LegalReply small_bank_copy several_walks (Step 2) (reply.Aborted (cause.Cycle (2 ∷ 0 ∷ [])) [])
 several_walks-first = inl (refused_by (0 ∷ []) [] [] (2 ∷ []) refl refl refl refl)

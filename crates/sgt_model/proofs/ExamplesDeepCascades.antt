@@ -8,7 +8,7 @@ use Rattle.sgt_model.specs.declared.reply.Fate.TheVariants as fate
 use Rattle.sgt_model.specs.declared.entry.Entry.{Entry}
 use Rattle.sgt_model.specs.Values.{settled}
 use Rattle.sgt_model.specs.Legality.{Legal}
-use Rattle.sgt_model.proofs.Computed.{made_by, aborts_by, refused_by, commits_by, waits_by}
+use Rattle.sgt_model.proofs.Computed.{◌▸◌, made_by, aborts_by, refused_by, commits_by, waits_by}
 use Rattle.sgt_model.proofs.ExampleSettings.{entry, small_bank_copy}
 
 -- each of 1, 2 and 3 has looked at what the one before it stored; 4 has stored over what 0 stored, and read from nobody
@@ -43,70 +43,14 @@ three_level_cascade =
     ∷ three_levels
 
 three_level_cascade-legal : Legal small_bank_copy three_level_cascade
-three_level_cascade-legal = (
-  (
-    (
-      (
-        (
-          (
-            (
-              (
-                (
-                  (
-                    (
-                      (
-                        (
-                          (
-                            (
-                              (
-                                (
-                                  (
-                                    (
-                                      (
-                                        (
-                                          tt,
-                                          refl,
-                                        ),
-                                        refl,
-                                      ),
-                                      refl,
-                                    ),
-                                    refl,
-                                  ),
-                                  refl,
-                                ),
-                                inr (made_by (4 ∷ []) refl),
-                              ),
-                              inr (made_by (0 ∷ []) refl),
-                            ),
-                            inr (made_by (0 ∷ []) refl),
-                          ),
-                          inr (made_by (0 ∷ []) refl),
-                        ),
-                        inr (made_by (1 ∷ []) refl),
-                      ),
-                      inr (made_by (1 ∷ []) refl),
-                    ),
-                    inr (made_by (2 ∷ []) refl),
-                  ),
-                  inr (made_by (2 ∷ []) refl),
-                ),
-                inr (made_by (3 ∷ []) refl),
-              ),
-              inr (made_by (3 ∷ []) refl),
-            ),
-            inr (made_by (3 ∷ []) refl),
-          ),
-          inr (made_by (4 ∷ 2 ∷ 3 ∷ []) refl),
-        ),
-        inl (waits_by refl),
-      ),
-      aborts_by (1 ∷ 2 ∷ 3 ∷ []) ((1 ∷ []) ∷ (1 ∷ 2 ∷ []) ∷ (1 ∷ 2 ∷ 3 ∷ []) ∷ []) (0 ∷ 1 ∷ 2 ∷ 3 ∷ []) refl refl refl,
-    ),
-    refl,
-  ),
-  inr (commits_by refl),
-)
+three_level_cascade-legal =
+    tt ▸ refl ▸ refl ▸ refl ▸ refl ▸ refl ▸ inr (made_by (4 ∷ []) refl) ▸ inr (made_by (0 ∷ []) refl)
+    ▸ inr (made_by (0 ∷ []) refl) ▸ inr (made_by (0 ∷ []) refl) ▸ inr (made_by (1 ∷ []) refl)
+    ▸ inr (made_by (1 ∷ []) refl) ▸ inr (made_by (2 ∷ []) refl) ▸ inr (made_by (2 ∷ []) refl)
+    ▸ inr (made_by (3 ∷ []) refl) ▸ inr (made_by (3 ∷ []) refl) ▸ inr (made_by (3 ∷ []) refl)
+    ▸ inr (made_by (4 ∷ 2 ∷ 3 ∷ []) refl) ▸ inl (waits_by refl)
+    ▸ aborts_by (1 ∷ 2 ∷ 3 ∷ []) ((1 ∷ []) ∷ (1 ∷ 2 ∷ []) ∷ (1 ∷ 2 ∷ 3 ∷ []) ∷ []) (0 ∷ 1 ∷ 2 ∷ 3 ∷ []) refl refl refl
+    ▸ refl ▸ inr (commits_by refl)
 
 three_level_cascade-first : settled small_bank_copy.opening three_level_cascade (2, pos 101) ≡ Some (pos 300)
 three_level_cascade-first = refl
@@ -143,68 +87,14 @@ three_level_cycle =
     ∷ []
 
 three_level_cycle-legal : Legal small_bank_copy three_level_cycle
-three_level_cycle-legal = (
-  (
-    (
-      (
-        (
-          (
-            (
-              (
-                (
-                  (
-                    (
-                      (
-                        (
-                          (
-                            (
-                              (
-                                (
-                                  (
-                                    (
-                                      (
-                                        tt,
-                                        refl,
-                                      ),
-                                      refl,
-                                    ),
-                                    refl,
-                                  ),
-                                  refl,
-                                ),
-                                inr (made_by (0 ∷ []) refl),
-                              ),
-                              inr (made_by (0 ∷ []) refl),
-                            ),
-                            inr (made_by (0 ∷ []) refl),
-                          ),
-                          inr (made_by (0 ∷ []) refl),
-                        ),
-                        inr (made_by (0 ∷ []) refl),
-                      ),
-                      inr (made_by (0 ∷ []) refl),
-                    ),
-                    inr (made_by (1 ∷ []) refl),
-                  ),
-                  inr (made_by (1 ∷ []) refl),
-                ),
-                inr (made_by (2 ∷ []) refl),
-              ),
-              inr (made_by (2 ∷ []) refl),
-            ),
-            inr (made_by (3 ∷ []) refl),
-          ),
-          inr (made_by (3 ∷ []) refl),
-        ),
-        inr (made_by (3 ∷ []) refl),
-      ),
-      inl (refused_by (1 ∷ 2 ∷ []) (1 ∷ 2 ∷ 3 ∷ []) ((1 ∷ []) ∷ (1 ∷ 2 ∷ []) ∷ (1 ∷ 2 ∷ 3 ∷ []) ∷ [])
-          (0 ∷ 1 ∷ 2 ∷ 3 ∷ []) refl refl refl refl),
-    ),
-    refl,
-  ),
-  refl,
-)
+three_level_cycle-legal =
+    tt ▸ refl ▸ refl ▸ refl ▸ refl ▸ inr (made_by (0 ∷ []) refl) ▸ inr (made_by (0 ∷ []) refl)
+    ▸ inr (made_by (0 ∷ []) refl) ▸ inr (made_by (0 ∷ []) refl) ▸ inr (made_by (0 ∷ []) refl)
+    ▸ inr (made_by (0 ∷ []) refl) ▸ inr (made_by (1 ∷ []) refl) ▸ inr (made_by (1 ∷ []) refl)
+    ▸ inr (made_by (2 ∷ []) refl) ▸ inr (made_by (2 ∷ []) refl) ▸ inr (made_by (3 ∷ []) refl)
+    ▸ inr (made_by (3 ∷ []) refl) ▸ inr (made_by (3 ∷ []) refl)
+    ▸ inl (refused_by (1 ∷ 2 ∷ []) (1 ∷ 2 ∷ 3 ∷ []) ((1 ∷ []) ∷ (1 ∷ 2 ∷ []) ∷ (1 ∷ 2 ∷ 3 ∷ []) ∷ []) (0 ∷ 1 ∷ 2 ∷ 3 ∷ []) refl refl refl refl)
+    ▸ refl ▸ refl
 
 three_level_cycle-first : settled small_bank_copy.opening three_level_cycle (2, pos 101) ≡ Some (pos 1000)
 three_level_cycle-first = refl

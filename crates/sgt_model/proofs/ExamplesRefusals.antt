@@ -14,7 +14,7 @@ use Rattle.sgt_model.specs.Values.{settled}
 use Rattle.sgt_model.specs.Settings.{Setting, setting}
 use Rattle.sgt_model.specs.Legality.{Legal}
 use Rattle.sgt_model.specs.Replay.{GaveAnswers, AskedCode, folded, told}
-use Rattle.sgt_model.proofs.Computed.{made_by, aborts_by, commits_by, waits_by, refuses_by}
+use Rattle.sgt_model.proofs.Computed.{◌▸◌, made_by, aborts_by, commits_by, waits_by, refuses_by}
 use Rattle.sgt_model.proofs.ExampleSettings.{opening, entry, tell}
 
 -- store, and ask
@@ -49,17 +49,9 @@ refusal_takes_reader =
     ∷ []
 
 refusal_takes_reader-legal : Legal refusing refusal_takes_reader
-refusal_takes_reader-legal = (
-  (
-    (
-      (((((tt, refl), refl), inr (made_by (0 ∷ []) refl)), inr (made_by (1 ∷ []) refl)), refl),
-      inr
-          (refuses_by (1 ∷ []) ((1 ∷ []) ∷ []) (0 ∷ 1 ∷ []) refl refl refl refl),
-    ),
-    refl,
-  ),
-  refl,
-)
+refusal_takes_reader-legal =
+    tt ▸ refl ▸ refl ▸ inr (made_by (0 ∷ []) refl) ▸ inr (made_by (1 ∷ []) refl) ▸ refl
+    ▸ inr (refuses_by (1 ∷ []) ((1 ∷ []) ∷ []) (0 ∷ 1 ∷ []) refl refl refl refl) ▸ refl ▸ refl
 
 -- what it stored is no more, and alone it asks the same
 refusal_takes_reader-settled : settled refusing.opening refusal_takes_reader (3, pos 7) ≡ None
@@ -67,6 +59,16 @@ refusal_takes_reader-settled = refl
 
 refusal_takes_reader-results : (folded refusing refusal_takes_reader).results ≡ AskedCode 9 ∷ []
 refusal_takes_reader-results = refl
+
+-- 0 is live and has spent. 1 has found too little to spend
+abbrev pub spent_by_another : List Entry
+spent_by_another =
+    entry (Step 1) (reply.Looked (2, pos 101) (Some (pos 400)))
+    ∷ entry (Start 2 (pos 500 ∷ [])) (reply.Started 1)
+    ∷ entry (Step 0) (reply.Wrote (2, pos 101) (pos 400))
+    ∷ entry (Step 0) (reply.Looked (2, pos 101) (Some (pos 1000)))
+    ∷ entry (Start 2 (pos 600 ∷ [])) (reply.Started 0)
+    ∷ []
 
 -- who read what is undone is not refused: it falls, and the same call may commit later
 abbrev pub falls_and_tries_again : List Entry
@@ -78,35 +80,13 @@ falls_and_tries_again =
     ∷ entry (Quit 0) (reply.Aborted cause.Quit (1 ∷ []))
     ∷ entry (Commit 1) (reply.Waits 0)
     ∷ entry (Step 1) (reply.Ended)
-    ∷ entry (Step 1) (reply.Looked (2, pos 101) (Some (pos 400)))
-    ∷ entry (Start 2 (pos 500 ∷ [])) (reply.Started 1)
-    ∷ entry (Step 0) (reply.Wrote (2, pos 101) (pos 400))
-    ∷ entry (Step 0) (reply.Looked (2, pos 101) (Some (pos 1000)))
-    ∷ entry (Start 2 (pos 600 ∷ [])) (reply.Started 0)
-    ∷ []
+    ∷ spent_by_another
 
 falls_and_tries_again-legal : Legal refusing falls_and_tries_again
-falls_and_tries_again-legal = (
-  (
-    (
-      (
-        (
-          (
-            ((((((tt, refl), inr (made_by (0 ∷ []) refl)), inr (made_by (0 ∷ []) refl)), refl), inr (made_by (1 ∷ []) refl)), refl),
-            inl
-                (waits_by refl),
-          ),
-          aborts_by (1 ∷ []) ((1 ∷ []) ∷ []) (0 ∷ 1 ∷ []) refl refl refl,
-        ),
-        refl,
-      ),
-      inr (made_by (2 ∷ []) refl),
-    ),
-    inr
-        (made_by (2 ∷ []) refl),
-  ),
-  inr (commits_by refl),
-)
+falls_and_tries_again-legal =
+    tt ▸ refl ▸ inr (made_by (0 ∷ []) refl) ▸ inr (made_by (0 ∷ []) refl) ▸ refl ▸ inr (made_by (1 ∷ []) refl) ▸ refl
+    ▸ inl (waits_by refl) ▸ aborts_by (1 ∷ []) ((1 ∷ []) ∷ []) (0 ∷ 1 ∷ []) refl refl refl ▸ refl
+    ▸ inr (made_by (2 ∷ []) refl) ▸ inr (made_by (2 ∷ []) refl) ▸ inr (commits_by refl)
 
 falls_and_tries_again-results : (folded refusing falls_and_tries_again).results ≡ GaveAnswers [] ∷ []
 falls_and_tries_again-results = refl
@@ -118,27 +98,12 @@ refused_in_turn =
     ∷ entry (Commit 0) (reply.Committed [])
     ∷ entry (Commit 1) (reply.Waits 0)
     ∷ entry (Step 1) (reply.Ended)
-    ∷ entry (Step 1) (reply.Looked (2, pos 101) (Some (pos 400)))
-    ∷ entry (Start 2 (pos 500 ∷ [])) (reply.Started 1)
-    ∷ entry (Step 0) (reply.Wrote (2, pos 101) (pos 400))
-    ∷ entry (Step 0) (reply.Looked (2, pos 101) (Some (pos 1000)))
-    ∷ entry (Start 2 (pos 600 ∷ [])) (reply.Started 0)
-    ∷ []
+    ∷ spent_by_another
 
 refused_in_turn-legal : Legal refusing refused_in_turn
-refused_in_turn-legal = (
-  (
-    (
-      (
-        (((((tt, refl), inr (made_by (0 ∷ []) refl)), inr (made_by (0 ∷ []) refl)), refl), inr (made_by (1 ∷ []) refl)),
-        refl,
-      ),
-      inl (waits_by refl),
-    ),
-    inr (commits_by refl),
-  ),
-  inr (refuses_by [] [] (1 ∷ []) refl refl refl refl),
-)
+refused_in_turn-legal =
+    tt ▸ refl ▸ inr (made_by (0 ∷ []) refl) ▸ inr (made_by (0 ∷ []) refl) ▸ refl ▸ inr (made_by (1 ∷ []) refl) ▸ refl
+    ▸ inl (waits_by refl) ▸ inr (commits_by refl) ▸ inr (refuses_by [] [] (1 ∷ []) refl refl refl refl)
 
 refused_in_turn-told : told refused_in_turn ≡ AskedCode 3 ∷ GaveAnswers [] ∷ []
 refused_in_turn-told = refl

@@ -9,7 +9,7 @@ use Rattle.sgt_model.specs.Values.{settled}
 use Rattle.sgt_model.specs.Legality.{Legal}
 use Rattle.sgt_model.specs.Progress.{Call}
 use Rattle.sgt_model.specs.Replay.{GaveAnswers, told_calls, folded, told}
-use Rattle.sgt_model.proofs.Computed.{made_by, aborts_by, commits_by, waits_by}
+use Rattle.sgt_model.proofs.Computed.{◌▸◌, made_by, aborts_by, commits_by, waits_by}
 use Rattle.sgt_model.proofs.ExampleSettings.{small_bank, entry}
 
 -- two deposits commit; a check is written between them, and quit
@@ -35,58 +35,12 @@ two_deposits =
     ∷ []
 
 two_deposits-legal : Legal (small_bank 8 100) two_deposits
-two_deposits-legal = (
-  (
-    (
-      (
-        (
-          (
-            (
-              (
-                (
-                  (
-                    (
-                      (
-                        (
-                          (
-                            (
-                              (
-                                (
-                                  tt,
-                                  refl,
-                                ),
-                                refl,
-                              ),
-                              refl,
-                            ),
-                            inr (made_by (2 ∷ []) refl),
-                          ),
-                          inr (made_by (0 ∷ []) refl),
-                        ),
-                        inr (made_by (0 ∷ []) refl),
-                      ),
-                      inr (made_by (0 ∷ []) refl),
-                    ),
-                    inr (made_by (1 ∷ []) refl),
-                  ),
-                  inr (made_by (1 ∷ []) refl),
-                ),
-                inr (made_by (1 ∷ []) refl),
-              ),
-              inr (made_by (1 ∷ []) refl),
-            ),
-            aborts_by [] [] (1 ∷ []) refl refl refl,
-          ),
-          inr (made_by (2 ∷ []) refl),
-        ),
-        inr (made_by (2 ∷ []) refl),
-      ),
-      inl (waits_by refl),
-    ),
-    inr (commits_by refl),
-  ),
-  inr (commits_by refl),
-)
+two_deposits-legal =
+    tt ▸ refl ▸ refl ▸ refl ▸ inr (made_by (2 ∷ []) refl) ▸ inr (made_by (0 ∷ []) refl) ▸ inr (made_by (0 ∷ []) refl)
+    ▸ inr (made_by (0 ∷ []) refl) ▸ inr (made_by (1 ∷ []) refl) ▸ inr (made_by (1 ∷ []) refl)
+    ▸ inr (made_by (1 ∷ []) refl) ▸ inr (made_by (1 ∷ []) refl) ▸ aborts_by [] [] (1 ∷ []) refl refl refl
+    ▸ inr (made_by (2 ∷ []) refl) ▸ inr (made_by (2 ∷ []) refl) ▸ inl (waits_by refl) ▸ inr (commits_by refl)
+    ▸ inr (commits_by refl)
 
 -- the check is none of the committed calls; of the deposits the one that committed last stands first
 abbrev pub the_deposits : List Call

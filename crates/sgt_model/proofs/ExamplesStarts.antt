@@ -6,7 +6,7 @@ use Rattle.sgt_model.specs.declared.reply.Reply.TheVariants as reply
 use Rattle.sgt_model.specs.declared.reply.Fate.TheVariants as fate
 use Rattle.sgt_model.specs.declared.entry.Entry.{Entry}
 use Rattle.sgt_model.specs.Legality.{Legal}
-use Rattle.sgt_model.proofs.Computed.{made_by, commits_by, waits_by}
+use Rattle.sgt_model.proofs.Computed.{◌▸◌, made_by, commits_by, waits_by}
 use Rattle.sgt_model.proofs.ExampleSettings.{small_bank, entry, small_bank_twice}
 
 -- limits of one live and two started
@@ -26,40 +26,9 @@ limits_and_fates =
     ∷ []
 
 limits_and_fates-legal : Legal (small_bank 1 2) limits_and_fates
-limits_and_fates-legal = (
-  (
-    (
-      (
-        (
-          (
-            (
-              (
-                (
-                  (
-                    (
-                      tt,
-                      refl,
-                    ),
-                    refl,
-                  ),
-                  refl,
-                ),
-                inr (made_by (0 ∷ []) refl),
-              ),
-              inr (made_by (0 ∷ []) refl),
-            ),
-            inr (made_by (0 ∷ []) refl),
-          ),
-          inr (commits_by refl),
-        ),
-        refl,
-      ),
-      refl,
-    ),
-    refl,
-  ),
-  refl,
-)
+limits_and_fates-legal =
+    tt ▸ refl ▸ refl ▸ refl ▸ inr (made_by (0 ∷ []) refl) ▸ inr (made_by (0 ∷ []) refl) ▸ inr (made_by (0 ∷ []) refl)
+    ▸ inr (commits_by refl) ▸ refl ▸ refl ▸ refl ▸ refl
 
 -- where all numbers are spent and as many as may be are live, the arguments are tested first
 abbrev pub tests_in_order : List Entry
@@ -71,19 +40,8 @@ tests_in_order =
     ∷ []
 
 tests_in_order-legal : Legal (small_bank 1 1) tests_in_order
-tests_in_order-legal = (
-  (
-    (
-      (
-        tt,
-        refl,
-      ),
-      refl,
-    ),
-    refl,
-  ),
-  refl,
-)
+tests_in_order-legal =
+    tt ▸ refl ▸ refl ▸ refl ▸ refl
 
 -- a start with too few arguments, with one that is no value, and of no procedure
 abbrev pub start_refused : List Entry
@@ -94,7 +52,17 @@ start_refused =
     ∷ []
 
 start_refused-legal : Legal (small_bank 8 100) start_refused
-start_refused-legal = (((tt, refl), refl), refl)
+start_refused-legal =
+    tt ▸ refl ▸ refl ▸ refl
+
+-- each of two has made one of its two writes, of the same record
+abbrev pub half_done : List Entry
+half_done =
+    entry (Step 1) (reply.Wrote (3, pos 7) (pos 1))
+    ∷ entry (Step 0) (reply.Wrote (3, pos 7) (pos 1))
+    ∷ entry (Start 5 []) (reply.Started 1)
+    ∷ entry (Start 5 []) (reply.Started 0)
+    ∷ []
 
 -- that the procedure is not at its end is tested before predecessors are
 abbrev pub not_ended_before_waits : List Entry
@@ -102,32 +70,9 @@ not_ended_before_waits =
     entry (Commit 1) (reply.Waits 0)
     ∷ entry (Step 1) (reply.Wrote (3, pos 7) (pos 2))
     ∷ entry (Commit 1) reply.NotEnded
-    ∷ entry (Step 1) (reply.Wrote (3, pos 7) (pos 1))
-    ∷ entry (Step 0) (reply.Wrote (3, pos 7) (pos 1))
-    ∷ entry (Start 5 []) (reply.Started 1)
-    ∷ entry (Start 5 []) (reply.Started 0)
-    ∷ []
+    ∷ half_done
 
 not_ended_before_waits-legal : Legal small_bank_twice not_ended_before_waits
-not_ended_before_waits-legal = (
-  (
-    (
-      (
-        (
-          (
-            (
-              tt,
-              refl,
-            ),
-            refl,
-          ),
-          inr (made_by (0 ∷ []) refl),
-        ),
-        inr (made_by (1 ∷ []) refl),
-      ),
-      refl,
-    ),
-    inr (made_by (1 ∷ []) refl),
-  ),
-  inl (waits_by refl),
-)
+not_ended_before_waits-legal =
+    tt ▸ refl ▸ refl ▸ inr (made_by (0 ∷ []) refl) ▸ inr (made_by (1 ∷ []) refl) ▸ refl ▸ inr (made_by (1 ∷ []) refl)
+    ▸ inl (waits_by refl)

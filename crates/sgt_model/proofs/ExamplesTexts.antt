@@ -15,7 +15,7 @@ use Rattle.sgt_model.specs.Executions.{execution}
 use Rattle.sgt_model.specs.Values.{settled}
 use Rattle.sgt_model.specs.Settings.{Setting, setting}
 use Rattle.sgt_model.specs.Legality.{Legal}
-use Rattle.sgt_model.proofs.Computed.{made_by, commits_by, waits_by}
+use Rattle.sgt_model.proofs.Computed.{◌▸◌, made_by, commits_by, waits_by}
 use Rattle.sgt_model.proofs.ExampleSettings.{opening, entry}
 
 -- draw the amount, the second argument, from the checking of a customer, the first: where it is at most what is there, and
@@ -114,37 +114,9 @@ two_draw =
     ∷ []
 
 two_draw-legal : Legal drawing two_draw
-two_draw-legal = (
-  (
-    (
-      (
-        (
-          (
-            (
-              (
-                (
-                  (
-                    tt,
-                    refl,
-                  ),
-                  refl,
-                ),
-                inr (made_by (0 ∷ []) refl),
-              ),
-              inr (made_by (0 ∷ []) refl),
-            ),
-            inr (made_by (1 ∷ []) refl),
-          ),
-          inr (made_by (1 ∷ []) refl),
-        ),
-        inl (waits_by refl),
-      ),
-      refl,
-    ),
-    inr (commits_by refl),
-  ),
-  inr (commits_by refl),
-)
+two_draw-legal =
+    tt ▸ refl ▸ refl ▸ inr (made_by (0 ∷ []) refl) ▸ inr (made_by (0 ∷ []) refl) ▸ inr (made_by (1 ∷ []) refl)
+    ▸ inr (made_by (1 ∷ []) refl) ▸ inl (waits_by refl) ▸ refl ▸ inr (commits_by refl) ▸ inr (commits_by refl)
 
 two_draw-checking : settled drawing.opening two_draw (2, pos 101) ≡ Some (pos 0)
 two_draw-checking = refl

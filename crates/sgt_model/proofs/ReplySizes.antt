@@ -28,26 +28,17 @@ use Rattle.sgt_model.specs.Progress.{next_of}
 use Rattle.sgt_model.specs.StartReply.{args_fit, room_reply, taken_reply, start_reply}
 use Rattle.sgt_model.specs.Legality.{RaisedStep, RaisedCommit, AbortReply, CycleAbortReply, Makes, StepReply, CommitReply, OfStarted, LegalReply, Legal}
 use Rattle.sgt_model.specs.ReplySizes.{CauseNamesAtMost, FateNamesAtMost, ReplyNamesAtMost, RepliesNameFew}
-use Rattle.sgt_model.proofs.Paths.{Within}
 use Rattle.sgt_model.proofs.Facts.{some_is, option_or-cases}
 use Rattle.sgt_model.proofs.Listed.{kept_member}
 use Rattle.sgt_model.proofs.Room.{limits_are_kept}
 use Rattle.sgt_model.proofs.Verdict.{pair_live}
-use Rattle.sgt_model.proofs.Conditions.{removed}
+use Rattle.sgt_model.proofs.Conditions.{distinct_fits}
 use Rattle.sgt_model.proofs.OneReply.{rising_below, rising_rest}
 use Rattle.sgt_model.proofs.SomeReply.{begun_has}
 
 -- on lists of numbers
 
--- different numbers that are all among some others are no more than those
-distinct_fits : (xs ys : List ℕ) → Distinct xs → Within xs ys → length xs ≤ length ys
-distinct_fits [] ys d w = omega arith
-distinct_fits (x ∷ xs) ys d w =
-    let (zs, long, keep) = removed x ys (w x (inl refl)) in
-    let rest : length xs ≤ length zs =
-    distinct_fits xs zs d.1 (λ y m. keep y (w y (inr m)) (λ same. d.0 (subst (λ z. Member z xs) same m))) in
-    omega arith
-
+-- rising numbers are different
 rising_distinct : (l : List ℕ) → Rising l → Distinct l
 rising_distinct [] r = tt
 rising_distinct (t ∷ l) r = ((λ m. let less : t < t = rising_below t l r t m in omega arith), rising_distinct l (rising_rest t l r))

@@ -18,8 +18,12 @@ use Rattle.sgt_model.specs.Pairs.{Pair, has_conflicting}
 use Rattle.sgt_model.specs.Legality.{CycleAbortReply, Makes, MustWait, MayCommit, LegalReply}
 use Rattle.sgt_model.proofs.Computed.{pair, pair-so, so-pair, free_test, free-so, closes-so, each-so, all-so}
 use Rattle.sgt_model.proofs.ExampleSettings.{small_bank, entry, small_bank_put, small_bank_copy, small_bank_twice, small_bank_look_twice, small_bank_put_over, small_bank_tell}
+use Rattle.sgt_model.proofs.ExamplesReads.{dirty_reader, looked_before, stored_over}
+use Rattle.sgt_model.proofs.ExamplesWrites.{early_writer, at_its_end, three_writers, overwritten, two_live_writers}
+use Rattle.sgt_model.proofs.ExamplesCascades.{two_levels, ring}
 use Rattle.sgt_model.proofs.ExamplesDeepCascades.{three_levels}
-use Rattle.sgt_model.proofs.ExamplesRefusals.{refusing}
+use Rattle.sgt_model.proofs.ExamplesStarts.{half_done}
+use Rattle.sgt_model.proofs.ExamplesRefusals.{refusing, spent_by_another}
 
 -- where an access closes no walk it is not rejected
 not_refused : {past : List Entry} {t : ℕ} {k : Key} {kind : Kind} {why : Cause} {fell : List ℕ} (given : Reply) (set : List ℕ)
@@ -35,17 +39,6 @@ not_committed u h (inl w) = cc w.is
 not_committed {past} {t} u h (inr c) = let p = and_parts _ _ h in c.none_live u (record { is_live = p.0; pair = pair-so past u t p.1 })
 
 -- `aborts-on-conflict`: the look at what is not committed closes no walk
-abbrev dirty_reader : List Entry
-dirty_reader =
-    entry (Step 1) (reply.Looked (1, pos 101) (Some (pos 500)))
-    ∷ entry (Step 1) (reply.Looked (0, pos 1) (Some (pos 101)))
-    ∷ entry (Start 0 (pos 1 ∷ [])) (reply.Started 1)
-    ∷ entry (Step 0) (reply.Wrote (2, pos 101) (pos 1100))
-    ∷ entry (Step 0) (reply.Looked (2, pos 101) (Some (pos 1000)))
-    ∷ entry (Step 0) (reply.Looked (0, pos 1) (Some (pos 101)))
-    ∷ entry (Start 1 (pos 1 ∷ pos 100 ∷ [])) (reply.Started 0)
-    ∷ []
-
 aborts_on_conflict : LegalReply (small_bank 8 100) dirty_reader (Step 1) (reply.Aborted (cause.Cycle (1 ∷ 0 ∷ [])) []) → ⊥
 aborts_on_conflict h = not_refused (reply.Looked (2, pos 101) (Some (pos 1100))) (1 ∷ []) refl (λ e. cc e) h
 
@@ -59,34 +52,10 @@ reads_committed (inl h) = cc h.aborts.is
 reads_committed (inr h) = true≢false (ap (λ r. tells r (pos 1000)) h.is)
 
 -- `commits-at-once`: an earlier reader is still live
-abbrev early_writer : List Entry
-early_writer =
-    entry (Step 1) (reply.Wrote (2, pos 101) (pos 1050))
-    ∷ entry (Step 1) (reply.Looked (2, pos 101) (Some (pos 1000)))
-    ∷ entry (Step 1) (reply.Looked (0, pos 1) (Some (pos 101)))
-    ∷ entry (Start 1 (pos 1 ∷ pos 50 ∷ [])) (reply.Started 1)
-    ∷ entry (Step 0) reply.Ended
-    ∷ entry (Step 0) (reply.Looked (2, pos 101) (Some (pos 1000)))
-    ∷ entry (Step 0) (reply.Looked (1, pos 101) (Some (pos 500)))
-    ∷ entry (Step 0) (reply.Looked (0, pos 1) (Some (pos 101)))
-    ∷ entry (Start 0 (pos 1 ∷ [])) (reply.Started 0)
-    ∷ []
-
 commits_at_once : LegalReply (small_bank 8 100) early_writer (Commit 1) (reply.Committed (pos 1050 ∷ [])) → ⊥
 commits_at_once h = not_committed 0 refl h
 
 -- `last-writer-only`: the first of three writers is still live, when the second is aborted
-abbrev three_writers : List Entry
-three_writers =
-    entry (Quit 1) (reply.Aborted cause.Quit [])
-    ∷ entry (Step 2) (reply.Wrote (3, pos 7) (pos 3))
-    ∷ entry (Step 1) (reply.Wrote (3, pos 7) (pos 2))
-    ∷ entry (Step 0) (reply.Wrote (3, pos 7) (pos 1))
-    ∷ entry (Start 5 (pos 3 ∷ [])) (reply.Started 2)
-    ∷ entry (Start 5 (pos 2 ∷ [])) (reply.Started 1)
-    ∷ entry (Start 5 (pos 1 ∷ [])) (reply.Started 0)
-    ∷ []
-
 last_writer_only : LegalReply small_bank_put three_writers (Commit 2) (reply.Committed []) → ⊥
 last_writer_only h = not_committed 0 refl h
 
@@ -100,25 +69,13 @@ abbrev undone_beneath : List Entry
 undone_beneath =
     entry (Start 6 []) (reply.Started 2)
     ∷ entry (Quit 0) (reply.Aborted cause.Quit [])
-    ∷ entry (Step 1) (reply.Wrote (3, pos 7) (pos 2))
-    ∷ entry (Step 0) (reply.Wrote (3, pos 7) (pos 1))
-    ∷ entry (Start 5 (pos 2 ∷ [])) (reply.Started 1)
-    ∷ entry (Start 5 (pos 1 ∷ [])) (reply.Started 0)
-    ∷ []
+    ∷ overwritten
 
 before_image : LegalReply small_bank_tell undone_beneath (Step 2) (reply.Looked (3, pos 7) None) → ⊥
 before_image (inl h) = cc h.aborts.is
 before_image (inr h) = cc h.is
 
 -- `overwriters-fall`: who only stored over the value does not fall
-abbrev overwritten : List Entry
-overwritten =
-    entry (Step 1) (reply.Wrote (3, pos 7) (pos 2))
-    ∷ entry (Step 0) (reply.Wrote (3, pos 7) (pos 1))
-    ∷ entry (Start 5 (pos 2 ∷ [])) (reply.Started 1)
-    ∷ entry (Start 5 (pos 1 ∷ [])) (reply.Started 0)
-    ∷ []
-
 overwriters_fall : LegalReply small_bank_put overwritten (Quit 0) (reply.Aborted cause.Quit (1 ∷ [])) → ⊥
 overwriters_fall h =
     let named : h.fell ≡ 1 ∷ [] = cc h.is in
@@ -126,27 +83,6 @@ overwriters_fall h =
     all-so overwritten 0 [] (0 ∷ []) refl 1 fallen.0 fallen.1 fallen.2
 
 -- `direct-readers-only`: who read from a reader falls too
-abbrev two_levels : List Entry
-two_levels =
-    entry (Step 2) (reply.Looked (2, pos 102) (Some (pos 1710)))
-    ∷ entry (Step 2) (reply.Looked (1, pos 102) (Some (pos 0)))
-    ∷ entry (Step 2) (reply.Looked (0, pos 2) (Some (pos 102)))
-    ∷ entry (Start 0 (pos 2 ∷ [])) (reply.Started 2)
-    ∷ entry (Step 1) (reply.Wrote (2, pos 102) (pos 1710))
-    ∷ entry (Step 1) (reply.Looked (2, pos 102) (Some (pos 200)))
-    ∷ entry (Step 1) (reply.Wrote (2, pos 101) (pos 0))
-    ∷ entry (Step 1) (reply.Wrote (1, pos 101) (pos 0))
-    ∷ entry (Step 1) (reply.Looked (2, pos 101) (Some (pos 1010)))
-    ∷ entry (Step 1) (reply.Looked (1, pos 101) (Some (pos 500)))
-    ∷ entry (Step 1) (reply.Looked (0, pos 2) (Some (pos 102)))
-    ∷ entry (Step 1) (reply.Looked (0, pos 1) (Some (pos 101)))
-    ∷ entry (Start 3 (pos 1 ∷ pos 2 ∷ [])) (reply.Started 1)
-    ∷ entry (Step 0) (reply.Wrote (2, pos 101) (pos 1010))
-    ∷ entry (Step 0) (reply.Looked (2, pos 101) (Some (pos 1000)))
-    ∷ entry (Step 0) (reply.Looked (0, pos 1) (Some (pos 101)))
-    ∷ entry (Start 1 (pos 1 ∷ pos 10 ∷ [])) (reply.Started 0)
-    ∷ []
-
 one_of_two : Member 2 (1 ∷ []) → ⊥
 one_of_two (inl e) = omega arith
 one_of_two (inr m) = m
@@ -158,16 +94,6 @@ direct_readers_only h =
     one_of_two (subst (λ l. Member 2 l) named (h.falls.all 2 fallen.0 fallen.1 fallen.2))
 
 -- `cached-read`: the second look would close a cycle, whatever it gave
-abbrev looked_before : List Entry
-looked_before =
-    entry (Step 1) (reply.Wrote (2, pos 101) (pos 1001))
-    ∷ entry (Step 1) (reply.Looked (2, pos 101) (Some (pos 1000)))
-    ∷ entry (Step 1) (reply.Looked (0, pos 1) (Some (pos 101)))
-    ∷ entry (Start 1 (pos 1 ∷ pos 1 ∷ [])) (reply.Started 1)
-    ∷ entry (Step 0) (reply.Looked (2, pos 101) (Some (pos 1000)))
-    ∷ entry (Start 5 []) (reply.Started 0)
-    ∷ []
-
 cached_read : (v : Option ℤ) → LegalReply small_bank_look_twice looked_before (Step 0) (reply.Looked (2, pos 101) v) → ⊥
 cached_read v (inl h) = cc h.aborts.is
 cached_read v (inr h) = h.free (1 ∷ []) (closes-so looked_before 0 (2, pos 101) Look (1 ∷ []) refl)
@@ -176,11 +102,7 @@ cached_read v (inr h) = h.free (1 ∷ []) (closes-so looked_before 0 (2, pos 101
 abbrev one_committed : List Entry
 one_committed =
     entry (Commit 0) (reply.Committed (pos 1500 ∷ []))
-    ∷ entry (Step 0) (reply.Looked (2, pos 101) (Some (pos 1000)))
-    ∷ entry (Step 0) (reply.Looked (1, pos 101) (Some (pos 500)))
-    ∷ entry (Step 0) (reply.Looked (0, pos 1) (Some (pos 101)))
-    ∷ entry (Start 0 (pos 1 ∷ [])) (reply.Started 0)
-    ∷ []
+    ∷ at_its_end
 
 keeps_committed_places : LegalReply (small_bank 1 2) one_committed (Start 0 (pos 2 ∷ [])) reply.Full → ⊥
 keeps_committed_places h = cc h
@@ -190,15 +112,6 @@ starts_too_many : LegalReply (small_bank 1 1) one_committed (Start 0 (pos 2 ∷ 
 starts_too_many h = cc h
 
 -- who looked at its own store has read from nobody, whose value it ever stored over
-abbrev stored_over : List Entry
-stored_over =
-    entry (Step 1) (reply.Looked (3, pos 7) (Some (pos 4)))
-    ∷ entry (Step 1) (reply.Wrote (3, pos 7) (pos 4))
-    ∷ entry (Step 0) (reply.Wrote (3, pos 7) (pos 1))
-    ∷ entry (Start 6 []) (reply.Started 1)
-    ∷ entry (Start 5 (pos 1 ∷ [])) (reply.Started 0)
-    ∷ []
-
 own_readers_fall : LegalReply small_bank_put_over stored_over (Quit 0) (reply.Aborted cause.Quit (1 ∷ [])) → ⊥
 own_readers_fall h =
     let named : h.fell ≡ 1 ∷ [] = cc h.is in
@@ -214,16 +127,6 @@ falls_out_of_order h =
     omega arith
 
 -- of two live predecessors the least is named
-abbrev two_live_writers : List Entry
-two_live_writers =
-    entry (Step 2) (reply.Wrote (3, pos 7) (pos 3))
-    ∷ entry (Step 0) (reply.Wrote (3, pos 7) (pos 1))
-    ∷ entry (Step 1) (reply.Wrote (3, pos 7) (pos 2))
-    ∷ entry (Start 5 (pos 3 ∷ [])) (reply.Started 2)
-    ∷ entry (Start 5 (pos 2 ∷ [])) (reply.Started 1)
-    ∷ entry (Start 5 (pos 1 ∷ [])) (reply.Started 0)
-    ∷ []
-
 waits_for_the_greater : LegalReply small_bank_put two_live_writers (Commit 2) (reply.Waits 1) → ⊥
 waits_for_the_greater (inl h) =
     let named : h.predecessor ≡ 1 = cc h.is in
@@ -232,26 +135,10 @@ waits_for_the_greater (inl h) =
 waits_for_the_greater (inr h) = cc h.is
 
 -- who is not at its end does not wait, though another stored before it
-abbrev half_done : List Entry
-half_done =
-    entry (Step 1) (reply.Wrote (3, pos 7) (pos 1))
-    ∷ entry (Step 0) (reply.Wrote (3, pos 7) (pos 1))
-    ∷ entry (Start 5 []) (reply.Started 1)
-    ∷ entry (Start 5 []) (reply.Started 0)
-    ∷ []
-
 waits_before_its_end : LegalReply small_bank_twice half_done (Commit 1) (reply.Waits 0) → ⊥
 waits_before_its_end h = cc h
 
 -- the answers are those of the procedure
-abbrev at_its_end : List Entry
-at_its_end =
-    entry (Step 0) (reply.Looked (2, pos 101) (Some (pos 1000)))
-    ∷ entry (Step 0) (reply.Looked (1, pos 101) (Some (pos 500)))
-    ∷ entry (Step 0) (reply.Looked (0, pos 1) (Some (pos 101)))
-    ∷ entry (Start 0 (pos 1 ∷ [])) (reply.Started 0)
-    ∷ []
-
 abbrev answers_with : Reply → ℤ → Bool
 answers_with (reply.Committed (v ∷ [])) w = int_eq v w
 answers_with _ w = false
@@ -265,18 +152,6 @@ no_answers (inl h) = cc h.is
 no_answers (inr h) = cc h.is
 
 -- a walk follows pairs, and begins with the one that is rejected. Here it is 2, 1, 0
-abbrev ring : List Entry
-ring =
-    entry (Step 1) (reply.Wrote (2, pos 103) (pos 200))
-    ∷ entry (Step 0) (reply.Wrote (2, pos 102) (pos 1000))
-    ∷ entry (Step 2) (reply.Looked (2, pos 103) (Some (pos 300)))
-    ∷ entry (Step 1) (reply.Looked (2, pos 102) (Some (pos 200)))
-    ∷ entry (Step 0) (reply.Looked (2, pos 101) (Some (pos 1000)))
-    ∷ entry (Start 5 (pos 103 ∷ pos 101 ∷ [])) (reply.Started 2)
-    ∷ entry (Start 5 (pos 102 ∷ pos 103 ∷ [])) (reply.Started 1)
-    ∷ entry (Start 5 (pos 101 ∷ pos 102 ∷ [])) (reply.Started 0)
-    ∷ []
-
 leaves_one_out : LegalReply small_bank_copy ring (Step 2) (reply.Aborted (cause.Cycle (2 ∷ 0 ∷ [])) []) → ⊥
 leaves_one_out (inl h) =
     let named : h.rest ≡ 0 ∷ [] = cc h.aborts.is in
@@ -345,15 +220,6 @@ three_levels_out_of_order h =
 -- a refusal is told in its turn, and undoes what was stored
 
 -- a live transaction has spent, and another has found too little to spend
-abbrev spent_by_another : List Entry
-spent_by_another =
-    entry (Step 1) (reply.Looked (2, pos 101) (Some (pos 400)))
-    ∷ entry (Start 2 (pos 500 ∷ [])) (reply.Started 1)
-    ∷ entry (Step 0) (reply.Wrote (2, pos 101) (pos 400))
-    ∷ entry (Step 0) (reply.Looked (2, pos 101) (Some (pos 1000)))
-    ∷ entry (Start 2 (pos 600 ∷ [])) (reply.Started 0)
-    ∷ []
-
 refuses_before_its_turn : LegalReply refusing spent_by_another (Commit 1) (reply.Refused 3 []) → ⊥
 refuses_before_its_turn (inl h) = cc h.is
 refuses_before_its_turn (inr h) =

@@ -144,15 +144,12 @@ module _ {R A G : Type 0} {chain : R → Key → List (ℕ × ℤ)} {settled : R
         (pairs_are : (u v : ℕ) → (pairs graph u v ≡ true) ↔ ((pairs before.graph u v ≡ true) ⊎ ((v ≡ t) × Member u rivals))) where
       -- the parts after the access
       abbrev pub after_access : SchedulerView R A G
-      after_access = record {
-        procedures = before.procedures;
-        limits = before.limits;
+      after_access = record before {
         records = records;
         accesses = accesses;
         graph = graph;
         live = changed t change before.live;
         read_from = read_from;
-        fates = before.fates;
       }
 
       -- the state has the access

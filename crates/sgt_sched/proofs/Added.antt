@@ -18,16 +18,7 @@ module _ {R A G : Type 0} {chain : R → Key → List (ℕ × ℤ)} {settled : R
     (procedure : ProcedureText) where
   -- the parts afterwards
   abbrev pub added : SchedulerView R A G
-  added = record {
-    procedures = before.procedures ++ procedure ∷ [];
-    limits = before.limits;
-    records = before.records;
-    accesses = before.accesses;
-    graph = before.graph;
-    live = before.live;
-    read_from = before.read_from;
-    fates = before.fates;
-  }
+  added = record before { procedures = before.procedures ++ procedure ∷ [] }
 
   -- what is kept holds of them
   pub added_kept : IsKept chain settled list nodes pairs added

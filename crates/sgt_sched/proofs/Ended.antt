@@ -63,9 +63,7 @@ module _ {R A G : Type 0} {chain : R → Key → List (ℕ × ℤ)} {settled : R
     (pairs_are : (u v : ℕ) → pairs graph u v ≡ (pairs before.graph u v && (not (nat_eq t u) && not (nat_eq t v)))) where
   -- the parts afterwards
   abbrev pub after_end : SchedulerView R A G
-  after_end = record {
-    procedures = before.procedures;
-    limits = before.limits;
+  after_end = record before {
     records = records;
     accesses = accesses;
     graph = graph;
@@ -137,9 +135,7 @@ module _ {R A G : Type 0} {chain : R → Key → List (ℕ × ℤ)} {settled : R
       (reads_are : read_from ≡ unread t before.read_from) (fates_are : fates ≡ slice_set before.fates t (Some f)) where
     -- the parts after the end, as they were computed
     abbrev pub after_parts : SchedulerView R A G
-    after_parts = record {
-      procedures = before.procedures;
-      limits = before.limits;
+    after_parts = record before {
       records = records;
       accesses = accesses;
       graph = graph;
@@ -149,9 +145,7 @@ module _ {R A G : Type 0} {chain : R → Key → List (ℕ × ℤ)} {settled : R
     }
 
     is_after : after_end ≡ after_parts
-    is_after = λ i. record {
-      procedures = before.procedures;
-      limits = before.limits;
+    is_after = λ i. record before {
       records = records;
       accesses = accesses;
       graph = graph;

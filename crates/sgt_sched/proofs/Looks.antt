@@ -38,54 +38,33 @@ module _ {R A G : Type 0} {chain : R → Key → List (ℕ × ℤ)} {settled : R
       before.read_from) where
     -- the parts after the look
     abbrev pub after_look : SchedulerView R A G
-    after_look = record {
-      procedures = before.procedures;
-      limits = before.limits;
-      records = before.records;
-      accesses = accesses;
-      graph = graph;
-      live = live;
-      read_from = read_from;
-      fates = before.fates;
-    }
+    after_look = record before { accesses = accesses; graph = graph; live = live; read_from = read_from }
 
-    is_after : record {
-      procedures = before.procedures;
-      limits = before.limits;
-      records = before.records;
+    is_after : record before {
       accesses = accesses;
       graph = graph;
       live = changed t (with_look value) before.live;
       read_from = with_source
           (top_from (last_or None (chain before.records k)) (settled before.records k)) t before.read_from;
-      fates = before.fates;
     }
         ≡ after_look
-    is_after = λ i. record {
-      procedures = before.procedures;
-      limits = before.limits;
-      records = before.records;
+    is_after = λ i. record before {
       accesses = accesses;
       graph = graph;
       live = sym live_is i;
       read_from = sym reads_are i;
-      fates = before.fates;
     }
 
     found_is : value ≡ found (state_of chain settled list nodes pairs before) k
     found_is = value_is ∙ value_of_top-from (last_or None (chain before.records k)) (settled before.records k)
 
     looks : LooksAt t k (state_of chain settled list nodes pairs before)
-        (state_of chain settled list nodes pairs (record {
-          procedures = before.procedures;
-          limits = before.limits;
-          records = before.records;
+        (state_of chain settled list nodes pairs (record before {
           accesses = accesses;
           graph = graph;
           live = changed t (with_look value) before.live;
           read_from = with_source
               (top_from (last_or None (chain before.records k)) (settled before.records k)) t before.read_from;
-          fates = before.fates;
         }))
     looks = record {
       notes = notes kept t live_t k Look rivals exact before.records accesses graph (with_look value)
@@ -137,48 +116,22 @@ module _ {R A G : Type 0} {chain : R → Key → List (ℕ × ℤ)} {settled : R
         (live_is : live ≡ changed t with_store before.live) where
       -- the parts after the store
       abbrev pub after_store : SchedulerView R A G
-      after_store = record {
-        procedures = before.procedures;
-        limits = before.limits;
-        records = records;
-        accesses = accesses;
-        graph = graph;
-        live = live;
-        read_from = before.read_from;
-        fates = before.fates;
-      }
+      after_store = record before { records = records; accesses = accesses; graph = graph; live = live }
 
-      store_is : record {
-        procedures = before.procedures;
-        limits = before.limits;
+      store_is : record before {
         records = records;
         accesses = accesses;
         graph = graph;
         live = changed t with_store before.live;
-        read_from = before.read_from;
-        fates = before.fates;
       } ≡ after_store
-      store_is = λ i. record {
-        procedures = before.procedures;
-        limits = before.limits;
-        records = records;
-        accesses = accesses;
-        graph = graph;
-        live = sym live_is i;
-        read_from = before.read_from;
-        fates = before.fates;
-      }
+      store_is = λ i. record before { records = records; accesses = accesses; graph = graph; live = sym live_is i }
 
       stores : StoresInto t k v (state_of chain settled list nodes pairs before)
-          (state_of chain settled list nodes pairs (record {
-            procedures = before.procedures;
-            limits = before.limits;
+          (state_of chain settled list nodes pairs (record before {
             records = records;
             accesses = accesses;
             graph = graph;
             live = changed t with_store before.live;
-            read_from = before.read_from;
-            fates = before.fates;
           }))
       stores = record {
         notes = notes kept t live_t k Store rivals exact records accesses graph with_store before.read_from settled_is list_is nodes_are

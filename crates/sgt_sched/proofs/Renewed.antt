@@ -44,16 +44,7 @@ module _ {R A G : Type 0} {chain : R → Key → List (ℕ × ℤ)} {settled : R
     (none : numbers before.live ≡ []) where
   -- the parts afterwards
   abbrev pub renewed : SchedulerView R A G
-  renewed = record {
-    procedures = before.procedures;
-    limits = before.limits;
-    records = before.records;
-    accesses = before.accesses;
-    graph = before.graph;
-    live = before.live;
-    read_from = before.read_from;
-    fates = [];
-  }
+  renewed = record before { fates = [] }
 
   no_node : (t : ℕ) → nodes before.graph t ≡ true → ⊥
   no_node t n = subst (Member t) none ((kept.sound.listed t).0 n)
@@ -96,16 +87,7 @@ module _ {R A G : Type 0} {chain : R → Key → List (ℕ × ℤ)} {settled : R
   -- the same with other records, in which no write is pending
   module _ (records : R) (no_chain : (k : Key) → chain records k ≡ []) where
     abbrev pub reopened : SchedulerView R A G
-    reopened = record {
-      procedures = before.procedures;
-      limits = before.limits;
-      records = records;
-      accesses = before.accesses;
-      graph = before.graph;
-      live = before.live;
-      read_from = before.read_from;
-      fates = [];
-    }
+    reopened = record before { records = records; fates = [] }
 
     pub reopened_kept : IsKept chain settled list nodes pairs reopened
     reopened_kept = record {

@@ -14,16 +14,7 @@ module _ {R A G : Type 0} {chain : R → Key → List (ℕ × ℤ)} {settled : R
     (same_list : list accesses ≡ list before.accesses) where
   -- the parts with the layers that made room
   abbrev pub with_room : SchedulerView R A G
-  with_room = record {
-    procedures = before.procedures;
-    limits = before.limits;
-    records = records;
-    accesses = accesses;
-    graph = before.graph;
-    live = before.live;
-    read_from = before.read_from;
-    fates = before.fates;
-  }
+  with_room = record before { records = records; accesses = accesses }
 
   pub kept_reserved : IsKept chain settled list nodes pairs with_room
   kept_reserved = record {

@@ -43,14 +43,9 @@ module _ {R A G : Type 0} {chain : R → Key → List (ℕ × ℤ)} {settled : R
     (pairs_are : (u v : ℕ) → pairs graph u v ≡ pairs before.graph u v) where
   -- the parts afterwards
   abbrev pub after_start : SchedulerView R A G
-  after_start = record {
-    procedures = before.procedures;
-    limits = before.limits;
-    records = before.records;
-    accesses = before.accesses;
+  after_start = record before {
     graph = graph;
     live = before.live ++ (length before.fates, started procedure program args) ∷ [];
-    read_from = before.read_from;
     fates = before.fates ++ None ∷ [];
   }
 
@@ -163,27 +158,9 @@ module _ {R A G : Type 0} {chain : R → Key → List (ℕ × ℤ)} {settled : R
       → live ≡ before.live ++ (t, started procedure program args) ∷ [] → fates ≡ before.fates ++ None ∷ []
       → slice_get before.procedures procedure ≡ Some program → length (numbers before.live) < before.limits.live
       → length before.fates < before.limits.begins → IsKept chain settled list nodes pairs
-      (record {
-        procedures = before.procedures;
-        limits = before.limits;
-        records = before.records;
-        accesses = before.accesses;
-        graph = graph;
-        live = live;
-        read_from = before.read_from;
-        fates = fates;
-      }) × Starts
+      (record before { graph = graph; live = live; fates = fates }) × Starts
       (left_if (slice_get before.procedures procedure) args) (state_of chain settled list nodes pairs before)
-      (state_of chain settled list nodes pairs (record {
-        procedures = before.procedures;
-        limits = before.limits;
-        records = before.records;
-        accesses = before.accesses;
-        graph = graph;
-        live = live;
-        read_from = before.read_from;
-        fates = fates;
-      }))
+      (state_of chain settled list nodes pairs (record before { graph = graph; live = live; fates = fates }))
   start_done graph live fates nodes_are pairs_are live_is fates_is named room more =
       subst (λ (p : SchedulerView R A G). IsKept chain settled list nodes pairs p × Starts
       (left_if (slice_get before.procedures procedure) args) (state_of chain settled list nodes pairs before)
@@ -202,23 +179,9 @@ module _ {R A G : Type 0} {chain : R → Key → List (ℕ × ℤ)} {settled : R
         fates_now : before.fates ++ None ∷ [] ≡ fates
         fates_now = sym fates_is
 
-        same : after_start kept procedure program args named graph nodes_now pairs_are ≡ record {
-          procedures = before.procedures;
-          limits = before.limits;
-          records = before.records;
-          accesses = before.accesses;
+        same : after_start kept procedure program args named graph nodes_now pairs_are ≡ record before {
           graph = graph;
           live = live;
-          read_from = before.read_from;
           fates = fates;
         }
-        same = λ i. record {
-          procedures = before.procedures;
-          limits = before.limits;
-          records = before.records;
-          accesses = before.accesses;
-          graph = graph;
-          live = live_now i;
-          read_from = before.read_from;
-          fates = fates_now i;
-        }
+        same = λ i. record before { graph = graph; live = live_now i; fates = fates_now i }

@@ -2,7 +2,7 @@
 use Rattle.std.specs.Prelude.{pos, List, [], ◌∷◌}
 use Rattle.sgt_model.specs.Syntax.{Block, ProcedureText, num, arg, reg, sum, diff, less, equal, empty, look, put, save, ask, choose, answer}
 
--- the sum of the saving and the checking of a name's customer. An unknown name asks 1, and a balance that is not there 5
+-- the sum of the saving and the checking of a name's customer. An unknown name raises 1, and a missing balance 5
 abbrev pub balance : ProcedureText
 balance = record {
   args = 1;
@@ -14,7 +14,7 @@ balance = record {
       empty)));
 }
 
--- an amount is added to the checking of a name's customer. A negative amount asks 2, first of all
+-- an amount is added to the checking of a name's customer. A negative amount raises 2, first of all
 abbrev pub deposit_checking : ProcedureText
 deposit_checking = record {
   args = 2;
@@ -28,7 +28,7 @@ deposit_checking = record {
       empty)))));
 }
 
--- an amount is added to the saving of a name's customer. A saving that would be negative asks 3
+-- an amount is added to the saving of a name's customer. A saving that would be negative raises 3
 abbrev pub transact_saving : ProcedureText
 transact_saving = record {
   args = 2;
@@ -42,7 +42,7 @@ transact_saving = record {
       empty)))));
 }
 
--- all that the first name's customer has goes to the checking of the second name's customer. A name with itself asks 4,
+-- all that the first name's customer has goes to the checking of the second name's customer. A name with itself raises 4,
 -- first of all
 abbrev pub amalgamate : ProcedureText
 amalgamate = record {
@@ -72,7 +72,7 @@ charge =
     (save 3 (diff (reg 2) (arg 1)) empty)
 
 -- an amount is taken from the checking of a name's customer, and 100 more where saving and checking together are smaller
--- than it. A negative amount asks 2, first of all
+-- than it. A negative amount raises 2, first of all
 abbrev pub write_check : ProcedureText
 write_check = record {
   args = 2;

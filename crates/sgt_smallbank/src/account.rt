@@ -53,7 +53,7 @@ fn first_fault(accounts: &[Account]) -> Option<OpeningFault>
     None
 }
 
-/// What is wrong with an account behind these.
+/// What is wrong with an account that comes after these.
 fn fault_behind(earlier: &[Account], account: &Account) -> Option<OpeningFault>
     ensures { result ≡ fault_behind earlier.now account.now }
 {

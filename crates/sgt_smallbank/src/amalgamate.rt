@@ -16,22 +16,23 @@ use std::alloc::Global;
 pub(crate) fn amalgamate(alloc: Global) -> Result<Procedure, NoMemory>
     ensures { IfOk result (λ p. procedure_text p ≡ amalgamate) }
 {
-    let mut body = Vec::with_capacity(alloc, 12)?;
     let refusal = alone(alloc, ask(SAME_NAME))?;
     let is_same = Cond::Equal(Expr::Arg(0), Expr::Arg(1));
-    body.push_reserved(only_where(alloc, is_same, refusal));
-    body.push_reserved(look_up_customer(0, 0));
-    body.push_reserved(look_up_customer(1, 1));
-    body.push_reserved(look_up_balance(2, SAVING, 0));
-    body.push_reserved(look_up_balance(3, CHECKING, 0));
     let moved = sum_of(alloc, Expr::Reg(2), Expr::Reg(3))?;
-    body.push_reserved(set_register(4, moved));
-    body.push_reserved(store_balance(SAVING, 0, Expr::Num(0)));
-    body.push_reserved(store_balance(CHECKING, 0, Expr::Num(0)));
-    body.push_reserved(look_up_balance(5, CHECKING, 1));
     let sum = sum_of(alloc, Expr::Reg(5), Expr::Reg(4))?;
-    body.push_reserved(set_register(6, sum));
-    body.push_reserved(store_balance(CHECKING, 1, Expr::Reg(6)));
-    body.push_reserved(answer(Expr::Reg(4)));
+    let body = vec![in alloc;
+        only_where(alloc, is_same, refusal),
+        look_up_customer(0, 0),
+        look_up_customer(1, 1),
+        look_up_balance(2, SAVING, 0),
+        look_up_balance(3, CHECKING, 0),
+        set_register(4, moved),
+        store_balance(SAVING, 0, Expr::Num(0)),
+        store_balance(CHECKING, 0, Expr::Num(0)),
+        look_up_balance(5, CHECKING, 1),
+        set_register(6, sum),
+        store_balance(CHECKING, 1, Expr::Reg(6)),
+        answer(Expr::Reg(4)),
+    ]?;
     Ok(Procedure { args: 2, body })
 }

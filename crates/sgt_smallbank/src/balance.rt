@@ -12,10 +12,12 @@ use std::alloc::Global;
 pub(crate) fn balance(alloc: Global) -> Result<Procedure, NoMemory>
     ensures { IfOk result (λ p. procedure_text p ≡ balance) }
 {
-    let mut body = Vec::with_capacity(alloc, 4)?;
-    body.push_reserved(look_up_customer(0, 0));
-    body.push_reserved(look_up_balance(1, SAVING, 0));
-    body.push_reserved(look_up_balance(2, CHECKING, 0));
-    body.push_reserved(answer(sum_of(alloc, Expr::Reg(1), Expr::Reg(2))?));
+    let sum = sum_of(alloc, Expr::Reg(1), Expr::Reg(2))?;
+    let body = vec![in alloc;
+        look_up_customer(0, 0),
+        look_up_balance(1, SAVING, 0),
+        look_up_balance(2, CHECKING, 0),
+        answer(sum),
+    ]?;
     Ok(Procedure { args: 1, body })
 }

@@ -16,15 +16,16 @@ use std::alloc::Global;
 pub(crate) fn deposit_checking(alloc: Global) -> Result<Procedure, NoMemory>
     ensures { IfOk result (λ p. procedure_text p ≡ deposit_checking) }
 {
-    let mut body = Vec::with_capacity(alloc, 6)?;
     let refusal = alone(alloc, ask(NEGATIVE_AMOUNT))?;
     let is_negative = Cond::Less(Expr::Arg(1), Expr::Num(0));
-    body.push_reserved(only_where(alloc, is_negative, refusal));
-    body.push_reserved(look_up_customer(0, 0));
-    body.push_reserved(look_up_balance(1, CHECKING, 0));
     let sum = sum_of(alloc, Expr::Reg(1), Expr::Arg(1))?;
-    body.push_reserved(set_register(2, sum));
-    body.push_reserved(store_balance(CHECKING, 0, Expr::Reg(2)));
-    body.push_reserved(answer(Expr::Reg(2)));
+    let body = vec![in alloc;
+        only_where(alloc, is_negative, refusal),
+        look_up_customer(0, 0),
+        look_up_balance(1, CHECKING, 0),
+        set_register(2, sum),
+        store_balance(CHECKING, 0, Expr::Reg(2)),
+        answer(Expr::Reg(2)),
+    ]?;
     Ok(Procedure { args: 2, body })
 }

@@ -9,7 +9,7 @@ use sgt_model::NoMemory;
 pub enum BadOpening {
     /// An account has this fault, and none before it has one.
     Fault(OpeningFault),
-    /// A growth was refused. There are accounts, and none has a fault.
+    /// An allocation failed. There are accounts, and none has a fault.
     NoMemory,
 }
 

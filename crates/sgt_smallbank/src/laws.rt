@@ -11,9 +11,9 @@ pub fn serial_is_bank()
 {}
 
 /// After a legal history each committed transaction of one of the five procedures has done what the bank's arithmetic says,
-/// on the contents that those before it in the order of replies left, and was told its answers. Each refused one was told the
-/// code that the bank's arithmetic asks on those contents, and changed nothing. The opening has to hold values: what accounts
-/// without a fault open does.
+/// on the contents that those before it in the order of replies left, and its reply has those answers. The reply of each refused
+/// one has the code that the bank's arithmetic raises on those contents, and it changed nothing. The opening has to hold values:
+/// what accounts without a fault open does.
 pub fn replay_is_bank()
     ensures opening { OpeningsHoldValues }
     ensures replay { ReplayIsBank }

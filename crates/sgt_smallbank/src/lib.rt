@@ -11,9 +11,9 @@
 //! | 3 | Amalgamate(from, to) | moves all that the first customer has to the second one's checking | what was moved |
 //! | 4 | WriteCheck(name, amount) | takes the amount from the checking, and 100 more where saving and checking together are smaller | the new checking |
 //!
-//! A procedure that can't be done changes nothing and asks a code: 1 where the name is unknown, 2 where DepositChecking or
-//! WriteCheck is given a negative amount, 3 where the saving would be negative, 4 where Amalgamate is given one name twice,
-//! 5 where a customer has no saving or no checking, and 1000 where a number would be out of range. What each does, to the
+//! A procedure that can't be done changes nothing and aborts with a code: 1 if the name is unknown, 2 if DepositChecking or
+//! WriteCheck is given a negative amount, 3 if the saving would be negative, 4 if Amalgamate is given one name twice,
+//! 5 if a customer has no saving or no checking, and 1000 if a number would be out of range. What each does, to the
 //! cent and with its refusals in their order, stands in `specs/Arithmetic.antt`, and [`serial_is_bank`] says that it does
 //! so. [`replay_is_bank`] says it of every legal history: each committed transaction did its arithmetic on what those
 //! committed before it left, and was told its answers. The names of the three tables and of the five procedures, and they

@@ -31,7 +31,7 @@ pub(crate) fn look_up_balance(reg: u8, table: u8, customer: u8) -> Statement
     }
 }
 
-/// Stores the balance, in this table, of the customer in a register.
+/// Writes the balance, in this table, of the customer in a register.
 pub(crate) fn store_balance(table: u8, customer: u8, value: Expr) -> Statement
     ensures { result ≡ Statement.Put table (Expr.Reg customer) value }
 {
@@ -63,7 +63,7 @@ pub(crate) fn alone(alloc: Global, statement: Statement) -> Result<Vec<Statement
     Ok(vec![in alloc; statement]?)
 }
 
-/// Asks the code.
+/// Aborts with the code.
 pub(crate) fn ask(code: u16) -> Statement
     ensures { result ≡ Statement.Ask code }
 {

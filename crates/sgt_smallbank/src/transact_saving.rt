@@ -16,15 +16,16 @@ use std::alloc::Global;
 pub(crate) fn transact_saving(alloc: Global) -> Result<Procedure, NoMemory>
     ensures { IfOk result (λ p. procedure_text p ≡ transact_saving) }
 {
-    let mut body = Vec::with_capacity(alloc, 6)?;
-    body.push_reserved(look_up_customer(0, 0));
-    body.push_reserved(look_up_balance(1, SAVING, 0));
     let sum = sum_of(alloc, Expr::Reg(1), Expr::Arg(1))?;
-    body.push_reserved(set_register(2, sum));
     let refusal = alone(alloc, ask(NEGATIVE_SAVING))?;
     let is_negative = Cond::Less(Expr::Reg(2), Expr::Num(0));
-    body.push_reserved(only_where(alloc, is_negative, refusal));
-    body.push_reserved(store_balance(SAVING, 0, Expr::Reg(2)));
-    body.push_reserved(answer(Expr::Reg(2)));
+    let body = vec![in alloc;
+        look_up_customer(0, 0),
+        look_up_balance(1, SAVING, 0),
+        set_register(2, sum),
+        only_where(alloc, is_negative, refusal),
+        store_balance(SAVING, 0, Expr::Reg(2)),
+        answer(Expr::Reg(2)),
+    ]?;
     Ok(Procedure { args: 2, body })
 }

@@ -17,16 +17,18 @@ use std::alloc::Global;
 pub(crate) fn write_check(alloc: Global) -> Result<Procedure, NoMemory>
     ensures { IfOk result (λ p. procedure_text p ≡ write_check) }
 {
-    let mut body = Vec::with_capacity(alloc, 7)?;
     let refusal = alone(alloc, ask(NEGATIVE_AMOUNT))?;
     let is_negative = Cond::Less(Expr::Arg(1), Expr::Num(0));
-    body.push_reserved(only_where(alloc, is_negative, refusal));
-    body.push_reserved(look_up_customer(0, 0));
-    body.push_reserved(look_up_balance(1, SAVING, 0));
-    body.push_reserved(look_up_balance(2, CHECKING, 0));
-    body.push_reserved(charge(alloc)?);
-    body.push_reserved(store_balance(CHECKING, 0, Expr::Reg(3)));
-    body.push_reserved(answer(Expr::Reg(3)));
+    let charged = charge(alloc)?;
+    let body = vec![in alloc;
+        only_where(alloc, is_negative, refusal),
+        look_up_customer(0, 0),
+        look_up_balance(1, SAVING, 0),
+        look_up_balance(2, CHECKING, 0),
+        charged,
+        store_balance(CHECKING, 0, Expr::Reg(3)),
+        answer(Expr::Reg(3)),
+    ]?;
     Ok(Procedure { args: 2, body })
 }
 

@@ -20,17 +20,20 @@ use Rattle.sgt_textbook.specs.Textbook.{textbook, commit_order}
 use Rattle.sgt_textbook.specs.Laws.{SomeCascade}
 use Rattle.sgt_textbook.proofs.Entries.{does}
 
--- a dirty read, and a quit that takes its reader along
-quit_takes_reader-textbook : (number : Key → ℕ) → textbook number quit_takes_reader ≡
+-- 0 writes, and 1 reads what it wrote; how they end stands after it
+abbrev dirty_read_then : (Key → ℕ) → List Operation → List Operation
+dirty_read_then number ends =
     does 0 (action.Read (number (0, pos 1)))
     ∷ does 0 (action.Read (number (2, pos 101)))
     ∷ does 0 (action.Write (number (2, pos 101)))
     ∷ does 1 (action.Read (number (0, pos 1)))
     ∷ does 1 (action.Read (number (1, pos 101)))
     ∷ does 1 (action.Read (number (2, pos 101)))
-    ∷ does 0 action.Abort
-    ∷ does 1 action.Abort
-    ∷ []
+    ∷ ends
+
+-- a dirty read, and a quit that takes its reader along
+quit_takes_reader-textbook : (number : Key → ℕ) → textbook number quit_takes_reader ≡
+    dirty_read_then number (does 0 action.Abort ∷ does 1 action.Abort ∷ [])
 quit_takes_reader-textbook number = refl
 
 -- a look past an aborted store
@@ -46,15 +49,7 @@ read_past_aborted-textbook number = refl
 
 -- who reads what is not committed commits behind its source
 dirty_read_waits-textbook : (number : Key → ℕ) → textbook number dirty_read_waits ≡
-    does 0 (action.Read (number (0, pos 1)))
-    ∷ does 0 (action.Read (number (2, pos 101)))
-    ∷ does 0 (action.Write (number (2, pos 101)))
-    ∷ does 1 (action.Read (number (0, pos 1)))
-    ∷ does 1 (action.Read (number (1, pos 101)))
-    ∷ does 1 (action.Read (number (2, pos 101)))
-    ∷ does 0 action.Commit
-    ∷ does 1 action.Commit
-    ∷ []
+    dirty_read_then number (does 0 action.Commit ∷ does 1 action.Commit ∷ [])
 dirty_read_waits-textbook number = refl
 
 dirty_read_waits-order : commit_order dirty_read_waits ≡ 0 ∷ 1 ∷ []

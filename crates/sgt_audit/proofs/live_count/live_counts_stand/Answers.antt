@@ -3,6 +3,7 @@ use Rattle.std.proofs.lemmas.Bool.{false≢true, cases_lt}
 use Rattle.sgt_model.specs.Fates.{live_ones}
 use Rattle.sgt_audit.proofs.Histories.{one_more, legal_next}
 use Rattle.sgt_audit.proofs.LiveCount.{live_count, ends_live, at_end}
+use Rattle.sgt_audit.proofs.live_count.live_counts_stand.Goals.{After-live_after-live}
 use Rattle.sgt_audit.proofs.live_count.live_counts_stand.Goals as goal
 
 pub live_after-live-requires-clause-enough : goal.live_after-live-requires-clause-enough
@@ -13,25 +14,30 @@ live_after-live-requires-clause-enough c =
     (legal_next c.requires.0 h i c.entry.result c.entry.ensures.next c.requires.1) in
     omega arith
 
-pub returns-then-live-workers : goal.returns-then-live-workers
-returns-then-live-workers c =
+-- as many are live after the entry as were counted
+counted : (c : After-live_after-live) → c.live_after-live.result ≡ length (live_ones (reverse (take (c.loop-place.place + 1)
+    c.args.history.now.entries)))
+counted c =
     let h = c.args.history.now.entries in
     let i = c.loop-place.place in
     let e = c.entry.result in
-    let n = live_count c.requires.0 (reverse (take i h)) e
-    (legal_next c.requires.0 h i e c.entry.ensures.next c.requires.1) in
+    let n = live_count c.requires.0 (reverse (take i h)) e (legal_next c.requires.0 h i e c.entry.ensures.next c.requires.1) in
     let longer = ap (λ past. length (live_ones past)) (one_more h i e c.entry.ensures.next) in
-    ((λ t. absurd (false≢true t)), λ both. let f = both.0 (i + 1) in absurd (omega arith))
+    omega arith
+
+pub returns-then-live-workers : goal.returns-then-live-workers
+returns-then-live-workers c = (
+  (λ t. absurd (false≢true t)),
+  λ both.
+      let now = counted (goal.at.returns-then-live-workers c).After-live_after-live in
+      let few = both.0 (c.loop-place.place + 1) in absurd (omega arith),
+)
 
 pub loop-place-preserved : goal.loop-place-preserved
 loop-place-preserved c =
-    let h = c.args.history.now.entries in
     let i = c.loop-place.place in
-    let e = c.entry.result in
-    let n = live_count c.requires.0 (reverse (take i h)) e
-    (legal_next c.requires.0 h i e c.entry.ensures.next c.requires.1) in
-    let longer = ap (λ past. length (live_ones past)) (one_more h i e c.entry.ensures.next) in
-    let now : c.live_after-live.result ≡ length (live_ones (reverse (take (i + 1) h))) = omega arith in
+    let h = c.args.history.now.entries in
+    let now = counted (goal.at.loop-place-preserved c).After-live_after-live in
     record {
       live = now;
       few = c.if-live-workers.false;

@@ -1,10 +1,8 @@
 use Rattle.std.proofs.Common.{rules, ◌+◌, sym, subst, arith}
-use Rattle.std.specs.Prelude.{slice_index_or}
-use Rattle.sgt_classes.specs.declared.operation.Operation.{Operation}
-use Rattle.sgt_classes.specs.declared.operation.Action.TheVariants.{Read, Commit}
+use Rattle.sgt_classes.specs.declared.operation.Action.TheVariants.{Commit}
 use Rattle.sgt_classes.specs.Tables.{entry_of}
 use Rattle.sgt_classes.specs.Seen.{AreFirstCommits}
-use Rattle.sgt_classes.proofs.Places.{there, does_at}
+use Rattle.sgt_classes.proofs.Places.{operation_at, doer_at, there, done_at}
 use Rattle.sgt_classes.proofs.CommitOrders.{none_of}
 use Rattle.sgt_classes.proofs.LatestUses.{first_commit, later_commit}
 use Rattle.sgt_classes.proofs.commit_order.first_commits.Goals.{then-eq+then-not-contains_key+in_ok-set_place, else-eq, else-eq-via-then-eq+else-not-contains_key, else-eq-via-else-eq}
@@ -14,15 +12,13 @@ pub loop-place-preserved : goal.loop-place-preserved
 loop-place-preserved c =
     let h = c.args.history.now in
     let p = c.loop-place.place in
-    let op : Operation = slice_index_or h p (record { transaction = 0; action = Read 0 }) in
-    let at = there h p c.loop-place-test.true in
     elim c.if-eq.branch [
       | then-eq+then-not-contains_key+in_ok-set_place w ↦ subst (λ m. AreFirstCommits h (p + 1) (entry_of m)) (sym w.commits-is)
-          (first_commit h p op.transaction (entry_of c.loop-place.commits) (entry_of w.set_place.new.self)
-          (does_at h p op Commit at (search rules)) (none_of (entry_of c.loop-place.commits op.transaction) (search rules))
+          (first_commit h p (doer_at h p) (entry_of c.loop-place.commits) (entry_of w.set_place.new.self)
+          (done_at h p Commit c.loop-place-test.true (search rules)) (none_of (entry_of c.loop-place.commits (doer_at h p)) (search rules))
           w.in_ok-set_place.ensures.at w.in_ok-set_place.ensures.others c.loop-place.invariant)
       | else-eq w ↦ subst (λ m. AreFirstCommits h (p + 1) (entry_of m)) (sym w.commits-is)
-          (later_commit h p op (entry_of c.loop-place.commits) at
+          (later_commit h p (operation_at h p) (entry_of c.loop-place.commits) (there h p c.loop-place-test.true)
           (elim w.else-eq.branch [
             | else-eq-via-then-eq+else-not-contains_key v ↦ λ is. search rules
             | else-eq-via-else-eq v ↦ λ is. absurd (search rules)

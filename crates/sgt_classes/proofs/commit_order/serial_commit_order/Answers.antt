@@ -1,9 +1,7 @@
 use Rattle.std.proofs.Common.{rules, ◌+◌, sym, subst, arith}
-use Rattle.std.specs.Prelude.{slice_index_or}
-use Rattle.sgt_classes.specs.declared.operation.Operation.{Operation}
-use Rattle.sgt_classes.specs.declared.operation.Action.TheVariants.{Read, Commit}
+use Rattle.sgt_classes.specs.declared.operation.Action.TheVariants.{Commit}
 use Rattle.sgt_classes.specs.Tables.{entry_of}
-use Rattle.sgt_classes.proofs.Places.{there, does_at}
+use Rattle.sgt_classes.proofs.Places.{operation_at, there, done_at}
 use Rattle.sgt_classes.proofs.SerialRuns.{serial_order_runs}
 use Rattle.sgt_classes.proofs.CommitOrders.{IsCommitOrder, order_begins, order_grows, order_stays, order_serial, some_of, none_of}
 use Rattle.sgt_classes.proofs.commit_order.serial_commit_order.Goals.{then-eq+then-contains_key+in_ok-push, else-eq, else-eq-via-then-eq+else-contains_key, else-eq-via-else-eq}
@@ -17,8 +15,7 @@ pub loop-place-preserved : goal.loop-place-preserved
 loop-place-preserved c =
     let h = c.args.history.now in
     let p = c.loop-place.place in
-    let op : Operation = slice_index_or h p (record { transaction = 0; action = Read 0 }) in
-    let at = there h p c.loop-place-test.true in
+    let op = operation_at h p in
     elim c.if-eq.branch [
       | then-eq+then-contains_key+in_ok-push w ↦
           let one = some_of (entry_of c.loop-place.left op.transaction) (search rules) in
@@ -26,11 +23,11 @@ loop-place-preserved c =
           (subst (λ v. IsCommitOrder h (p + 1) v.items (entry_of w.remove.new.self)) (sym w.order-is)
           (subst (λ l. IsCommitOrder h (p + 1) l (entry_of w.remove.new.self)) (sym w.in_ok-push.ensures.items)
           (order_grows h p op.transaction one.0 c.loop-place.order.items (entry_of c.loop-place.left) (entry_of w.remove.new.self)
-          c.requires (does_at h p op Commit at (search rules)) one.1 w.remove.ensures.at w.remove.ensures.others c.loop-place.invariant)))
+          c.requires (done_at h p Commit c.loop-place-test.true (search rules)) one.1 w.remove.ensures.at w.remove.ensures.others c.loop-place.invariant)))
       | else-eq w ↦
           subst (λ m. IsCommitOrder h (p + 1) c.if-eq.order.items (entry_of m)) (sym w.left-is)
           (subst (λ v. IsCommitOrder h (p + 1) v.items (entry_of c.loop-place.left)) (sym w.order-is)
-          (order_stays h p op c.loop-place.order.items (entry_of c.loop-place.left) at
+          (order_stays h p op c.loop-place.order.items (entry_of c.loop-place.left) (there h p c.loop-place-test.true)
           (elim w.else-eq.branch [
             | else-eq-via-then-eq+else-contains_key v ↦ λ is. none_of (entry_of c.loop-place.left op.transaction) (search rules)
             | else-eq-via-else-eq v ↦ λ is. absurd (search rules)

@@ -6,6 +6,7 @@ use Rattle.sgt_cycle.specs.Walk.{IsWalk}
 use Rattle.sgt_cycle.proofs.Bits.{none_above}
 use Rattle.sgt_cycle.proofs.RowWalks.{Searching, search_starts, search_fits, search_here, search_push, search_room, search_pop, search_ends, search_none, no_row}
 use Rattle.sgt_cycle.proofs.rows.walk_rows.Goals as goal
+use Rattle.sgt_cycle.proofs.rows.walk_rows.Goals.{In-Some-least}
 
 -- the answer of a copy, where it is given
 found : (result : Option (List ℕ)) (items : List ℕ) (good : List ℕ → Type 0) → IfSome result (λ list. list ≡ items) → good items
@@ -62,34 +63,37 @@ push-requires-in-Some-least c =
     ∙ length-append c.pop.new.self.items (c.in-Some.here ∷ []) in
     (omega arith, omega arith)
 
+-- what holds of the path down to the last
+searching : (c : In-Some-least) → Searching c.args.rows.now c.args.source c.args.targets c.loop-here.fresh
+    (c.pop.new.self.items ++ c.in-Some.here ∷ [])
+searching c = rw c.in-Some.ensures.items at c.loop-here.invariant
+
+-- the next one is reached from the last in one step, and has not been met
+next_is : (c : In-Some-least) → (is_set (slice_index c.args.rows.now c.from.result) c.in-Some-least.next ≡ true)
+    × (is_set c.loop-here.fresh c.in-Some-least.next ≡ true)
+next_is c = and_parts _ _ (sym (c.common.ensures c.in-Some-least.next) ∙ c.in-Some-least.ensures.some.1)
+
 pub push-requires-in-Some-least-2 : goal.push-requires-in-Some-least-2
 push-requires-in-Some-least-2 c =
     let path : List ℕ = c.pop.new.self.items in
     let here : ℕ = c.in-Some.here in
     let next : ℕ = c.in-Some-least.next in
-    let s : Searching c.args.rows.now c.args.source c.args.targets c.loop-here.fresh (path ++ here ∷ []) =
-    rw c.in-Some.ensures.items at c.loop-here.invariant in
-    let both = and_parts (is_set (slice_index c.args.rows.now c.from.result) next) (is_set c.loop-here.fresh next)
-    (sym (c.common.ensures next) ∙ c.in-Some-least.ensures.some.1) in
-    let step : is_bit c.args.rows.now here next ≡ true = subst (λ i. is_bit c.args.rows.now i next ≡ true) c.from.ensures both.0 in
+    let at = (goal.at.push-requires-in-Some-least-2 c).In-Some-least in
     let fits : length ((path ++ here ∷ []) ++ next ∷ []) ≤ 32 =
-    search_room c.args.rows.now c.args.source c.args.targets c.loop-here.fresh path here s next c.in-Some-least.ensures.some.0 both.1 in
+    search_room c.args.rows.now c.args.source c.args.targets c.loop-here.fresh path here (searching at) next
+    c.in-Some-least.ensures.some.0 (next_is at).1 in
     let long : length c.push-in-Some-least.new.self.items ≡ length (path ++ here ∷ []) = ap length c.push-in-Some-least.ensures.items in
     (omega arith, omega (arith, length-append (path ++ here ∷ []) (next ∷ [])))
 
 pub loop-here-preserved-in-Some-least : goal.loop-here-preserved-in-Some-least
 loop-here-preserved-in-Some-least c =
-    let path : List ℕ = c.pop.new.self.items in
-    let here : ℕ = c.in-Some.here in
     let next : ℕ = c.in-Some-least.next in
-    let s : Searching c.args.rows.now c.args.source c.args.targets c.loop-here.fresh (path ++ here ∷ []) =
-    rw c.in-Some.ensures.items at c.loop-here.invariant in
-    let both = and_parts (is_set (slice_index c.args.rows.now c.from.result) next) (is_set c.loop-here.fresh next)
-    (sym (c.common.ensures next) ∙ c.in-Some-least.ensures.some.1) in
-    let step : is_bit c.args.rows.now here next ≡ true = subst (λ i. is_bit c.args.rows.now i next ≡ true) c.from.ensures both.0 in
+    let at = (goal.at.loop-here-preserved-in-Some-least c).In-Some-least in
+    let step : is_bit c.args.rows.now c.in-Some.here next ≡ true =
+    subst (λ i. is_bit c.args.rows.now i next ≡ true) c.from.ensures (next_is at).0 in
     rw (c.push-in-Some-least-2.ensures.items, c.push-in-Some-least.ensures.items)
-    (search_push c.args.rows.now c.args.source c.args.targets c.loop-here.fresh path here s next c.minus-fresh.result
-    c.in-Some-least.ensures.some.0 step both.1
+    (search_push c.args.rows.now c.args.source c.args.targets c.loop-here.fresh c.pop.new.self.items c.in-Some.here (searching at) next
+    c.minus-fresh.result c.in-Some-least.ensures.some.0 step (next_is at).1
     (λ i. c.minus-fresh.ensures.indices i ∙ ap (λ x. is_set c.loop-here.fresh i && not x) (c.only-in-Some-least.ensures i)))
 
 pub loop-here-preserved : goal.loop-here-preserved

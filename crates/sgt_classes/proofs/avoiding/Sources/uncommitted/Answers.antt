@@ -1,8 +1,8 @@
-use Rattle.std.proofs.Common.{rules, ℕ, Some, refl, subst, inl, inr, arith}
+use Rattle.std.proofs.Common.{rules, refl, subst, inl, inr}
 use Rattle.sgt_classes.specs.declared.operation.Action.TheVariants.{Read}
 use Rattle.sgt_classes.specs.Seen.{IsTopWrite}
-use Rattle.sgt_classes.proofs.Places.{there, does_at}
-use Rattle.sgt_classes.proofs.Sources.{avoids_no_read, avoids_no_write, avoids_committed, avoidance_broken, top_write, sources_found}
+use Rattle.sgt_classes.proofs.Places.{there, does_at, done_at}
+use Rattle.sgt_classes.proofs.Sources.{avoids_no_read, avoids_no_write, avoids_committed, avoidance_broken, top_done, sources_found}
 use Rattle.sgt_classes.proofs.avoiding.Sources.uncommitted.Goals as goal
 use Rattle.sgt_classes.proofs.avoiding.Sources.uncommitted.Goals.{then-writer-operation-via-then-writer-operation, then-writer-operation-via-else-writer-operation+then-has_committed}
 
@@ -28,10 +28,8 @@ returns-then-writer-operation-clause-none c =
     let h = c.args.history.now in
     let p = c.args.place in
     let x = c.in-Read.item in
-    let i : ℕ = c.in-Some.earlier in
-    let top : IsTopWrite h p x (Some i) = c.in-Some.ensures.top in
-    let written = top_write h p x i _ (there h i (omega (arith, top.0, c.requires.within))) top in
-    λ _. avoids_committed h p _ x i _ (does_at h p _ (Read x) (there h p c.requires.within) c.in-Read.is) top written
+    let written = top_done h p x c.in-Some.earlier c.requires.within c.in-Some.ensures.top in
+    λ _. avoids_committed h p _ x c.in-Some.earlier _ (done_at h p (Read x) c.requires.within c.in-Read.is) c.in-Some.ensures.top written
     c.in-Some.ensures.standing
     (elim c.then-writer-operation.branch [
       | then-writer-operation-via-then-writer-operation w ↦ inl (search rules)
@@ -43,10 +41,8 @@ returns-clause-some c =
     let h = c.args.history.now in
     let p = c.args.place in
     let x = c.in-Read.item in
-    let i : ℕ = c.in-Some.earlier in
-    let top : IsTopWrite h p x (Some i) = c.in-Some.ensures.top in
-    let written = top_write h p x i _ (there h i (omega (arith, top.0, c.requires.within))) top in
-    avoidance_broken h p _ x i _ (does_at h p _ (Read x) (there h p c.requires.within) c.in-Read.is) top written
+    let written = top_done h p x c.in-Some.earlier c.requires.within c.in-Some.ensures.top in
+    avoidance_broken h p _ x c.in-Some.earlier _ (done_at h p (Read x) c.requires.within c.in-Read.is) c.in-Some.ensures.top written
     c.in-Some.ensures.standing
     (search rules)
     (λ committed. let key = (c.requires.sources.commits_are _).1 committed in search rules)

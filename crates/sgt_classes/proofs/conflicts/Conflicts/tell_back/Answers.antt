@@ -70,10 +70,7 @@ loop-rival-preserved c =
 
 pub returns : goal.returns
 returns c =
-    let q = c.args.operations.now in
-    let p = c.args.place in
-    let kind = c.args.rivals.now.kind in
-    let es = c.loop-rival.self.edges.items in
-    conflicts_after kind q p _ c.args.item _ _ c.loop-rival.invariant.conflicts c.requires.rivals
+    conflicts_after _ c.args.operations.now c.args.place _ c.args.item _ _ c.loop-rival.invariant.conflicts c.requires.rivals
     (λ u k t b does within differ first.
-    (subst (λ o. AreToldAbove kind q es p c.args.item u o) c.in_default.is (c.loop-rival.invariant.above u b does)) k t within differ first)
+    (subst (λ o. AreToldAbove c.args.rivals.now.kind c.args.operations.now c.loop-rival.self.edges.items c.args.place c.args.item u o)
+    c.in_default.is (c.loop-rival.invariant.above u b does)) k t within differ first)

@@ -64,22 +64,17 @@ returns-in_ok-cycle-in-Some-first_left-clause-acyclic c =
     (λ k e at. c.loop-order.invariant.reach.are_edges k e (subst (λ l. slice_get l k ≡ Some e) edges at)) in
     (λ never. absurd never, cycle_not_acyclic h c.in_ok-cycle-in-Some-first_left.field-0.items cycle)
 
+-- with nobody left, all are in order
+serial : (c : goal.In-None) → IsSerialOrder c.args.history.now c.loop-order.order.items
+serial c =
+    let gone : (t : ℕ) → entry_of c.take_first.new.self.left t ≡ None = search rules in
+    let same : c.take_first.new.self.left ≡ c.loop-order.self.left = search rules in
+    all_ordered c.args.history.now c.loop-order.self.edges.items c.loop-order.order.items (entry_of c.loop-order.self.left)
+    c.loop-order.invariant.reach c.loop-order.invariant.ordered (subst (λ m. (t : ℕ) → entry_of m t ≡ None) same gone)
+
 pub returns-in-None-clause-shown : goal.returns-in-None-clause-shown
 returns-in-None-clause-shown c =
-    let h = c.args.history.now in
-    let gone : (t : ℕ) → entry_of c.take_first.new.self.left t ≡ None = search rules in
-    let same : c.take_first.new.self.left ≡ c.loop-order.self.left = search rules in
-    let serial : IsSerialOrder h c.loop-order.order.items =
-    all_ordered h c.loop-order.self.edges.items c.loop-order.order.items (entry_of c.loop-order.self.left)
-    c.loop-order.invariant.reach c.loop-order.invariant.ordered (subst (λ m. (t : ℕ) → entry_of m t ≡ None) same gone) in
-    (serial, c.loop-order.invariant.ordered.takes_first, serial_order_runs h c.loop-order.order.items serial)
+    (serial c, c.loop-order.invariant.ordered.takes_first, serial_order_runs c.args.history.now c.loop-order.order.items (serial c))
 
 pub returns-in-None-clause-acyclic : goal.returns-in-None-clause-acyclic
-returns-in-None-clause-acyclic c =
-    let h = c.args.history.now in
-    let gone : (t : ℕ) → entry_of c.take_first.new.self.left t ≡ None = search rules in
-    let same : c.take_first.new.self.left ≡ c.loop-order.self.left = search rules in
-    let serial : IsSerialOrder h c.loop-order.order.items =
-    all_ordered h c.loop-order.self.edges.items c.loop-order.order.items (entry_of c.loop-order.self.left)
-    c.loop-order.invariant.reach c.loop-order.invariant.ordered (subst (λ m. (t : ℕ) → entry_of m t ≡ None) same gone) in
-    (λ _. serial_order_acyclic h c.loop-order.order.items serial, λ _. tt)
+returns-in-None-clause-acyclic c = (λ _. serial_order_acyclic c.args.history.now c.loop-order.order.items (serial c), λ _. tt)

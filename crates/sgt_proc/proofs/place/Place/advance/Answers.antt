@@ -3,9 +3,11 @@ use Rattle.std.proofs.lemmas.Bool.{true≢false}
 use Rattle.arrayvec.specs.ArrayVec.{ArrayVec}
 use Rattle.sgt_model.specs.ProcedureTexts.{block_of}
 use Rattle.sgt_proc.specs.Paths.{inner, IsPath}
+use Rattle.sgt_proc.specs.Places.{Passes}
 use Rattle.sgt_proc.proofs.PathTexts.{path_less}
 use Rattle.sgt_proc.proofs.Stepped.{at_statement, at_few, at_room, out_step, end_here, none_left}
 use Rattle.sgt_proc.proofs.place.Place.advance.Goals as goal
+use Rattle.sgt_proc.proofs.place.Place.advance.Goals.{In-Some}
 
 pub step-requires-clause-room : goal.step-requires-clause-room
 step-requires-clause-room c =
@@ -55,36 +57,22 @@ overflow_add-self c =
     (subst (λ p. IsPath p (block_of c.args.body.now)) c.in-Some.ensures.items c.loop-self.invariant.inside.path) in
     omega (arith, less.0)
 
-pub loop-self-smaller : goal.loop-self-smaller
-loop-self-smaller c =
+-- it goes on after the statement whose branch has ended
+out : (c : In-Some) → Passes (block_of c.args.body.now) c.loop-self.self
+    (record c.loop-self.self { path = c.pop.new.self; at = c.in-Some.turn.at + 1 })
+out c =
     let e : length c.list_at-list.result.now ≤ c.loop-self.self.at = search rules in
-    let r = out_step c.list_at-list.result.now (block_of c.args.body.now) c.loop-self.self
+    out_step c.list_at-list.result.now (block_of c.args.body.now) c.loop-self.self
     (c.list_at-list.ensures ∙ ap (λ p. inner p (block_of c.args.body.now)) c.as_slice.ensures.value) e
-    (record {
-      args = c.loop-self.self.args;
-      registers = c.loop-self.self.registers;
-      answers = c.loop-self.self.answers;
-      path =
-          c.pop.new.self;
-      at = c.in-Some.turn.at + 1;
-    }) c.in-Some.turn c.loop-self.invariant.inside refl refl refl c.in-Some.ensures.items
-    refl in
-    r.nearer
+    (record c.loop-self.self { path = c.pop.new.self; at = c.in-Some.turn.at + 1 }) c.in-Some.turn c.loop-self.invariant.inside
+    refl refl refl c.in-Some.ensures.items refl
+
+pub loop-self-smaller : goal.loop-self-smaller
+loop-self-smaller c = (out (goal.at.loop-self-smaller c).In-Some).nearer
 
 pub loop-self-preserved : goal.loop-self-preserved
 loop-self-preserved c =
-    let e : length c.list_at-list.result.now ≤ c.loop-self.self.at = search rules in
-    let r = out_step c.list_at-list.result.now (block_of c.args.body.now) c.loop-self.self
-    (c.list_at-list.ensures ∙ ap (λ p. inner p (block_of c.args.body.now)) c.as_slice.ensures.value) e
-    (record {
-      args = c.loop-self.self.args;
-      registers = c.loop-self.self.registers;
-      answers = c.loop-self.self.answers;
-      path =
-          c.pop.new.self;
-      at = c.in-Some.turn.at + 1;
-    }) c.in-Some.turn c.loop-self.invariant.inside refl refl refl c.in-Some.ensures.items
-    refl in
+    let r = out (goal.at.loop-self-preserved c).In-Some in
     record { inside = r.inside; same = r.same ∙ c.loop-self.invariant.same }
 
 pub returns-in-None-clause-stops : goal.returns-in-None-clause-stops
