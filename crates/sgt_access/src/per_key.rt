@@ -118,6 +118,10 @@ fn add(accesses: &mut Vec<Access>, index: usize, access: Access)
         raise(accesses, index - 1, access);
         return;
     }
+    if index == accesses.len() {
+        accesses.push_reserved(access);
+        return;
+    }
     if accesses.insert(index, access).is_err() {
         unreachable!();
     }

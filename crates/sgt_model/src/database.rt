@@ -1,8 +1,9 @@
 //! A database as a plain map from keys to values.
-ghost use Rattle.std.specs.Prelude.{◌≡◌, [], true, false, None, IsSome, IfOk, OnOk, OnErr};
+ghost use Rattle.std.specs.Prelude.{◌≡◌, ◌<◌, [], true, false, None, Some, IsSome, IfOk, OnOk, OnErr, length, slice_get};
+ghost use Rattle.std.specs.Option.{option_or};
 ghost use Rattle.sgt_model.specs.Numbers.{IsValue};
 ghost use Rattle.sgt_model.specs.Contents.{Key, put_in};
-ghost use Rattle.sgt_model.specs.Databases.{contents_of, IsByKey, IsFound, IsRowIndex, HasValues};
+ghost use Rattle.sgt_model.specs.Databases.{Row, contents_of, key_lt, IsByKey, IsFound, IsRowIndex, HasValues};
 
 use crate::errors::NoMemory;
 use crate::key::Key;
@@ -10,7 +11,8 @@ use std::alloc::Global;
 use std::marker::Model;
 
 /// A finite map from keys to values, kept as rows in the order of their keys. It finds a row by halving and adds one by
-/// moving those behind it: it serves openings and snapshots, and is no engine's store.
+/// moving those behind it; one that comes after all others is added at once. It serves openings and snapshots, and is no engine's
+/// store.
 #[derive(Debug, Drop)]
 pub struct Database {
     rows: Vec<(Key, i64)>,
@@ -97,10 +99,13 @@ impl Database {
         Err(at)
     }
 
-    // How many rows come before the key, by halving.
+    // How many rows come before the key: all of them, or else by halving.
     fn index(&self, key: Key) -> usize
         ensures { IsRowIndex key self.now result }
     {
+        if self.are_before(key) {
+            return self.rows.len();
+        }
         let mut low = 0;
         let mut high = self.rows.len();
         while low < high {
@@ -114,6 +119,45 @@ impl Database {
         low
     }
 
+    // Whether all rows come before the key.
+    #[inline(always)]
+    fn are_before(&self, key: Key) -> bool
+        ensures { result ≡ true → IsRowIndex key self.now (length self.now) }
+    {
+        let count = self.rows.len();
+        if count == 0 {
+            return true;
+        }
+        self.rows[count - 1].0 < key
+    }
+
+    /// These rows with those of `newer`: where both have a key, with the value of `newer`. It goes once through both.
+    ///
+    /// `NoMemory` where a growth was refused.
+    pub fn updated(&self, alloc: Global, newer: &Database) -> Result<Database, NoMemory>
+        ensures values { IfOk result (λ d. (k : Key) →
+            contents_of d k ≡ option_or (contents_of newer.now k) (contents_of self.now k)) }
+        ensures by_key { IfOk result IsByKey }
+    {
+        let mut both = Database::empty(alloc);
+        both.rows
+            .reserve(self.rows.len().saturating_add(newer.rows.len()))?;
+        let mut at = 0;
+        let mut at_newer = 0;
+        while at < self.rows.len() || at_newer < newer.rows.len() {
+            if is_newer_next(self.rows(), at, newer.rows(), at_newer) {
+                let (key, value) = newer.rows[at_newer];
+                both.put(key, value)?;
+                at_newer += 1;
+            } else {
+                let (key, value) = self.rows[at];
+                both.put(key, value)?;
+                at += 1;
+            }
+        }
+        Ok(both)
+    }
+
     /// The rows, by table and then by number, each key once.
     pub fn rows(&self) -> &[(Key, i64)]
         ensures rows { result.now ≡ self.now }
@@ -122,4 +166,18 @@ impl Database {
     {
         self.rows.as_slice()
     }
+}
+
+// Whether there is a newer row at its index, and it comes before the row at the other index, if there is one.
+#[inline(always)]
+fn is_newer_next(rows: &[(Key, i64)], at: usize, newer: &[(Key, i64)], at_newer: usize) -> bool
+    ensures is_there { result ≡ true → at_newer < length newer.now }
+    ensures is_before { result ≡ true → (q r : Row) → slice_get newer.now at_newer ≡ Some q → slice_get rows.now at ≡ Some r
+        → key_lt q.0 r.0 ≡ true }
+    ensures other { result ≡ false → at_newer < length newer.now → at < length rows.now }
+{
+    if at_newer >= newer.len() {
+        return false;
+    }
+    at >= rows.len() || newer[at_newer].0 < rows[at].0
 }

@@ -1,13 +1,14 @@
 -- What a record that is put or added changes for the keys of a table.
-use Rattle.std.proofs.Common.{◌≡◌, ◌≢◌, ℕ, zero, suc, ◌<◌, ◌+◌, arith, Bool, true, false, cond, List, [], ◌∷◌, ◌++◌, length, Option, Some, None, slice_get, slice_set, refl, sym, ap, ◌∙◌, subst, unwrap_or}
+use Rattle.std.proofs.Common.{◌≡◌, ◌≢◌, ℕ, zero, suc, ◌<◌, ◌+◌, arith, Bool, true, false, cond, List, [], ◌∷◌, ◌++◌, length, ◌⊎◌, inl, inr, Option, Some, None, slice_get, slice_set, refl, sym, ap, ◌∙◌, subst, unwrap_or}
 use Rattle.std.proofs.lemmas.Bool.{true≢false}
+use Rattle.std.proofs.lemmas.Option.{same_Some}
 use Rattle.std.specs.Option.{is_some, option_and_then}
 use Rattle.std.specs.BTreeMap.{BTreeMap, get, Updates}
 use Rattle.sgt_model.specs.Contents.{Key, key_eq}
 use Rattle.sgt_model.specs.Databases.{key_cmp}
 use Rattle.sgt_model.proofs.Stores.{key_eq-true, key_eq-refl}
 use Rattle.sgt_records.specs.declared.record.Record.{Record}
-use Rattle.sgt_records.specs.Indices.{AreIndices}
+use Rattle.sgt_records.specs.Indices.{AreIndices, AreKeys}
 use Rattle.sgt_records.proofs.SettledValues.{same_key}
 
 -- on lists
@@ -41,6 +42,19 @@ added_length : (xs : List Record) (x : Record) → length (xs ++ x ∷ []) ≡ l
 added_length [] x = refl
 added_length (y ∷ xs) x = let rest = added_length xs x in omega (arith, rest)
 
+-- of a list with an element more, each stands in the list, or is that one
+one_of : {A : Type 0} (xs : List A) (x y : A) (p : ℕ) → slice_get (xs ++ x ∷ []) p ≡ Some y
+    → (slice_get xs p ≡ Some y) ⊎ ((p ≡ length xs) × (x ≡ y))
+one_of [] x y zero at = inr (refl, same_Some x y at)
+one_of [] x y (suc p) at = inl at
+one_of (z ∷ xs) x y zero at = inl at
+one_of (z ∷ xs) x y (suc p) at = go (one_of xs x y p at)
+  where
+    go : (slice_get xs p ≡ Some y) ⊎ ((p ≡ length xs) × (x ≡ y))
+        → (slice_get xs p ≡ Some y) ⊎ ((suc p ≡ suc (length xs)) × (x ≡ y))
+    go (inl before) = inl before
+    go (inr last) = inr (ap suc last.0, last.1)
+
 -- one index
 same_index : (p q : ℕ) → Some p ≡ Some q → p ≡ q
 same_index p q e = ap (λ (o : Option ℕ). unwrap_or o p) e
@@ -69,6 +83,10 @@ module _ (old new : BTreeMap Key ℕ) (records : List Record) (are : AreIndices 
   pub index_told : (k : Key) → get key_cmp new k ≡ cond (key_eq key k) (Some (length records)) (get key_cmp old k)
   index_told k = told.0 k ∙ ap (λ b. cond b (Some (length records)) (get key_cmp old k)) (same_key key k)
 
+  -- another key's index is as before
+  pub others_told : (k : Key) → key_eq key k ≡ false → get key_cmp new k ≡ get key_cmp old k
+  others_told k other = index_told k ∙ ap (λ b. cond b (Some (length records)) (get key_cmp old k)) other
+
   -- and where it had none, the others keep theirs
   pub indices_stay : get key_cmp old key ≡ None → (k : Key) (p : ℕ) → get key_cmp old k ≡ Some p → get key_cmp new k ≡ Some p
   indices_stay absent k p is = index_told k ∙ go (key_eq key k) refl
@@ -76,6 +94,24 @@ module _ (old new : BTreeMap Key ℕ) (records : List Record) (are : AreIndices 
       go : (e : Bool) → key_eq key k ≡ e → cond e (Some (length records)) (get key_cmp old k) ≡ Some p
       go true e = absurd (true≢false (ap is_some (sym is ∙ (ap (get key_cmp old) (sym (key_eq-true key k e)) ∙ absent))))
       go false e = is
+
+  -- and each record has a key
+  pub added_keys : (keys : List Key) (count : ℕ) → count ≡ length records → AreKeys old keys count → get key_cmp old key ≡ None
+      → AreKeys new (keys ++ key ∷ []) (length (records ++ r ∷ []))
+  added_keys keys count same have absent = record {
+    as_many = length_more keys key ∙ ap (λ n. n + 1) (have.as_many ∙ same) ∙ sym (added_length records r);
+    are_indexed = λ k p at. one k p (one_of keys key k p at);
+  }
+    where
+      length_more : {A : Type 0} (xs : List A) (x : A) → length (xs ++ x ∷ []) ≡ length xs + 1
+      length_more [] x = refl
+      length_more (y ∷ xs) x = let rest = length_more xs x in omega (arith, rest)
+
+      one : (k : Key) (p : ℕ) → (slice_get keys p ≡ Some k) ⊎ ((p ≡ length keys) × (key ≡ k)) → get key_cmp new k ≡ Some p
+      one k p (inl before) = indices_stay absent k p (have.are_indexed k p before)
+      one k p (inr last) = index_told k
+          ∙ ap (λ b. cond b (Some (length records)) (get key_cmp old k)) (subst (λ j. key_eq key j ≡ true) last.1 (key_eq-refl key))
+          ∙ ap (λ n. Some n) (sym (last.0 ∙ (have.as_many ∙ same)))
 
   pub added_indices : AreIndices new (records ++ r ∷ [])
   added_indices = record {

@@ -47,6 +47,7 @@ impl Index {
     }
 
     /// What a look at the key finds.
+    #[inline(always)]
     pub fn top(&self, key: Key) -> Top
         ensures top { result ≡ top_of (key_chain (record_in self.now.table) self.now.chains key) (committed_of (record_in self.now.table) key) }
         ensures in_range { IfSome (value_of_top result) IsValue }
@@ -86,6 +87,7 @@ impl Index {
 
     /// Puts t's value last in the chain of a key whose record has this index, and answers whether it takes the place of an
     /// earlier one. This takes no memory.
+    #[inline(always)]
     pub fn write(&mut self, t: Tid, key: Key, index: usize, value: i64) -> bool
         requires index { index_in self.old.table key ≡ Some index }
         requires ready { HasRoomFor self.old.chains 1 }
@@ -99,13 +101,14 @@ impl Index {
         ensures settled { (k : Key) → committed_of (record_in self.new.table) k ≡ committed_of (record_in self.old.table) k }
         ensures indices { self.new.table.indices ≡ self.old.table.indices }
     {
-        let Record { committed, written } = self.table.at(key, index);
+        let Record { committed, written } = *self.table.at(key, index);
         let (written, again) = written.write(&mut self.chains, t, value);
         self.table.put(key, index, Record { committed, written });
         again
     }
 
     /// Takes t's value out of the chain of a key whose record has this index.
+    #[inline(always)]
     pub fn undo(&mut self, t: Tid, key: Key, index: usize)
         requires index { index_in self.old.table key ≡ Some index }
         ensures chain { (k : Key) → key_chain (record_in self.new.table) self.new.chains k
@@ -114,12 +117,13 @@ impl Index {
         ensures settled { (k : Key) → committed_of (record_in self.new.table) k ≡ committed_of (record_in self.old.table) k }
         ensures indices { self.new.table.indices ≡ self.old.table.indices }
     {
-        let Record { committed, written } = self.table.at(key, index);
+        let Record { committed, written } = *self.table.at(key, index);
         let (written, _) = written.take_out(&mut self.chains, t);
         self.table.put(key, index, Record { committed, written });
     }
 
     /// Takes t's value out of the chain of a key whose record has this index, and makes it the committed one.
+    #[inline(always)]
     pub fn settle(&mut self, t: Tid, key: Key, index: usize)
         requires index { index_in self.old.table key ≡ Some index }
         ensures chain { (k : Key) → key_chain (record_in self.new.table) self.new.chains k
@@ -131,7 +135,7 @@ impl Index {
             (committed_of (record_in self.old.table) k) }
         ensures indices { self.new.table.indices ≡ self.old.table.indices }
     {
-        let Record { committed, written } = self.table.at(key, index);
+        let Record { committed, written } = *self.table.at(key, index);
         let (written, value) = written.take_out(&mut self.chains, t);
         let committed = value.or(committed);
         self.table.put(key, index, Record { committed, written });

@@ -17,6 +17,7 @@
 
 mod chain;
 mod committed;
+mod hints;
 mod index;
 mod list_records;
 mod live_write;

@@ -17,6 +17,7 @@ pub struct Record {
 
 impl Record {
     /// What a look finds.
+    #[inline(always)]
     pub fn top(&self, chains: &Slab<Chain>) -> Top
         ensures { result ≡ top_of (chain_at chains.now self.now.written) self.now.committed }
     {

@@ -55,6 +55,7 @@ impl Records for SlabRecords {
         })
     }
 
+    #[inline(always)]
     fn top(&self, key: Key) -> Top {
         self.index.top(key)
     }

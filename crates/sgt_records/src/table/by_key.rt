@@ -1,9 +1,11 @@
 //! The records by key, or by an index that was found before.
-ghost use Rattle.std.specs.Prelude.{◌≡◌, ℕ, None, Some, cond, IfOk, OnOk, OnErr};
+ghost use Rattle.std.specs.Prelude.{◌≡◌, ℕ, None, Some, true, false, cond, IfOk, OnOk, OnErr};
+ghost use Rattle.std.specs.Option.{option_copied};
 ghost use Rattle.sgt_model.specs.Contents.{Key, key_eq};
 ghost use Rattle.sgt_records.specs.declared.written.Written.TheVariants.{Nothing};
 ghost use Rattle.sgt_records.specs.Tables.{index_in, record_in};
 
+use crate::hints::Hints;
 use crate::record::Record;
 use crate::table::Table;
 use crate::written::Written;
@@ -19,19 +21,46 @@ impl Table {
         Table {
             indices: BTreeMap::new(alloc),
             records: Vec::new(alloc),
+            keys: Vec::new(alloc),
+            hints: Hints::new(alloc),
         }
     }
 
     /// The index of the key's record, if it has one.
+    #[inline(always)]
     pub fn index(&self, key: Key) -> Option<usize>
+        ensures { result ≡ index_in self.now key }
+    {
+        let (newer, older) = self.hints.guesses(key);
+        if self.is_at(key, newer) {
+            return Some(newer);
+        }
+        if self.is_at(key, older) {
+            return Some(older);
+        }
+        self.search(key)
+    }
+
+    // Whether there is a record with this index, and it is the key's.
+    #[inline(always)]
+    fn is_at(&self, key: Key, index: usize) -> bool
+        ensures { result ≡ true → index_in self.now key ≡ Some index }
+    {
+        index < self.keys.len() && self.keys[index] == key
+    }
+
+    // The index of the key's record by the map, if it has one.
+    #[inline(never)]
+    fn search(&self, key: Key) -> Option<usize>
         ensures { result ≡ index_in self.now key }
     {
         self.indices.get(&key).copied()
     }
 
     /// The record of the key, if it has one.
-    pub fn get(&self, key: Key) -> Option<Record>
-        ensures { result ≡ record_in self.now key }
+    #[inline(always)]
+    pub fn get(&self, key: Key) -> Option<&Record>
+        ensures { option_copied result ≡ record_in self.now key }
     {
         match self.index(key) {
             Some(index) => Some(self.at(key, index)),
@@ -40,14 +69,16 @@ impl Table {
     }
 
     /// The record of a key that has this index.
-    pub fn at(&self, _key: Key, index: usize) -> Record
+    #[inline(always)]
+    pub fn at(&self, _key: Key, index: usize) -> &Record
         requires { index_in self.now _key ≡ Some index }
-        ensures { record_in self.now _key ≡ Some result }
+        ensures { record_in self.now _key ≡ Some result.now }
     {
-        self.records[index]
+        &self.records[index]
     }
 
     /// Puts a record in the place of the key's, which has this index.
+    #[inline(always)]
     pub fn put(&mut self, _key: Key, index: usize, given: Record)
         requires { index_in self.old _key ≡ Some index }
         ensures put { (k : Key) → record_in self.new k ≡ cond (key_eq _key k) (Some given) (record_in self.old k) }
@@ -56,23 +87,28 @@ impl Table {
         self.records[index] = given;
     }
 
-    /// Adds a record, which is the key's from now on, with a committed value, or none, and nothing written above it. It tells the
-    /// record's index. `NoMemory` where a growth was refused.
+    /// Adds the record of a key that has none, with a committed value, or none, and nothing written above it. It tells the record's
+    /// index. `NoMemory` where a growth was refused.
     pub fn add(&mut self, key: Key, committed: Option<i64>) -> Result<usize, NoMemory>
+        requires absent { index_in self.old key ≡ None }
         ensures added { OnOk result ((k : Key) → record_in self.new k
             ≡ cond (key_eq key k) (Some (record { committed = committed; written = Nothing })) (record_in self.old k)) }
         ensures index { IfOk result (λ index. index_in self.new key ≡ Some index) }
-        ensures stay { index_in self.old key ≡ None
-            → (k : Key) (p : ℕ) → index_in self.old k ≡ Some p → index_in self.new k ≡ Some p }
+        ensures stay { (k : Key) (p : ℕ) → index_in self.old k ≡ Some p → index_in self.new k ≡ Some p }
+        ensures others { OnOk result ((k : Key) → key_eq key k ≡ false → index_in self.new k ≡ index_in self.old k) }
         ensures unchanged { OnErr result ((k : Key) → record_in self.new k ≡ record_in self.old k) }
     {
         let index = self.records.len();
         self.records.reserve(1)?;
+        self.keys.reserve(1)?;
+        self.hints.reserve(self.keys.as_slice())?;
         self.indices.insert(key, index)?;
+        self.hints.note(key, index);
         self.records.push_reserved(Record {
             committed,
             written: Written::Nothing,
         });
+        self.keys.push_reserved(key);
         Ok(index)
     }
 }

@@ -14,6 +14,7 @@ use slab::Slab;
 
 impl Written {
     /// Who wrote last, and what.
+    #[inline(always)]
     pub fn last(self, chains: &Slab<Chain>) -> Option<(Tid, i64)>
         ensures { result ≡ last_or None (chain_at chains.now self) }
     {
@@ -26,6 +27,7 @@ impl Written {
 
     /// The same with t's value last, and whether it takes the place of an earlier one. A chain is made for the second writer. This
     /// takes no memory.
+    #[inline(always)]
     pub fn write(self, chains: &mut Slab<Chain>, t: Tid, value: i64) -> (Written, bool)
         requires ready { HasRoomFor chains.old 1 }
         requires held { IsHeld chains.old (slot_in self) }
@@ -51,6 +53,7 @@ impl Written {
     }
 
     /// The same without t's value, and that value. Where none is left of a chain, its slot is given back.
+    #[inline(always)]
     pub fn take_out(self, chains: &mut Slab<Chain>, t: Tid) -> (Written, Option<i64>)
         requires held { IsHeld chains.old (slot_in self) }
         requires chain { IsChain (chain_at chains.old self) }

@@ -6,7 +6,8 @@ use Rattle.sgt_model.specs.Numbers.{IsValue}
 use Rattle.sgt_model.specs.Contents.{key_eq, put_in}
 use Rattle.sgt_model.specs.Databases.{Row, contents_of, IsByKey, HasValues}
 use Rattle.sgt_records.specs.Settleds.{settled_in}
-use Rattle.sgt_records.proofs.RowsRead.{row_more, rows_values}
+use Rattle.sgt_model.proofs.Merges.{row_more}
+use Rattle.sgt_records.proofs.RowsRead.{rows_values}
 use Rattle.sgt_records.proofs.SettledValues.{value_put}
 use Rattle.sgt_records.proofs.committed.Committed.of.Goals as goal
 

@@ -35,7 +35,7 @@ at-requires c =
 pub put-requires : goal.put-requires
 put-requires c = subst IsValue (sym (to_z-of_z w64 c.in-Some-committed.value (search rules)))
     (subst (λ (o : Option ℤ). IfSome o IsValue) c.in-Some-committed.is
-    (value_there (record_in c.args.self.now.table) c.args.self.now.chains c.in-Some.key.now c.at.result c.at.ensures
+    (value_there (record_in c.args.self.now.table) c.args.self.now.chains c.in-Some.key.now c.at.result.now c.at.ensures
     c.args.self.now.is_index))
 
 pub loop-key-preserved-in-Continue-1 : goal.loop-key-preserved-in-Continue-1
@@ -55,7 +55,7 @@ loop-key-preserved-in-Continue-1 c =
           (to_z-of_z w64 c.in-Some-committed.value (search rules))
           ∙ (ap (λ o. cond (key_eq key k) (Some c.in-Some-committed.value) o) (c.loop-key.invariant.values k)
           ∙ (sym (value_more (value table) indices (map deref_pair c.loop-key.yielded) key index c.in-Some-committed.value found
-          (value_is table c.at.result index (get key_cmp indices key) found c.at.ensures ∙ c.in-Some-committed.is) k)
+          (value_is table c.at.result.now index (get key_cmp indices key) found c.at.ensures ∙ c.in-Some-committed.is) k)
           ∙ ap (λ l. given_so_far (value table) indices l k) (sym (map-append deref_pair c.loop-key.yielded
           ((c.in-Some.key, c.in-Some.index) ∷ []))))));
     }
@@ -74,7 +74,7 @@ loop-key-preserved c =
       by_key = c.loop-key.invariant.by_key;
       values = λ k. c.loop-key.invariant.values k
           ∙ (sym (blank_more (value table) indices (map deref_pair c.loop-key.yielded) key index found
-          (value_is table c.at.result index (get key_cmp indices key) found c.at.ensures ∙ c.in_default.is) k)
+          (value_is table c.at.result.now index (get key_cmp indices key) found c.at.ensures ∙ c.in_default.is) k)
           ∙ ap (λ l. given_so_far (value table) indices l k) (sym (map-append deref_pair c.loop-key.yielded
           ((c.in-Some.key, c.in-Some.index) ∷ []))));
     }

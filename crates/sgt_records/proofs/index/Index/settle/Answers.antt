@@ -14,8 +14,8 @@ invariant_of-self c =
     let records = record_in c.args.self.now.table in
     let chains = c.args.self.now.chains in
     let index = c.args.self.now.is_index in
-    let old = c.at-committed.result in
-    let is : records c.args.key ≡ Some old = c.at-committed.ensures in
+    let old = c.at.result.now in
+    let is : records c.args.key ≡ Some old = c.at.ensures in
     let was = written_is records chains c.args.key old is index in
     let value : c.or-committed.result ≡ option_or (value_in c.args.t (chain_at chains old.written)) old.committed = c.or-committed.ensures
     ∙ ap (λ v. option_or v old.committed) c.take_out-written.ensures.value in
@@ -33,8 +33,8 @@ returns-clause-chain c =
     let records = record_in c.args.self.now.table in
     let chains = c.args.self.now.chains in
     let index = c.args.self.now.is_index in
-    let old = c.at-committed.result in
-    let is : records c.args.key ≡ Some old = c.at-committed.ensures in
+    let old = c.at.result.now in
+    let is : records c.args.key ≡ Some old = c.at.ensures in
     let was = written_is records chains c.args.key old is index in
     chain_by records (record_in c.put.new.self) c.args.key _ c.put.ensures.put chains c.take_out-written.new.chains index old.written was
     c.take_out-written.ensures.moves (chain_without c.args.t) c.take_out-written.ensures.left
@@ -44,8 +44,8 @@ returns-clause-settled c =
     let records = record_in c.args.self.now.table in
     let chains = c.args.self.now.chains in
     let index = c.args.self.now.is_index in
-    let old = c.at-committed.result in
-    let is : records c.args.key ≡ Some old = c.at-committed.ensures in
+    let old = c.at.result.now in
+    let is : records c.args.key ≡ Some old = c.at.ensures in
     let was = written_is records chains c.args.key old is index in
     let value : c.or-committed.result ≡ option_or (value_in c.args.t (chain_at chains old.written)) old.committed = c.or-committed.ensures
     ∙ ap (λ v. option_or v old.committed) c.take_out-written.ensures.value in

@@ -11,8 +11,8 @@ invariant_of-self c =
     let records = record_in c.args.self.now.table in
     let chains = c.args.self.now.chains in
     let index = c.args.self.now.is_index in
-    let old = c.at-committed.result in
-    let is : records c.args.key ≡ Some old = c.at-committed.ensures in
+    let old = c.at.result.now in
+    let is : records c.args.key ≡ Some old = c.at.ensures in
     let was = written_is records chains c.args.key old is index in
     record {
       is_index = index_told records (record_in c.put.new.self) c.args.key _ c.put.ensures.put chains c.take_out-written.new.chains index
@@ -26,8 +26,8 @@ returns-clause-chain c =
     let records = record_in c.args.self.now.table in
     let chains = c.args.self.now.chains in
     let index = c.args.self.now.is_index in
-    let old = c.at-committed.result in
-    let is : records c.args.key ≡ Some old = c.at-committed.ensures in
+    let old = c.at.result.now in
+    let is : records c.args.key ≡ Some old = c.at.ensures in
     let was = written_is records chains c.args.key old is index in
     chain_by records (record_in c.put.new.self) c.args.key _ c.put.ensures.put chains c.take_out-written.new.chains index old.written was
     c.take_out-written.ensures.moves (chain_without c.args.t) c.take_out-written.ensures.left
@@ -36,4 +36,4 @@ pub returns-clause-settled : goal.returns-clause-settled
 returns-clause-settled c =
     let records = record_in c.args.self.now.table in
     committed_same records (record_in c.put.new.self) c.args.key _ c.put.ensures.put
-    (sym (committed_is records c.args.self.now.chains c.args.key c.at-committed.result c.at-committed.ensures c.args.self.now.is_index))
+    (sym (committed_is records c.args.self.now.chains c.args.key c.at.result.now c.at.ensures c.args.self.now.is_index))

@@ -13,8 +13,8 @@ invariant_of-self c =
     let records = record_in c.args.self.now.table in
     let chains = c.args.self.now.chains in
     let index = c.args.self.now.is_index in
-    let old = c.at-committed.result in
-    let is : records c.args.key ≡ Some old = c.at-committed.ensures in
+    let old = c.at.result.now in
+    let is : records c.args.key ≡ Some old = c.at.ensures in
     let was = written_is records chains c.args.key old is index in
     let last : chain_at c.write-written.new.chains c.write-written.result.0
     ≡ write_last c.args.t c.args.value (chain_at chains old.written) =
@@ -33,8 +33,8 @@ returns-clause-chain c =
     let records = record_in c.args.self.now.table in
     let chains = c.args.self.now.chains in
     let index = c.args.self.now.is_index in
-    let old = c.at-committed.result in
-    let is : records c.args.key ≡ Some old = c.at-committed.ensures in
+    let old = c.at.result.now in
+    let is : records c.args.key ≡ Some old = c.at.ensures in
     let was = written_is records chains c.args.key old is index in
     let last : chain_at c.write-written.new.chains c.write-written.result.0
     ≡ write_last c.args.t c.args.value (chain_at chains old.written) =
@@ -47,4 +47,4 @@ pub returns-clause-settled : goal.returns-clause-settled
 returns-clause-settled c =
     let records = record_in c.args.self.now.table in
     committed_same records (record_in c.put.new.self) c.args.key _ c.put.ensures.put
-    (sym (committed_is records c.args.self.now.chains c.args.key c.at-committed.result c.at-committed.ensures c.args.self.now.is_index))
+    (sym (committed_is records c.args.self.now.chains c.args.key c.at.result.now c.at.ensures c.args.self.now.is_index))

@@ -1,0 +1,76 @@
+//! Guesses of where the record of a key stands.
+use sgt_model::{Key, LEAST, NoMemory};
+use std::alloc::Global;
+
+/// The fewest pairs of guesses, where there are any.
+const FEWEST: usize = 64;
+
+/// Guesses of the indices of records by their keys: two for each hash of a key, the newer first.
+///
+/// Nothing is promised of a guess, which may be another key's, or of no record. Whoever takes one looks whether the record there
+/// is the key's, and else asks the map of indices. So a wrong guess costs time, and never an answer.
+#[derive(Drop)]
+pub struct Hints {
+    // Their number is a power of two, or zero.
+    pairs: Vec<(u32, u32)>,
+}
+
+impl Hints {
+    /// No guesses. This takes no memory.
+    pub fn new(alloc: Global) -> Hints {
+        Hints {
+            pairs: Vec::new(alloc),
+        }
+    }
+
+    /// Two indices at which the record of the key may stand.
+    #[inline(always)]
+    pub fn guesses(&self, key: Key) -> (usize, usize) {
+        let spot = spot_of(key, self.pairs.len());
+        if spot < self.pairs.len() {
+            let (newer, older) = self.pairs[spot];
+            return (newer as usize, older as usize);
+        }
+        (0, 0)
+    }
+
+    /// Notes the index of the record of a key.
+    #[inline(always)]
+    pub fn note(&mut self, key: Key, index: usize) {
+        let spot = spot_of(key, self.pairs.len());
+        if spot < self.pairs.len() {
+            let (newer, _) = self.pairs[spot];
+            self.pairs[spot] = (index.min(u32::MAX as usize) as u32, newer);
+        }
+    }
+
+    /// Makes room for the guess of one more record than there are, whose keys are these in the order of their indices.
+    ///
+    /// `NoMemory` if the allocation failed.
+    #[inline(always)]
+    pub fn reserve(&mut self, keys: &[Key]) -> Result<(), NoMemory> {
+        if keys.len() < self.pairs.len() / 2 {
+            return Ok(());
+        }
+        self.grow(keys)
+    }
+
+    // Makes twice as many, and notes the records anew.
+    #[inline(never)]
+    fn grow(&mut self, keys: &[Key]) -> Result<(), NoMemory> {
+        let count = (self.pairs.len() * 2).max(FEWEST);
+        self.pairs.resize(count, (0, 0))?;
+        for (index, key) in keys.iter().enumerate() {
+            self.note(*key, index);
+        }
+        Ok(())
+    }
+}
+
+// The index of a key's pair among so many.
+#[inline(always)]
+fn spot_of(key: Key, count: usize) -> usize {
+    let number = (key.id() - LEAST) as u64 * 8 + u64::from(key.table());
+    let mixed = number.wrapping_mul(0x9E37_79B9_7F4A_7C15) >> 32;
+    mixed as usize & count.wrapping_sub(1)
+}
