@@ -114,9 +114,53 @@ NO_EVENTS = """
 
 NO_JSON = (b"", b'["step",0', b'["step",\xff]')
 
+# A blank may stand behind a comma, and nowhere inside a number or a word. Numbers are of eighteen digits, and of nineteen.
+SPELLINGS = """
+bad args: ["start", 5, [999999999999999999, -999999999999999999]]
+bad args: ["start",5,[1000000000000000000,-1000000000000000000]]
+bad args: ["start", 5, [1, 2, 3]]
+no procedure: ["start", 65535, []]
+started 0: ["start", 5, [1, -2]]
+started 1: ["start",  5,  [3,  -4]]
+started 2: ["start", 5 , [5,6 ] ]
+ended: ["step", 0]
+ended: ["step",  1]
+unknown: ["quit", 4294967295]
+committed 1 -2: ["commit", 0]
+committed 3 -4: ["commit", 1 ]
+committed 5 6: ["commit",2]
+"""
+
+NO_SPELLINGS = """
+["step",1 2]
+["step", 1 2]
+["step",01]
+["step", 00]
+["step",-]
+["step",- 1]
+["start",5,[1 2]]
+["start",5,[- 1,2]]
+["start",5,[01,2]]
+["start",5,[1,]]
+["start",5,[,1]]
+["step", ]
+["step",0]]
+"""
+
 
 def reads_events(sgt):
     are_answered(sgt, opening("[8,100]", procedures=TWO_ARGUMENTS), EVENTS)
+
+
+def reads_either_spelling(sgt):
+    are_answered(sgt, opening("[8,100]", procedures=TWO_ARGUMENTS), SPELLINGS)
+
+
+def takes_no_blank_inside_a_number(sgt):
+    for line in NO_SPELLINGS.split("\n")[1:-1]:
+        same(line, (2, "", "line 2: not JSON\n"), sgt.run("script", given=f"{opening()}\n{line}\n"))
+        job = line.replace("step", "job").replace("start", "job")
+        same(job, (2, "", "line 2: not JSON\n"), sgt.run("bank", "--workers", "1", given=f"{opening()}\n{job}\n"))
 
 
 def reads_starts(sgt):
@@ -163,6 +207,8 @@ PUT_RECORDS = """
 3/7 41: ["record",3,7,41]
 0/2 102: ["record",0,2,102]
 7/0 0: [ "record" , 7 , 0 , 0 ]
+4/0 -5: ["record", 4, 0, -5]
+6/8 100: ["record",6, 8,100]
 3/-999999999999999 -999999999999999: ["record",3,-999999999999999,-999999999999999]
 5/999999999999999 999999999999999: ["r\\u0065cord",5,999999999999999,999999999999999]
 """
@@ -186,6 +232,8 @@ NO_RECORDS = """
 ["record",3,1]
 ["record",3,1,1,1]
 ["record",3,1,1.0]
+["record", 3, 1, -0]
+["record", 3, 1, [1]]
 ["record",3,1,9223372036854775808]
 ["record","3",1,1]
 ["records",3,1,1]
@@ -1154,6 +1202,8 @@ def writes_each_reply_before_it_reads_on(sgt):
 
 CASES = [
     reads_events,
+    reads_either_spelling,
+    takes_no_blank_inside_a_number,
     reads_starts,
     refuses_lines_of_no_event,
     refuses_lines_of_no_json,

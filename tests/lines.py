@@ -258,6 +258,7 @@ SPECIAL = b'[]{},:"\\0123456789-+.eE \t\r/tunrfalsebd\x1f'
 OPENING = b'{"limits":[8,100],"accounts":[[1,101,500,1000]],"procedures":[[1,[["ask",1],["answer",["arg",0]]]]]}'
 NUMBERS = (
     "-1 -0 4 5 6 65535 65536 4294967295 4294967296 999999999999999 1000000000000000 -999999999999999 -1000000000000000"
+    " 99999999999999999 100000000000000000 999999999999999999 1000000000000000000 -999999999999999999"
     " 9223372036854775807 9223372036854775808 -9223372036854775808 -9223372036854775809 18446744073709551615"
     " 18446744073709551616 -18446744073709551616 1.0 0.5 1e2 1E2 1e+2 2e-1 0e0 0e99999999999999999999"
     " 1e99999999999999999999 1e-99999999999999999999 -1e400 1e400 1e308 1e309 1.7976931348623157e308 1.7976931348623158e308"
@@ -297,7 +298,8 @@ class Draws:
         return self.pick(BLANKS) if self.once_in(16) else b""
 
     def comma(self):
-        return self.blanks() + b"," + self.blanks()
+        """Each third one has the blank behind it that Python's `json.dumps` writes, and none before it."""
+        return b", " if self.once_in(3) else self.blanks() + b"," + self.blanks()
 
     def digits(self, count):
         """So many digits, of which now and then all are alike."""

@@ -7,5 +7,6 @@ pub mod Numerals
 pub mod LineTokens
 pub mod PlainLines
 pub mod PlainCalls
+pub mod PlainRecords
 pub mod WrittenRecords
 pub mod ReadAccounts

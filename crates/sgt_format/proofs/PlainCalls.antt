@@ -1,18 +1,16 @@
 -- What a line means that is a call written plainly.
-use Rattle.std.proofs.Common.{◌≡◌, ◌≤◌, ◌<◌, ◌-◌, ◌^◌, true, false, ℕ, ℤ, pos, negsuc, suc, List, [], ◌∷◌, ◌++◌, length, take, drop, Some, None, Option, subst, refl, arith, sym, ◌∙◌, ap, lt-ltb}
+use Rattle.std.proofs.Common.{◌≡◌, ◌≤◌, ◌<◌, ◌-◌, ◌^◌, true, false, Bool, ℕ, ℤ, pos, negsuc, suc, List, [], ◌∷◌, ◌++◌, length, take, drop, Some, None, Option, subst, refl, arith, sym, ◌∙◌, ap, lt-ltb}
 use Rattle.std.specs.Prelude.{slice_index, codes, map, IsUtf8, Ok, option_and_then, IfSome}
 use Rattle.std.specs.Fmt.{decimal, signed_decimal}
-use Rattle.std.specs.Str.{IsAscii}
-use Rattle.std.proofs.lemmas.Fmt.{IsAscii-decimal, IsAscii-signed}
+use Rattle.std.proofs.lemmas.Fmt.{IsAscii-signed}
 use Rattle.std.proofs.lemmas.List.{take-append-drop, take_all, length-drop, append-nil, append_assoc}
-use Rattle.std.proofs.lemmas.Grind.{flat_map-append}
-use Rattle.std.proofs.lemmas.Str.{IsUtf8-from_ascii, IsAscii-append}
+use Rattle.std.proofs.lemmas.Str.{IsUtf8-from_ascii}
 use lib.Signed.{mag}
 use Rattle.json.specs.Token.{Token, begin_array, end_array, string, number}
-use Rattle.json.specs.Lex.{tokens}
-use Rattle.json.specs.Print.{escape_byte, print_from, print, ArePrintable}
-use Rattle.json.proofs.Printed.Tokens.{tokens-print}
+use Rattle.json.specs.Print.{escape_byte, quoted, ArePrintable}
+use Rattle.json.specs.Spaced.{IsGap, print_spaced}
 use Rattle.json.proofs.Printed.Decimals.{IsNumber-decimal, IsNumber-signed_decimal}
+use Rattle.json.proofs.Printed.Utf8.{IsUtf8-are_ascii}
 use Rattle.serde_json.specs.Find.{as_i64}
 use Rattle.serde_json.proofs.Numbers.{number_of-negative}
 use Rattle.sgt_model.specs.declared.event.Event.TheVariants.{Start}
@@ -21,9 +19,9 @@ use Rattle.sgt_format.specs.declared.call.JobCall.{JobCall}
 use Rattle.sgt_format.specs.EventLines.{event_of}
 use Rattle.sgt_format.specs.JobLines.{job_of}
 use Rattle.sgt_format.specs.LineTokens.{whole_number, whole_numbers}
-use Rattle.sgt_format.specs.PlainLines.{behind_commas, arguments_text, comma_behind, AreSmall, IsCall}
+use Rattle.sgt_format.specs.PlainLines.{number_tokens, comma_behind, AreArguments, AreSmall, IsCall}
 use Rattle.sgt_format.proofs.LineTokens.{spelled_start, spelled_job, event_found, job_found}
-use Rattle.sgt_format.proofs.PlainLines.{whole_decimal, all_ascii, ascii_from}
+use Rattle.sgt_format.proofs.PlainLines.{whole_decimal, AreUtf8, IsSpaced, is_spaced, decimal_utf8}
 
 pub two_brackets : (text : List ℕ) → length text ≡ 2 → slice_index text 0 ≡ 93 → slice_index text 1 ≡ 93 → text ≡ codes "]]"
 two_brackets [] many first second = absurd (omega arith)
@@ -39,34 +37,73 @@ number_first text rest n digits are is =
     sym (take-append-drop digits text) ∙ ap (λ front. front ++ drop digits text) are
     ∙ ap (λ rest. decimal n ++ rest) (sym behind ∙ sym is)
 
--- one argument more
-longer_text : (args : List ℤ) (n : ℤ) → arguments_text (args ++ n ∷ []) ≡ arguments_text args ++ (comma_behind args ++ signed_decimal n)
-longer_text [] n = append-nil (signed_decimal n)
-longer_text (m ∷ args) n =
-    ap (λ more. signed_decimal m ++ more)
-    (flat_map-append (λ n. 44 ∷ signed_decimal n) args (n ∷ [])
-    ∙ ap (λ last. behind_commas args ++ 44 ∷ last) (append-nil (signed_decimal n)))
-    ∙ sym (append_assoc (signed_decimal m) (behind_commas args) (44 ∷ signed_decimal n))
+-- ---- arguments
 
-pub one_argument_more : (text rest more : List ℕ) (args longer : List ℤ) (n : ℤ) → text ≡ arguments_text args ++ rest
-    → rest ≡ comma_behind args ++ (signed_decimal n ++ more) → longer ≡ args ++ n ∷ [] → text ≡ arguments_text longer ++ more
-one_argument_more text rest more args longer n before next is =
-    before ∙ ap (λ rest. arguments_text args ++ rest) (next ∙ sym (append_assoc (comma_behind args) (signed_decimal n) more))
-    ∙ sym (append_assoc (arguments_text args) (comma_behind args ++ signed_decimal n) more)
-    ∙ ap (λ front. front ++ more) (sym (longer_text args n)) ∙ ap (λ all. arguments_text all ++ more) (sym is)
+-- whether there is a number
+abbrev pub some : List ℤ → Bool
+some [] = false
+some (n ∷ rest) = true
 
-small_too : (args : List ℤ) (n : ℤ) → AreSmall args → mag n < 1_000_000_000 → AreSmall (args ++ n ∷ [])
+-- the brackets alone
+pub no_arguments : (text : List ℕ) (args : List ℤ) → text ≡ codes "]]" → AreArguments (some args) text []
+unfolding print_spaced
+no_arguments text [] is = record { spaced = ([], end_array) ∷ ([], end_array) ∷ []; gaps = (tt, (tt, tt)); tokens = refl; is = is }
+no_arguments text (n ∷ args) is = record { spaced = ([], end_array) ∷ ([], end_array) ∷ []; gaps = (tt, (tt, tt)); tokens = refl; is = is }
+
+-- one number before others
+pub one_before : (args : List ℤ) (gap rest more : List ℕ) (n : ℤ) (others : List ℤ) → IsGap gap
+    → rest ≡ comma_behind args ++ (gap ++ (signed_decimal n ++ more)) → AreArguments true more others
+    → AreArguments (some args) rest (n ∷ others)
+unfolding print_spaced
+one_before [] gap rest more n others is_gap is are = record {
+  spaced = (gap, number (signed_decimal n)) ∷ are.spaced;
+  gaps = (is_gap, are.gaps);
+  tokens = ap (λ ts. number (signed_decimal n) ∷ ts) are.tokens;
+  is = is ∙ ap (λ more. gap ++ (signed_decimal n ++ more)) are.is;
+}
+one_before (m ∷ args) gap rest more n others is_gap is are = record {
+  spaced = (gap, number (signed_decimal n)) ∷ are.spaced;
+  gaps = (is_gap, are.gaps);
+  tokens = ap (λ ts. number (signed_decimal n) ∷ ts) are.tokens;
+  is = is ∙ ap (λ more. 44 ∷ (gap ++ (signed_decimal n ++ more))) are.is;
+}
+
+-- whatever numbers a rest is, the text is these arguments and then those
+abbrev pub GoesOn : List ℕ → List ℤ → List ℕ → Type 0
+GoesOn text args rest = (others : List ℤ) → AreArguments (some args) rest others → AreArguments false text (args ++ others)
+
+some_more : (args : List ℤ) (n : ℤ) → some (args ++ n ∷ []) ≡ true
+some_more [] n = refl
+some_more (m ∷ args) n = refl
+
+pub one_argument_more : (text rest more gap : List ℕ) (args longer : List ℤ) (n : ℤ) → GoesOn text args rest → IsGap gap
+    → rest ≡ comma_behind args ++ (gap ++ (signed_decimal n ++ more)) → longer ≡ args ++ n ∷ [] → GoesOn text longer more
+one_argument_more text rest more gap args longer n goes_on is_gap next is others are =
+    let behind : AreArguments true more others =
+    subst (λ b. AreArguments b more others) (ap some is ∙ some_more args n) are in
+    subst (λ all. AreArguments false text all) (sym (append_assoc args (n ∷ []) others) ∙ ap (λ args. args ++ others) (sym is))
+    (goes_on (n ∷ others) (one_before args gap rest more n others is_gap next behind))
+
+pub arguments_end : (text rest : List ℕ) (args : List ℤ) → GoesOn text args rest → rest ≡ codes "]]" → AreArguments false text args
+arguments_end text rest args goes_on is =
+    subst (λ all. AreArguments false text all) (append-nil args) (goes_on [] (no_arguments rest args is))
+
+small_too : (args : List ℤ) (n : ℤ) → AreSmall args → mag n < 1_000_000_000_000_000_000 → AreSmall (args ++ n ∷ [])
 small_too [] n are is = (is, tt)
 small_too (m ∷ args) n are is = (are.0, small_too args n are.1 is)
 
-pub one_small_more : (args longer : List ℤ) (n : ℤ) → AreSmall args → mag n < 1_000_000_000 → longer ≡ args ++ n ∷ []
+pub one_small_more : (args longer : List ℤ) (n : ℤ) → AreSmall args → mag n < 1_000_000_000_000_000_000 → longer ≡ args ++ n ∷ []
     → AreSmall longer
 one_small_more args longer n are is same = subst AreSmall (sym same) (small_too args n are is)
 
--- the whole numbers of such a text
-whole_signed : (n : ℤ) → mag n < 1_000_000_000 → whole_number (signed_decimal n) ≡ Some n
+-- ---- what they mean
+
+pub whole_signed : (n : ℤ) → mag n < 1_000_000_000_000_000_000 → whole_number (signed_decimal n) ≡ Some n
 whole_signed (pos n) small = whole_decimal n small
 whole_signed (negsuc n) small = ap (option_and_then as_i64) (number_of-negative n (omega arith))
+
+pub signed_utf8 : (n : ℤ) → mag n < 1_000_000_000_000_000_000 → IsUtf8 (signed_decimal n)
+signed_utf8 n small = IsUtf8-from_ascii (signed_decimal n) (IsAscii-signed n (omega arith))
 
 texts_are : (args : List ℤ) → AreSmall args → whole_numbers (map signed_decimal args) ≡ Some args
 texts_are [] small = refl
@@ -76,71 +113,46 @@ as_many : (args : List ℤ) → length (map signed_decimal args) ≡ length args
 as_many [] = refl
 as_many (n ∷ args) = ap suc (as_many args)
 
--- their tokens
-abbrev number_tokens : List ℤ → List Token
-number_tokens args = map number (map signed_decimal args) ++ end_array ∷ end_array ∷ []
-
 can_print : (args : List ℤ) → AreSmall args → ArePrintable (number_tokens args)
 unfolding ArePrintable
 can_print [] small = (tt, (tt, tt))
 can_print (n ∷ args) small = (IsNumber-signed_decimal n (omega (arith, small.0)), can_print args small.1)
 
-printed_behind : (args : List ℤ) → print_from true (number_tokens args) ≡ behind_commas args ++ codes "]]"
-unfolding print_from
-printed_behind [] = refl
-printed_behind (n ∷ args) =
-    ap (λ rest. 44 ∷ (signed_decimal n ++ rest)) (printed_behind args)
-    ∙ ap (λ rest. 44 ∷ rest) (sym (append_assoc (signed_decimal n) (behind_commas args) (codes "]]")))
-
-printed : (args : List ℤ) → print_from false (number_tokens args) ≡ arguments_text args ++ codes "]]"
-unfolding print_from
-printed [] = refl
-printed (n ∷ args) =
-    ap (λ rest. signed_decimal n ++ rest) (printed_behind args)
-    ∙ sym (append_assoc (signed_decimal n) (behind_commas args) (codes "]]"))
+are_utf8 : (args : List ℤ) → AreSmall args → AreUtf8 (number_tokens args)
+are_utf8 [] small = (IsUtf8-are_ascii (93 ∷ []) refl, (IsUtf8-are_ascii (93 ∷ []) refl, tt))
+are_utf8 (n ∷ args) small = (signed_utf8 n small.0, are_utf8 args small.1)
 
 -- a word, a procedure and arguments
 abbrev spelled : List ℕ → ℕ → List ℤ → List Token
 spelled w p args = begin_array ∷ string w ∷ number (decimal p) ∷ begin_array ∷ number_tokens args
 
-tokens_are : (w : List ℕ) (p : ℕ) (args : List ℤ) → p < 65_536 → AreSmall args → tokens (print (spelled w p args)) ≡ spelled w p args
-unfolding ArePrintable
-tokens_are w p args low small =
-    tokens-print (spelled w p args) (tt, (tt, (IsNumber-decimal p (omega arith), (tt, can_print args small))))
-
-behind_ascii : (args : List ℤ) → AreSmall args → IsAscii (behind_commas args ++ codes "]]")
-unfolding all_ascii
-behind_ascii [] small = ascii_from (codes "]]") refl
-behind_ascii (n ∷ args) small =
-    subst IsAscii (sym (append_assoc (44 ∷ signed_decimal n) (behind_commas args) (codes "]]")))
-    (IsAscii-append (44 ∷ []) (signed_decimal n ++ (behind_commas args ++ codes "]]")) (ascii_from (44 ∷ []) refl)
-    (IsAscii-append (signed_decimal n) _ (IsAscii-signed n (omega (arith, small.0))) (behind_ascii args small.1)))
-
-arguments_ascii : (args : List ℤ) → AreSmall args → IsAscii (arguments_text args ++ codes "]]")
-unfolding all_ascii
-arguments_ascii [] small = ascii_from (codes "]]") refl
-arguments_ascii (n ∷ args) small =
-    subst IsAscii (sym (append_assoc (signed_decimal n) (behind_commas args) (codes "]]")))
-    (IsAscii-append (signed_decimal n) _ (IsAscii-signed n (omega (arith, small.0))) (behind_ascii args small.1))
-
-call_utf8 : (words line rest : List ℕ) (call : JobCall) → IsAscii words → line ≡ words ++ rest → IsCall rest call → IsUtf8 line
-unfolding all_ascii
-call_utf8 words line rest call plain begins asks =
-    let all : line ≡ words ++ (decimal call.procedure ++ (codes ",[" ++ (arguments_text call.args ++ codes "]]"))) =
-    begins ∙ ap (λ rest. words ++ rest) asks.is in
-    let low : call.procedure < 2 ^ 64 = omega (arith, asks.procedure) in
-    rw all (IsUtf8-from_ascii _ (IsAscii-append words _ plain (IsAscii-append (decimal call.procedure) _ (IsAscii-decimal _ low)
-    (IsAscii-append (codes ",[") _ (ascii_from (codes ",[") refl) (arguments_ascii call.args asks.small)))))
+-- with these gaps
+abbrev spaced : List ℕ → List ℕ → ℕ → List ℕ → List (List ℕ × Token) → List (List ℕ × Token)
+spaced w before p gap args = ([], begin_array) ∷ ([], string w) ∷ (before, number (decimal p)) ∷ (gap, begin_array) ∷ args
 
 -- the tokens of a line that begins with these words
-call_tokens_are : (w words line rest : List ℕ) (call : JobCall) → line ≡ words ++ rest → IsCall rest call
-    → words ++ (decimal call.procedure ++ (codes ",[" ++ print_from false (number_tokens call.args)))
-    ≡ print (spelled w call.procedure call.args)
-    → tokens line ≡ spelled w call.procedure call.args
-call_tokens_are w words line rest call begins asks same =
-    ap tokens (begins ∙ ap (λ rest. words ++ rest) (asks.is
-    ∙ ap (λ more. decimal call.procedure ++ (codes ",[" ++ more)) (sym (printed call.args))) ∙ same)
-    ∙ tokens_are w call.procedure call.args asks.procedure asks.small
+call_is_spaced : (w words before line rest : List ℕ) (call : JobCall) → IsUtf8 (quoted w) → IsGap before
+    → line ≡ words ++ (before ++ rest) → (asks : IsCall rest call)
+    → words ++ (before ++ (decimal call.procedure ++ (44 ∷ (asks.gap ++ 91 ∷ print_spaced false asks.arguments.spaced))))
+    ≡ print_spaced false (spaced w before call.procedure asks.gap asks.arguments.spaced)
+    → IsSpaced line (spelled w call.procedure call.args)
+unfolding ArePrintable
+call_is_spaced w words before line rest call plain is_gap begins asks same =
+    is_spaced line _ (spaced w before call.procedure asks.gap asks.arguments.spaced)
+    (begins ∙ ap (λ rest. words ++ (before ++ rest)) (asks.is
+    ∙ ap (λ list. decimal call.procedure ++ (44 ∷ (asks.gap ++ 91 ∷ list))) asks.arguments.is) ∙ same)
+    (tt, (tt, (is_gap, (asks.is_gap, asks.arguments.gaps))))
+    (ap (λ ts. begin_array ∷ string w ∷ number (decimal call.procedure) ∷ begin_array ∷ ts) asks.arguments.tokens)
+    (tt, (tt, (IsNumber-decimal call.procedure (omega (arith, asks.procedure)), (tt, can_print call.args asks.small)))) (
+      IsUtf8-are_ascii (91 ∷ []) refl,
+      (
+        plain,
+        (
+          decimal_utf8 call.procedure (omega (arith, asks.procedure)),
+          (IsUtf8-are_ascii (91 ∷ []) refl, are_utf8 call.args asks.small),
+        ),
+      ),
+    )
 
 number_is : (p : ℕ) → p < 65_536 → natural 16 (pos p) ≡ Some p
 number_is p low = let bits : p < 2 ^ 16 = omega arith in rw (lt-ltb _ _ bits) refl
@@ -148,40 +160,43 @@ number_is p low = let bits : p < 2 ^ 16 = omega arith in rw (lt-ltb _ _ bits) re
 few_texts : (args : List ℤ) → length args ≤ 4 → length (map signed_decimal args) ≤ 4
 few_texts args few = omega (arith, as_many args)
 
-pub plain_start : (line rest : List ℕ) (call : JobCall) → line ≡ codes "[\"start\"," ++ rest → IsCall rest call
-    → event_of line ≡ Ok (Start call.procedure call.args)
-unfolding print_from escape_byte all_ascii
-plain_start line rest call begins asks =
-    let ts = call_tokens_are (codes "start") (codes "[\"start\",") line rest call begins asks refl in
+pub plain_start : (line gap rest : List ℕ) (call : JobCall) → IsGap gap → line ≡ codes "[\"start\"," ++ (gap ++ rest)
+    → IsCall rest call → event_of line ≡ Ok (Start call.procedure call.args)
+unfolding print_spaced escape_byte
+plain_start line gap rest call is_gap begins asks =
+    let all = call_is_spaced (codes "start") (codes "[\"start\",") gap line rest call (IsUtf8-are_ascii _ refl) is_gap begins asks refl in
     let small = whole_decimal call.procedure (omega (arith, asks.procedure)) in
-    let found = spelled_start (tokens line) _ (codes "start") (decimal call.procedure) (pos call.procedure) call.procedure
-    (map signed_decimal call.args) call.args (Some (Start call.procedure call.args)) ts refl small
+    let found = spelled_start _ _ (codes "start") (decimal call.procedure) (pos call.procedure) call.procedure
+    (map signed_decimal call.args) call.args (Some (Start call.procedure call.args)) all.read refl small
     (texts_are call.args asks.small) (few_texts call.args asks.few) (number_is call.procedure asks.procedure) refl in
-    event_found line line (tokens line) (Some (Start call.procedure call.args))
-    (call_utf8 (codes "[\"start\",") line rest call (ascii_from (codes "[\"start\",") refl) begins asks) refl refl found
+    event_found line line _ (Some (Start call.procedure call.args)) all.utf8 refl refl found
 
-job_called : (line rest : List ℕ) (call : JobCall) → line ≡ codes "[\"job\"," ++ rest → IsCall rest call → job_of line ≡ Ok call
-unfolding print_from escape_byte all_ascii
-job_called line rest call begins asks =
-    let ts = call_tokens_are (codes "job") (codes "[\"job\",") line rest call begins asks refl in
+job_called : (line gap rest : List ℕ) (call : JobCall) → IsGap gap → line ≡ codes "[\"job\"," ++ (gap ++ rest) → IsCall rest call
+    → job_of line ≡ Ok call
+unfolding print_spaced escape_byte
+job_called line gap rest call is_gap begins asks =
+    let all = call_is_spaced (codes "job") (codes "[\"job\",") gap line rest call (IsUtf8-are_ascii _ refl) is_gap begins asks refl in
     let small = whole_decimal call.procedure (omega (arith, asks.procedure)) in
-    let found = spelled_job (tokens line) _ (codes "job") (decimal call.procedure) (pos call.procedure) call.procedure
-    (map signed_decimal call.args) call.args (Some call) ts refl small
+    let found = spelled_job _ _ (codes "job") (decimal call.procedure) (pos call.procedure) call.procedure
+    (map signed_decimal call.args) call.args (Some call) all.read refl small
     (texts_are call.args asks.small) (few_texts call.args asks.few) (number_is call.procedure asks.procedure) refl in
-    job_found line line (tokens line) (Some call)
-    (call_utf8 (codes "[\"job\",") line rest call (ascii_from (codes "[\"job\",") refl) begins asks) refl refl found
+    job_found line line _ (Some call) all.utf8 refl refl found
 
-pub plain_job : (line rest : List ℕ) (found : Option JobCall) → line ≡ codes "[\"job\"," ++ rest
+pub plain_job : (line gap rest : List ℕ) (found : Option JobCall) → IsGap gap → line ≡ codes "[\"job\"," ++ (gap ++ rest)
     → IfSome found (λ call. IsCall rest call) → IfSome found (λ call. job_of line ≡ Ok call)
-plain_job line rest None begins asks = tt
-plain_job line rest (Some call) begins asks = job_called line rest call begins asks
+plain_job line gap rest None is_gap begins asks = tt
+plain_job line gap rest (Some call) is_gap begins asks = job_called line gap rest call is_gap begins asks
 
 -- the parts of a call
-pub call_of : (text rest list : List ℕ) (n p : ℕ) (args : List ℤ) → text ≡ decimal n ++ rest → rest ≡ codes ",[" ++ list
-    → list ≡ arguments_text args ++ codes "]]" → n ≡ p → p < 65_536 → AreSmall args → length args ≤ 4
-    → IsCall text (record { procedure = p; args = args })
-call_of text rest list n p args first next last same low small few = record {
-  is = first ∙ ap (λ k. decimal k ++ rest) same ∙ ap (λ rest. decimal p ++ rest) (next ∙ ap (λ list. codes ",[" ++ list) last);
+pub call_of : (text rest list more gap : List ℕ) (n p : ℕ) (args : List ℤ) → text ≡ decimal n ++ rest → IsGap gap
+    → rest ≡ codes "," ++ (gap ++ more) → more ≡ codes "[" ++ list → AreArguments false list args → n ≡ p → p < 65_536
+    → AreSmall args → length args ≤ 4 → IsCall text (record { procedure = p; args = args })
+call_of text rest list more gap n p args first is_gap next opens last same low small few = record {
+  gap = gap;
+  list = list;
+  is_gap = is_gap;
+  is = first ∙ ap (λ k. decimal k ++ rest) same ∙ ap (λ rest. decimal p ++ rest) (next ∙ ap (λ more. 44 ∷ (gap ++ more)) opens);
+  arguments = last;
   procedure = low;
   small = small;
   few = few;

@@ -1,32 +1,39 @@
 -- The calls of lines that are written plainly.
-use Rattle.std.specs.Prelude.{◌≡◌, ◌<◌, ◌≤◌, ℕ, ℤ, List, [], ◌∷◌, ◌++◌, length, codes, ⊤}
-use Rattle.std.specs.List.{flat_map}
+use Rattle.std.specs.Prelude.{◌≡◌, ◌<◌, ◌≤◌, ℕ, ℤ, Bool, false, List, [], ◌∷◌, ◌++◌, length, map, ⊤}
 use Rattle.std.specs.Fmt.{decimal, signed_decimal}
 use lib.Signed.{mag}
+use Rattle.json.specs.Token.{Token, end_array, number}
+use Rattle.json.specs.Spaced.{IsGap, AreGaps, print_spaced}
 use Rattle.sgt_format.specs.declared.call.JobCall.{JobCall}
 
--- each number behind a comma
-abbrev pub behind_commas : List ℤ → List ℕ
-behind_commas = flat_map (λ n. 44 ∷ signed_decimal n)
+-- the tokens of numbers, and of the brackets that close their list and the line
+abbrev pub number_tokens : List ℤ → List Token
+number_tokens args = map number (map signed_decimal args) ++ end_array ∷ end_array ∷ []
 
--- numbers with a comma between each two
-abbrev pub arguments_text : List ℤ → List ℕ
-arguments_text [] = []
-arguments_text (n ∷ rest) = signed_decimal n ++ behind_commas rest
+-- the text of these tokens, with gaps before some; the flag says whether a number stands before the text
+pub record AreArguments (follows : Bool) (text : List ℕ) (args : List ℤ) : Type 0 where
+  pub spaced : List (List ℕ × Token)
+  pub gaps : AreGaps spaced
+  pub tokens : map (λ p. p.1) spaced ≡ number_tokens args
+  pub is : text ≡ print_spaced follows spaced
 
 -- what stands before one number more
 abbrev pub comma_behind : List ℤ → List ℕ
 comma_behind [] = []
 comma_behind (n ∷ rest) = 44 ∷ []
 
--- each number has at most nine digits, or is minus a billion
+-- each number has at most eighteen digits
 abbrev pub AreSmall : List ℤ → Type 0
 AreSmall [] = ⊤
-AreSmall (n ∷ rest) = (mag n < 1_000_000_000) × AreSmall rest
+AreSmall (n ∷ rest) = (mag n < 1_000_000_000_000_000_000) × AreSmall rest
 
 -- a procedure, its arguments and the brackets that close a line
 pub record IsCall (text : List ℕ) (call : JobCall) : Type 0 where
-  pub is : text ≡ decimal call.procedure ++ (codes ",[" ++ (arguments_text call.args ++ codes "]]"))
+  pub gap : List ℕ
+  pub list : List ℕ
+  pub is_gap : IsGap gap
+  pub is : text ≡ decimal call.procedure ++ (44 ∷ (gap ++ 91 ∷ list))
+  pub arguments : AreArguments false list call.args
   pub procedure : call.procedure < 65_536
   pub small : AreSmall call.args
   pub few : length call.args ≤ 4

@@ -9,6 +9,7 @@ ghost use Rattle.sgt_format.specs.declared.errors.LineError.TheVariants.{NoMemor
 
 use crate::errors::LineError;
 use crate::line_tokens::quick_event;
+use crate::plain_line::plain_event;
 use crate::tree::{items, read_tree};
 use json::Scratch;
 use serde_json::Value;
@@ -24,6 +25,9 @@ pub fn read_event(alloc: Global, scratch: &mut Scratch, line: &[u8]) -> Result<E
     ensures event { IfOk result (λ event. event_of line.now ≡ Ok event) }
     ensures error { IfErr result (λ error. error ≢ NoMemory → event_of line.now ≡ Err error) }
 {
+    if let Some(event) = plain_event(line) {
+        return Ok(event);
+    }
     if let Some(event) = quick_event(line, scratch)? {
         return Ok(event);
     }

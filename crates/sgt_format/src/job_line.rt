@@ -11,6 +11,7 @@ use crate::call::JobCall;
 use crate::errors::LineError;
 use crate::event_line::{arguments, procedure};
 use crate::line_tokens::quick_job;
+use crate::plain_line::plain_job;
 use crate::tree::{items, read_tree};
 use json::Scratch;
 use serde_json::Value;
@@ -25,6 +26,9 @@ pub fn read_job(alloc: Global, scratch: &mut Scratch, line: &[u8]) -> Result<Job
     ensures job { IfOk result (λ job. job_of line.now ≡ Ok job) }
     ensures error { IfErr result (λ error. error ≢ NoMemory → job_of line.now ≡ Err error) }
 {
+    if let Some(call) = plain_job(line) {
+        return Ok(call);
+    }
     if let Some(call) = quick_job(line, scratch)? {
         return Ok(call);
     }

@@ -1,4 +1,4 @@
-//! The line of an event or of a job, read by its tokens, without a tree.
+//! The line of an event or of a job that is not written plainly, read by its tokens, without a tree.
 ghost use Rattle.std.specs.Prelude.{◌≡◌, ◌∷◌, [], ◌++◌, List, ℕ, map, Some, Ok, IfOk, IfSome, IsTrue, IsFalse, ◌≤◌, length};
 ghost use Rattle.fast_float.specs.Text.{scan};
 ghost use Rattle.json.specs.Token.{begin_array, end_array, string, number};
@@ -11,20 +11,16 @@ ghost use Rattle.sgt_format.specs.LineTokens.{whole_number, whole_numbers, event
 use crate::call::JobCall;
 use crate::event_line::{of_procedure, of_transaction};
 use crate::job_line::job_call;
-use crate::plain_line::{plain_event, plain_job};
 use fast_float::Numeral;
 use json::{Reader, Scratch, Token};
 use sgt_model::{Args, Event, NoMemory, Tid};
 
-/// The event of a line, read token after token where it is not written plainly, without a tree of it. Where this finds none, the
-/// line's tree decides.
+/// The event of a line that is not written plainly, read token by token, without a tree of it. If this finds none, the line's tree
+/// decides.
 #[tactic(auto, using(crate::proofs::LineTokens::event_found))]
 pub(crate) fn quick_event(line: &[u8], scratch: &mut Scratch) -> Result<Option<Event>, NoMemory>
     ensures { IfOk result (λ found. IfSome found (λ event. event_of line.now ≡ Ok event)) }
 {
-    if let Some(event) = plain_event(line) {
-        return Ok(Some(event));
-    }
     let Ok(text) = str::from_utf8(line) else {
         return Ok(None);
     };
@@ -37,9 +33,6 @@ pub(crate) fn quick_event(line: &[u8], scratch: &mut Scratch) -> Result<Option<E
 pub(crate) fn quick_job(line: &[u8], scratch: &mut Scratch) -> Result<Option<JobCall>, NoMemory>
     ensures { IfOk result (λ found. IfSome found (λ call. job_of line.now ≡ Ok call)) }
 {
-    if let Some(call) = plain_job(line) {
-        return Ok(Some(call));
-    }
     let Ok(text) = str::from_utf8(line) else {
         return Ok(None);
     };

@@ -1,73 +1,125 @@
-//! Lines as most are written: no blank, no escape, and numbers below a billion in their digits.
-ghost use Rattle.std.specs.Prelude.{◌≡◌, ◌≤◌, ◌<◌, ◌∷◌, [], ◌++◌, length, take, codes, Ok, IfSome, IsTrue};
+//! Lines as most are written: no escape, no blank but one after a comma, and whole numbers of at most eighteen digits.
+ghost use Rattle.std.specs.Prelude.{◌≡◌, ◌≤◌, ◌<◌, ◌∷◌, [], ◌++◌, ℕ, List, false, length, take, codes, Ok, Some, IfSome, IsTrue};
 ghost use Rattle.std.specs.Fmt.{decimal, signed_decimal};
 ghost use lib.Signed.{mag};
+ghost use Rattle.json.specs.Spaced.{IsGap};
 ghost use Rattle.sgt_format.specs.EventLines.{event_of};
 ghost use Rattle.sgt_format.specs.JobLines.{job_of};
-ghost use Rattle.sgt_format.specs.PlainLines.{arguments_text, comma_behind, AreSmall, IsCall};
+ghost use Rattle.sgt_format.specs.RecordLines.{record_line_of};
+ghost use Rattle.sgt_format.specs.PlainLines.{comma_behind, AreArguments, AreSmall, IsCall};
 
 use crate::call::JobCall;
+use crate::record_line::RecordLine;
 use sgt_model::{Args, Event, Tid};
 
-/// The event of a line that is written so, found without its tokens. Where this finds none, the tokens decide.
+/// The event of a line that is written so, read byte by byte. If this finds none, the tokens decide.
+#[inline(always)]
 pub(crate) fn plain_event(line: &[u8]) -> Option<Event>
     ensures { IfSome result (λ event. event_of line.now ≡ Ok event) }
 {
-    if let Some(rest) = behind(line, b"[\"step\",") {
-        return Some(Event::Step(last_tid(rest)?));
+    match line.get(4)? {
+        b'e' => Some(Event::Step(last_tid(item_behind(line, b"[\"step\",")?)?)),
+        b'm' => Some(Event::Commit(last_tid(item_behind(line, b"[\"commit\",")?)?)),
+        b'i' => Some(Event::Quit(last_tid(item_behind(line, b"[\"quit\",")?)?)),
+        b'a' => {
+            let JobCall { procedure, args } = last_call(item_behind(line, b"[\"start\",")?)?;
+            Some(Event::Start { procedure, args })
+        }
+        _ => None,
     }
-    if let Some(rest) = behind(line, b"[\"commit\",") {
-        return Some(Event::Commit(last_tid(rest)?));
-    }
-    if let Some(rest) = behind(line, b"[\"start\",") {
-        let JobCall { procedure, args } = last_call(rest)?;
-        return Some(Event::Start { procedure, args });
-    }
-    let rest = behind(line, b"[\"quit\",")?;
-    Some(Event::Quit(last_tid(rest)?))
 }
 
 /// The job of a line that is written so.
 pub(crate) fn plain_job(line: &[u8]) -> Option<JobCall>
     ensures { IfSome result (λ call. job_of line.now ≡ Ok call) }
 {
-    last_call(behind(line, b"[\"job\",")?)
+    last_call(item_behind(line, b"[\"job\",")?)
 }
 
-/// What stands behind these words, where the text begins with them.
+/// The record of a line that is written so.
+pub(crate) fn plain_record(line: &[u8]) -> Option<RecordLine>
+    ensures { IfSome result (λ said. record_line_of line.now ≡ Some said) }
+{
+    let (table, rest) = leading_number(item_behind(line, b"[\"record\",")?)?;
+    let (number, rest) = leading_number(item_behind(rest, b",")?)?;
+    let (value, rest) = leading_number(item_behind(rest, b",")?)?;
+    if !is_bracket(rest) {
+        return None;
+    }
+    Some(RecordLine {
+        table,
+        number,
+        value,
+    })
+}
+
+/// Whether a text is the bracket that closes a line.
+#[tactic(auto, using(crate::proofs::PlainLines::one_bracket))]
+#[inline(always)]
+fn is_bracket(text: &[u8]) -> bool
+    ensures { IsTrue result → text.now ≡ codes "]" }
+{
+    text.len() == 1 && text[0] == b']'
+}
+
+/// What stands behind these bytes, where the text begins with them.
 #[tactic(auto, using(crate::proofs::PlainLines::split_behind))]
+#[inline(always)]
 fn behind<'a>(text: &'a [u8], words: &[u8]) -> Option<&'a [u8]>
     ensures { IfSome result (λ rest. text.now ≡ words.now ++ rest.now) }
 {
-    text.strip_prefix(words)
+    if text.len() < words.len() {
+        return None;
+    }
+    let mut same = 0;
+    while same < words.len() {
+        if text[same] != words[same] {
+            return None;
+        }
+        same += 1;
+    }
+    Some(&text[same..])
+}
+
+/// The items behind a comma that ends these bytes, where the text begins with them. One blank before the items is left out.
+#[inline(always)]
+fn item_behind<'a>(text: &'a [u8], words: &[u8]) -> Option<&'a [u8]>
+    ensures { IfSome result (λ rest. (gap : List ℕ) × IsGap gap × (text.now ≡ words.now ++ (gap ++ rest.now))) }
+{
+    let rest = behind(text, words)?;
+    match behind(rest, b" ") {
+        Some(items) => Some(items),
+        None => Some(rest),
+    }
 }
 
 /// The transaction of a text that is its number and a closing bracket.
 #[tactic(auto, using(crate::proofs::PlainLines::number_last))]
+#[inline(always)]
 fn last_tid(text: &[u8]) -> Option<Tid>
     ensures number { IfSome result (λ t. text.now ≡ decimal t ++ 93 ∷ []) }
-    ensures small { IfSome result (λ t. t < 1_000_000_000) }
+    ensures small { IfSome result (λ t. t < 4_294_967_296) }
 {
-    let (number, digits) = leading_number(text)?;
+    let (number, digits) = leading_digits(text)?;
     if digits + 1 != text.len() || text[digits] != b']' {
         return None;
     }
-    Some(Tid(number))
+    Some(Tid(u32::try_from(number).ok()?))
 }
 
 /// The call of a text that is a procedure, a list of arguments and a closing bracket.
 fn last_call(text: &[u8]) -> Option<JobCall>
     ensures { IfSome result (λ call. IsCall text.now call) }
 {
-    let (number, rest) = number_and_rest(text)?;
+    let (number, rest) = natural_and_rest(text)?;
     let procedure = u16::try_from(number).ok()?;
-    let args = last_arguments(behind(rest, b",[")?)?;
+    let args = last_arguments(behind(item_behind(rest, b",")?, b"[")?)?;
     Some(JobCall { procedure, args })
 }
 
 /// The arguments of a text that is at most four of them, with a comma between each two, and two closing brackets.
 fn last_arguments(text: &[u8]) -> Option<Args>
-    ensures text { IfSome result (λ args. text.now ≡ arguments_text args ++ codes "]]") }
+    ensures text { IfSome result (λ args. AreArguments false text.now args) }
     ensures small { IfSome result (λ args. AreSmall args) }
     ensures few { IfSome result (λ args. length args ≤ 4) }
 {
@@ -86,6 +138,7 @@ fn last_arguments(text: &[u8]) -> Option<Args>
 
 /// Whether a text is the brackets that close the arguments and the line.
 #[tactic(auto, using(crate::proofs::PlainCalls::two_brackets))]
+#[inline(always)]
 fn is_closing(text: &[u8]) -> bool
     ensures { IsTrue result → text.now ≡ codes "]]" }
 {
@@ -93,69 +146,79 @@ fn is_closing(text: &[u8]) -> bool
 }
 
 /// The argument that a text begins with, behind its comma where it is not the first, and what stands behind it.
+#[inline(always)]
 fn next_argument<'a>(text: &'a [u8], args: &Args) -> Option<(i64, &'a [u8])>
-    ensures text { IfSome result (λ found. text.now ≡ comma_behind args.now ++ (signed_decimal found.0 ++ found.1.now)) }
-    ensures small { IfSome result (λ found. mag found.0 < 1_000_000_000) }
+    ensures text { IfSome result (λ found. (gap : List ℕ) × IsGap gap
+        × (text.now ≡ comma_behind args.now ++ (gap ++ (signed_decimal found.0 ++ found.1.now)))) }
+    ensures small { IfSome result (λ found. mag found.0 < 1_000_000_000_000_000_000) }
 {
     if args.is_empty() {
-        return leading_argument(text);
+        return leading_number(text);
     }
-    leading_argument(behind(text, b",")?)
+    leading_number(item_behind(text, b",")?)
 }
 
-/// The argument that a text begins with, and what stands behind it. `-0` is none.
-fn leading_argument(text: &[u8]) -> Option<(i64, &[u8])>
+/// The number that a text begins with, and what stands behind it. `-0` is none.
+#[inline(always)]
+fn leading_number(text: &[u8]) -> Option<(i64, &[u8])>
     ensures text { IfSome result (λ found. text.now ≡ signed_decimal found.0 ++ found.1.now) }
-    ensures small { IfSome result (λ found. mag found.0 < 1_000_000_000) }
+    ensures small { IfSome result (λ found. mag found.0 < 1_000_000_000_000_000_000) }
 {
     if let Some(digits) = behind(text, b"-") {
-        let (number, rest) = number_and_rest(digits)?;
+        let (number, rest) = natural_and_rest(digits)?;
         if number == 0 {
             return None;
         }
-        return Some((-i64::from(number), rest));
+        return Some((-(number as i64), rest));
     }
-    let (number, rest) = number_and_rest(text)?;
-    Some((i64::from(number), rest))
+    let (number, rest) = natural_and_rest(text)?;
+    Some((number as i64, rest))
 }
 
-/// The number below a billion that a text begins with, and what stands behind it.
+/// The natural number that a text begins with, and what stands behind it.
 #[tactic(auto, using(crate::proofs::PlainCalls::number_first))]
-fn number_and_rest(text: &[u8]) -> Option<(u32, &[u8])>
+#[inline(always)]
+fn natural_and_rest(text: &[u8]) -> Option<(u64, &[u8])>
     ensures text { IfSome result (λ found. text.now ≡ decimal found.0 ++ found.1.now) }
-    ensures small { IfSome result (λ found. found.0 < 1_000_000_000) }
+    ensures small { IfSome result (λ found. found.0 < 1_000_000_000_000_000_000) }
 {
-    let (number, digits) = leading_number(text)?;
+    let (number, digits) = leading_digits(text)?;
     Some((number, &text[digits..]))
 }
 
-/// The number below a billion that a text begins with, and how many digits it has there.
+/// The natural number of at most eighteen digits that a text begins with, and how many digits it has there.
 #[tactic(auto, using(crate::proofs::PlainLines::one_digit, crate::proofs::PlainLines::one_more_digit))]
-fn leading_number(text: &[u8]) -> Option<(u32, usize)>
+#[inline(always)]
+fn leading_digits(text: &[u8]) -> Option<(u64, usize)>
     ensures digits { IfSome result (λ found. take found.1 text.now ≡ decimal found.0) }
     ensures within { IfSome result (λ found. found.1 ≤ length text.now) }
-    ensures small { IfSome result (λ found. found.0 < 1_000_000_000) }
+    ensures small { IfSome result (λ found. found.0 < 1_000_000_000_000_000_000) }
 {
     if text.is_empty() || !is_digit(text[0]) {
         return None;
     }
-    let mut number = u32::from(text[0] - b'0');
+    let mut number = u64::from(text[0] - b'0');
     let mut digits = 1;
+    if number == 0 {
+        return Some((number, digits));
+    }
     while digits < text.len() && goes_on(number, text[digits]) {
-        number = 10 * number + u32::from(text[digits] - b'0');
+        number = 10 * number + u64::from(text[digits] - b'0');
         digits += 1;
     }
     Some((number, digits))
 }
 
-/// Whether a number that is not 0 has room for a digit more, and this is one.
-fn goes_on(number: u32, byte: u8) -> bool
-    ensures number { IsTrue result → (0 < number) × (number < 100_000_000) }
+/// Whether a number has room for a digit more, and this is one.
+#[inline(always)]
+fn goes_on(number: u64, byte: u8) -> bool
+    ensures number { IsTrue result → number < 100_000_000_000_000_000 }
     ensures digit { IsTrue result → (48 ≤ byte) × (byte ≤ 57) }
 {
-    0 < number && number < 100_000_000 && is_digit(byte)
+    number < 100_000_000_000_000_000 && is_digit(byte)
 }
 
+#[inline(always)]
 fn is_digit(byte: u8) -> bool
     ensures { IsTrue result → (48 ≤ byte) × (byte ≤ 57) }
 {

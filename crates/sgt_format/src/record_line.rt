@@ -4,6 +4,7 @@ ghost use Rattle.serde_json.specs.View.{view};
 ghost use Rattle.sgt_model.specs.Numbers.{IsValue};
 ghost use Rattle.sgt_format.specs.RecordLines.{key_of, of_numbers, record_line_from, record_line_in, record_line_of, record_of};
 
+use crate::plain_line::plain_record;
 use crate::tree::{items, read_tree};
 use serde_json::Value;
 use sgt_model::{Key, NoMemory, is_value};
@@ -54,6 +55,9 @@ impl RecordLine {
 pub fn read_record_line(alloc: Global, line: &[u8]) -> Result<Option<RecordLine>, NoMemory>
     ensures { IfOk result (λ found. found ≡ record_line_of line.now) }
 {
+    if let Some(said) = plain_record(line) {
+        return Ok(Some(said));
+    }
     match read_tree(alloc, line)? {
         Some(tree) => Ok(record_line_in(&tree)),
         None => Ok(None),

@@ -7,6 +7,7 @@ ghost use Rattle.sgt_format.specs.declared.errors.LineError.TheVariants.{NoMemor
 use crate::errors::LineError;
 use crate::event_line::event_from;
 use crate::line_tokens::quick_event;
+use crate::plain_line::plain_event;
 use crate::tree::{items, read_tree};
 use json::Scratch;
 use serde_json::Value;
@@ -27,7 +28,25 @@ pub enum ScriptLine {
 /// A line that is no JSON is `NotJson`, a line of any other form `BadLine`. An argument may be any whole number of 64 bits.
 /// The scratch is the reader's memory, to be kept from line to line.
 #[tactic(auto, using(crate::proofs::LineTokens::asked_event))]
+#[inline(always)]
 pub fn read_script_line(
+    alloc: Global,
+    scratch: &mut Scratch,
+    line: &[u8],
+) -> Result<ScriptLine, LineError>
+    ensures line { IfOk result (λ asked. script_line_of line.now ≡ Ok asked) }
+    ensures error { IfErr result (λ error. error ≢ NoMemory → script_line_of line.now ≡ Err error) }
+{
+    if let Some(event) = plain_event(line) {
+        return Ok(ScriptLine::Event(event));
+    }
+    read_other_line(alloc, scratch, line)
+}
+
+/// The same, of a line that is not written plainly.
+#[tactic(auto, using(crate::proofs::LineTokens::asked_event))]
+#[inline(never)]
+fn read_other_line(
     alloc: Global,
     scratch: &mut Scratch,
     line: &[u8],

@@ -1,6 +1,6 @@
 -- An input's lines from its first, where they open.
-use Rattle.std.proofs.Common.{◌≡◌, ℕ, ◌+◌, List, [], ◌∷◌, length, refl, ap, sym, ◌∙◌, arith, subst}
-use Rattle.std.specs.Prelude.{Option, None, Some, ⊤, Err}
+use Rattle.std.proofs.Common.{◌≡◌, ℕ, ◌+◌, List, ◌∷◌, ap, sym, ◌∙◌, arith, subst}
+use Rattle.std.specs.Prelude.{Option, None, Some, ⊤}
 use Rattle.sgt_model.specs.Databases.{contents_of}
 use Rattle.sgt_format.specs.Openings.{Opens}
 use Rattle.sgt_format.specs.FilledOpenings.{OpensWith, RefusesRecord, behind_records, leading_records, number_behind, put_records}

@@ -1,5 +1,5 @@
 -- Laws of known bytes.
-use Rattle.std.proofs.Common.{◌≡◌, ℕ, ◌+◌, ◌≤◌, List, ◌++◌, length, take, drop, ap, sym, ◌∙◌, arith, append_assoc, inl, inr}
+use Rattle.std.proofs.Common.{◌≡◌, ℕ, ◌+◌, ◌≤◌, List, ◌++◌, length, take, drop, refl, ap, sym, ◌∙◌, arith, append_assoc, inl, inr}
 use Rattle.std.specs.Prelude.{Result, Ok, Err, OnErr, Option, None, Some, Bool, true, false, is_some, ◌⊎◌, if◌then◌else◌}
 use Rattle.std.proofs.lemmas.Grind.{common_steps}
 use Rattle.sgt_input.specs.Lines.{has_break}
@@ -38,6 +38,11 @@ at-end number within ended held held' found rest none short inside same = rw (sa
   at = rest.at;
   last = λ _. (found-none (take within held) found rest.at none, inside, short);
 })
+
+-- the same bytes
+pub keeps-same : (a : Option (List ℕ)) → Keeps a a
+keeps-same None = tt
+keeps-same (Some xs) = refl
 
 -- known bytes that stay twice stay
 pub keeps-trans : (a b c : Option (List ℕ)) → Keeps a b → Keeps b c → Keeps a c

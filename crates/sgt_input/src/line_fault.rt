@@ -6,6 +6,7 @@ use crate::fault::Fault;
 use sgt_format::LineError;
 
 /// What was read of the line of this number, or the fault of that line.
+#[inline(always)]
 pub fn at_line<T>(number: u64, read: Result<T, LineError>) -> Result<T, Fault>
     ensures { result ≡ at_line number read }
 {

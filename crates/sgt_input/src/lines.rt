@@ -19,6 +19,7 @@ const LONGEST_LINE: usize = 65_536;
 const LONGEST_INPUT: usize = 16_777_216;
 
 /// Where the first byte 10 stands among the first `within` bytes, where none is among the first `from`.
+#[inline(always)]
 fn find_break(bytes: &[u8], from: usize, within: usize) -> Option<usize>
     requires known { has_break (take from bytes.now) ≡ false }
     requires within { from ≤ within }
@@ -109,6 +110,7 @@ impl Lines {
     ///
     /// `LongLine` where the next line is too long, `TooLong` where the input is and no whole line is left within its limit,
     /// and `Reading` where a read failed.
+    #[inline(always)]
     pub fn next_line<S: Source>(&mut self, source: &mut S) -> Result<bool, Fault>
         requires { S.failures source.old + 1 < 2 ^ 64 }
         ensures line { IfOk result (λ more. IsTrue more → Gives
@@ -139,7 +141,9 @@ impl Lines {
         ensures failed { result ≡ Err Fault.Reading →
             S.failures source.new ≡ S.failures source.old + 1 }
     {
-        self.fill(source)?;
+        if !self.has_line() {
+            self.fill(source)?;
+        }
         self.give()
     }
 
@@ -177,6 +181,7 @@ impl Lines {
     /// # Errors
     ///
     /// `LongLine`, `TooLong` and `Reading`, as `next_line` does.
+    #[inline(never)]
     pub fn fill<S: Source>(&mut self, source: &mut S) -> Result<(), Fault>
         requires { S.failures source.old + 1 < 2 ^ 64 }
         ensures number { self.new.number ≡ self.old.number }
@@ -238,6 +243,7 @@ impl Lines {
     }
 
     /// Gives the next line, which has come, or none.
+    #[inline(always)]
     fn give(&mut self) -> Result<bool, Fault>
         requires { IsReady self.old }
         ensures given { IfOk result (λ more. IsTrue more → IsGiven self.old self.new) }

@@ -1,5 +1,5 @@
 //! A run of a script from its first line to its last: each line is answered, and what is written depends on the output mode.
-ghost use Rattle.std.specs.Prelude.{◌≡◌, ◌≢◌, ℕ, List, Option, false, IfOk, IfErr, OnOk, OnErr, IfSome, IsSome, IsNone, Err, Ok, Some, None, ◌⊎◌, [], ◌∷◌, ◌++◌, ◌+◌, ◌^◌, ◌<◌, ◌≤◌};
+ghost use Rattle.std.specs.Prelude.{◌≡◌, ◌≢◌, ℕ, List, Option, false, IfOk, IfErr, OnOk, OnErr, IfSome, IsSome, IsNone, Err, Ok, Some, None, ◌⊎◌, [], ◌∷◌, ◌++◌, ◌+◌, ◌^◌, ◌<◌, ◌≤◌, length};
 ghost use Rattle.std.specs.Io.KnownBytes.{Appends, Consumes};
 ghost use Rattle.sgt_model.specs.declared.entry.Entry.{Entry};
 ghost use Rattle.sgt_model.specs.Legality.{Legal};
@@ -34,6 +34,7 @@ use sgt_textbook::{legal_are_commit_ordered, legal_are_recoverable, legal_are_se
 use std::alloc::Global;
 
 /// What the next line asks for, if there is one.
+#[inline(always)]
 fn next_script_line<S: Source>(
     alloc: Global,
     scratch: &mut Scratch,
@@ -78,6 +79,7 @@ fn next_script_line<S: Source>(
 }
 
 /// Answers an event: the text of that is added.
+#[inline(always)]
 fn answer_event(
     engine: &mut SgtEngine,
     event: Event,
@@ -97,15 +99,28 @@ fn answer_event(
             Some(reply) => append_reply(text, reply),
             None => unreachable!(),
         },
-        Output::History => match engine.history().last() {
-            Some(Entry { event, reply }) => append_operations(text, &event, &reply),
-            None => unreachable!(),
-        },
+        Output::History => append_newest(engine, text),
         Output::Records => Ok(()),
     }
 }
 
+/// Adds the operations of the newest entry. The entry is made in full for that, in a function of its own: so replies need no room
+/// for one.
+#[inline(never)]
+fn append_newest(engine: &SgtEngine, text: &mut Vec<u8>) -> Result<(), NoMemory>
+    requires { 0 < length engine.now.past }
+    ensures operations { OnOk result ((entry : Entry) → (past : List Entry) → (engine.now.past ≡ entry ∷ past)
+        → text.new.items ≡ text.old.items ++ answer_text Output.History (Replied entry)) }
+    ensures kept { OnErr result (text.new.items ≡ text.old.items) }
+{
+    match engine.history().last() {
+        Some(Entry { event, reply }) => append_operations(text, &event, &reply),
+        None => unreachable!(),
+    }
+}
+
 /// Cuts the history off, where nobody is live: the text that answers this is added. What was cut off is dropped.
+#[inline(never)]
 fn answer_cut(
     alloc: Global,
     engine: &mut SgtEngine,
