@@ -15,11 +15,14 @@
  *   - An sgt_engine is all zero bytes before its first sgt_open: `sgt_engine engine = {0};`. From then on only the library
  *     writes it, and nobody copies it: a copy would be a second owner of the same engine. It may be moved by memcpy while no
  *     call runs, where the old bytes are never used again.
- *   - An sgt_reply, an sgt_event, an sgt_fault and an sgt_row are filled with anything, but filled: `sgt_reply reply = {0};`.
+ *   - An sgt_reply, an sgt_event, an sgt_call, an sgt_outcome, an sgt_fault and an sgt_row are filled with anything, but filled:
+ *     `sgt_reply reply = {0};`.
  *   - Pointers are not null, are aligned, point to as much as the call says, and no two of one call overlap. Where a count is
  *     0 the pointer may not be null either: pass the address of anything.
  *   - One call at a time to one engine. Another thread calls behind a lock that the thread before it released, or was joined.
- *     Different engines know nothing of each other, and need no common lock.
+ *     Different engines know nothing of each other, and need no common lock. A call that finds another one in the engine returns
+ *     SGT_BUSY and changes nothing. That helps to find a mistake, and is no lock: two calls that enter at the same moment do not see
+ *     each other.
  *   - No call from a signal handler, nor in a forked child of a process with threads.
  *   - malloc, realloc and free are of one allocator, which aligns to 16 bytes.
  *
@@ -28,12 +31,13 @@
  *
  * NUMBERS. Values, arguments and record numbers lie from -999999999999999 to 999999999999999. Tables are numbered from 0 to 7,
  * and procedures from 0: SmallBank's five come first (0 balance, 1 deposit, 2 transact savings, 3 amalgamate, 4 write check),
- * and those of the opening behind them, from 5 on, and then those that sgt_procedure adds.
+ * and those of the opening behind them, from 5 on, and then those that sgt_procedure adds. In an engine of sgt_open_bare there are
+ * those of sgt_procedure alone, from 0 on. Tables and procedures are passed as 64 bits, so that a number out of range is not taken
+ * for another: it is SGT_BAD_CALL.
  */
 #ifndef SGT_H
 #define SGT_H
 
-#include <stdbool.h>
 #include <stddef.h>
 #include <stdint.h>
 
@@ -43,7 +47,7 @@ extern "C" {
 
 /* An engine, or none: it is closed where all bytes are zero. Its fields are the library's. */
 typedef struct sgt_engine {
-    bool is_open;
+    uint8_t is_open; /* 0 closed, 1 open, 2 while a call is in it */
     void *at;
 } sgt_engine;
 
@@ -58,7 +62,8 @@ enum sgt_status {
     SGT_STILL_LIVE = 6,  /* the history can't be cut off, as a transaction is live */
     SGT_BEGUN = 7,       /* nothing can be added to what the engine begins with, as there is a history */
     SGT_TAKEN = 8,       /* the key of a row has a value already */
-    SGT_TOO_MANY = 9,    /* no number is left for a procedure */
+    SGT_TOO_MANY = 9,    /* no number is left for a procedure, or for the part behind a cut */
+    SGT_BUSY = 10,       /* another call is in the engine */
     SGT_NOT_JSON = 16,   /* the opening, or the procedure's text, is no JSON */
     SGT_BAD_LINE = 17,   /* the opening is JSON, and has not the shape of one */
     SGT_BAD_LIMITS = 18, /* a limit is out of its range */
@@ -149,6 +154,25 @@ typedef struct sgt_row {
     int64_t value;
 } sgt_row;
 
+/* A call of a committed or refused transaction, and what it was told. Every field is filled; those that do not count are 0. */
+typedef struct sgt_call {
+    uint32_t kind;      /* SGT_COMMITTED or SGT_REFUSED */
+    uint32_t tid;
+    uint32_t procedure;
+    uint32_t code;      /* of SGT_REFUSED */
+    uint32_t args;      /* how many there are of `arg` */
+    uint32_t answers;   /* of SGT_COMMITTED: how many there are of `answer` */
+    int64_t arg[4];
+    int64_t answer[8];
+} sgt_call;
+
+/* What a call of many was answered: `tid` counts where a transaction was started, and `reply` is the last reply. `spare` is nothing. */
+typedef struct sgt_outcome {
+    uint32_t tid;
+    uint32_t spare;
+    sgt_reply reply;
+} sgt_outcome;
+
 /* The least and the greatest of values, arguments and record numbers. */
 #define SGT_LEAST INT64_C(-999999999999999)
 #define SGT_MOST INT64_C(999999999999999)
@@ -175,6 +199,16 @@ uint32_t sgt_open_with(sgt_engine *engine, const uint8_t *opening, size_t length
                        sgt_fault *fault);
 
 /*
+ * Opens an engine on nothing but limits: at most `live` transactions at a time, from 1 to 32, and at most `begins` started in all,
+ * from 1 to 4000000000. If `asks` is 1 a procedure's code is told at the commit, and if it is 0 at a step. The engine has no records
+ * and no procedures. SmallBank's are not in it, so sgt_procedure numbers procedures from 0 here.
+ *
+ * SGT_OPEN where the engine is open, tested first; then SGT_BAD_LIMITS where a limit is out of its range; SGT_NO_MEMORY. But for
+ * SGT_OK the engine stays as it was.
+ */
+uint32_t sgt_open_bare(sgt_engine *engine, uint64_t live, uint64_t begins, uint64_t asks);
+
+/*
  * Puts `count` rows of the caller's into the opening database, while the history is empty: before the first event, and behind a
  * cut. Each is a new record: none of them may have a value, in the opening or by a row before it. Each call goes once through all
  * records, and takes memory for them and for the rows, so many rows are put in by one call. They come in the order of sgt_rows: a row
@@ -197,7 +231,7 @@ uint32_t sgt_put(sgt_engine *engine, const sgt_row *rows, size_t count, uint64_t
  */
 uint32_t sgt_procedure(sgt_engine *engine, const uint8_t *text, size_t length, uint16_t *number, sgt_fault *fault);
 
-/* Closes an engine, and gives back all that it took. One that is closed stays so. */
+/* Closes an engine, and gives back all that it took. One that is closed stays so, and one that a call is in stays as it is. */
 void sgt_close(sgt_engine *engine);
 
 /*
@@ -208,8 +242,11 @@ void sgt_close(sgt_engine *engine);
  * SGT_CLOSED; SGT_NO_MEMORY, but never for an event that ends a live transaction: that takes no memory.
  */
 
-/* Starts a transaction of a procedure, with `count` arguments, at most 4: SGT_BAD_CALL where there are more, tested first. */
-uint32_t sgt_start(sgt_engine *engine, uint16_t procedure, const int64_t *args, size_t count, sgt_reply *reply);
+/*
+ * Starts a transaction of a procedure, with `count` arguments, at most 4. SGT_BAD_CALL where there are more, or the number of the
+ * procedure is over 65535, tested first.
+ */
+uint32_t sgt_start(sgt_engine *engine, uint64_t procedure, const int64_t *args, size_t count, sgt_reply *reply);
 
 /* Lets a transaction make its next access. */
 uint32_t sgt_step(sgt_engine *engine, uint32_t tid, sgt_reply *reply);
@@ -227,10 +264,23 @@ uint32_t sgt_quit(sgt_engine *engine, uint32_t tid, sgt_reply *reply);
  * sgt_commit is called later; or what a start is answered that starts nothing. The number of a transaction that was started is
  * written into `tid`, which else stays as it was.
  *
- * SGT_BAD_CALL where there are over 4 arguments, tested first; SGT_CLOSED; SGT_NO_MEMORY, where nothing has changed, or the
- * transaction was started and is quit. But for SGT_OK tid and reply stay as they were.
+ * SGT_BAD_CALL where there are over 4 arguments, or the number of the procedure is over 65535, tested first; SGT_CLOSED;
+ * SGT_NO_MEMORY, where nothing has changed, or the transaction was started and is quit. But for SGT_OK tid and reply stay as they
+ * were.
  */
-uint32_t sgt_run(sgt_engine *engine, uint16_t procedure, const int64_t *args, size_t count, uint32_t *tid, sgt_reply *reply);
+uint32_t sgt_run(sgt_engine *engine, uint64_t procedure, const int64_t *args, size_t count, uint32_t *tid, sgt_reply *reply);
+
+/*
+ * Runs `count` calls one after another, each as sgt_run does: for batches, and to run again what sgt_calls returned. Of a call only
+ * `procedure`, `args` and `arg` count. The outcome of each call is written to its place in `outcomes`, which has room for `room` of
+ * them. How many calls were run is written into `done`. A call whose start is refused, or whose transaction is aborted or has to wait,
+ * is run too: its outcome says so, and the next call follows.
+ *
+ * SGT_BAD_CALL where a call has over 4 arguments or a procedure over 65535, or `room` is less than `count`, tested first; SGT_CLOSED;
+ * SGT_NO_MEMORY, where the calls before number `done`, counted from 0, have run, and of that one nothing has changed, or its
+ * transaction was started and is quit. But for SGT_OK and SGT_NO_MEMORY outcomes and done stay as they were.
+ */
+uint32_t sgt_run_many(sgt_engine *engine, const sgt_call *calls, size_t count, sgt_outcome *outcomes, size_t room, uint64_t *done);
 
 /*
  * The committed value of a record: the last one that a committed transaction stored, else the opening's.
@@ -238,7 +288,7 @@ uint32_t sgt_run(sgt_engine *engine, uint16_t procedure, const int64_t *args, si
  * SGT_BAD_CALL where the table is over 7 or the number out of range, tested first; SGT_CLOSED; SGT_NONE where there is no such
  * record. But for SGT_OK the value stays as it was.
  */
-uint32_t sgt_get(sgt_engine *engine, uint8_t table, int64_t number, int64_t *value);
+uint32_t sgt_get(sgt_engine *engine, uint64_t table, int64_t number, int64_t *value);
 
 /*
  * The committed database from a record on, by table and then by number: from table 0, number SGT_LEAST on it is all. The first of
@@ -248,7 +298,15 @@ uint32_t sgt_get(sgt_engine *engine, uint8_t table, int64_t number, int64_t *val
  * SGT_BAD_CALL where the table is over 7 or the number out of range, tested first; SGT_CLOSED; SGT_NO_MEMORY. But for SGT_OK rows
  * and count stay as they were.
  */
-uint32_t sgt_rows(sgt_engine *engine, uint8_t table, int64_t number, sgt_row *rows, size_t room, uint64_t *count);
+uint32_t sgt_rows(sgt_engine *engine, uint64_t table, int64_t number, sgt_row *rows, size_t room, uint64_t *count);
+
+/*
+ * How many records the committed database has: as many as sgt_rows returns from the first on. It goes once through all of them, and
+ * takes memory for them meanwhile.
+ *
+ * SGT_CLOSED; SGT_NO_MEMORY. But for SGT_OK the count stays as it was.
+ */
+uint32_t sgt_records(sgt_engine *engine, uint64_t *count);
 
 /* How many entries the history has: one for each event that was answered since the opening or the last cut. SGT_CLOSED. */
 uint32_t sgt_entries(sgt_engine *engine, uint64_t *count);
@@ -260,6 +318,20 @@ uint32_t sgt_entries(sgt_engine *engine, uint64_t *count);
  * SGT_CLOSED; SGT_NONE where there are not so many entries. But for SGT_OK event and reply stay as they were.
  */
 uint32_t sgt_entry(sgt_engine *engine, uint64_t place, sgt_event *event, sgt_reply *reply);
+
+/*
+ * The calls of the committed and refused transactions, in the order of their replies, each with its answers or its code. This is the
+ * list that is proved to give the same answers, codes and database where it is run one after another.
+ *
+ * The history is read from the place `from` on. The first calls are written into `calls`, which has room for `room` of them. How many
+ * were written goes into `count`. The place to go on from goes into `next`: pass it as `from` the next time. The calls end with the
+ * history where `next` is what sgt_entries returns. After a cut the places begin at 0 again.
+ *
+ * The cost grows with the entries from `from` to `next`, and for each call with those back to its start.
+ *
+ * SGT_CLOSED; SGT_NONE if `from` is more than the number of entries. But for SGT_OK calls, count and next stay as they were.
+ */
+uint32_t sgt_calls(sgt_engine *engine, uint64_t from, sgt_call *calls, size_t room, uint64_t *count, uint64_t *next);
 
 /*
  * Takes memory for `entries` more entries, of 72 bytes each, so that the history is not moved until then. What the lists of
@@ -275,9 +347,17 @@ uint32_t sgt_reserve(sgt_engine *engine, uint64_t entries);
  * allow is counted anew. Whoever wants the entries reads them before. It goes once through all records, and takes memory for them.
  *
  * SGT_CLOSED; SGT_STILL_LIVE where a transaction is live, tested next: how many are is written into `live`, which else stays as it
- * was; SGT_NO_MEMORY. But for SGT_OK the engine stays as it was.
+ * was; SGT_TOO_MANY behind 2^64 - 1 cuts; SGT_NO_MEMORY. But for SGT_OK the engine stays as it was.
  */
 uint32_t sgt_cut(sgt_engine *engine, uint64_t *live);
+
+/*
+ * The number of the part that the history is: how many cuts there were since the opening. Transactions are numbered from 0 in each
+ * part, so the part and the number together name one transaction of the engine, and never another. Only a cut changes it.
+ *
+ * SGT_CLOSED. But for SGT_OK the part stays as it was.
+ */
+uint32_t sgt_part(sgt_engine *engine, uint64_t *part);
 
 /*
  * The text of a reply: the line that `sgt script` writes for it, without its end and with no zero byte behind it. Where it fits into

@@ -145,6 +145,62 @@ static void entries_are_told(void)
     sgt_close(&engine);
 }
 
+static int is_call(const sgt_call *call, uint32_t kind, uint32_t tid, uint32_t procedure, uint32_t args, int64_t arg)
+{
+    return call->kind == kind && call->tid == tid && call->procedure == procedure && call->args == args && call->arg[0] == arg;
+}
+
+static void calls_are_told(void)
+{
+    const char at_commit[] = "{\"limits\":[8,100,1],\"accounts\":[[1,101,500,1000]],\"procedures\":[]}";
+    const int64_t stranger[] = {9};
+    sgt_engine engine = {0};
+    sgt_fault fault = {0};
+    sgt_reply told = {0};
+    sgt_call calls[3] = {{0}};
+    uint32_t t = 0;
+    uint64_t count = 77, next = 78, entries = 0;
+    calls[1].kind = 99;
+    CHECK(sgt_calls(&engine, 0, calls, 3, &count, &next) == 2);
+    CHECK(count == 77 && next == 78 && calls[1].kind == 99);
+    CHECK(opens(&engine, at_commit, &fault) == 0);
+    CHECK(sgt_calls(&engine, 1, calls, 3, &count, &next) == 4);
+    CHECK(count == 77 && next == 78);
+    CHECK(sgt_calls(&engine, 0, calls, 3, &count, &next) == 0);
+    CHECK(count == 0 && next == 0 && calls[1].kind == 99);
+    CHECK(sgt_start(&engine, 0, deposit, 1, &told) == 0);
+    CHECK(sgt_run(&engine, 0, stranger, 1, &t, &told) == 0);
+    CHECK(told.kind == 15 && told.code == 1 && t == 1);
+    CHECK(sgt_run(&engine, 1, deposit, 2, &t, &told) == 0);
+    CHECK(is_committed(&told, 1100) && t == 2);
+    CHECK(sgt_start(&engine, 1, deposit, 2, &told) == 0);
+    CHECK(sgt_quit(&engine, 3, &told) == 0);
+    CHECK(sgt_step(&engine, 0, &told) == 0);
+    CHECK(sgt_step(&engine, 0, &told) == 0);
+    CHECK(sgt_step(&engine, 0, &told) == 0);
+    CHECK(sgt_step(&engine, 0, &told) == 0 && told.kind == 10);
+    CHECK(sgt_commit(&engine, 0, &told) == 0);
+    CHECK(is_committed(&told, 1600));
+    CHECK(sgt_entries(&engine, &entries) == 0);
+    CHECK(sgt_calls(&engine, 0, calls, 3, &count, &next) == 0);
+    CHECK(count == 3);
+    CHECK(is_call(&calls[0], 15, 1, 0, 1, 9) && calls[0].code == 1 && calls[0].answers == 0);
+    CHECK(is_call(&calls[1], 13, 2, 1, 2, 1) && calls[1].arg[1] == 100 && calls[1].answers == 1 && calls[1].answer[0] == 1100);
+    CHECK(is_call(&calls[2], 13, 0, 0, 1, 1) && calls[2].answers == 1 && calls[2].answer[0] == 1600);
+    CHECK(sgt_calls(&engine, next, calls, 3, &count, &next) == 0);
+    CHECK(count == 0 && next == entries);
+    CHECK(sgt_calls(&engine, 0, calls, 1, &count, &next) == 0);
+    CHECK(count == 1 && next < entries && calls[0].kind == 15 && calls[1].tid == 2);
+    CHECK(sgt_calls(&engine, next, calls, 1, &count, &next) == 0);
+    CHECK(count == 1 && calls[0].tid == 2);
+    CHECK(sgt_calls(&engine, next, calls, 0, &count, &next) == 0);
+    CHECK(count == 0);
+    CHECK(sgt_calls(&engine, next, calls, 3, &count, &next) == 0);
+    CHECK(count == 1 && next == entries && calls[0].tid == 0);
+    CHECK(sgt_calls(&engine, UINT64_MAX, calls, 3, &count, &next) == 4);
+    sgt_close(&engine);
+}
+
 static void rows_are_told(void)
 {
     sgt_engine engine = {0};
@@ -331,6 +387,197 @@ static void a_run_goes_to_its_end(void)
     sgt_close(&engine);
 }
 
+static void many_calls_are_run(void)
+{
+    const sgt_call asked[] = {
+        {.procedure = 1, .args = 2, .arg = {1, 100}},
+        {.procedure = 0, .args = 1, .arg = {9}},
+        {.procedure = 77, .args = 4, .arg = {1, 2, 3, 4}},
+        {.procedure = 0, .args = 1, .arg = {1}},
+    };
+    const sgt_call wide = {.procedure = 65536}, long_one = {.args = 5};
+    sgt_engine engine = {0}, other = {0};
+    sgt_fault fault = {0};
+    sgt_call calls[4] = {{0}}, again[4] = {{0}};
+    sgt_outcome outcomes[4] = {{0}};
+    uint64_t done = 77, count = 0, next = 0;
+    int64_t value = 0;
+    CHECK(sgt_run_many(&engine, asked, 4, outcomes, 3, &done) == 5);
+    CHECK(sgt_run_many(&engine, asked, 4, outcomes, 4, &done) == 2);
+    CHECK(opens(&engine, opening, &fault) == 0);
+    CHECK(sgt_run_many(&engine, &wide, 1, outcomes, 4, &done) == 5);
+    CHECK(sgt_run_many(&engine, &long_one, 1, outcomes, 4, &done) == 5);
+    CHECK(done == 77 && outcomes[0].reply.kind == 0);
+    CHECK(sgt_run_many(&engine, asked, 0, outcomes, 0, &done) == 0);
+    CHECK(done == 0);
+    outcomes[3].tid = 99;
+    CHECK(sgt_run_many(&engine, asked, 3, outcomes, 4, &done) == 0);
+    CHECK(done == 3 && outcomes[3].tid == 99 && outcomes[3].reply.kind == 0);
+    CHECK(is_committed(&outcomes[0].reply, 1100) && outcomes[0].tid == 0);
+    CHECK(outcomes[1].reply.kind == 14 && outcomes[1].reply.cause == 2 && outcomes[1].reply.code == 1 && outcomes[1].tid == 1);
+    CHECK(outcomes[2].reply.kind == 2);
+    CHECK(sgt_run_many(&engine, asked, 4, outcomes, 4, &done) == 0);
+    CHECK(done == 4 && is_committed(&outcomes[3].reply, 1700) && outcomes[3].tid == 4);
+    CHECK(sgt_calls(&engine, 0, calls, 4, &count, &next) == 0);
+    CHECK(count == 3);
+    CHECK(opens(&other, opening, &fault) == 0);
+    CHECK(sgt_run_many(&other, calls, count, outcomes, 4, &done) == 0);
+    CHECK(done == 3 && is_committed(&outcomes[2].reply, 1700));
+    CHECK(sgt_calls(&other, 0, again, 4, &count, &next) == 0);
+    CHECK(count == 3 && again[2].procedure == 0 && again[2].answer[0] == 1700);
+    CHECK(sgt_get(&other, 2, 101, &value) == 0);
+    CHECK(value == 1200);
+    sgt_close(&engine);
+    sgt_close(&other);
+}
+
+/* As a second thread finds an engine that a call is in. */
+static void a_busy_engine_is_left_alone(void)
+{
+    const sgt_call asked = {.procedure = 1, .args = 2, .arg = {1, 100}};
+    const sgt_row own = {7, 0, 5, 50};
+    sgt_engine engine = {0};
+    sgt_fault fault = {0};
+    sgt_reply told = {0};
+    sgt_event event = {0};
+    sgt_call call = {0};
+    sgt_outcome outcome = {0};
+    sgt_row row = {0};
+    uint16_t number = 77;
+    uint32_t t = 77;
+    uint64_t count = 77, next = 77;
+    int64_t value = 77;
+    engine.is_open = 2;
+    CHECK(opens(&engine, opening, &fault) == 10);
+    CHECK(opens_with(&engine, opening, &own, 1, &fault) == 10);
+    CHECK(sgt_open_bare(&engine, 8, 100, 1) == 10);
+    CHECK(sgt_put(&engine, &own, 1, &count) == 10);
+    CHECK(sgt_procedure(&engine, (const uint8_t *)"", 0, &number, &fault) == 10);
+    CHECK(sgt_start(&engine, 1, deposit, 2, &told) == 10);
+    CHECK(sgt_step(&engine, 0, &told) == 10);
+    CHECK(sgt_commit(&engine, 0, &told) == 10);
+    CHECK(sgt_quit(&engine, 0, &told) == 10);
+    CHECK(sgt_run(&engine, 1, deposit, 2, &t, &told) == 10);
+    CHECK(sgt_run_many(&engine, &asked, 1, &outcome, 1, &count) == 10);
+    CHECK(sgt_get(&engine, 2, 101, &value) == 10);
+    CHECK(sgt_rows(&engine, 0, 0, &row, 1, &count) == 10);
+    CHECK(sgt_records(&engine, &count) == 10);
+    CHECK(sgt_entries(&engine, &count) == 10);
+    CHECK(sgt_entry(&engine, 0, &event, &told) == 10);
+    CHECK(sgt_calls(&engine, 0, &call, 1, &count, &next) == 10);
+    CHECK(sgt_reserve(&engine, 1) == 10);
+    CHECK(sgt_cut(&engine, &count) == 10);
+    CHECK(sgt_part(&engine, &count) == 10);
+    sgt_close(&engine);
+    CHECK(engine.is_open == 2 && !engine.at);
+    CHECK(told.kind == 0 && number == 77 && t == 77 && count == 77 && next == 77 && value == 77 && fault.kind == 0);
+}
+
+static void wide_numbers_are_refused(void)
+{
+    sgt_engine engine = {0};
+    sgt_fault fault = {0};
+    sgt_reply told = {0};
+    sgt_row row = {9, 0, 9, 9};
+    int64_t value = 77;
+    uint64_t count = 78;
+    uint32_t t = 79;
+    CHECK(opens(&engine, opening, &fault) == 0);
+    CHECK(sgt_get(&engine, 258, 101, &value) == 5);
+    CHECK(sgt_get(&engine, (UINT64_C(1) << 32) + 2, 101, &value) == 5);
+    CHECK(value == 77);
+    CHECK(sgt_rows(&engine, 256, 0, &row, 1, &count) == 5);
+    CHECK(sgt_rows(&engine, UINT64_MAX, 0, &row, 1, &count) == 5);
+    CHECK(count == 78 && is_row(&row, 9, 9, 9));
+    CHECK(sgt_start(&engine, 65537, deposit, 2, &told) == 5);
+    CHECK(sgt_start(&engine, (UINT64_C(1) << 32) + 1, deposit, 2, &told) == 5);
+    CHECK(sgt_run(&engine, 65537, deposit, 2, &t, &told) == 5);
+    CHECK(told.kind == 0 && t == 79);
+    CHECK(sgt_entries(&engine, &count) == 0);
+    CHECK(count == 0);
+    CHECK(sgt_start(&engine, 65535, deposit, 2, &told) == 0);
+    CHECK(told.kind == 2);
+    sgt_close(&engine);
+    CHECK(sgt_start(&engine, 65536, deposit, 2, &told) == 5);
+    CHECK(sgt_get(&engine, 8, 101, &value) == 5);
+}
+
+static void an_engine_is_opened_bare(void)
+{
+    const char lookup[] = "[1,[[\"look\",0,7,[\"arg\",0],5],[\"answer\",[\"reg\",0]]]]";
+    const int64_t there[] = {1}, absent[] = {2};
+    const sgt_row own = {7, 0, 1, 40};
+    sgt_engine engine = {0};
+    sgt_fault fault = {0};
+    sgt_reply told = {0};
+    uint16_t number = 77;
+    uint32_t t = 0;
+    uint64_t at = 0, count = 77;
+    CHECK(sgt_open_bare(&engine, 0, 100, 1) == 18);
+    CHECK(sgt_open_bare(&engine, 33, 100, 1) == 18);
+    CHECK(sgt_open_bare(&engine, 8, 0, 1) == 18);
+    CHECK(sgt_open_bare(&engine, 8, UINT64_C(4000000001), 1) == 18);
+    CHECK(sgt_open_bare(&engine, 8, 100, 2) == 18);
+    CHECK(sgt_open_bare(&engine, (UINT64_C(1) << 32) + 8, 100, 1) == 18);
+    CHECK(sgt_records(&engine, &count) == 2);
+    CHECK(!engine.is_open && count == 77);
+    CHECK(sgt_open_bare(&engine, 8, 2, 1) == 0);
+    CHECK(sgt_open_bare(&engine, 0, 100, 1) == 3);
+    CHECK(sgt_records(&engine, &count) == 0);
+    CHECK(count == 0);
+    CHECK(adds(&engine, lookup, &number, &fault) == 0);
+    CHECK(number == 0);
+    CHECK(sgt_put(&engine, &own, 1, &at) == 0);
+    CHECK(sgt_records(&engine, &count) == 0);
+    CHECK(count == 1);
+    CHECK(sgt_run(&engine, 0, there, 1, &t, &told) == 0);
+    CHECK(is_committed(&told, 40));
+    CHECK(sgt_run(&engine, 0, absent, 1, &t, &told) == 0);
+    CHECK(told.kind == 15 && told.code == 5);
+    CHECK(sgt_run(&engine, 1, there, 1, &t, &told) == 0);
+    CHECK(told.kind == 2);
+    CHECK(sgt_run(&engine, 0, there, 1, &t, &told) == 0);
+    CHECK(told.kind == 4);
+    sgt_close(&engine);
+    CHECK(sgt_open_bare(&engine, 32, UINT64_C(4000000000), 0) == 0);
+    CHECK(adds(&engine, lookup, &number, &fault) == 0);
+    CHECK(sgt_run(&engine, 0, absent, 1, &t, &told) == 0);
+    CHECK(told.kind == 14 && told.cause == 2 && told.code == 5);
+    sgt_close(&engine);
+}
+
+static void parts_are_numbered(void)
+{
+    sgt_engine engine = {0};
+    sgt_fault fault = {0};
+    sgt_reply told = {0};
+    uint32_t t = 0;
+    uint64_t part = 77, live = 0;
+    CHECK(sgt_part(&engine, &part) == 2);
+    CHECK(part == 77);
+    CHECK(opens(&engine, opening, &fault) == 0);
+    CHECK(sgt_part(&engine, &part) == 0);
+    CHECK(part == 0);
+    CHECK(sgt_run(&engine, 1, deposit, 2, &t, &told) == 0);
+    CHECK(sgt_cut(&engine, &live) == 0);
+    CHECK(sgt_part(&engine, &part) == 0);
+    CHECK(part == 1);
+    CHECK(sgt_start(&engine, 1, deposit, 2, &told) == 0);
+    CHECK(sgt_cut(&engine, &live) == 6);
+    CHECK(sgt_part(&engine, &part) == 0);
+    CHECK(part == 1);
+    CHECK(sgt_quit(&engine, 0, &told) == 0);
+    CHECK(sgt_cut(&engine, &live) == 0);
+    CHECK(sgt_cut(&engine, &live) == 0);
+    CHECK(sgt_part(&engine, &part) == 0);
+    CHECK(part == 3);
+    sgt_close(&engine);
+    CHECK(opens(&engine, opening, &fault) == 0);
+    CHECK(sgt_part(&engine, &part) == 0);
+    CHECK(part == 0);
+    sgt_close(&engine);
+}
+
 static void the_history_is_cut_off(void)
 {
     const int64_t one[] = {1, 1};
@@ -431,12 +678,18 @@ int main(void)
     a_deposit_is_committed();
     statuses_are_told();
     entries_are_told();
+    calls_are_told();
     rows_are_told();
     rows_are_opened();
     rows_are_put();
     procedures_are_added();
     procedures_have_numbers_of_16_bits();
     a_run_goes_to_its_end();
+    many_calls_are_run();
+    a_busy_engine_is_left_alone();
+    wide_numbers_are_refused();
+    an_engine_is_opened_bare();
+    parts_are_numbered();
     the_history_is_cut_off();
     replies_are_texts();
     faults_are_texts();

@@ -5,12 +5,17 @@ pub mod EventStructs
 pub mod FaultStructs
 pub mod BufferTexts
 -- the handle
+pub mod Handles
 pub mod SlotOwnership
 -- what the calls do
+pub mod Asked
 pub mod Entries
+pub mod ReplayedCalls
 pub mod Calls
 pub mod Rows
 pub mod Runs
+pub mod ManyRuns
 pub mod Openings
+pub mod BareOpenings
 pub mod Cuts
 pub mod Puts

@@ -1,5 +1,5 @@
 //! Events, and what they are answered.
-ghost use Rattle.std.specs.Prelude.{◌≡◌, ◌≢◌, ◌≤◌, ◌<◌, ◌↔◌, ℕ, true, Some, None, OnOk, OnErr, length};
+ghost use Rattle.std.specs.Prelude.{◌≡◌, ◌≢◌, ◌≤◌, ◌↔◌, ℕ, true, Some, None, OnOk, OnErr};
 ghost use Rattle.std.specs.Result.{IsOk};
 ghost use Rattle.sgt_model.specs.declared.reply.Reply.{Reply};
 ghost use Rattle.sgt_model.specs.Fates.{live};
@@ -8,56 +8,65 @@ ghost use Rattle.sgt_model.specs.Questions.{is_ending};
 ghost use Rattle.sgt_engine.specs.EngineView.{setting_of};
 ghost use Rattle.sgt_model.specs.declared.event.Event.TheVariants.{Start, Step, Commit, Quit};
 ghost use Rattle.sgt_c.specs.Calls.{Answered, EndsSucceed, QuitsSucceed};
+ghost use Rattle.sgt_c.specs.Asked.{IsCall};
+ghost use Rattle.sgt_c.specs.Handles.{IsBusy};
 
+use crate::asked::call;
 use crate::handle::Handle;
 use crate::held::Held;
 use crate::reply_struct::{SgtReply, write_reply};
 use crate::status;
-use sgt_model::{Args, Event, NoMemory, Tid};
+use sgt_model::{Event, NoMemory, Tid};
 use std::alloc::Global;
 
 /// Starts a transaction that runs the procedure of this number with these arguments.
 ///
-/// `NO_MEMORY`; `CLOSED`; `BAD_CALL` where there are over 4 arguments, tested first.
+/// `NO_MEMORY`; `BUSY`; `CLOSED`; `BAD_CALL` where the number is over 65535, or there are over 4 arguments, tested first.
 #[unsafe(no_mangle)]
 pub extern "C" fn sgt_start(
     alloc: Global,
     engine: &mut Handle,
-    procedure: u16,
+    procedure: u64,
     args: &[i64],
     reply: &mut SgtReply,
 ) -> u32
     ensures ok { result ≡ 0 → Answered (Start procedure args.now) engine.old.slot.held engine.new.slot.held reply.new }
     ensures unchanged { result ≢ 0 → engine.new.slot.held ≡ engine.old.slot.held }
     ensures unwritten { result ≢ 0 → reply.new ≡ reply.old }
-    ensures bad_call { (result ≡ 5) ↔ (4 < length args.now) }
-    ensures closed { (result ≡ 2) ↔ ((length args.now ≤ 4) × (engine.old.slot.held ≡ None)) }
-    ensures statuses { result ≢ 5 → result ≤ 2 }
+    ensures bad_call { (result ≡ 5) ↔ (¬ IsCall procedure args.now) }
+    ensures busy { (result ≡ 10) ↔ (IsCall procedure args.now × IsBusy engine.old.state) }
+    ensures closed { (result ≡ 2) ↔ (IsCall procedure args.now × ((¬ IsBusy engine.old.state) × (engine.old.slot.held ≡ None))) }
+    ensures statuses { result ≢ 10 → result ≢ 5 → result ≤ 2 }
+    ensures leaves { IsBusy engine.new.state → IsBusy engine.old.state }
+    ensures stays { IsBusy engine.old.state → engine.new.state ≡ engine.old.state }
 {
-    match Args::from_slice(args) {
-        Some(args) => ask(alloc, engine, Event::Start { procedure, args }, reply),
+    match call(procedure, args) {
+        Some((procedure, args)) => ask(alloc, engine, Event::Start { procedure, args }, reply),
         None => status::BAD_CALL,
     }
 }
 
 /// Lets the transaction make its next access.
 ///
-/// `NO_MEMORY`; `CLOSED`.
+/// `NO_MEMORY`; `BUSY`; `CLOSED`.
 #[unsafe(no_mangle)]
 pub extern "C" fn sgt_step(alloc: Global, engine: &mut Handle, t: u32, reply: &mut SgtReply) -> u32
     ensures ok { result ≡ 0 → Answered (Step t) engine.old.slot.held engine.new.slot.held reply.new }
     ensures unchanged { result ≢ 0 → engine.new.slot.held ≡ engine.old.slot.held }
     ensures unwritten { result ≢ 0 → reply.new ≡ reply.old }
-    ensures closed { (result ≡ 2) ↔ (engine.old.slot.held ≡ None) }
+    ensures busy { (result ≡ 10) ↔ IsBusy engine.old.state }
+    ensures closed { (result ≡ 2) ↔ ((¬ IsBusy engine.old.state) × (engine.old.slot.held ≡ None)) }
     ensures ends { EndsSucceed (Step t) engine.old.slot.held result }
-    ensures statuses { result ≤ 2 }
+    ensures statuses { result ≢ 10 → result ≤ 2 }
+    ensures leaves { IsBusy engine.new.state → IsBusy engine.old.state }
+    ensures stays { IsBusy engine.old.state → engine.new.state ≡ engine.old.state }
 {
     ask(alloc, engine, Event::Step(Tid(t)), reply)
 }
 
 /// Commits the transaction.
 ///
-/// `NO_MEMORY`; `CLOSED`.
+/// `NO_MEMORY`; `BUSY`; `CLOSED`.
 #[unsafe(no_mangle)]
 pub extern "C" fn sgt_commit(
     alloc: Global,
@@ -68,24 +77,30 @@ pub extern "C" fn sgt_commit(
     ensures ok { result ≡ 0 → Answered (Commit t) engine.old.slot.held engine.new.slot.held reply.new }
     ensures unchanged { result ≢ 0 → engine.new.slot.held ≡ engine.old.slot.held }
     ensures unwritten { result ≢ 0 → reply.new ≡ reply.old }
-    ensures closed { (result ≡ 2) ↔ (engine.old.slot.held ≡ None) }
+    ensures busy { (result ≡ 10) ↔ IsBusy engine.old.state }
+    ensures closed { (result ≡ 2) ↔ ((¬ IsBusy engine.old.state) × (engine.old.slot.held ≡ None)) }
     ensures ends { EndsSucceed (Commit t) engine.old.slot.held result }
-    ensures statuses { result ≤ 2 }
+    ensures statuses { result ≢ 10 → result ≤ 2 }
+    ensures leaves { IsBusy engine.new.state → IsBusy engine.old.state }
+    ensures stays { IsBusy engine.old.state → engine.new.state ≡ engine.old.state }
 {
     ask(alloc, engine, Event::Commit(Tid(t)), reply)
 }
 
 /// Quits the transaction: it is aborted. Where it is live, this succeeds.
 ///
-/// `NO_MEMORY`; `CLOSED`.
+/// `NO_MEMORY`; `BUSY`; `CLOSED`.
 #[unsafe(no_mangle)]
 pub extern "C" fn sgt_quit(alloc: Global, engine: &mut Handle, t: u32, reply: &mut SgtReply) -> u32
     ensures ok { result ≡ 0 → Answered (Quit t) engine.old.slot.held engine.new.slot.held reply.new }
     ensures unchanged { result ≢ 0 → engine.new.slot.held ≡ engine.old.slot.held }
     ensures unwritten { result ≢ 0 → reply.new ≡ reply.old }
-    ensures closed { (result ≡ 2) ↔ (engine.old.slot.held ≡ None) }
+    ensures busy { (result ≡ 10) ↔ IsBusy engine.old.state }
+    ensures closed { (result ≡ 2) ↔ ((¬ IsBusy engine.old.state) × (engine.old.slot.held ≡ None)) }
     ensures quits { QuitsSucceed (Quit t) engine.old.slot.held result }
-    ensures statuses { result ≤ 2 }
+    ensures statuses { result ≢ 10 → result ≤ 2 }
+    ensures leaves { IsBusy engine.new.state → IsBusy engine.old.state }
+    ensures stays { IsBusy engine.old.state → engine.new.state ≡ engine.old.state }
 {
     ask(alloc, engine, Event::Quit(Tid(t)), reply)
 }
@@ -95,11 +110,17 @@ fn ask(alloc: Global, engine: &mut Handle, event: Event, reply: &mut SgtReply) -
     ensures ok { result ≡ 0 → Answered event engine.old.slot.held engine.new.slot.held reply.new }
     ensures unchanged { result ≢ 0 → engine.new.slot.held ≡ engine.old.slot.held }
     ensures unwritten { result ≢ 0 → reply.new ≡ reply.old }
-    ensures closed { (result ≡ 2) ↔ (engine.old.slot.held ≡ None) }
+    ensures busy { (result ≡ 10) ↔ IsBusy engine.old.state }
+    ensures closed { (result ≡ 2) ↔ ((¬ IsBusy engine.old.state) × (engine.old.slot.held ≡ None)) }
     ensures ends { EndsSucceed event engine.old.slot.held result }
     ensures quits { QuitsSucceed event engine.old.slot.held result }
-    ensures statuses { result ≤ 2 }
+    ensures statuses { result ≢ 10 → result ≤ 2 }
+    ensures leaves { IsBusy engine.new.state → IsBusy engine.old.state }
+    ensures stays { IsBusy engine.old.state → engine.new.state ≡ engine.old.state }
 {
+    if engine.is_busy() {
+        return status::BUSY;
+    }
     match engine.take(alloc) {
         Some(mut held) => {
             let answered = answer(&mut held, event, reply);

@@ -19,8 +19,10 @@
 
 // The structs of C, and how they are written and read.
 mod buffer_text;
+mod call_struct;
 mod event_struct;
 mod fault_struct;
+mod outcome_struct;
 mod reply_reading;
 mod reply_struct;
 mod row_struct;
@@ -32,20 +34,26 @@ mod held;
 mod slot;
 
 // The calls.
+mod asked;
 mod cutting;
 mod events;
 mod history;
 mod opening;
+mod opening_bare;
 mod opening_with;
 mod procedures;
 mod putting;
 mod reading;
+mod replayed_calls;
 mod rows;
 mod run;
+mod run_many;
 mod texts;
 
+pub use call_struct::SgtCall;
 pub use event_struct::SgtEvent;
 pub use fault_struct::SgtFault;
 pub use handle::Handle;
+pub use outcome_struct::SgtOutcome;
 pub use reply_struct::SgtReply;
 pub use row_struct::SgtRow;
