@@ -72,6 +72,8 @@ fn main() -> Result<(), Error> {
     }
     let aborted = Reply::Aborted { cause: Cause::Cycle(vec![1, 2]), fell: vec![3] };
     assert_eq!(aborted.to_string(), "aborted cycle 1 2 fell 3");
+    let none = Reply::Wrote { table: 8, number: 0, value: 0 }; // no such table: the library has no line for it
+    assert_eq!(none.to_string(), format!("{none:?}"));
     let refused = Engine::open(r#"{"limits":[99,1],"accounts":[],"procedures":[]}"#);
     assert_eq!(refused.err(), Some(Error::Opening(Fault::BadLimits)));
     let engine = std::sync::Mutex::new(engine);
