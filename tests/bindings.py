@@ -41,7 +41,7 @@ def makes_the_library(_):
     seen = {name.partition("@")[0] for name in names if not name.startswith("SGT_0")}
     same("names of libsgt.so that are not the headers'", [], sorted(seen - declared()))
     same("names of the headers that libsgt.so has not", [], sorted(declared() - seen))
-    same("names without a version", [], [name for name in names if not name.endswith(("@@SGT_0", "SGT_0"))])
+    same("names without a version", [], [name for name in names if not name.endswith("SGT_0")])
 
 
 def declared():
@@ -205,6 +205,33 @@ def is_a_wheel(room):
     env = {name: value for name, value in os.environ.items() if name != "SGT_LIBRARY"}
     same("the money", LEFT, run([sys.executable, room / "site" / "threads.py"], env=env, cwd=room))
     same("what says that it is typed", True, (room / "site" / "sgt" / "py.typed").exists())
+
+
+def programs_of(language, mark):
+    """The programs of the page in this language: its blocks with this mark in them."""
+    blocks = (TOP / "docs" / "LIBRARY.md").read_text().split(f"```{language}\n")[1:]
+    return [block.split("```")[0] for block in blocks if mark in block.split("```")[0]]
+
+
+def runs_the_programs_of_its_page(room):
+    """As a reader copies them, without warnings."""
+    told = []
+    for number, text in enumerate(programs_of("c", "int main(void)")):
+        source = room / f"page{number}.c"
+        source.write_text(text)
+        told.append(run([built(room, "cc", C_FLAGS, source)]))
+    env = dict(os.environ, PYTHONPATH=str(BINDINGS / "python"), PYTHONDONTWRITEBYTECODE="1")
+    told += [run([sys.executable, "-W", "error", "-c", text], env=env) for text in programs_of("python", "with ")]
+    same("what the programs tell", ["80000\n", "1500\n", "80000\n", "COMMITTED 1500\n"], told)
+    if not shutil.which("rustc") or not (room / "libsgt.rlib").exists():
+        return "but for those in Rust: no rustc here"
+    program = room / "page_rust"
+    words = ["rustc", "--edition", "2021", "-D", "warnings", "-L", f"native={OUT}", "-L", room, "--extern", "sgt", "-o", program]
+    for text in programs_of("rust", "fn main()"):
+        (room / "page.rs").write_text(text)
+        run([*words, room / "page.rs"])
+        same("what the program in Rust tells", "80000\n", run([program]))
+    return None
 
 
 def module():
@@ -454,6 +481,7 @@ CASES = [
     tells_the_story_by_cargo,
     tells_the_story_in_python,
     is_a_wheel,
+    runs_the_programs_of_its_page,
     gives_each_reply_and_fault_its_text,
     tells_why_nothing_is_added,
     takes_no_number_for_another_transactions,

@@ -128,7 +128,7 @@ public:
     Engine(const Engine &) = delete;
     Engine &operator=(const Engine &) = delete;
 
-    sgt_reply start(std::uint16_t procedure, std::initializer_list<std::int64_t> args)
+    sgt_reply start(std::uint64_t procedure, std::initializer_list<std::int64_t> args)
     {
         sgt_reply reply{};
         static const std::int64_t none = 0;
@@ -160,7 +160,7 @@ public:
     }
 
     // Runs a procedure from its start to its commit.
-    Ran run(std::uint16_t procedure, std::initializer_list<std::int64_t> args)
+    Ran run(std::uint64_t procedure, std::initializer_list<std::int64_t> args)
     {
         sgt_reply reply{};
         static const std::int64_t none = 0;
@@ -175,7 +175,7 @@ public:
     sgt_reply quit(std::uint32_t tid) { return ask(sgt_quit, tid); }
 
     // The committed value, or none where there is no such record.
-    std::optional<std::int64_t> get(std::uint8_t table, std::int64_t number)
+    std::optional<std::int64_t> get(std::uint64_t table, std::int64_t number)
     {
         std::int64_t value = 0;
         auto status = sgt_get(&engine, table, number, &value);
@@ -185,7 +185,7 @@ public:
     }
 
     // The committed database from a record on, by table and then by number.
-    std::vector<sgt_row> rows(std::uint8_t table = 0, std::int64_t number = SGT_LEAST)
+    std::vector<sgt_row> rows(std::uint64_t table = 0, std::int64_t number = SGT_LEAST)
     {
         sgt_row none{};
         std::uint64_t count = 0;

@@ -103,7 +103,7 @@ class Engine(Uncopied):
         """Starts a transaction of the procedure with at most 4 arguments."""
         to = room()
         pack_args(to.args, args)
-        check(_start(self._at, whole(procedure, 0, 65535), to.given, _SIZES[len(args)], to.to))
+        check(_start(self._at, ctypes.c_uint64(whole(procedure, 0, 65535)), to.given, _SIZES[len(args)], to.to))
         reply = reply_of(to.told, to.fields)
         free_room(to)
         return reply
@@ -116,7 +116,7 @@ class Engine(Uncopied):
         to = room()
         to.tid.value = NO_TID
         pack_args(to.args, args)
-        check(_run(self._at, whole(procedure, 0, 65535), to.given, _SIZES[len(args)], to.to_tid, to.to))
+        check(_run(self._at, ctypes.c_uint64(whole(procedure, 0, 65535)), to.given, _SIZES[len(args)], to.to_tid, to.to))
         tid, reply = to.tid.value, reply_of(to.told, to.fields)
         free_room(to)
         return (None if tid == NO_TID else tid), reply

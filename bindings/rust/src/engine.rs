@@ -54,7 +54,7 @@ impl Engine {
     /// Starts a transaction of a procedure, with at most four arguments.
     pub fn start(&mut self, procedure: u16, args: &[i64]) -> Result<Reply, Error> {
         let mut reply = c::Reply::default();
-        let status = unsafe { c::sgt_start(&mut self.inner, procedure, args.as_ptr(), args.len(), &mut reply) };
+        let status = unsafe { c::sgt_start(&mut self.inner, procedure.into(), args.as_ptr(), args.len(), &mut reply) };
         told(status, &reply)
     }
 
@@ -63,7 +63,7 @@ impl Engine {
         let mut reply = c::Reply::default();
         let mut tid = u32::MAX; // a number that the limits never allow
         let status =
-            unsafe { c::sgt_run(&mut self.inner, procedure, args.as_ptr(), args.len(), &mut tid, &mut reply) };
+            unsafe { c::sgt_run(&mut self.inner, procedure.into(), args.as_ptr(), args.len(), &mut tid, &mut reply) };
         told(status, &reply).map(|reply| ((tid != u32::MAX).then_some(tid), reply))
     }
 
@@ -85,7 +85,7 @@ impl Engine {
     /// The committed value of a record, or none where there is no such record.
     pub fn get(&mut self, table: u8, number: i64) -> Result<Option<i64>, Error> {
         let mut value = 0;
-        match unsafe { c::sgt_get(&mut self.inner, table, number, &mut value) } {
+        match unsafe { c::sgt_get(&mut self.inner, table.into(), number, &mut value) } {
             c::NONE => Ok(None),
             status => done(status).map(|()| Some(value)),
         }
@@ -94,9 +94,9 @@ impl Engine {
     /// The committed database from a record on, by table and then by number: from table 0, number `LEAST` on it is all.
     pub fn rows(&mut self, table: u8, number: i64) -> Result<Vec<Row>, Error> {
         let mut count = 0;
-        done(unsafe { c::sgt_rows(&mut self.inner, table, number, Vec::new().as_mut_ptr(), 0, &mut count) })?;
+        done(unsafe { c::sgt_rows(&mut self.inner, table.into(), number, Vec::new().as_mut_ptr(), 0, &mut count) })?;
         let mut rows = vec![c::Row::default(); count as usize];
-        done(unsafe { c::sgt_rows(&mut self.inner, table, number, rows.as_mut_ptr(), rows.len(), &mut count) })?;
+        done(unsafe { c::sgt_rows(&mut self.inner, table.into(), number, rows.as_mut_ptr(), rows.len(), &mut count) })?;
         Ok(rows.iter().map(row_of).collect())
     }
 

@@ -191,10 +191,10 @@ extern "C" {
         fault: *mut Fault,
     ) -> u32;
     pub fn sgt_close(engine: *mut Engine);
-    pub fn sgt_start(engine: *mut Engine, procedure: u16, args: *const i64, count: usize, reply: *mut Reply) -> u32;
+    pub fn sgt_start(engine: *mut Engine, procedure: u64, args: *const i64, count: usize, reply: *mut Reply) -> u32;
     pub fn sgt_run(
         engine: *mut Engine,
-        procedure: u16,
+        procedure: u64,
         args: *const i64,
         count: usize,
         tid: *mut u32,
@@ -203,8 +203,8 @@ extern "C" {
     pub fn sgt_step(engine: *mut Engine, tid: u32, reply: *mut Reply) -> u32;
     pub fn sgt_commit(engine: *mut Engine, tid: u32, reply: *mut Reply) -> u32;
     pub fn sgt_quit(engine: *mut Engine, tid: u32, reply: *mut Reply) -> u32;
-    pub fn sgt_get(engine: *mut Engine, table: u8, number: i64, value: *mut i64) -> u32;
-    pub fn sgt_rows(engine: *mut Engine, table: u8, number: i64, rows: *mut Row, room: usize, count: *mut u64) -> u32;
+    pub fn sgt_get(engine: *mut Engine, table: u64, number: i64, value: *mut i64) -> u32;
+    pub fn sgt_rows(engine: *mut Engine, table: u64, number: i64, rows: *mut Row, room: usize, count: *mut u64) -> u32;
     pub fn sgt_entries(engine: *mut Engine, count: *mut u64) -> u32;
     pub fn sgt_entry(engine: *mut Engine, place: u64, event: *mut Event, reply: *mut Reply) -> u32;
     pub fn sgt_reserve(engine: *mut Engine, entries: u64) -> u32;
