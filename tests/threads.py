@@ -9,6 +9,7 @@ this machine, what was left out is told.
 
 import json
 import pathlib
+import random
 import shutil
 import sys
 import tempfile
@@ -189,7 +190,9 @@ def keeps_its_word_whatever_is_called(room):
         program = built(room, compiler, C_FLAGS, source, FUZZER, [SHARED])
         corpus = room / "corpus"
         corpus.mkdir()
-        words = [f"-max_total_time={FUZZED_SECONDS}", "-max_len=4096", "-seed=1", "-print_final_stats=1"]
+        for seed in range(4):  # long inputs to begin with, so that engines grow full and histories long
+            (corpus / f"seed{seed}").write_bytes(random.Random(seed).randbytes(2048))
+        words = [f"-max_total_time={FUZZED_SECONDS}", "-max_len=4096", "-len_control=0", "-seed=1", "-print_final_stats=1"]
         told = run([program, *words, corpus], seconds=300, also_errors=True, cwd=room)
         count = next(line.split()[-1] for line in told.splitlines() if line.startswith("stat::number_of_executed_units"))
         return f"{compiler}: {count} inputs in {FUZZED_SECONDS} s, {len(list(corpus.iterdir()))} kept"

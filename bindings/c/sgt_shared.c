@@ -267,29 +267,30 @@ static bool await_room(sgt_shared *s, const struct deadline *until)
     return s->lives < s->most;
 }
 
-/* Commits a transaction, and waits for others where it has to. */
-static uint32_t commit(sgt_shared *s, uint32_t tid, const struct deadline *until, sgt_reply *reply, uint32_t *waits)
+/* Waits until a transaction, or the one that its commit waits for, has ended. Whether that came before the deadline. */
+static bool await_turn(sgt_shared *s, uint32_t tid, uint32_t first, const struct deadline *until)
 {
-    uint32_t status;
-    while ((status = ask(s, sgt_commit, tid, reply)) == SGT_OK && reply->kind == SGT_WAITS) {
-        const uint32_t first = reply->tid;
-        struct live *it = find(s, tid);
-        bool in_time = true;
-        ++*waits;
-        if (it) it->waits = true;
-        while (find(s, tid) && find(s, first) && in_time) in_time = rest(s, &s->changed, until);
-        it = find(s, tid);
-        if (it) it->waits = false;
-        if (it && find(s, first)) return SGT_TIMED_OUT;
-    }
-    return status;
+    bool in_time = true;
+    struct live *it = find(s, tid);
+    if (it) it->waits = true;
+    while (find(s, tid) && find(s, first) && in_time) in_time = rest(s, &s->changed, until);
+    it = find(s, tid);
+    if (it) it->waits = false;
+    return !it || !find(s, first);
 }
 
-/* The same; no cut comes before its thread has been told how it ended. */
-static uint32_t commit_told(sgt_shared *s, uint32_t tid, const struct deadline *until, sgt_reply *reply, uint32_t *waits)
+/*
+ * Goes on with a commit whose reply this is: as long as it has to wait, it waits, and asks again. No cut comes before its thread has
+ * been told how it ended.
+ */
+static uint32_t go_on(sgt_shared *s, uint32_t tid, const struct deadline *until, sgt_reply *reply, uint32_t *waits)
 {
+    uint32_t status = SGT_OK;
     s->committing++;
-    uint32_t status = commit(s, tid, until, reply, waits);
+    while (status == SGT_OK && reply->kind == SGT_WAITS) {
+        ++*waits;
+        status = await_turn(s, tid, reply->tid, until) ? ask(s, sgt_commit, tid, reply) : (uint32_t)SGT_TIMED_OUT;
+    }
     if (--s->committing == 0 && s->lives == 0) pthread_cond_broadcast(&s->changed);
     return status;
 }
@@ -469,7 +470,7 @@ static uint32_t try_once(sgt_shared *s, const struct call *call, const struct de
         return SGT_OK;
     }
     add(s, tid, call);
-    status = commit_told(s, tid, until, &out->reply, &out->waits);
+    status = go_on(s, tid, until, &out->reply, &out->waits);
     if (status != SGT_OK && find(s, tid)) {
         sgt_reply quit = {0};
         ask(s, sgt_quit, tid, &quit);
@@ -565,8 +566,9 @@ uint32_t sgt_shared_commit(sgt_shared *shared, const sgt_ticket *ticket, int64_t
     sgt_reply told = {0};
     uint32_t status = reply ? enter_for(shared, ticket) : (uint32_t)SGT_BAD_CALL;
     if (status != SGT_OK) return status;
-    status = leave(shared, commit_told(shared, ticket->tid, &until, &told, &waits));
-    if (status == SGT_OK) *reply = told;
+    status = ask(shared, sgt_commit, ticket->tid, &told);
+    if (status == SGT_OK) status = go_on(shared, ticket->tid, &until, &told, &waits);
+    if (leave(shared, status) == SGT_OK) *reply = told;
     return status;
 }
 

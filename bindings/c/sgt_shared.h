@@ -99,8 +99,9 @@ typedef struct sgt_shared_config {
     uint32_t spare;
 
     /*
-     * Cuts by itself: as soon as the history has `cut_after` entries and nobody is live. 0: never. A cut takes time in proportion to
-     * the records, in the call that happens to make it. If somebody is always live, set `cut_wait_ns`: when a cut is due, new
+     * Cuts by itself: as soon as the history has `cut_after` entries and nobody is live. 0: never. Choose no more than
+     * twice the starts that the limits allow, as each transaction has at least two entries. A cut takes time in proportion to the
+     * records, in the call that happens to make it. If somebody is always live, set `cut_wait_ns`: when a cut is due, new
      * transactions wait so long for the live ones to end. If they do not, the cut is put off until as many entries have come again.
      */
     uint64_t cut_after;

@@ -106,6 +106,29 @@ static void event(struct pair *pair, struct input *input, uint8_t which)
     same(pair, plain, shared, &one, &other, had);
 }
 
+/* A run without a deadline to wait for. Where it would have to wait, the shared engine quits it, and so does this. */
+static void runs(struct pair *pair, struct input *input)
+{
+    const int64_t args[5] = {number(input), number(input), number(input), 0, 0};
+    const uint16_t procedure = byte(input) % 7;
+    const size_t count = byte(input) % 6;
+    sgt_run_options options = SGT_RUN_OPTIONS;
+    sgt_outcome outcome = SGT_OUTCOME;
+    sgt_reply reply = {0}, quit = {0}, none = {0};
+    uint32_t tid = UINT32_MAX;
+    options.wait_ns = 0, options.tries = 1;
+    const uint32_t plain = sgt_run(&pair->plain, procedure, args, count, &tid, &reply);
+    const uint32_t shared = sgt_shared_run(pair->shared, procedure, args, count, &options, &outcome);
+    const bool waits = plain == SGT_OK && (reply.kind == SGT_WAITS || reply.kind == SGT_FULL);
+    if (plain == SGT_OK && reply.kind == SGT_WAITS) must(sgt_quit(&pair->plain, tid, &quit) == SGT_OK, "a quit is refused");
+    must(shared == (waits ? (uint32_t)SGT_TIMED_OUT : plain), "the statuses of runs differ");
+    must(outcome.tries == (tid != UINT32_MAX), "the tries of a run are not told");
+    if (shared == SGT_OK) must(memcmp(&reply, &outcome.reply, sizeof reply) == 0, "the replies of runs differ");
+    else must(memcmp(&none, &outcome.reply, sizeof none) == 0, "a run that was not carried out writes a reply");
+    if (shared == SGT_OK && tid != UINT32_MAX) must(outcome.ticket.tid == tid && outcome.ticket.part == pair->part, "a run's ticket");
+    entries(pair);
+}
+
 static void reads(struct pair *pair, struct input *input)
 {
     const uint8_t table = byte(input) % 10;
@@ -122,10 +145,25 @@ static void reads(struct pair *pair, struct input *input)
     must(memcmp(rows, others, sizeof rows) == 0, "the rows differ");
 }
 
+/* Every entry of the two histories is the same. It is called before the shared engine's is cut off. */
+static void compare(void *context, sgt_engine *shared, uint64_t part)
+{
+    struct pair *pair = context;
+    must(part == pair->part, "another part is cut off");
+    for (uint64_t place = 0;; place++) {
+        sgt_event event = {0}, other = {0};
+        sgt_reply reply = {0}, answer = {0};
+        const uint32_t status = sgt_entry(&pair->plain, place, &event, &reply);
+        must(sgt_entry(shared, place, &other, &answer) == status, "the histories have other lengths");
+        if (status != SGT_OK) return;
+        must(memcmp(&event, &other, sizeof event) == 0 && memcmp(&reply, &answer, sizeof reply) == 0, "the entries differ");
+    }
+}
+
 static void cuts(struct pair *pair)
 {
     uint64_t live = 0;
-    const uint32_t plain = sgt_cut(&pair->plain, &live), shared = sgt_shared_cut(pair->shared, 0);
+    const uint32_t shared = sgt_shared_cut(pair->shared, 0), plain = sgt_cut(&pair->plain, &live);
     must(plain == SGT_OK ? shared == SGT_OK : plain == SGT_STILL_LIVE && shared == SGT_TIMED_OUT, "the cuts differ");
     if (plain == SGT_OK) pair->part++;
     entries(pair);
@@ -178,7 +216,8 @@ static void opens(struct input *input)
 static void call(struct pair *pair, struct input *input)
 {
     switch (byte(input) % 16) {
-    case 0: case 1: case 2: start(pair, input); break;
+    case 0: case 1: start(pair, input); break;
+    case 2: runs(pair, input); break;
     case 3: case 4: case 5: case 6: case 7: event(pair, input, 0); break;
     case 8: case 9: event(pair, input, 2); break;
     case 10: event(pair, input, 1); break;
@@ -190,15 +229,19 @@ static void call(struct pair *pair, struct input *input)
     }
 }
 
-/* Every entry of the two histories is the same. */
-static void compare(struct pair *pair)
+/* Quits whoever is live in both. */
+static void ends(struct pair *pair)
 {
-    sgt_engine *plain = &pair->plain;
-    sgt_event event = {0};
-    sgt_reply reply = {0};
-    uint64_t place = 0;
-    while (sgt_entry(plain, place, &event, &reply) == SGT_OK) place++;
-    must(place == entries(pair), "the entries are not as many as is told");
+    sgt_live live[3];
+    uint64_t count = 0;
+    must(sgt_shared_live(pair->shared, live, 3, &count) == SGT_OK && count <= 3, "who is live is not told");
+    for (uint64_t i = 0; i < count; i++) {
+        sgt_reply one = {0}, other = {0};
+        must(sgt_quit(&pair->plain, live[i].ticket.tid, &one) == SGT_OK, "a quit is refused");
+        must(sgt_shared_quit(pair->shared, &live[i].ticket, &other) == SGT_OK, "a quit is refused");
+        must(memcmp(&one, &other, sizeof one) == 0, "the replies differ");
+    }
+    must(sgt_shared_live(pair->shared, 0, 0, &count) == SGT_OK && count == 0, "somebody is live at the end");
 }
 
 int LLVMFuzzerTestOneInput(const uint8_t *data, size_t size)
@@ -208,9 +251,12 @@ int LLVMFuzzerTestOneInput(const uint8_t *data, size_t size)
     sgt_fault fault = {0};
     const uint8_t *text = (const uint8_t *)opening;
     must(sgt_open(&pair.plain, text, sizeof opening - 1, &fault) == SGT_OK, "not opened");
-    must(sgt_shared_open(&pair.shared, text, sizeof opening - 1, 0, 0, 0, &fault) == SGT_OK, "not opened");
+    sgt_shared_config config = SGT_SHARED_CONFIG;
+    config.cutting = compare, config.context = &pair;
+    must(sgt_shared_open(&pair.shared, text, sizeof opening - 1, 0, 0, &config, &fault) == SGT_OK, "not opened");
     while (input.left > 0) call(&pair, &input);
-    compare(&pair);
+    ends(&pair);
+    cuts(&pair);
     must(sgt_shared_close(&pair.shared) == SGT_OK, "not closed");
     sgt_close(&pair.plain);
     return 0;
