@@ -153,6 +153,18 @@ typedef struct sgt_row {
     int64_t value;
 } sgt_row;
 
+/* A call of a committed or refused transaction, and what it was told. Every field is filled; those that do not count are 0. */
+typedef struct sgt_call {
+    uint32_t kind;      /* SGT_COMMITTED or SGT_REFUSED */
+    uint32_t tid;
+    uint32_t procedure;
+    uint32_t code;      /* of SGT_REFUSED */
+    uint32_t args;      /* how many there are of `arg` */
+    uint32_t answers;   /* of SGT_COMMITTED: how many there are of `answer` */
+    int64_t arg[4];
+    int64_t answer[8];
+} sgt_call;
+
 /* The least and the greatest of values, arguments and record numbers. */
 #define SGT_LEAST INT64_C(-999999999999999)
 #define SGT_MOST INT64_C(999999999999999)
@@ -264,6 +276,20 @@ uint32_t sgt_entries(sgt_engine *engine, uint64_t *count);
  * SGT_CLOSED; SGT_NONE where there are not so many entries. But for SGT_OK event and reply stay as they were.
  */
 uint32_t sgt_entry(sgt_engine *engine, uint64_t place, sgt_event *event, sgt_reply *reply);
+
+/*
+ * The calls of the committed and refused transactions, in the order of their replies, each with its answers or its code. This is the
+ * list that is proved to give the same answers, codes and database where it is run one after another.
+ *
+ * The history is read from the place `from` on. The first calls are written into `calls`, which has room for `room` of them. How many
+ * were written goes into `count`. The place to go on from goes into `next`: pass it as `from` the next time. The calls end with the
+ * history where `next` is what sgt_entries returns. After a cut the places begin at 0 again.
+ *
+ * The cost grows with the entries from `from` to `next`, and for each call with those back to its start.
+ *
+ * SGT_CLOSED; SGT_NONE if `from` is more than the number of entries. But for SGT_OK calls, count and next stay as they were.
+ */
+uint32_t sgt_calls(sgt_engine *engine, uint64_t from, sgt_call *calls, size_t room, uint64_t *count, uint64_t *next);
 
 /*
  * Takes memory for `entries` more entries, of 72 bytes each, so that the history is not moved until then. What the lists of

@@ -145,6 +145,62 @@ static void entries_are_told(void)
     sgt_close(&engine);
 }
 
+static int is_call(const sgt_call *call, uint32_t kind, uint32_t tid, uint32_t procedure, uint32_t args, int64_t arg)
+{
+    return call->kind == kind && call->tid == tid && call->procedure == procedure && call->args == args && call->arg[0] == arg;
+}
+
+static void calls_are_told(void)
+{
+    const char at_commit[] = "{\"limits\":[8,100,1],\"accounts\":[[1,101,500,1000]],\"procedures\":[]}";
+    const int64_t stranger[] = {9};
+    sgt_engine engine = {0};
+    sgt_fault fault = {0};
+    sgt_reply told = {0};
+    sgt_call calls[3] = {{0}};
+    uint32_t t = 0;
+    uint64_t count = 77, next = 78, entries = 0;
+    calls[1].kind = 99;
+    CHECK(sgt_calls(&engine, 0, calls, 3, &count, &next) == 2);
+    CHECK(count == 77 && next == 78 && calls[1].kind == 99);
+    CHECK(opens(&engine, at_commit, &fault) == 0);
+    CHECK(sgt_calls(&engine, 1, calls, 3, &count, &next) == 4);
+    CHECK(count == 77 && next == 78);
+    CHECK(sgt_calls(&engine, 0, calls, 3, &count, &next) == 0);
+    CHECK(count == 0 && next == 0 && calls[1].kind == 99);
+    CHECK(sgt_start(&engine, 0, deposit, 1, &told) == 0);
+    CHECK(sgt_run(&engine, 0, stranger, 1, &t, &told) == 0);
+    CHECK(told.kind == 15 && told.code == 1 && t == 1);
+    CHECK(sgt_run(&engine, 1, deposit, 2, &t, &told) == 0);
+    CHECK(is_committed(&told, 1100) && t == 2);
+    CHECK(sgt_start(&engine, 1, deposit, 2, &told) == 0);
+    CHECK(sgt_quit(&engine, 3, &told) == 0);
+    CHECK(sgt_step(&engine, 0, &told) == 0);
+    CHECK(sgt_step(&engine, 0, &told) == 0);
+    CHECK(sgt_step(&engine, 0, &told) == 0);
+    CHECK(sgt_step(&engine, 0, &told) == 0 && told.kind == 10);
+    CHECK(sgt_commit(&engine, 0, &told) == 0);
+    CHECK(is_committed(&told, 1600));
+    CHECK(sgt_entries(&engine, &entries) == 0);
+    CHECK(sgt_calls(&engine, 0, calls, 3, &count, &next) == 0);
+    CHECK(count == 3);
+    CHECK(is_call(&calls[0], 15, 1, 0, 1, 9) && calls[0].code == 1 && calls[0].answers == 0);
+    CHECK(is_call(&calls[1], 13, 2, 1, 2, 1) && calls[1].arg[1] == 100 && calls[1].answers == 1 && calls[1].answer[0] == 1100);
+    CHECK(is_call(&calls[2], 13, 0, 0, 1, 1) && calls[2].answers == 1 && calls[2].answer[0] == 1600);
+    CHECK(sgt_calls(&engine, next, calls, 3, &count, &next) == 0);
+    CHECK(count == 0 && next == entries);
+    CHECK(sgt_calls(&engine, 0, calls, 1, &count, &next) == 0);
+    CHECK(count == 1 && next < entries && calls[0].kind == 15 && calls[1].tid == 2);
+    CHECK(sgt_calls(&engine, next, calls, 1, &count, &next) == 0);
+    CHECK(count == 1 && calls[0].tid == 2);
+    CHECK(sgt_calls(&engine, next, calls, 0, &count, &next) == 0);
+    CHECK(count == 0);
+    CHECK(sgt_calls(&engine, next, calls, 3, &count, &next) == 0);
+    CHECK(count == 1 && next == entries && calls[0].tid == 0);
+    CHECK(sgt_calls(&engine, UINT64_MAX, calls, 3, &count, &next) == 4);
+    sgt_close(&engine);
+}
+
 static void rows_are_told(void)
 {
     sgt_engine engine = {0};
@@ -431,6 +487,7 @@ int main(void)
     a_deposit_is_committed();
     statuses_are_told();
     entries_are_told();
+    calls_are_told();
     rows_are_told();
     rows_are_opened();
     rows_are_put();

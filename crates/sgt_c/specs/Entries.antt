@@ -1,5 +1,5 @@
 -- Which entry of the history was told.
-use Rattle.std.specs.Prelude.{◌≡◌, ℕ, ◌≤◌, length, reverse, slice_get, Option, Some, None}
+use Rattle.std.specs.Prelude.{◌≡◌, ℕ, ◌≤◌, ◌<◌, length, reverse, slice_get, Option, Some, None}
 use Rattle.sgt_model.specs.declared.entry.Entry.{Entry}
 use Rattle.sgt_c.specs.declared.held.Held.{Held}
 use Rattle.sgt_c.specs.declared.event_struct.SgtEvent.{SgtEvent}
@@ -20,3 +20,8 @@ ReturnsEntry (Some h) place asked told = (e : Entry) × (slice_get (reverse h.en
 abbrev pub HasNoEntry : Option Held → ℕ → Type 0
 HasNoEntry None place = ⊥
 HasNoEntry (Some h) place = length h.engine.past ≤ place
+
+-- there is a history, and it ends before this place, from which an entry could come
+abbrev pub HasNoPlace : Option Held → ℕ → Type 0
+HasNoPlace None place = ⊥
+HasNoPlace (Some h) place = length h.engine.past < place

@@ -8,6 +8,7 @@ pub mod BufferTexts
 pub mod SlotOwnership
 -- what the calls do
 pub mod Entries
+pub mod ReplayedCalls
 pub mod Calls
 pub mod Rows
 pub mod Runs

@@ -42,7 +42,8 @@ fn write_named(into: &mut SgtEvent, kind: u32, t: u32)
     into.tid = t;
 }
 
-fn write_args(to: &mut [i64; 4], args: &Args) -> u32
+/// Writes arguments, and returns how many there are.
+pub fn write_args(to: &mut [i64; 4], args: &Args) -> u32
     ensures { take result to.new ≡ args.now }
 {
     let count = args.len();

@@ -19,6 +19,7 @@
 
 // The structs of C, and how they are written and read.
 mod buffer_text;
+mod call_struct;
 mod event_struct;
 mod fault_struct;
 mod reply_reading;
@@ -40,10 +41,12 @@ mod opening_with;
 mod procedures;
 mod putting;
 mod reading;
+mod replayed_calls;
 mod rows;
 mod run;
 mod texts;
 
+pub use call_struct::SgtCall;
 pub use event_struct::SgtEvent;
 pub use fault_struct::SgtFault;
 pub use handle::Handle;

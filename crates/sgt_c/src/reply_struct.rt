@@ -134,7 +134,8 @@ fn write_cause(into: &mut SgtReply, cause: &Cause)
     }
 }
 
-fn write_answers(to: &mut [i64; 8], answers: &Answers) -> u32
+/// Writes answers, and returns how many there are.
+pub fn write_answers(to: &mut [i64; 8], answers: &Answers) -> u32
     ensures { take result to.new ≡ answers.now }
 {
     let count = answers.len();

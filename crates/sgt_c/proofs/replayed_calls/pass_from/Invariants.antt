@@ -1,0 +1,16 @@
+use Rattle.std.proofs.Common.{◌≡◌, ◌-◌, ◌≤◌, length, drop}
+use Rattle.sgt_c.specs.ReplayedCalls.{AreTold}
+use Rattle.sgt_c.proofs.replayed_calls.pass_from.Given as goal
+
+abbrev pub invariant-loop-next : goal.invariant-loop-next
+invariant-loop-next l = record {
+  told : AreTold l.history.entries l.from l.to l.count l.next;
+  onward : l.from ≤ l.next;
+  within : l.next ≤ length l.history.entries;
+  fits : l.count ≤ length l.to;
+  room : length l.to ≡ length l.initial.to;
+  rest : drop l.count l.to ≡ drop l.count l.initial.to;
+}
+
+abbrev pub decreases-loop-next : goal.decreases-loop-next
+decreases-loop-next l = length l.history.entries - l.next

@@ -1,0 +1,74 @@
+//! The struct of a call for C: what ran, and what it was told.
+ghost use Rattle.std.specs.Prelude.{◌≡◌};
+ghost use Rattle.sgt_model.specs.Replay.{GaveAnswers, AskedCode};
+ghost use Rattle.sgt_c.specs.ReplayedCalls.{call_in, called, ends_in, result_in};
+
+use crate::event_struct::write_args;
+use crate::reply_struct::write_answers;
+use sgt_model::{Answers, Args, Tid};
+
+/// What a transaction was started with.
+#[derive(Drop)]
+pub struct Started {
+    /// The number of its procedure.
+    pub procedure: u16,
+    pub args: Args,
+}
+
+/// A call of a committed or refused transaction, and what it was told, for C.
+#[repr(C)]
+#[derive(Clone, Copy)]
+pub struct SgtCall {
+    /// The kind of the reply: 13 with answers, or 15 with a code.
+    pub kind: u32,
+    pub tid: u32,
+    pub procedure: u32,
+    pub code: u32,
+    /// How many there are of `arg` and of `answer`.
+    pub args: u32,
+    pub answers: u32,
+    pub arg: [i64; 4],
+    pub answer: [i64; 8],
+}
+
+impl SgtCall {
+    /// The call of a transaction that was committed with these answers.
+    pub fn committed(t: Tid, started: &Started, answers: &Answers) -> SgtCall
+        ensures ends { ends_in result ≡ (t, 13) }
+        ensures call { call_in result ≡ called started.now }
+        ensures told { result_in result ≡ GaveAnswers answers.now }
+    {
+        let mut call = SgtCall::untold(13, t, started);
+        call.answers = write_answers(&mut call.answer, answers);
+        call
+    }
+
+    /// The call of a transaction that was refused with this code.
+    pub fn refused(t: Tid, started: &Started, code: u16) -> SgtCall
+        ensures ends { ends_in result ≡ (t, 15) }
+        ensures call { call_in result ≡ called started.now }
+        ensures told { result_in result ≡ AskedCode code }
+    {
+        let mut call = SgtCall::untold(15, t, started);
+        call.code = u32::from(code);
+        call
+    }
+
+    fn untold(kind: u32, t: Tid, started: &Started) -> SgtCall
+        ensures ends { ends_in result ≡ (t, kind) }
+        ensures call { call_in result ≡ called started.now }
+    {
+        let mut call = SgtCall {
+            kind,
+            tid: t.0,
+            procedure: u32::from(started.procedure),
+            code: 0,
+            args: 0,
+            answers: 0,
+            arg: [0; 4],
+            answer: [0; 8],
+        };
+        call.args = write_args(&mut call.arg, &started.args);
+        call
+    }
+}

@@ -1,0 +1,181 @@
+//! The calls of the committed and refused transactions, in the order of their replies.
+ghost use Rattle.std.specs.Prelude.{◌≡◌, ◌≢◌, ◌≤◌, ◌<◌, ◌↔◌, None, IsNone, IfSome, IfNone, ◌++◌, drop, length, take};
+ghost use Rattle.std.specs.Option.{option_map};
+ghost use Rattle.sgt_model.specs.Fates.{subject};
+ghost use Rattle.sgt_model.specs.Progress.{call_in as started_in, call_of};
+ghost use Rattle.sgt_model.specs.Replay.{told_call_in, told_in};
+ghost use Rattle.sgt_c.specs.Entries.{HasNoPlace};
+ghost use Rattle.sgt_c.specs.ReplayedCalls.{ArePassed, IsToldAt, ReturnsCalls, call_in, called, ends_by, ends_in, listed, past_at, result_in};
+
+use crate::call_struct::{SgtCall, Started};
+use crate::handle::Handle;
+use crate::status;
+use sgt_log::{EntryRef, History};
+use sgt_model::{Args, Event, Reply, Tid};
+use std::alloc::Global;
+
+/// The calls of the committed and refused transactions from a place of the history on, in the order of their replies, each with
+/// what it was told: the list that the headline runs one after another. As many are written into `calls` as it has room for.
+/// `count` says how many there are, and `next` the place from which the next call goes on.
+///
+/// It reads the entries from `from` to `next`, and for each call that it finds the entries back to the transaction's start.
+///
+/// `CLOSED`; `NONE` where the history has not so many entries before the place.
+#[unsafe(no_mangle)]
+pub extern "C" fn sgt_calls(
+    alloc: Global,
+    engine: &mut Handle,
+    from: u64,
+    calls: &mut [SgtCall],
+    count: &mut u64,
+    next: &mut u64,
+) -> u32
+    ensures returned { result ≡ 0 → ReturnsCalls engine.old.slot.held from calls.new count.new next.new }
+    ensures rest { drop count.new calls.new ≡ drop count.new calls.old }
+    ensures room { length calls.new ≡ length calls.old }
+    ensures none { (result ≡ 4) ↔ HasNoPlace engine.old.slot.held from }
+    ensures closed { (result ≡ 2) ↔ (engine.old.slot.held ≡ None) }
+    ensures statuses { result ≢ 0 → result ≢ 2 → result ≡ 4 }
+    ensures unwritten { result ≢ 0 → calls.new ≡ calls.old }
+    ensures kept { result ≢ 0 → (count.new ≡ count.old) × (next.new ≡ next.old) }
+    ensures same { engine.new.slot.held ≡ engine.old.slot.held }
+{
+    let Some(held) = engine.take(alloc) else {
+        return status::CLOSED;
+    };
+    let passed = pass(held.engine.history(), from, calls);
+    engine.put(held);
+    match passed {
+        Some(passed) => {
+            *count = passed.count as u64;
+            *next = passed.next as u64;
+            status::OK
+        }
+        None => status::NONE,
+    }
+}
+
+/// How many calls were written, and up to which place the entries were read.
+#[derive(Clone, Copy)]
+struct Passed {
+    count: usize,
+    next: usize,
+}
+
+/// Writes the calls from a place on, as many as there is room for, unless the history ends before the place.
+fn pass(history: &History, from: u64, to: &mut [SgtCall]) -> Option<Passed>
+    ensures passed { IfSome result (λ p. ArePassed history.now.entries from to.new p.count p.next) }
+    ensures rest { IfSome result (λ p. drop p.count to.new ≡ drop p.count to.old) }
+    ensures none { IsNone result ↔ (length history.now.entries < from) }
+    ensures unwritten { IfNone result (to.new ≡ to.old) }
+    ensures room { length to.new ≡ length to.old }
+{
+    if from > history.len() as u64 {
+        return None;
+    }
+    Some(pass_from(history, from as usize, to))
+}
+
+/// The same from a place that the history reaches.
+fn pass_from(history: &History, from: usize, to: &mut [SgtCall]) -> Passed
+    requires { from ≤ length history.now.entries }
+    ensures passed { ArePassed history.now.entries from to.new result.count result.next }
+    ensures rest { drop result.count to.new ≡ drop result.count to.old }
+    ensures room { length to.new ≡ length to.old }
+{
+    let mut count = 0;
+    let mut next = from;
+    while next < history.len() && count < to.len() {
+        count = put(to, count, told_at(history, next));
+        next += 1;
+    }
+    Passed { count, next }
+}
+
+/// Puts a call, if there is one, behind so many others, and returns how many there are.
+fn put(to: &mut [SgtCall], count: usize, call: Option<SgtCall>) -> usize
+    requires { count < length to.old }
+    ensures put { take result to.new ≡ take count to.old ++ listed (λ call. call) call }
+    ensures rest { drop result to.new ≡ drop result to.old }
+    ensures room { length to.new ≡ length to.old }
+    ensures within { (count ≤ result) × (result ≤ length to.new) }
+{
+    match call {
+        Some(call) => {
+            to[count] = call;
+            count + 1
+        }
+        None => count,
+    }
+}
+
+/// The call of the transaction that the entry at a place commits or refuses, if it does.
+fn told_at(history: &History, place: usize) -> Option<SgtCall>
+    requires { place < length history.now.entries }
+    ensures { IsToldAt history.now.entries place result }
+{
+    let entry = history.entry(place);
+    told_by(history, place, &entry)
+}
+
+/// The call of the transaction that an entry commits or refuses behind the entries before a place, if it does.
+fn told_by(history: &History, place: usize, entry: &EntryRef<'_>) -> Option<SgtCall>
+    requires { place ≤ length history.now.entries }
+    ensures calls { told_call_in (past_at history.now.entries place) entry.now.event entry.now.reply ≡ listed call_in result }
+    ensures results { told_in entry.now.reply ≡ listed result_in result }
+    ensures ends { ends_by entry.now.event entry.now.reply ≡ listed ends_in result }
+{
+    let t = subject(entry);
+    match entry.reply() {
+        Reply::Committed(answers) => {
+            let started = started(history, place, t);
+            Some(SgtCall::committed(t, &started, &answers))
+        }
+        Reply::Refused { code, .. } => {
+            let started = started(history, place, t);
+            Some(SgtCall::refused(t, &started, code))
+        }
+        _ => None,
+    }
+}
+
+/// The transaction that an entry names.
+fn subject(entry: &EntryRef<'_>) -> Tid
+    ensures { result ≡ subject entry.now.event }
+{
+    match entry.event() {
+        Event::Start { .. } => Tid(0),
+        Event::Step(t) | Event::Commit(t) | Event::Quit(t) => t,
+    }
+}
+
+/// What a transaction was started with in the entries before a place. It reads them from the newest on, up to its start.
+fn started(history: &History, place: usize, t: Tid) -> Started
+    requires { place ≤ length history.now.entries }
+    ensures { call_of (past_at history.now.entries place) t ≡ called result }
+{
+    let mut at = place;
+    while 0 < at {
+        at -= 1;
+        if let Some(started) = started_by(&history.entry(at), t) {
+            return started;
+        }
+    }
+    Started {
+        procedure: 0,
+        args: Args::new(),
+    }
+}
+
+/// What an entry starts the transaction with, if it does.
+fn started_by(entry: &EntryRef<'_>, t: Tid) -> Option<Started>
+    ensures { started_in entry.now.event entry.now.reply t ≡ option_map called result }
+{
+    if entry.started() != Some(t) {
+        return None;
+    }
+    match entry.event() {
+        Event::Start { procedure, args } => Some(Started { procedure, args }),
+        _ => None,
+    }
+}
