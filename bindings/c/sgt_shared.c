@@ -24,9 +24,9 @@ struct call {
 /* A transaction that is live between two calls to the engine. */
 struct live {
     uint32_t tid;
+    uint32_t procedure;
     bool waits;
     int64_t since;
-    struct call call;
 };
 
 /* The calls that ended and were not drained yet: `count` of them, from `first` on. */
@@ -46,6 +46,7 @@ struct sgt_shared {
     uint64_t number;             /* of this engine, in its tickets */
     uint64_t part;               /* cuts so far */
     uint64_t sequence;           /* calls that were committed or refused so far */
+    uint64_t read;               /* the place of the history up to which these were handed on */
     uint64_t ends;               /* transactions that have ended so far, runs included */
     struct live live[MOST_LIVE]; /* by rising numbers */
     uint32_t lives;
@@ -168,9 +169,9 @@ static struct live *find(sgt_shared *s, uint32_t tid)
 }
 
 /* Numbers rise, so the newest is the last. */
-static void add(sgt_shared *s, uint32_t tid, const struct call *call)
+static void add(sgt_shared *s, uint32_t tid, uint32_t procedure)
 {
-    if (s->lives < MOST_LIVE) s->live[s->lives++] = (struct live){.tid = tid, .since = now(), .call = *call};
+    if (s->lives < MOST_LIVE) s->live[s->lives++] = (struct live){.tid = tid, .procedure = procedure, .since = now()};
 }
 
 static void drop(sgt_shared *s, uint32_t tid)
@@ -210,17 +211,16 @@ static void call_hook(sgt_shared *s, const sgt_ended *ended)
     hooks = hook.outer;
 }
 
-/* Hands on a call that was committed or refused. */
-static void deliver(sgt_shared *s, const struct call *call, uint32_t tid, const sgt_reply *reply)
+/*
+ * Hands on the call that has just been committed or refused. It is the next one of the list of sgt_calls, which is proved to be what
+ * gives the same answers one after another.
+ */
+static void deliver(sgt_shared *s, uint32_t tid)
 {
-    sgt_ended ended = {.sequence = s->sequence++, .ticket = ticket_of(s, tid), .kind = reply->kind};
+    sgt_ended ended = {.sequence = s->sequence++, .ticket = ticket_of(s, tid)};
+    uint64_t count = 0;
     if (!s->config.ended && !s->config.keeps_ended) return;
-    ended.procedure = call->procedure;
-    ended.args = call->count;
-    memcpy(ended.arg, call->args, sizeof ended.arg);
-    if (reply->kind == SGT_REFUSED) ended.code = reply->code;
-    if (reply->kind == SGT_COMMITTED) ended.answers = reply->answers;
-    memcpy(ended.answer, reply->answer, ended.answers * sizeof *ended.answer);
+    sgt_calls(&s->engine, s->read, &ended.call, 1, &count, &s->read);
     if (s->config.keeps_ended) {
         s->queue.at[s->queue.first + s->queue.count++] = ended;
         pthread_cond_signal(&s->queued);
@@ -229,10 +229,10 @@ static void deliver(sgt_shared *s, const struct call *call, uint32_t tid, const 
 }
 
 /* What the reply to an event of this transaction changes. */
-static void answered(sgt_shared *s, const struct call *call, uint32_t tid, const sgt_reply *reply)
+static void answered(sgt_shared *s, uint32_t tid, const sgt_reply *reply)
 {
     if (reply->kind != SGT_COMMITTED && reply->kind != SGT_REFUSED && reply->kind != SGT_ABORTED) return;
-    if (reply->kind != SGT_ABORTED) deliver(s, call, tid, reply);
+    if (reply->kind != SGT_ABORTED) deliver(s, tid);
     drop(s, tid);
     for (uint32_t i = 0; reply->kind != SGT_COMMITTED && i < reply->fallen; i++) drop(s, reply->fell[i]);
     s->ends++;
@@ -243,8 +243,7 @@ static void answered(sgt_shared *s, const struct call *call, uint32_t tid, const
 static uint32_t ask(sgt_shared *s, uint32_t (*event)(sgt_engine *, uint32_t, sgt_reply *), uint32_t tid, sgt_reply *reply)
 {
     uint32_t status = event(&s->engine, tid, reply);
-    const struct live *it = find(s, tid);
-    if (status == SGT_OK && it) answered(s, &it->call, tid, reply);
+    if (status == SGT_OK) answered(s, tid, reply);
     return status;
 }
 
@@ -317,7 +316,7 @@ static uint32_t cut(sgt_shared *s)
         hooks = hook.outer;
     }
     uint32_t status = sgt_cut(&s->engine, &live);
-    if (status == SGT_OK) s->part++, s->cut_at = s->config.cut_after, s->pauses = false;
+    if (status == SGT_OK) s->part++, s->read = 0, s->cut_at = s->config.cut_after, s->pauses = false;
     return status;
 }
 
@@ -466,10 +465,10 @@ static uint32_t try_once(sgt_shared *s, const struct call *call, const struct de
     if (tid != NO_TID) out->tries++, out->ticket = ticket_of(s, tid);
     if (out->reply.kind == SGT_FULL) s->most = s->lives;
     if (out->reply.kind != SGT_WAITS) {
-        answered(s, call, tid, &out->reply);
+        answered(s, tid, &out->reply);
         return SGT_OK;
     }
-    add(s, tid, call);
+    add(s, tid, call->procedure);
     status = go_on(s, tid, until, &out->reply, &out->waits);
     if (status != SGT_OK && find(s, tid)) {
         sgt_reply quit = {0};
@@ -526,7 +525,7 @@ static uint32_t start(sgt_shared *s, const struct call *call, const struct deadl
         if (status != SGT_OK) return status;
         status = sgt_start(&s->engine, (uint16_t)call->procedure, call->args, call->count, reply);
         if (status != SGT_OK) return status;
-        if (reply->kind == SGT_STARTED) add(s, reply->tid, call), *ticket = ticket_of(s, reply->tid);
+        if (reply->kind == SGT_STARTED) add(s, reply->tid, call->procedure), *ticket = ticket_of(s, reply->tid);
         if (reply->kind != SGT_FULL) return SGT_OK;
         s->most = s->lives;
         if (!await_room(s, until)) return SGT_TIMED_OUT;
@@ -579,7 +578,7 @@ uint32_t sgt_shared_live(sgt_shared *shared, sgt_live *rows, size_t room, uint64
     const int64_t at = now();
     for (uint32_t i = 0; i < shared->lives && i < room; i++) {
         const struct live *it = &shared->live[i];
-        rows[i] = (sgt_live){ticket_of(shared, it->tid), at - it->since, it->call.procedure, it->waits};
+        rows[i] = (sgt_live){ticket_of(shared, it->tid), at - it->since, it->procedure, it->waits};
     }
     *count = shared->lives;
     return leave(shared, SGT_OK);
@@ -625,17 +624,17 @@ uint32_t sgt_shared_entries(sgt_shared *shared, uint64_t *count, uint64_t *part)
     return leave(shared, SGT_OK);
 }
 
-uint32_t sgt_shared_drain(sgt_shared *shared, int64_t wait_ns, sgt_ended *calls, size_t room, uint64_t *count)
+uint32_t sgt_shared_drain(sgt_shared *shared, int64_t wait_ns, sgt_ended *ended, size_t room, uint64_t *count)
 {
     const struct deadline until = deadline_in(wait_ns);
     bool in_time = true;
-    uint32_t status = count && calls && room > 0 ? enter(shared) : (uint32_t)SGT_BAD_CALL;
+    uint32_t status = count && ended && room > 0 ? enter(shared) : (uint32_t)SGT_BAD_CALL;
     if (status != SGT_OK) return status;
     struct queue *queue = &shared->queue;
     if (!shared->config.keeps_ended) return leave(shared, SGT_BAD_CALL);
     while (queue->count == 0 && in_time) in_time = rest(shared, &shared->queued, &until);
     const size_t taken = queue->count < room ? queue->count : room;
-    if (taken > 0) memcpy(calls, queue->at + queue->first, taken * sizeof *calls);
+    if (taken > 0) memcpy(ended, queue->at + queue->first, taken * sizeof *ended);
     queue->count -= taken;
     queue->first = queue->count > 0 ? queue->first + taken : 0;
     *count = taken;

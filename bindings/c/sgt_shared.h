@@ -52,20 +52,14 @@ typedef struct sgt_ticket {
 } sgt_ticket;
 
 /*
- * A call that was committed or refused, with what it was told. `sequence` counts these calls from 0 in reply order, over all parts. Run
- * one after another in this order, from the opening database, they give the same answers and end in the committed database.
+ * A call that was committed or refused, with what it was told, as sgt_calls returns it. `sequence` counts these calls from 0 in reply
+ * order, over all parts. Run one after another in this order, from the opening database, they give the same answers and end in the
+ * committed database.
  */
 typedef struct sgt_ended {
     uint64_t sequence;
     sgt_ticket ticket;
-    uint32_t kind;      /* SGT_COMMITTED, or SGT_REFUSED with `code` */
-    uint32_t code;
-    uint32_t procedure;
-    uint32_t args;      /* the first so many of `arg` */
-    uint32_t answers;   /* the first so many of `answer` */
-    uint32_t spare;
-    int64_t arg[4];
-    int64_t answer[8];
+    sgt_call call;
 } sgt_ended;
 
 /* A live transaction. */
@@ -85,7 +79,7 @@ typedef struct sgt_shared_config {
     size_t size;        /* sizeof(sgt_shared_config) */
 
     /* Called for each committed or refused call, in reply order, before its own thread is told. May be null. */
-    void (*ended)(void *context, const sgt_ended *call);
+    void (*ended)(void *context, const sgt_ended *ended);
 
     /*
      * Called before each cut with the engine itself, so that its history can be read: by sgt_entries, sgt_entry, sgt_rows and sgt_get
@@ -211,12 +205,12 @@ uint32_t sgt_shared_rows(sgt_shared *shared, uint64_t table, int64_t number, sgt
 uint32_t sgt_shared_entries(sgt_shared *shared, uint64_t *count, uint64_t *part);
 
 /*
- * Takes committed and refused calls that were stored because `keeps_ended` is 1: the oldest into `calls`, which has room for so many,
+ * Takes committed and refused calls that were stored because `keeps_ended` is 1: the oldest into `ended`, which has room for so many,
  * and how many these are into `count`. If there is none it waits for one; `count` is 0 if none has come by the deadline.
  *
  * Each call is handed out once. Threads that drain at the same time get different calls, so order them by `sequence`.
  */
-uint32_t sgt_shared_drain(sgt_shared *shared, int64_t wait_ns, sgt_ended *calls, size_t room, uint64_t *count);
+uint32_t sgt_shared_drain(sgt_shared *shared, int64_t wait_ns, sgt_ended *ended, size_t room, uint64_t *count);
 
 #ifdef __cplusplus
 }

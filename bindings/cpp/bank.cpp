@@ -31,6 +31,8 @@ int main()
     std::cout << "entry 8: " << (entry.event.kind == SGT_COMMIT ? "commit" : "other") << " of " << entry.event.tid << ", ";
     show(entry.reply);
     if (engine.entry(11)) return 1;
+    auto calls = engine.calls(0, 9).value();
+    if (calls.first.size() != 2 || calls.first[1].answer[0] != 1600 || calls.second != 11 || engine.calls(12, 9)) return 1;
     auto rows = engine.rows();
     for (const auto &row : rows) std::cout << row.table << '/' << row.number << ' ' << row.value << '\n';
     rows.back().value = 7; // an engine that goes on from these rows, but for one

@@ -212,6 +212,19 @@ public:
         return entry;
     }
 
+    // At most so many of the committed and refused calls, in reply order, that the history has from a place on, and the place to go on
+    // from; none where there are not so many entries. Run one after another, these calls give the same answers.
+    std::optional<std::pair<std::vector<sgt_call>, std::uint64_t>> calls(std::uint64_t from, std::size_t most)
+    {
+        std::vector<sgt_call> calls(most ? most : 1);
+        std::uint64_t count = 0, next = 0;
+        auto status = sgt_calls(&engine, from, calls.data(), most, &count, &next);
+        if (status == SGT_NONE) return std::nullopt;
+        check(status);
+        calls.resize(count);
+        return std::pair(calls, next);
+    }
+
     // Takes memory for so many more entries.
     void reserve(std::uint64_t entries) { check(sgt_reserve(&engine, entries)); }
 

@@ -36,6 +36,8 @@ with Engine(limits=(8, 100), accounts=[(1, 101, 500, 1000)]) as engine:
     print(f"entry 8: commit of {event.tid}, ", end="")
     show(reply)
     assert engine.entry(0)[0].args == (1, 100)
+    calls, after = engine.calls()
+    assert after == len(engine) and [call.answers for call in calls] == [(1100,), (1600,)], calls
     for args in ((1, 2, 3, 4, 5), (1, 2**63)):
         try:
             engine.start(1, *args)

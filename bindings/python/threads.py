@@ -46,8 +46,8 @@ def main() -> None:
         for thread in threads:
             thread.join()
         calls = bank.drain(100_000, timeout=0)
-        assert told == [call.sequence for call in calls] == list(range(THREADS * EACH))
-        assert sum(call.code is None for call in calls) == sum(paid) > 0
+        assert told == [ended.sequence for ended in calls] == list(range(THREADS * EACH))
+        assert sum(ended.call.code is None for ended in calls) == sum(paid) > 0
 
         with bank.transaction(PAY, 101, 102, 0) as started:  # step by step; its end quits it
             assert started.step().kind is Kind.LOOKED

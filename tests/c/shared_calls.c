@@ -201,7 +201,7 @@ static uint32_t drains(struct later *it)
     sgt_ended call;
     uint64_t count = 0;
     uint32_t status = sgt_shared_drain(it->shared, SGT_FOREVER, &call, 1, &count);
-    return count == 1 && call.sequence == 0 && call.kind == SGT_COMMITTED ? status : 99;
+    return count == 1 && call.sequence == 0 && call.call.kind == SGT_COMMITTED ? status : 99;
 }
 
 /* A commit that waits for the writer goes on as the writer commits, and when it is quit it is told that it fell. */
@@ -340,15 +340,15 @@ static void hooks_are_told(void)
     sgt_reply reply = {0};
     const int64_t unknown[] = {9, 1};
     CHECK(sgt_shared_run(shared, 1, deposit, 2, 0, &outcome) == SGT_OK && heard.calls == 1 && heard.misuses == 3);
-    CHECK(heard.last.sequence == 0 && heard.last.kind == SGT_COMMITTED && heard.last.procedure == 1 && heard.last.args == 2);
-    CHECK(heard.last.arg[1] == 100 && heard.last.answers == 1 && heard.last.answer[0] == 1100);
+    CHECK(heard.last.sequence == 0 && heard.last.call.kind == SGT_COMMITTED && heard.last.call.procedure == 1 && heard.last.call.args == 2);
+    CHECK(heard.last.call.arg[1] == 100 && heard.last.call.answers == 1 && heard.last.call.answer[0] == 1100);
     CHECK(memcmp(&heard.last.ticket, &outcome.ticket, sizeof outcome.ticket) == 0);
     CHECK(sgt_shared_run(shared, 1, unknown, 2, 0, &outcome) == SGT_OK && heard.calls == 2);
-    CHECK(heard.last.kind == SGT_REFUSED && heard.last.code == 1 && heard.last.answers == 0 && heard.last.sequence == 1);
+    CHECK(heard.last.call.kind == SGT_REFUSED && heard.last.call.code == 1 && heard.last.call.answers == 0 && heard.last.sequence == 1);
     sgt_ticket ticket = begins(shared, 1);
     CHECK(sgt_shared_quit(shared, &ticket, &reply) == SGT_OK && heard.calls == 2); /* an abort is not told */
     ticket = begins(shared, 4);
-    CHECK(sgt_shared_commit(shared, &ticket, 0, &reply) == SGT_OK && heard.calls == 3 && heard.last.answer[0] == 1200);
+    CHECK(sgt_shared_commit(shared, &ticket, 0, &reply) == SGT_OK && heard.calls == 3 && heard.last.call.answer[0] == 1200);
     CHECK(sgt_shared_cut(shared, 0) == SGT_OK && heard.parts == 1 && heard.entries > 0);
     CHECK(sgt_shared_run(shared, 1, deposit, 2, 0, &outcome) == SGT_OK && heard.last.sequence == 3 && heard.last.ticket.part == 1);
     closes(shared);
@@ -375,7 +375,7 @@ static void ended_calls_are_drained(void)
     CHECK(drainer.status == SGT_OK);
     CHECK(sgt_shared_cut(shared, 0) == SGT_OK); /* what is stored stays */
     CHECK(sgt_shared_drain(shared, 0, calls, 3, &count) == SGT_OK && count == 3 && calls[0].sequence == 1);
-    CHECK(calls[2].sequence == 3 && calls[2].answer[0] == 1400 && calls[2].ticket.part == 0);
+    CHECK(calls[2].sequence == 3 && calls[2].call.answer[0] == 1400 && calls[2].ticket.part == 0);
     CHECK(sgt_shared_drain(shared, 0, calls, 3, &count) == SGT_OK && count == 2 && calls[1].sequence == 5);
     CHECK(sgt_shared_drain(shared, 0, calls, 0, &count) == SGT_BAD_CALL && sgt_shared_drain(shared, 0, 0, 3, &count) == SGT_BAD_CALL);
     closes(shared);

@@ -77,7 +77,7 @@ static int ends(sgt_shared *shared)
     int refused = 0;
     if (sgt_shared_drain(shared, 0, calls, DEPOSITS + 9, &count) != SGT_OK || count != DEPOSITS + 1) return -1;
     for (uint64_t i = 0; i < count; i++) {
-        if (calls[i].sequence != i || calls[i].answer[0] != 1100 + 100 * (int64_t)i) return -1;
+        if (calls[i].sequence != i || calls[i].call.answer[0] != 1100 + 100 * (int64_t)i) return -1;
     }
     while ((status = sgt_shared_cut(shared, 0)) == SGT_NO_MEMORY) {
         refused++;

@@ -78,9 +78,11 @@ static void write_args(FILE *to, uint32_t procedure, const int64_t *args, size_t
 
 /* What the hooks write. They are called under the engine's lock. */
 
-static void write_ended(FILE *to, const sgt_ended *call)
+static void write_ended(FILE *to, const sgt_ended *told)
 {
-    fprintf(to, "%" PRIu64 " %" PRIu64 " %" PRIu32 " ", call->sequence, call->ticket.part, call->ticket.tid);
+    const sgt_call *call = &told->call;
+    must(told->ticket.tid == call->tid, "a ticket is another call's");
+    fprintf(to, "%" PRIu64 " %" PRIu64 " %" PRIu32 " ", told->sequence, told->ticket.part, call->tid);
     write_args(to, call->procedure, call->arg, call->args);
     if (call->kind == SGT_REFUSED) fprintf(to, "\tasked %" PRIu32 "\n", call->code);
     else fprintf(to, "\tcommitted %" PRId64 "\n", call->answer[0]);

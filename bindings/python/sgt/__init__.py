@@ -32,8 +32,8 @@ from ._errors import (
     TooMany,
 )
 from ._library import LEAST, MOST, Row, version
-from ._replies import Asked, Cause, Event, Kind, Reply
-from ._shared import Call, Live, Outcome, SharedEngine, Ticket, Transaction
+from ._replies import Asked, Call, Cause, Event, Kind, Reply
+from ._shared import Ended, Live, Outcome, SharedEngine, Ticket, Transaction
 
 __version__ = version()
 
@@ -47,6 +47,7 @@ __all__ = [
     "Call",
     "Cause",
     "Closed",
+    "Ended",
     "Engine",
     "Error",
     "Event",

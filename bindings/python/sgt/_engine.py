@@ -17,6 +17,7 @@ from ._library import (
     STILL_LIVE,
     TAKEN,
     AnyRow,
+    CCall,
     CEngine,
     CEvent,
     CFault,
@@ -31,7 +32,7 @@ from ._library import (
     whole,
     written,
 )
-from ._replies import Event, Reply, event_of, free_room, reply_of, room
+from ._replies import Call, Event, Reply, call_of, event_of, free_room, reply_of, room
 
 
 def _quick(name: str) -> Callable[..., int]:
@@ -183,6 +184,19 @@ class Engine(Uncopied):
             raise NoSuchEntry()
         check(status)
         return event_of(asked), reply_of(told, told)
+
+    def calls(self, start: int = 0, most: int = 1024) -> tuple[list[Call], int]:
+        """At most so many of the committed and refused calls, in reply order, that the history has from a place on, and the place to
+        go on from. Run one after another, these calls give the same answers. NoSuchEntry where there are not so many entries.
+        """
+        if not 0 <= start < 2**64:
+            raise NoSuchEntry()
+        calls, count, after = (CCall * whole(most, 1, 2**24))(), ctypes.c_uint64(), ctypes.c_uint64()
+        status = HELD.sgt_calls(self._engine, start, calls, most, count, after)
+        if status == NONE:
+            raise NoSuchEntry()
+        check(status)
+        return [call_of(call) for call in calls[: count.value]], after.value
 
     def reserve(self, entries: int) -> None:
         """Takes memory for so many more entries."""

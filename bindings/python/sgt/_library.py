@@ -83,14 +83,16 @@ class CTicket(ctypes.Structure):
     ]
 
 
-class CEnded(ctypes.Structure):
+class CCall(ctypes.Structure):
     _fields_ = [
-        ("sequence", ctypes.c_uint64),
-        ("ticket", CTicket),
-        *((name, ctypes.c_uint32) for name in ("kind", "code", "procedure", "args", "answers", "spare")),
+        *((name, ctypes.c_uint32) for name in ("kind", "tid", "procedure", "code", "args", "answers")),
         ("arg", ctypes.c_int64 * 4),
         ("answer", ctypes.c_int64 * 8),
     ]
+
+
+class CEnded(ctypes.Structure):
+    _fields_ = [("sequence", ctypes.c_uint64), ("ticket", CTicket), ("call", CCall)]
 
 
 class CLive(ctypes.Structure):
@@ -150,6 +152,7 @@ _ENGINE_CALLS = {
     "sgt_rows": [_engine, _u64, _i64, _row, _size, _count],
     "sgt_entries": [_engine, _count],
     "sgt_entry": [_engine, _u64, ctypes.POINTER(CEvent), _reply],
+    "sgt_calls": [_engine, _u64, ctypes.POINTER(CCall), _size, _count, _count],
     "sgt_reserve": [_engine, _u64],
     "sgt_cut": [_engine, _count],
     "sgt_reply_text": [_reply, _text, _size, _count],

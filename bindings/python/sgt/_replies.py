@@ -8,7 +8,7 @@ import struct
 from typing import NamedTuple, Optional, Union
 
 from ._errors import Error
-from ._library import HELD, CEvent, CReply, written
+from ._library import HELD, CCall, CEvent, CReply, written
 
 
 class Kind(enum.IntEnum):
@@ -149,6 +149,21 @@ def event_of(asked: CEvent) -> Event:
     if kind is Asked.START:
         return Event(kind, procedure=asked.procedure, args=tuple(asked.arg[: asked.args]))
     return Event(kind, asked.tid)
+
+
+class Call(NamedTuple):
+    """A call that was committed (`code` is None) or refused, with what it was told."""
+
+    tid: int
+    procedure: int
+    args: tuple[int, ...]
+    answers: tuple[int, ...]
+    code: Optional[int]
+
+
+def call_of(told: CCall) -> Call:
+    code = told.code if told.kind == Kind.REFUSED else None
+    return Call(told.tid, told.procedure, tuple(told.arg[: told.args]), tuple(told.answer[: told.answers]), code)
 
 
 class Room:

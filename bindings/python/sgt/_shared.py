@@ -36,7 +36,7 @@ from ._library import (
     whole,
     written,
 )
-from ._replies import Kind, Reply, reply_of
+from ._replies import Call, Kind, Reply, call_of, reply_of
 
 FOREVER = 2**63 - 1
 MOST_LIVE = 32
@@ -52,15 +52,12 @@ class Ticket(NamedTuple):
     tid: int
 
 
-class Call(NamedTuple):
-    """A call that was committed (`code` is None) or refused. `sequence` counts these calls from 0 in reply order."""
+class Ended(NamedTuple):
+    """A call that was committed or refused. `sequence` counts these calls from 0 in reply order, over all parts."""
 
     sequence: int
     ticket: Ticket
-    procedure: int
-    args: tuple[int, ...]
-    answers: tuple[int, ...]
-    code: Optional[int]
+    call: Call
 
 
 class Live(NamedTuple):
@@ -90,16 +87,8 @@ def _ticket(ticket: CTicket) -> Ticket:
     return Ticket(ticket.engine, ticket.part, ticket.tid)
 
 
-def _call(ended: CEnded) -> Call:
-    is_committed = ended.kind == Kind.COMMITTED
-    return Call(
-        ended.sequence,
-        _ticket(ended.ticket),
-        ended.procedure,
-        tuple(ended.arg[: ended.args]),
-        tuple(ended.answer[: ended.answers]),
-        None if is_committed else ended.code,
-    )
+def _ended(told: CEnded) -> Ended:
+    return Ended(told.sequence, _ticket(told.ticket), call_of(told.call))
 
 
 class SharedEngine(Uncopied):
@@ -115,7 +104,7 @@ class SharedEngine(Uncopied):
         procedures: Sequence[object] = (),
         rows: Sequence[AnyRow] = (),
         *,
-        ended: Optional[Callable[[Call], None]] = None,
+        ended: Optional[Callable[[Ended], None]] = None,
         keeps_ended: bool = False,
         cut_after: int = 0,
         cut_wait: float = 0,
@@ -128,7 +117,7 @@ class SharedEngine(Uncopied):
         """
         self._shared = ctypes.c_void_p()
         self._inside: list[None] = []
-        self._hook = ENDED_HOOK((lambda _, call: ended(_call(call.contents))) if ended else 0)
+        self._hook = ENDED_HOOK((lambda _, call: ended(_ended(call.contents))) if ended else 0)
         config = CSharedConfig(
             size=ctypes.sizeof(CSharedConfig),
             ended=self._hook,
@@ -224,7 +213,7 @@ class SharedEngine(Uncopied):
         check(self._ask(FREE.sgt_shared_entries, count, None))
         return count.value
 
-    def drain(self, most: int = 1024, timeout: Optional[float] = None) -> list[Call]:
+    def drain(self, most: int = 1024, timeout: Optional[float] = None) -> list[Ended]:
         """Takes at most so many of the stored calls, the oldest first; none if none comes in time."""
         calls, count = (CEnded * whole(most, 1, 2**24))(), ctypes.c_uint64()
 
@@ -238,7 +227,7 @@ class SharedEngine(Uncopied):
             self._waited(timeout, ask)
         except TimedOut:
             return []
-        return [_call(call) for call in calls[: count.value]]
+        return [_ended(told) for told in calls[: count.value]]
 
     def close(self) -> None:
         """Closes the engine. Later calls raise Closed. Busy if a call is under way."""

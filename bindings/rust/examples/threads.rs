@@ -50,7 +50,7 @@ fn main() -> Result<(), Error> {
     }
     let calls = bank.drain(100_000, Some(Duration::ZERO))?;
     assert_eq!((told.load(Relaxed), calls.len()), (16_000, 16_000));
-    assert_eq!(calls.iter().filter(|call| call.told.is_ok()).count(), paid as usize);
+    assert_eq!(calls.iter().filter(|ended| ended.call.told.is_ok()).count(), paid as usize);
     let money: i64 = bank.rows(2, sgt::LEAST)?.iter().map(|row| row.value).sum();
 
     let mut started = bank.start(PAY, &[101, 102, 0], None)?.expect("there is room"); // step by step

@@ -1,5 +1,5 @@
 //! The structs of C, as types of Rust, and the other way.
-use crate::{Cause, Error, Event, Fate, Fault, Reply, Row};
+use crate::{Call, Cause, Error, Event, Fate, Fault, Reply, Row};
 use sgt_sys as c;
 
 pub(crate) fn no_fault() -> c::Fault {
@@ -129,6 +129,16 @@ pub(crate) fn event_of(event: &c::Event) -> Event {
         3 => Event::Commit(event.tid),
         4 => Event::Quit(event.tid),
         kind => Event::Unrecognised(kind),
+    }
+}
+
+pub(crate) fn call_of(call: &c::Call) -> Call {
+    let answers = || call.answer[..call.answers as usize].to_vec();
+    Call {
+        tid: call.tid,
+        procedure: call.procedure as u16,
+        args: call.arg[..call.args as usize].to_vec(),
+        told: if call.kind == 13 { Ok(answers()) } else { Err(call.code) },
     }
 }
 

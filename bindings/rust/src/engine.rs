@@ -1,6 +1,6 @@
 //! The engine for one thread at a time.
-use crate::convert::{done, event_of, fault_of, no_fault, reply_of, row_for, row_of, told};
-use crate::{Error, Event, Reply, Row};
+use crate::convert::{call_of, done, event_of, fault_of, no_fault, reply_of, row_for, row_of, told};
+use crate::{Call, Error, Event, Reply, Row};
 use sgt_sys as c;
 
 type Ask = unsafe extern "C" fn(*mut c::Engine, u32, *mut c::Reply) -> u32;
@@ -113,6 +113,17 @@ impl Engine {
         match unsafe { c::sgt_entry(&mut self.inner, place, &mut event, &mut reply) } {
             c::OK => Some((event_of(&event), reply_of(&reply))),
             _ => None,
+        }
+    }
+
+    /// At most so many of the committed and refused calls, in reply order, that the history has from a place on; and the place to go
+    /// on from. Run one after another, these calls give the same answers. `None` where the history has not so many entries.
+    pub fn calls(&mut self, from: u64, most: usize) -> Result<Option<(Vec<Call>, u64)>, Error> {
+        let (mut calls, mut count, mut next) = (vec![c::Call::default(); most], 0, 0);
+        let to = calls.as_mut_ptr();
+        match unsafe { c::sgt_calls(&mut self.inner, from, to, most, &mut count, &mut next) } {
+            c::NONE => Ok(None),
+            status => done(status).map(|()| Some((calls[..count as usize].iter().map(call_of).collect(), next))),
         }
     }
 

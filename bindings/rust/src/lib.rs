@@ -15,7 +15,7 @@ mod shared;
 use convert::{fault_fields, fields_of};
 pub use engine::Engine;
 pub use sgt_sys::Ticket;
-pub use shared::{Call, Configuration, Limits, Live, Outcome, SharedEngine, Transaction};
+pub use shared::{Configuration, Ended, Limits, Live, Outcome, SharedEngine, Transaction};
 use sgt_sys as c;
 use std::fmt;
 
@@ -85,6 +85,17 @@ pub struct Row {
     pub table: u8,
     pub number: i64,
     pub value: i64,
+}
+
+/// A call that was committed or refused, with what it was told.
+#[derive(Clone, Debug, PartialEq, Eq)]
+#[non_exhaustive]
+pub struct Call {
+    pub tid: u32,
+    pub procedure: u16,
+    pub args: Vec<i64>,
+    /// The answers, or the code that the procedure raised.
+    pub told: Result<Vec<i64>, u32>,
 }
 
 /// The least of values, arguments and record numbers.

@@ -1,22 +1,19 @@
 //! One engine for many threads.
-use crate::convert::{done, fault_of, no_fault, reply_of, row_for, row_of};
-use crate::{Error, Reply, Row};
+use crate::convert::{call_of, done, fault_of, no_fault, reply_of, row_for, row_of};
+use crate::{Call, Error, Reply, Row};
 use sgt_sys::{self as c, Ticket};
 use std::os::raw::c_void;
 use std::sync::Arc;
 use std::time::Duration;
 
-/// A call that was committed or refused, with what it was told.
+/// A call of a shared engine that was committed or refused.
 #[derive(Clone, Debug, PartialEq, Eq)]
 #[non_exhaustive]
-pub struct Call {
-    /// Counts these calls from 0 in reply order: one after another in this order they give the same answers.
+pub struct Ended {
+    /// Counts these calls from 0 in reply order, over all parts: one after another in this order they give the same answers.
     pub sequence: u64,
     pub ticket: Ticket,
-    pub procedure: u16,
-    pub args: Vec<i64>,
-    /// The answers, or the code that the procedure raised.
-    pub told: Result<Vec<i64>, u32>,
+    pub call: Call,
 }
 
 /// A live transaction, as [`SharedEngine::live`] tells it.
@@ -35,7 +32,7 @@ pub struct Live {
 #[derive(Default)]
 pub struct Configuration {
     /// Called for each committed or refused call, in reply order, under the engine's lock. A hook that panics ends the program.
-    pub ended: Option<Box<dyn FnMut(Call) + Send>>,
+    pub ended: Option<Box<dyn FnMut(Ended) + Send>>,
     /// Whether these calls are stored until [`SharedEngine::drain`] takes them.
     pub keeps_ended: bool,
     /// Cuts the history off by itself as soon as it has so many entries and nobody is live. 0: never.
@@ -67,7 +64,7 @@ pub struct Outcome {
     pub reply: Reply,
 }
 
-type Hook = Box<dyn FnMut(Call) + Send>;
+type Hook = Box<dyn FnMut(Ended) + Send>;
 
 /// What all clones of an engine share.
 struct Inner {
@@ -224,11 +221,11 @@ impl SharedEngine {
     }
 
     /// Takes at most so many of the stored calls; none if none comes in time. `BadCall` if the engine stores none.
-    pub fn drain(&self, most: usize, wait: Option<Duration>) -> Result<Vec<Call>, Error> {
+    pub fn drain(&self, most: usize, wait: Option<Duration>) -> Result<Vec<Ended>, Error> {
         let (mut calls, mut count) = (vec![c::Ended::default(); most], 0);
         let (to, wait) = (calls.as_mut_ptr(), nanoseconds(wait));
         done(unsafe { c::sgt_shared_drain(self.at(), wait, to, most, &mut count) })?;
-        Ok(calls[..count as usize].iter().map(call_of).collect())
+        Ok(calls[..count as usize].iter().map(ended_of).collect())
     }
 
     fn at(&self) -> *mut c::Shared {
@@ -293,7 +290,7 @@ impl Drop for Transaction {
 unsafe extern "C" fn tell(context: *mut c_void, call: *const c::Ended) {
     // The context is the hook of the engine's `Inner`, which is there as long as the engine, and the call is a value of the library's.
     let (hook, call) = unsafe { (&mut *context.cast::<Hook>(), &*call) };
-    hook(call_of(call));
+    hook(ended_of(call));
 }
 
 /// As the library has deadlines: a duration beyond all numbers is for ever.
@@ -310,13 +307,6 @@ fn live_of(live: &c::Live) -> Live {
     }
 }
 
-fn call_of(call: &c::Ended) -> Call {
-    let answers = || call.answer[..call.answers as usize].to_vec();
-    Call {
-        sequence: call.sequence,
-        ticket: call.ticket,
-        procedure: call.procedure as u16,
-        args: call.arg[..call.args as usize].to_vec(),
-        told: if call.kind == 13 { Ok(answers()) } else { Err(call.code) },
-    }
+fn ended_of(ended: &c::Ended) -> Ended {
+    Ended { sequence: ended.sequence, ticket: ended.ticket, call: call_of(&ended.call) }
 }

@@ -106,20 +106,27 @@ pub struct Ticket {
     pub spare: u32,
 }
 
-/// `sgt_ended`: a call that was committed or refused.
+/// `sgt_call`: a call of a committed or refused transaction, and what it was told.
+#[repr(C)]
+#[derive(Clone, Copy, Debug, Default, PartialEq, Eq)]
+pub struct Call {
+    pub kind: u32,
+    pub tid: u32,
+    pub procedure: u32,
+    pub code: u32,
+    pub args: u32,
+    pub answers: u32,
+    pub arg: [i64; 4],
+    pub answer: [i64; 8],
+}
+
+/// `sgt_ended`: such a call of a shared engine.
 #[repr(C)]
 #[derive(Clone, Copy, Debug, Default, PartialEq, Eq)]
 pub struct Ended {
     pub sequence: u64,
     pub ticket: Ticket,
-    pub kind: u32,
-    pub code: u32,
-    pub procedure: u32,
-    pub args: u32,
-    pub answers: u32,
-    pub spare: u32,
-    pub arg: [i64; 4],
-    pub answer: [i64; 8],
+    pub call: Call,
 }
 
 /// `sgt_live`: a live transaction.
@@ -207,6 +214,14 @@ extern "C" {
     pub fn sgt_rows(engine: *mut Engine, table: u64, number: i64, rows: *mut Row, room: usize, count: *mut u64) -> u32;
     pub fn sgt_entries(engine: *mut Engine, count: *mut u64) -> u32;
     pub fn sgt_entry(engine: *mut Engine, place: u64, event: *mut Event, reply: *mut Reply) -> u32;
+    pub fn sgt_calls(
+        engine: *mut Engine,
+        from: u64,
+        calls: *mut Call,
+        room: usize,
+        count: *mut u64,
+        next: *mut u64,
+    ) -> u32;
     pub fn sgt_reserve(engine: *mut Engine, entries: u64) -> u32;
     pub fn sgt_cut(engine: *mut Engine, live: *mut u64) -> u32;
     pub fn sgt_reply_text(reply: *const Reply, text: *mut u8, room: usize, length: *mut u64) -> u32;
