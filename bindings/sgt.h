@@ -28,7 +28,9 @@
  *
  * NUMBERS. Values, arguments and record numbers lie from -999999999999999 to 999999999999999. Tables are numbered from 0 to 7,
  * and procedures from 0: SmallBank's five come first (0 balance, 1 deposit, 2 transact savings, 3 amalgamate, 4 write check),
- * and those of the opening behind them, from 5 on, and then those that sgt_procedure adds.
+ * and those of the opening behind them, from 5 on, and then those that sgt_procedure adds. In an engine of sgt_open_bare there are
+ * those of sgt_procedure alone, from 0 on. Tables and procedures are passed as 64 bits, so that a number out of range is not taken
+ * for another: it is SGT_BAD_CALL.
  */
 #ifndef SGT_H
 #define SGT_H
@@ -58,7 +60,7 @@ enum sgt_status {
     SGT_STILL_LIVE = 6,  /* the history can't be cut off, as a transaction is live */
     SGT_BEGUN = 7,       /* nothing can be added to what the engine begins with, as there is a history */
     SGT_TAKEN = 8,       /* the key of a row has a value already */
-    SGT_TOO_MANY = 9,    /* no number is left for a procedure */
+    SGT_TOO_MANY = 9,    /* no number is left for a procedure, or for the part behind a cut */
     SGT_BUSY = 10,       /* another call is in the engine */
     SGT_TIMED_OUT = 12,  /* of sgt_shared.h: the deadline came */
     SGT_STALE = 13,      /* of sgt_shared.h: the transaction is of a part of the history that was cut off */
@@ -191,6 +193,16 @@ uint32_t sgt_open_with(sgt_engine *engine, const uint8_t *opening, size_t length
                        sgt_fault *fault);
 
 /*
+ * Opens an engine on nothing but limits: at most `live` transactions at a time, from 1 to 32, and at most `begins` started in all,
+ * from 1 to 4000000000. If `asks` is 1 a procedure's code is told at the commit, and if it is 0 at a step. The engine has no records
+ * and no procedures. SmallBank's are not in it, so sgt_procedure numbers procedures from 0 here.
+ *
+ * SGT_OPEN where the engine is open, tested first; then SGT_BAD_LIMITS where a limit is out of its range; SGT_NO_MEMORY. But for
+ * SGT_OK the engine stays as it was.
+ */
+uint32_t sgt_open_bare(sgt_engine *engine, uint64_t live, uint64_t begins, uint64_t asks);
+
+/*
  * Puts `count` rows of the caller's into the opening database, while the history is empty: before the first event, and behind a
  * cut. Each is a new record: none of them may have a value, in the opening or by a row before it. Each call goes once through all
  * records, and takes memory for them and for the rows, so many rows are put in by one call. They come in the order of sgt_rows: a row
@@ -224,8 +236,11 @@ void sgt_close(sgt_engine *engine);
  * SGT_CLOSED; SGT_NO_MEMORY, but never for an event that ends a live transaction: that takes no memory.
  */
 
-/* Starts a transaction of a procedure, with `count` arguments, at most 4: SGT_BAD_CALL where there are more, tested first. */
-uint32_t sgt_start(sgt_engine *engine, uint16_t procedure, const int64_t *args, size_t count, sgt_reply *reply);
+/*
+ * Starts a transaction of a procedure, with `count` arguments, at most 4. SGT_BAD_CALL where there are more, or the number of the
+ * procedure is over 65535, tested first.
+ */
+uint32_t sgt_start(sgt_engine *engine, uint64_t procedure, const int64_t *args, size_t count, sgt_reply *reply);
 
 /* Lets a transaction make its next access. */
 uint32_t sgt_step(sgt_engine *engine, uint32_t tid, sgt_reply *reply);
@@ -243,10 +258,11 @@ uint32_t sgt_quit(sgt_engine *engine, uint32_t tid, sgt_reply *reply);
  * sgt_commit is called later; or what a start is answered that starts nothing. The number of a transaction that was started is
  * written into `tid`, which else stays as it was.
  *
- * SGT_BAD_CALL where there are over 4 arguments, tested first; SGT_CLOSED; SGT_NO_MEMORY, where nothing has changed, or the
- * transaction was started and is quit. But for SGT_OK tid and reply stay as they were.
+ * SGT_BAD_CALL where there are over 4 arguments, or the number of the procedure is over 65535, tested first; SGT_CLOSED;
+ * SGT_NO_MEMORY, where nothing has changed, or the transaction was started and is quit. But for SGT_OK tid and reply stay as they
+ * were.
  */
-uint32_t sgt_run(sgt_engine *engine, uint16_t procedure, const int64_t *args, size_t count, uint32_t *tid, sgt_reply *reply);
+uint32_t sgt_run(sgt_engine *engine, uint64_t procedure, const int64_t *args, size_t count, uint32_t *tid, sgt_reply *reply);
 
 /*
  * The committed value of a record: the last one that a committed transaction stored, else the opening's.
@@ -254,7 +270,7 @@ uint32_t sgt_run(sgt_engine *engine, uint16_t procedure, const int64_t *args, si
  * SGT_BAD_CALL where the table is over 7 or the number out of range, tested first; SGT_CLOSED; SGT_NONE where there is no such
  * record. But for SGT_OK the value stays as it was.
  */
-uint32_t sgt_get(sgt_engine *engine, uint8_t table, int64_t number, int64_t *value);
+uint32_t sgt_get(sgt_engine *engine, uint64_t table, int64_t number, int64_t *value);
 
 /*
  * The committed database from a record on, by table and then by number: from table 0, number SGT_LEAST on it is all. The first of
@@ -264,7 +280,15 @@ uint32_t sgt_get(sgt_engine *engine, uint8_t table, int64_t number, int64_t *val
  * SGT_BAD_CALL where the table is over 7 or the number out of range, tested first; SGT_CLOSED; SGT_NO_MEMORY. But for SGT_OK rows
  * and count stay as they were.
  */
-uint32_t sgt_rows(sgt_engine *engine, uint8_t table, int64_t number, sgt_row *rows, size_t room, uint64_t *count);
+uint32_t sgt_rows(sgt_engine *engine, uint64_t table, int64_t number, sgt_row *rows, size_t room, uint64_t *count);
+
+/*
+ * How many records the committed database has: as many as sgt_rows returns from the first on. It goes once through all of them, and
+ * takes memory for them meanwhile.
+ *
+ * SGT_CLOSED; SGT_NO_MEMORY. But for SGT_OK the count stays as it was.
+ */
+uint32_t sgt_records(sgt_engine *engine, uint64_t *count);
 
 /* How many entries the history has: one for each event that was answered since the opening or the last cut. SGT_CLOSED. */
 uint32_t sgt_entries(sgt_engine *engine, uint64_t *count);
@@ -305,9 +329,17 @@ uint32_t sgt_reserve(sgt_engine *engine, uint64_t entries);
  * allow is counted anew. Whoever wants the entries reads them before. It goes once through all records, and takes memory for them.
  *
  * SGT_CLOSED; SGT_STILL_LIVE where a transaction is live, tested next: how many are is written into `live`, which else stays as it
- * was; SGT_NO_MEMORY. But for SGT_OK the engine stays as it was.
+ * was; SGT_TOO_MANY behind 2^64 - 1 cuts; SGT_NO_MEMORY. But for SGT_OK the engine stays as it was.
  */
 uint32_t sgt_cut(sgt_engine *engine, uint64_t *live);
+
+/*
+ * The number of the part that the history is: how many cuts there were since the opening. Transactions are numbered from 0 in each
+ * part, so the part and the number together name one transaction of the engine, and never another. Only a cut changes it.
+ *
+ * SGT_CLOSED. But for SGT_OK the part stays as it was.
+ */
+uint32_t sgt_part(sgt_engine *engine, uint64_t *part);
 
 /*
  * The text of a reply: the line that `sgt script` writes for it, without its end and with no zero byte behind it. Where it fits into

@@ -387,6 +387,111 @@ static void a_run_goes_to_its_end(void)
     sgt_close(&engine);
 }
 
+static void wide_numbers_are_refused(void)
+{
+    sgt_engine engine = {0};
+    sgt_fault fault = {0};
+    sgt_reply told = {0};
+    sgt_row row = {9, 0, 9, 9};
+    int64_t value = 77;
+    uint64_t count = 78;
+    uint32_t t = 79;
+    CHECK(opens(&engine, opening, &fault) == 0);
+    CHECK(sgt_get(&engine, 258, 101, &value) == 5);
+    CHECK(sgt_get(&engine, (UINT64_C(1) << 32) + 2, 101, &value) == 5);
+    CHECK(value == 77);
+    CHECK(sgt_rows(&engine, 256, 0, &row, 1, &count) == 5);
+    CHECK(sgt_rows(&engine, UINT64_MAX, 0, &row, 1, &count) == 5);
+    CHECK(count == 78 && is_row(&row, 9, 9, 9));
+    CHECK(sgt_start(&engine, 65537, deposit, 2, &told) == 5);
+    CHECK(sgt_start(&engine, (UINT64_C(1) << 32) + 1, deposit, 2, &told) == 5);
+    CHECK(sgt_run(&engine, 65537, deposit, 2, &t, &told) == 5);
+    CHECK(told.kind == 0 && t == 79);
+    CHECK(sgt_entries(&engine, &count) == 0);
+    CHECK(count == 0);
+    CHECK(sgt_start(&engine, 65535, deposit, 2, &told) == 0);
+    CHECK(told.kind == 2);
+    sgt_close(&engine);
+    CHECK(sgt_start(&engine, 65536, deposit, 2, &told) == 5);
+    CHECK(sgt_get(&engine, 8, 101, &value) == 5);
+}
+
+static void an_engine_is_opened_bare(void)
+{
+    const char lookup[] = "[1,[[\"look\",0,7,[\"arg\",0],5],[\"answer\",[\"reg\",0]]]]";
+    const int64_t there[] = {1}, absent[] = {2};
+    const sgt_row own = {7, 0, 1, 40};
+    sgt_engine engine = {0};
+    sgt_fault fault = {0};
+    sgt_reply told = {0};
+    uint16_t number = 77;
+    uint32_t t = 0;
+    uint64_t at = 0, count = 77;
+    CHECK(sgt_open_bare(&engine, 0, 100, 1) == 18);
+    CHECK(sgt_open_bare(&engine, 33, 100, 1) == 18);
+    CHECK(sgt_open_bare(&engine, 8, 0, 1) == 18);
+    CHECK(sgt_open_bare(&engine, 8, UINT64_C(4000000001), 1) == 18);
+    CHECK(sgt_open_bare(&engine, 8, 100, 2) == 18);
+    CHECK(sgt_open_bare(&engine, (UINT64_C(1) << 32) + 8, 100, 1) == 18);
+    CHECK(sgt_records(&engine, &count) == 2);
+    CHECK(!engine.is_open && count == 77);
+    CHECK(sgt_open_bare(&engine, 8, 2, 1) == 0);
+    CHECK(sgt_open_bare(&engine, 0, 100, 1) == 3);
+    CHECK(sgt_records(&engine, &count) == 0);
+    CHECK(count == 0);
+    CHECK(adds(&engine, lookup, &number, &fault) == 0);
+    CHECK(number == 0);
+    CHECK(sgt_put(&engine, &own, 1, &at) == 0);
+    CHECK(sgt_records(&engine, &count) == 0);
+    CHECK(count == 1);
+    CHECK(sgt_run(&engine, 0, there, 1, &t, &told) == 0);
+    CHECK(is_committed(&told, 40));
+    CHECK(sgt_run(&engine, 0, absent, 1, &t, &told) == 0);
+    CHECK(told.kind == 15 && told.code == 5);
+    CHECK(sgt_run(&engine, 1, there, 1, &t, &told) == 0);
+    CHECK(told.kind == 2);
+    CHECK(sgt_run(&engine, 0, there, 1, &t, &told) == 0);
+    CHECK(told.kind == 4);
+    sgt_close(&engine);
+    CHECK(sgt_open_bare(&engine, 32, UINT64_C(4000000000), 0) == 0);
+    CHECK(adds(&engine, lookup, &number, &fault) == 0);
+    CHECK(sgt_run(&engine, 0, absent, 1, &t, &told) == 0);
+    CHECK(told.kind == 14 && told.cause == 2 && told.code == 5);
+    sgt_close(&engine);
+}
+
+static void parts_are_numbered(void)
+{
+    sgt_engine engine = {0};
+    sgt_fault fault = {0};
+    sgt_reply told = {0};
+    uint32_t t = 0;
+    uint64_t part = 77, live = 0;
+    CHECK(sgt_part(&engine, &part) == 2);
+    CHECK(part == 77);
+    CHECK(opens(&engine, opening, &fault) == 0);
+    CHECK(sgt_part(&engine, &part) == 0);
+    CHECK(part == 0);
+    CHECK(sgt_run(&engine, 1, deposit, 2, &t, &told) == 0);
+    CHECK(sgt_cut(&engine, &live) == 0);
+    CHECK(sgt_part(&engine, &part) == 0);
+    CHECK(part == 1);
+    CHECK(sgt_start(&engine, 1, deposit, 2, &told) == 0);
+    CHECK(sgt_cut(&engine, &live) == 6);
+    CHECK(sgt_part(&engine, &part) == 0);
+    CHECK(part == 1);
+    CHECK(sgt_quit(&engine, 0, &told) == 0);
+    CHECK(sgt_cut(&engine, &live) == 0);
+    CHECK(sgt_cut(&engine, &live) == 0);
+    CHECK(sgt_part(&engine, &part) == 0);
+    CHECK(part == 3);
+    sgt_close(&engine);
+    CHECK(opens(&engine, opening, &fault) == 0);
+    CHECK(sgt_part(&engine, &part) == 0);
+    CHECK(part == 0);
+    sgt_close(&engine);
+}
+
 static void the_history_is_cut_off(void)
 {
     const int64_t one[] = {1, 1};
@@ -494,6 +599,9 @@ int main(void)
     procedures_are_added();
     procedures_have_numbers_of_16_bits();
     a_run_goes_to_its_end();
+    wide_numbers_are_refused();
+    an_engine_is_opened_bare();
+    parts_are_numbered();
     the_history_is_cut_off();
     replies_are_texts();
     faults_are_texts();

@@ -25,14 +25,14 @@ Headline e = Legal (setting_of e) e.past
     × CommitsInOrder e.past
 
 -- the event was answered by this reply, which is legal and told, and both are one entry more
-abbrev pub AnsweredBy : Event → EngineView → Option Held → SgtReply → Reply → Type 0
-AnsweredBy event e new told r = (new ≡ Some (record { engine = with_entry event r e }))
-    × LegalReply (setting_of e) e.past event r × HoldsReply told r × Headline (with_entry event r e)
+abbrev pub AnsweredBy : Event → Held → Option Held → SgtReply → Reply → Type 0
+AnsweredBy event h new told r = (new ≡ Some (record { engine = with_entry event r h.engine; part = h.part }))
+    × LegalReply (setting_of h.engine) h.engine.past event r × HoldsReply told r × Headline (with_entry event r h.engine)
 
 -- the same of some reply
 abbrev pub Answered : Event → Option Held → Option Held → SgtReply → Type 0
 Answered event None new told = ⊥
-Answered event (Some h) new told = (r : Reply) × AnsweredBy event h.engine new told r
+Answered event (Some h) new told = (r : Reply) × AnsweredBy event h new told r
 
 -- an event by which a live transaction ends succeeds
 abbrev pub EndsSucceed : Event → Option Held → ℕ → Type 0

@@ -1,5 +1,5 @@
 -- What a cut of the history leaves behind a handle.
-use Rattle.std.specs.Prelude.{◌≡◌, ℕ, List, length, Option, Some, None}
+use Rattle.std.specs.Prelude.{◌≡◌, ℕ, ◌+◌, ◌^◌, List, length, Option, Some, None}
 use Rattle.sgt_model.specs.declared.entry.Entry.{Entry}
 use Rattle.sgt_model.specs.Contents.{Key}
 use Rattle.sgt_model.specs.Databases.{contents_of, IsByKey}
@@ -9,7 +9,7 @@ use Rattle.sgt_model.specs.Values.{settled}
 use Rattle.sgt_engine.specs.Cuts.{GoesOn, NobodyLive}
 use Rattle.sgt_engine.specs.EngineView.{EngineView, setting_of}
 use Rattle.sgt_c.specs.declared.cutting.Uncut.{Uncut}
-use Rattle.sgt_c.specs.declared.cutting.Uncut.TheVariants.{StillLive, NoMemory}
+use Rattle.sgt_c.specs.declared.cutting.Uncut.TheVariants.{StillLive, LastPart, NoMemory}
 use Rattle.sgt_c.specs.declared.held.Held.{Held}
 use Rattle.sgt_c.specs.Calls.{Headline}
 
@@ -27,7 +27,7 @@ IsCut before after = GoesOn before after × CommitsAreKept before after × IsByK
 abbrev pub Cut : Option Held → Option Held → Type 0
 Cut None new = ⊥
 Cut (Some h) None = ⊥
-Cut (Some h) (Some h') = IsCut h.engine h'.engine
+Cut (Some h) (Some h') = IsCut h.engine h'.engine × (h'.part ≡ h.part + 1)
 
 -- there is an engine, and a transaction of it is live
 abbrev pub IsSomeoneLive : Option Held → Type 0
@@ -39,7 +39,17 @@ abbrev pub TellsLive : Option Held → ℕ → Type 0
 TellsLive None count = ⊥
 TellsLive (Some h) count = count ≡ length (live_ones h.engine.past)
 
--- why nothing is cut off: somebody is live, with how many are, or else memory is wanting
-abbrev pub IsTooEarly : List Entry → Uncut → Type 0
-IsTooEarly past (StillLive count) = (¬ NobodyLive past) × (count ≡ length (live_ones past))
-IsTooEarly past NoMemory = NobodyLive past
+-- nobody is live, and no number is left for another part
+abbrev pub HasNoPart : Held → Type 0
+HasNoPart h = NobodyLive h.engine.past × (h.part + 1 ≡ 2 ^ 64)
+
+-- the same of what a handle holds
+abbrev pub IsLastPart : Option Held → Type 0
+IsLastPart None = ⊥
+IsLastPart (Some h) = HasNoPart h
+
+-- why nothing is cut off: somebody is live, with how many are, or else no number is left, or else memory is wanting
+abbrev pub IsTooEarly : Held → Uncut → Type 0
+IsTooEarly h (StillLive count) = (¬ NobodyLive h.engine.past) × (count ≡ length (live_ones h.engine.past))
+IsTooEarly h LastPart = HasNoPart h
+IsTooEarly h NoMemory = NobodyLive h.engine.past × ((h.part + 1 ≡ 2 ^ 64) → ⊥)

@@ -7,11 +7,13 @@ pub mod BufferTexts
 -- the handle
 pub mod SlotOwnership
 -- what the calls do
+pub mod Asked
 pub mod Entries
 pub mod ReplayedCalls
 pub mod Calls
 pub mod Rows
 pub mod Runs
 pub mod Openings
+pub mod BareOpenings
 pub mod Cuts
 pub mod Puts

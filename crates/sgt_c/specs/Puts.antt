@@ -31,7 +31,7 @@ HasBegun (Some h) = h.engine.past ≢ []
 abbrev pub Put : Option Held → List SgtRow → Option Held → Type 0
 Put None rows new = ⊥
 Put (Some h) rows None = ⊥
-Put (Some h) rows (Some h') = PutsRows h.engine (map row_of rows) h'.engine
+Put (Some h) rows (Some h') = PutsRows h.engine (map row_of rows) h'.engine × (h'.part ≡ h.part)
 
 -- the rows before this one are new, and behind them its key has a value
 abbrev pub IsTakenIn : Option Held → List SgtRow → ℕ → Type 0
@@ -45,6 +45,7 @@ pub record IsAdded (h : Held) (text : List ℕ) (h' : Held) (n : ℕ) : Type 0 w
   pub spelled : SpellsProcedure text procedure
   pub added : h'.engine ≡ with_procedure procedure h.engine
   pub number : n ≡ length h.engine.procedures
+  pub part : h'.part ≡ h.part
 
 -- the same of what a handle holds
 abbrev pub Added : Option Held → List ℕ → Option Held → ℕ → Type 0

@@ -42,3 +42,8 @@ abbrev pub ReturnsRows : Option Held → Key → List SgtRow → ℕ → Type 0
 ReturnsRows None key to count = ⊥
 ReturnsRows (Some h) key to count = (rows : List Row) × IsCommitted h.engine rows
     × HoldRows to (rows_from key rows) × (count ≡ length (rows_from key rows))
+
+-- so many rows the committed database has
+abbrev pub CountsRows : Option Held → ℕ → Type 0
+CountsRows None count = ⊥
+CountsRows (Some h) count = (rows : List Row) × IsCommitted h.engine rows × (count ≡ length rows)

@@ -65,7 +65,7 @@ abbrev pub Ran : Event → Option Held → Option Held → ℕ → SgtReply → 
 Ran start None new tid told = ⊥
 Ran start (Some h) None tid told = ⊥
 Ran start (Some h) (Some h') tid told = (started : Option ℕ) × (last : Reply) × Runs start started last h.engine h'.engine
-    × IsNumberTold started tid × HoldsReply told last × Headline h'.engine
+    × IsNumberTold started tid × HoldsReply told last × Headline h'.engine × (h'.part ≡ h.part)
 
 -- the transaction made some steps, and is live
 abbrev pub StopsLive : ℕ → EngineView → EngineView → Type 0
@@ -86,3 +86,4 @@ abbrev pub GaveUp : Event → Option Held → Option Held → Type 0
 GaveUp start None new = ⊥
 GaveUp start (Some h) None = ⊥
 GaveUp start (Some h) (Some h') = (started : Option ℕ) × GivesUp start started h.engine h'.engine × Headline h'.engine
+    × (h'.part ≡ h.part)

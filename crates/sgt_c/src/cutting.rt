@@ -1,8 +1,8 @@
 //! Cutting the history off.
-ghost use Rattle.std.specs.Prelude.{◌≡◌, ◌≢◌, ◌≤◌, ◌↔◌, None, IfErr, OnOk, OnErr, length};
+ghost use Rattle.std.specs.Prelude.{◌≡◌, ◌+◌, ◌≢◌, ◌≤◌, ◌↔◌, None, IfErr, IfSome, OnOk, OnErr, length};
 ghost use Rattle.sgt_model.specs.Fates.{live_ones};
 ghost use Rattle.sgt_engine.specs.Cuts.{NobodyLive};
-ghost use Rattle.sgt_c.specs.Cuts.{Cut, IsCut, IsSomeoneLive, IsTooEarly, TellsLive};
+ghost use Rattle.sgt_c.specs.Cuts.{Cut, HasNoPart, IsCut, IsLastPart, IsSomeoneLive, IsTooEarly, TellsLive};
 
 use crate::handle::Handle;
 use crate::held::Held;
@@ -14,7 +14,8 @@ use std::alloc::Global;
 /// opened on it, with no entries, and numbers from 0. Procedures and limits stay, and what the limits allow is counted anew.
 /// It goes once through all records, and takes memory for them meanwhile.
 ///
-/// `CLOSED`; `STILL_LIVE` where a transaction is live, tested next: how many are is written to `live`; `NO_MEMORY`.
+/// `CLOSED`; `STILL_LIVE` where a transaction is live, tested next: how many are is written to `live`; `TOO_MANY` where no number
+/// is left for another part, behind 2^64 - 1 cuts; `NO_MEMORY`.
 #[unsafe(no_mangle)]
 pub extern "C" fn sgt_cut(alloc: Global, engine: &mut Handle, live: &mut u64) -> u32
     ensures cut { result ≡ 0 → Cut engine.old.slot.held engine.new.slot.held }
@@ -23,7 +24,8 @@ pub extern "C" fn sgt_cut(alloc: Global, engine: &mut Handle, live: &mut u64) ->
     ensures live { result ≡ 6 → TellsLive engine.old.slot.held live.new }
     ensures kept { result ≢ 6 → live.new ≡ live.old }
     ensures closed { (result ≡ 2) ↔ (engine.old.slot.held ≡ None) }
-    ensures statuses { result ≢ 6 → result ≤ 2 }
+    ensures too_many { (result ≡ 9) ↔ IsLastPart engine.old.slot.held }
+    ensures statuses { result ≢ 6 → result ≢ 9 → result ≤ 2 }
 {
     let Some(mut held) = engine.take(alloc) else {
         return status::CLOSED;
@@ -36,8 +38,29 @@ pub extern "C" fn sgt_cut(alloc: Global, engine: &mut Handle, live: &mut u64) ->
             *live = count;
             status::STILL_LIVE
         }
+        Err(Uncut::LastPart) => status::TOO_MANY,
         Err(Uncut::NoMemory) => status::NO_MEMORY,
     }
+}
+
+/// The number of the part that the history is: how many cuts there were since the opening. With it a transaction's number is never
+/// taken for that of another part.
+///
+/// `CLOSED`.
+#[unsafe(no_mangle)]
+pub extern "C" fn sgt_part(alloc: Global, engine: &mut Handle, part: &mut u64) -> u32
+    ensures part { result ≡ 0 → IfSome engine.old.slot.held (λ h. part.new ≡ h.part) }
+    ensures closed { (result ≡ 2) ↔ (engine.old.slot.held ≡ None) }
+    ensures statuses { result ≢ 0 → result ≡ 2 }
+    ensures kept { result ≢ 0 → part.new ≡ part.old }
+    ensures same { engine.new.slot.held ≡ engine.old.slot.held }
+{
+    let Some(held) = engine.take(alloc) else {
+        return status::CLOSED;
+    };
+    *part = held.part;
+    engine.put(held);
+    status::OK
 }
 
 /// Why nothing was cut off.
@@ -45,6 +68,8 @@ pub extern "C" fn sgt_cut(alloc: Global, engine: &mut Handle, live: &mut u64) ->
 pub enum Uncut {
     /// So many are live.
     StillLive(u64),
+    /// No number is left for another part.
+    LastPart,
     /// A growth was refused.
     NoMemory,
 }
@@ -53,18 +78,26 @@ pub enum Uncut {
 #[tactic(auto, using(crate::proofs::CutValues::commits_kept, crate::proofs::CutValues::none_of_none, crate::proofs::CutValues::some_of_some))]
 fn cut(alloc: Global, held: &mut Held) -> Result<(), Uncut>
     ensures cut { OnOk result (IsCut held.old.engine held.new.engine) }
+    ensures part { OnOk result (held.new.part ≡ held.old.part + 1) }
+    ensures not_last { OnOk result (HasNoPart held.old → ⊥) }
     ensures unchanged { OnErr result (held.new ≡ held.old) }
     ensures nobody { OnOk result (NobodyLive held.old.engine.past) }
-    ensures refused { IfErr result (IsTooEarly held.old.engine.past) }
+    ensures refused { IfErr result (IsTooEarly held.old) }
 {
     let count = live_count(&held.engine);
     if count > 0 {
         return Err(Uncut::StillLive(count));
     }
+    let Some(next) = held.part.checked_add(1) else {
+        return Err(Uncut::LastPart);
+    };
     // The headline holds of what it lends.
     let _ = held.engine.history();
     match held.engine.cut(alloc) {
-        Ok(_) => Ok(()),
+        Ok(_) => {
+            held.part = next;
+            Ok(())
+        }
         Err(_) => Err(Uncut::NoMemory),
     }
 }

@@ -1,5 +1,5 @@
 //! Events, and what they are answered.
-ghost use Rattle.std.specs.Prelude.{◌≡◌, ◌≢◌, ◌≤◌, ◌<◌, ◌↔◌, ℕ, true, Some, None, OnOk, OnErr, length};
+ghost use Rattle.std.specs.Prelude.{◌≡◌, ◌≢◌, ◌≤◌, ◌↔◌, ℕ, true, Some, None, OnOk, OnErr};
 ghost use Rattle.std.specs.Result.{IsOk};
 ghost use Rattle.sgt_model.specs.declared.reply.Reply.{Reply};
 ghost use Rattle.sgt_model.specs.Fates.{live};
@@ -8,34 +8,36 @@ ghost use Rattle.sgt_model.specs.Questions.{is_ending};
 ghost use Rattle.sgt_engine.specs.EngineView.{setting_of};
 ghost use Rattle.sgt_model.specs.declared.event.Event.TheVariants.{Start, Step, Commit, Quit};
 ghost use Rattle.sgt_c.specs.Calls.{Answered, EndsSucceed, QuitsSucceed};
+ghost use Rattle.sgt_c.specs.Asked.{IsCall};
 
+use crate::asked::call;
 use crate::handle::Handle;
 use crate::held::Held;
 use crate::reply_struct::{SgtReply, write_reply};
 use crate::status;
-use sgt_model::{Args, Event, NoMemory, Tid};
+use sgt_model::{Event, NoMemory, Tid};
 use std::alloc::Global;
 
 /// Starts a transaction that runs the procedure of this number with these arguments.
 ///
-/// `NO_MEMORY`; `CLOSED`; `BAD_CALL` where there are over 4 arguments, tested first.
+/// `NO_MEMORY`; `CLOSED`; `BAD_CALL` where the number is over 65535, or there are over 4 arguments, tested first.
 #[unsafe(no_mangle)]
 pub extern "C" fn sgt_start(
     alloc: Global,
     engine: &mut Handle,
-    procedure: u16,
+    procedure: u64,
     args: &[i64],
     reply: &mut SgtReply,
 ) -> u32
     ensures ok { result ≡ 0 → Answered (Start procedure args.now) engine.old.slot.held engine.new.slot.held reply.new }
     ensures unchanged { result ≢ 0 → engine.new.slot.held ≡ engine.old.slot.held }
     ensures unwritten { result ≢ 0 → reply.new ≡ reply.old }
-    ensures bad_call { (result ≡ 5) ↔ (4 < length args.now) }
-    ensures closed { (result ≡ 2) ↔ ((length args.now ≤ 4) × (engine.old.slot.held ≡ None)) }
+    ensures bad_call { (result ≡ 5) ↔ (¬ IsCall procedure args.now) }
+    ensures closed { (result ≡ 2) ↔ (IsCall procedure args.now × (engine.old.slot.held ≡ None)) }
     ensures statuses { result ≢ 5 → result ≤ 2 }
 {
-    match Args::from_slice(args) {
-        Some(args) => ask(alloc, engine, Event::Start { procedure, args }, reply),
+    match call(procedure, args) {
+        Some((procedure, args)) => ask(alloc, engine, Event::Start { procedure, args }, reply),
         None => status::BAD_CALL,
     }
 }

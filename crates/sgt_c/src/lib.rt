@@ -33,10 +33,12 @@ mod held;
 mod slot;
 
 // The calls.
+mod asked;
 mod cutting;
 mod events;
 mod history;
 mod opening;
+mod opening_bare;
 mod opening_with;
 mod procedures;
 mod putting;

@@ -22,6 +22,7 @@ pub extern "C" fn sgt_open(
     fault: &mut SgtFault,
 ) -> u32
     ensures opened { result ≡ 0 → IfSome engine.new.slot.held (λ h. OpenedAs opening.now h.engine) }
+    ensures first_part { result ≡ 0 → IfSome engine.new.slot.held (λ h. h.part ≡ 0) }
     ensures is_open { result ≡ 0 → IsSome engine.new.slot.held }
     ensures open { (result ≡ 3) ↔ IsSome engine.old.slot.held }
     ensures refused { 16 ≤ result → (result ≡ fault.new.kind) × RefusedAs opening.now fault.new }
@@ -42,6 +43,7 @@ pub extern "C" fn sgt_open(
 /// The engine of the opening that these bytes spell.
 fn make(alloc: Global, opening: &[u8]) -> Result<Box<Held>, OpeningError>
     ensures opened { IfOk result (λ h. OpenedAs opening.now h.value.engine) }
+    ensures first_part { IfOk result (λ h. h.value.part ≡ 0) }
     ensures refused { IfErr result (Refuses 1 opening.now) }
 {
     let opening = read_opening(alloc, 1, opening)?;

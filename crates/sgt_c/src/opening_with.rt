@@ -32,6 +32,7 @@ pub extern "C" fn sgt_open_with(
     fault: &mut SgtFault,
 ) -> u32
     ensures opened { result ≡ 0 → IfSome engine.new.slot.held (λ h. OpenedWith opening.now rows.now h.engine) }
+    ensures first_part { result ≡ 0 → IfSome engine.new.slot.held (λ h. h.part ≡ 0) }
     ensures is_open { result ≡ 0 → IsSome engine.new.slot.held }
     ensures open { (result ≡ 3) ↔ IsSome engine.old.slot.held }
     ensures bad_call { (result ≡ 5) ↔ ((engine.old.slot.held ≡ None) × (¬ All IsRow rows.now)) }
@@ -57,6 +58,7 @@ pub extern "C" fn sgt_open_with(
 fn make(alloc: Global, opening: &[u8], rows: &[SgtRow]) -> Result<Box<Held>, OpeningError>
     requires { All IsRow rows.now }
     ensures opened { IfOk result (λ h. OpenedWith opening.now rows.now h.value.engine) }
+    ensures first_part { IfOk result (λ h. h.value.part ≡ 0) }
     ensures refused { IfErr result (Refuses 1 opening.now) }
 {
     let mut opening = read_opening(alloc, 1, opening)?;

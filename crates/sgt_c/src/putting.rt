@@ -56,6 +56,7 @@ pub extern "C" fn sgt_put(alloc: Global, engine: &mut Handle, rows: &[SgtRow], a
 fn put(alloc: Global, held: &mut Held, rows: &[SgtRow]) -> Result<(), PutError>
     requires { All IsRow rows.now }
     ensures put { OnOk result (PutsRows held.old.engine (map row_of rows.now) held.new.engine) }
+    ensures part { OnOk result (held.new.part ≡ held.old.part) }
     ensures begun { (result ≡ Err PutError.Begun) ↔ (held.old.engine.past ≢ []) }
     ensures refused { IfErr result (AreRefused held.old.engine (map row_of rows.now)) }
     ensures unchanged { OnErr result (held.new ≡ held.old) }

@@ -6,9 +6,9 @@ ghost use Rattle.sgt_model.specs.Replay.{folded};
 ghost use Rattle.sgt_model.specs.Values.{settled};
 ghost use Rattle.sgt_engine.specs.EngineView.{setting_of};
 
+use crate::asked::keyed;
 use crate::handle::Handle;
 use crate::status;
-use sgt_model::Key;
 use std::alloc::Global;
 
 /// The committed value of a record: the last one that a committed transaction stored, else the opening's.
@@ -18,7 +18,7 @@ use std::alloc::Global;
 pub extern "C" fn sgt_get(
     alloc: Global,
     engine: &mut Handle,
-    table: u8,
+    table: u64,
     number: i64,
     value: &mut i64,
 ) -> u32
@@ -35,7 +35,7 @@ pub extern "C" fn sgt_get(
     ensures kept { result ≢ 0 → value.new ≡ value.old }
     ensures same { engine.new.slot.held ≡ engine.old.slot.held }
 {
-    let Some(key) = Key::new(table, number) else {
+    let Some(key) = keyed(table, number) else {
         return status::BAD_CALL;
     };
     let Some(held) = engine.take(alloc) else {

@@ -1,8 +1,9 @@
 //! The committed database, row by row.
 ghost use Rattle.std.specs.Prelude.{◌≡◌, ◌≢◌, ◌≤◌, ◌↔◌, None, length, drop};
 ghost use Rattle.sgt_model.specs.Numbers.{IsValue};
-ghost use Rattle.sgt_c.specs.Rows.{HoldRows, ReturnsRows, row_of, rows_from};
+ghost use Rattle.sgt_c.specs.Rows.{CountsRows, HoldRows, ReturnsRows, row_of, rows_from};
 
+use crate::asked::keyed;
 use crate::handle::Handle;
 use crate::row_struct::SgtRow;
 use crate::status;
@@ -17,7 +18,7 @@ use std::alloc::Global;
 pub extern "C" fn sgt_rows(
     alloc: Global,
     engine: &mut Handle,
-    table: u8,
+    table: u64,
     number: i64,
     rows: &mut [SgtRow],
     count: &mut u64,
@@ -31,7 +32,7 @@ pub extern "C" fn sgt_rows(
     ensures unwritten { result ≢ 0 → (rows.new ≡ rows.old) × (count.new ≡ count.old) }
     ensures same { engine.new.slot.held ≡ engine.old.slot.held }
 {
-    let Some(key) = Key::new(table, number) else {
+    let Some(key) = keyed(table, number) else {
         return status::BAD_CALL;
     };
     let Some(held) = engine.take(alloc) else {
@@ -44,6 +45,31 @@ pub extern "C" fn sgt_rows(
             let from_key = rows_from(database.rows(), key);
             write_rows(rows, from_key);
             *count = from_key.len() as u64;
+            status::OK
+        }
+        Err(NoMemory) => status::NO_MEMORY,
+    }
+}
+
+/// How many records the committed database has. It goes once through all of them, and takes memory for them meanwhile.
+///
+/// `CLOSED`; `NO_MEMORY`.
+#[unsafe(no_mangle)]
+pub extern "C" fn sgt_records(alloc: Global, engine: &mut Handle, count: &mut u64) -> u32
+    ensures counted { result ≡ 0 → CountsRows engine.old.slot.held count.new }
+    ensures closed { (result ≡ 2) ↔ (engine.old.slot.held ≡ None) }
+    ensures statuses { result ≤ 2 }
+    ensures kept { result ≢ 0 → count.new ≡ count.old }
+    ensures same { engine.new.slot.held ≡ engine.old.slot.held }
+{
+    let Some(held) = engine.take(alloc) else {
+        return status::CLOSED;
+    };
+    let database = held.engine.database(alloc);
+    engine.put(held);
+    match database {
+        Ok(database) => {
+            *count = database.rows().len() as u64;
             status::OK
         }
         Err(NoMemory) => status::NO_MEMORY,

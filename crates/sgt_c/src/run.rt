@@ -1,11 +1,13 @@
 //! A transaction that is run from its start to its end by one call.
-ghost use Rattle.std.specs.Prelude.{◌≡◌, ◌≢◌, ◌≤◌, ◌<◌, ◌↔◌, ℕ, true, None, Option, IfOk, OnErr, length};
+ghost use Rattle.std.specs.Prelude.{◌≡◌, ◌≢◌, ◌≤◌, ◌↔◌, ℕ, true, None, Option, IfOk, OnErr};
 ghost use Rattle.sgt_model.specs.declared.event.Event.TheVariants.{Start, Quit};
 ghost use Rattle.sgt_model.specs.declared.reply.Reply.{Reply};
 ghost use Rattle.sgt_model.specs.Fates.{live};
 ghost use Rattle.sgt_engine.specs.EngineView.{with_entry};
+ghost use Rattle.sgt_c.specs.Asked.{IsCall};
 ghost use Rattle.sgt_c.specs.Runs.{Ran, GaveUp, Runs, GivesUp, RunsOn, StepsOn, StopsLive, is_access, is_end};
 
+use crate::asked::call;
 use crate::handle::Handle;
 use crate::reply_struct::{SgtReply, write_reply};
 use crate::status;
@@ -23,7 +25,7 @@ use std::alloc::Global;
 pub extern "C" fn sgt_run(
     alloc: Global,
     engine: &mut Handle,
-    procedure: u16,
+    procedure: u64,
     args: &[i64],
     tid: &mut u32,
     reply: &mut SgtReply,
@@ -34,11 +36,11 @@ pub extern "C" fn sgt_run(
         GaveUp (Start procedure args.now) engine.old.slot.held engine.new.slot.held }
     ensures unchanged { 2 ≤ result → engine.new.slot.held ≡ engine.old.slot.held }
     ensures unwritten { result ≢ 0 → (tid.new ≡ tid.old) × (reply.new ≡ reply.old) }
-    ensures bad_call { (result ≡ 5) ↔ (4 < length args.now) }
-    ensures closed { (result ≡ 2) ↔ ((length args.now ≤ 4) × (engine.old.slot.held ≡ None)) }
+    ensures bad_call { (result ≡ 5) ↔ (¬ IsCall procedure args.now) }
+    ensures closed { (result ≡ 2) ↔ (IsCall procedure args.now × (engine.old.slot.held ≡ None)) }
     ensures statuses { result ≢ 5 → result ≤ 2 }
 {
-    let Some(args) = Args::from_slice(args) else {
+    let Some((procedure, args)) = call(procedure, args) else {
         return status::BAD_CALL;
     };
     let Some(mut held) = engine.take(alloc) else {

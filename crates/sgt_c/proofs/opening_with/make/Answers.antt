@@ -3,7 +3,7 @@ use Rattle.sgt_c.proofs.opening_with.make.Goals as goal
 
 pub returns-clause-opened : goal.returns-clause-opened
 returns-clause-opened c =
-    rw c.in_ok-boxed.ensures (
+    rw c.in_ok-boxed.ensures.engine (
       c.in_ok-opening.opening,
       _,
       c.in_ok-opening.ensures.opening,
