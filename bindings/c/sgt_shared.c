@@ -9,7 +9,7 @@
 
 #include "sgt_shared.h"
 
-enum { MOST_LIVE = 32, MOST_ARGS = 4, MOST_PROCEDURE = 65535, MOST_TABLE = 7 };
+enum { MOST_LIVE = 32, MOST_ARGS = 4, MOST_PROCEDURE = 65535 };
 
 static const uint32_t NO_TID = UINT32_MAX; /* the limits never allow this number */
 static const int64_t SECOND = 1000000000;
@@ -44,7 +44,7 @@ struct sgt_shared {
     sgt_engine engine;
     sgt_shared_config config;
     uint64_t number;             /* of this engine, in its tickets */
-    uint64_t part;               /* cuts so far */
+    uint64_t part;               /* cuts so far, as sgt_part tells */
     uint64_t sequence;           /* calls that were committed or refused so far */
     uint64_t read;               /* the place of the history up to which these were handed on */
     uint64_t ends;               /* transactions that have ended so far, runs included */
@@ -316,8 +316,10 @@ static uint32_t cut(sgt_shared *s)
         hooks = hook.outer;
     }
     uint32_t status = sgt_cut(&s->engine, &live);
-    if (status == SGT_OK) s->part++, s->read = 0, s->cut_at = s->config.cut_after, s->pauses = false;
-    return status;
+    if (status != SGT_OK) return status;
+    sgt_part(&s->engine, &s->part);
+    s->read = 0, s->cut_at = s->config.cut_after, s->pauses = false;
+    return SGT_OK;
 }
 
 /* Puts a cut that is due off. */
@@ -424,6 +426,7 @@ uint32_t sgt_shared_take(sgt_shared **shared, sgt_engine *engine, const sgt_shar
     sgt_shared *s = made(&with);
     if (!s) return SGT_NO_MEMORY;
     s->engine = *engine;
+    sgt_part(&s->engine, &s->part);
     memset(engine, 0, sizeof *engine);
     *shared = s;
     return SGT_OK;
@@ -460,7 +463,7 @@ static uint32_t may_start(sgt_shared *s, const struct deadline *until)
 static uint32_t try_once(sgt_shared *s, const struct call *call, const struct deadline *until, sgt_outcome *out)
 {
     uint32_t tid = NO_TID;
-    uint32_t status = sgt_run(&s->engine, (uint16_t)call->procedure, call->args, call->count, &tid, &out->reply);
+    uint32_t status = sgt_run(&s->engine, call->procedure, call->args, call->count, &tid, &out->reply);
     if (status != SGT_OK) return status;
     if (tid != NO_TID) out->tries++, out->ticket = ticket_of(s, tid);
     if (out->reply.kind == SGT_FULL) s->most = s->lives;
@@ -523,7 +526,7 @@ static uint32_t start(sgt_shared *s, const struct call *call, const struct deadl
     for (;;) {
         uint32_t status = may_start(s, until);
         if (status != SGT_OK) return status;
-        status = sgt_start(&s->engine, (uint16_t)call->procedure, call->args, call->count, reply);
+        status = sgt_start(&s->engine, call->procedure, call->args, call->count, reply);
         if (status != SGT_OK) return status;
         if (reply->kind == SGT_STARTED) add(s, reply->tid, call->procedure), *ticket = ticket_of(s, reply->tid);
         if (reply->kind != SGT_FULL) return SGT_OK;
@@ -603,16 +606,16 @@ uint32_t sgt_shared_cut(sgt_shared *shared, int64_t wait_ns)
 
 uint32_t sgt_shared_get(sgt_shared *shared, uint64_t table, int64_t number, int64_t *value)
 {
-    uint32_t status = value && table <= MOST_TABLE ? enter(shared) : (uint32_t)SGT_BAD_CALL;
-    return status == SGT_OK ? leave(shared, sgt_get(&shared->engine, (uint8_t)table, number, value)) : status;
+    uint32_t status = value ? enter(shared) : (uint32_t)SGT_BAD_CALL;
+    return status == SGT_OK ? leave(shared, sgt_get(&shared->engine, table, number, value)) : status;
 }
 
 uint32_t sgt_shared_rows(sgt_shared *shared, uint64_t table, int64_t number, sgt_row *rows, size_t room, uint64_t *count)
 {
     sgt_row none = {0};
-    uint32_t status = count && table <= MOST_TABLE && (rows || room == 0) ? enter(shared) : (uint32_t)SGT_BAD_CALL;
+    uint32_t status = count && (rows || room == 0) ? enter(shared) : (uint32_t)SGT_BAD_CALL;
     if (status != SGT_OK) return status;
-    return leave(shared, sgt_rows(&shared->engine, (uint8_t)table, number, rows ? rows : &none, room, count));
+    return leave(shared, sgt_rows(&shared->engine, table, number, rows ? rows : &none, room, count));
 }
 
 uint32_t sgt_shared_entries(sgt_shared *shared, uint64_t *count, uint64_t *part)

@@ -61,6 +61,8 @@ int main()
     } catch (const sgt::Taken &why) {
         std::cout << "row " << why.at << " taken\n";
     }
+    sgt::Engine bare = sgt::Engine::bare(8, 100);
+    if (again.records() != 4 || again.part() != 1 || bare.records() != 0 || bare.procedure(R"([0,[["put",7,1,2]]])") != 0) return 1;
     std::uint16_t number = again.procedure(R"([1,[["look",0,7,["arg",0],5],["answer",["reg",0]]]])");
     std::cout << "procedure " << number << ": ";
     show(again.run(number, {1}).reply);

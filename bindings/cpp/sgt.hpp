@@ -123,6 +123,12 @@ public:
         check(status);
     }
 
+    // With no records and no procedures, also none of SmallBank's; std::invalid_argument where a limit is out of its range.
+    static Engine bare(std::uint64_t live, std::uint64_t begins, bool asks = true)
+    {
+        return Engine(live, begins, asks);
+    }
+
     ~Engine() { sgt_close(&engine); }
 
     Engine(const Engine &) = delete;
@@ -195,6 +201,22 @@ public:
         return rows;
     }
 
+    // How many records the committed database has.
+    std::uint64_t records()
+    {
+        std::uint64_t count = 0;
+        check(sgt_records(&engine, &count));
+        return count;
+    }
+
+    // How many cuts there were. With it a transaction's number is never another's.
+    std::uint64_t part()
+    {
+        std::uint64_t part = 0;
+        check(sgt_part(&engine, &part));
+        return part;
+    }
+
     std::uint64_t entries()
     {
         std::uint64_t count = 0;
@@ -239,6 +261,13 @@ public:
 
 private:
     sgt_engine engine{};
+
+    Engine(std::uint64_t live, std::uint64_t begins, bool asks)
+    {
+        auto status = sgt_open_bare(&engine, live, begins, asks);
+        if (status == SGT_BAD_LIMITS) throw std::invalid_argument("sgt: bad limits");
+        check(status);
+    }
 
     static void check(std::uint32_t status)
     {

@@ -84,6 +84,14 @@ with Engine(limits=(8, 100), rows=rows) as again:
         raise SystemExit("a procedure with a flaw was added")
     except ProcedureRefused as why:
         assert str(why) == "procedure 5 flaw 8", why
+    assert (again.records(), again.part()) == (4, 1)
+    with Engine.bare(8, 100) as bare:
+        assert (bare.records(), bare.procedure([0, [["put", 7, 1, 2]]]), bare.run(0)[0]) == (0, 0, 0)
+    try:
+        Engine.bare(33, 100)
+        raise SystemExit("an engine was opened with too many live")
+    except OpeningRefused as why:
+        assert str(why) == "bad limits", why
     number = again.procedure([1, [["look", 0, 7, ["arg", 0], 5], ["answer", ["reg", 0]]]])
     print(f"procedure {number}: ", end="")
     show(again.run(number, 1)[1])

@@ -110,6 +110,7 @@ static void an_engine_is_taken_over(void)
     CHECK(sgt_shared_take(&shared, 0, 0) == SGT_BAD_CALL && sgt_shared_take(0, &engine, 0) == SGT_BAD_CALL);
     CHECK(sgt_shared_take(&shared, &engine, 0) == SGT_OK && !engine.is_open && !engine.at);
     CHECK(sgt_shared_get(shared, 2, 101, &value) == SGT_OK && value == 1100);
+    CHECK(begins(shared, 0).part == 1); /* it was cut off once before */
     closes(shared);
 }
 

@@ -75,6 +75,21 @@ class Engine(Uncopied):
             raise OpeningRefused(status, written(HELD.sgt_fault_text, fault))
         check(status)
 
+    @classmethod
+    def bare(cls, live: int, begins: int, asks: bool = True) -> Engine:
+        """An engine with no records and no procedures, also none of SmallBank's: at most `live` transactions at a time, at most
+        `begins` in all, and with `asks` a code is told at the commit. OpeningRefused; NoMemory.
+        """
+        engine = cls.__new__(cls)
+        engine._engine = CEngine()
+        engine._at = ctypes.byref(engine._engine)
+        limits = (whole(number, 0, 2**64 - 1) for number in (live, begins, asks))
+        status = HELD.sgt_open_bare(engine._engine, *limits)
+        if status >= FIRST_FAULT:
+            raise OpeningRefused(status, "bad limits")
+        check(status)
+        return engine
+
     def put(self, rows: Sequence[AnyRow]) -> None:
         """Puts new records into the opening database, while the history is empty. Each call goes through all records.
 
@@ -163,6 +178,18 @@ class Engine(Uncopied):
         """The committed database from a record on, by table and then by number."""
         table, number = whole(table, 0, 7), whole(number, LEAST, MOST)
         return all_rows(lambda told, space, count: HELD.sgt_rows(self._engine, table, number, told, space, count))
+
+    def records(self) -> int:
+        """How many records the committed database has."""
+        count = ctypes.c_uint64()
+        check(HELD.sgt_records(self._engine, count))
+        return count.value
+
+    def part(self) -> int:
+        """How many cuts there were. With it a transaction's number is never another's."""
+        part = ctypes.c_uint64()
+        check(HELD.sgt_part(self._engine, part))
+        return part.value
 
     def __len__(self) -> int:
         """How many entries the history has."""

@@ -146,10 +146,13 @@ _shared, _ticket = ctypes.c_void_p, ctypes.POINTER(CTicket)
 
 _ENGINE_CALLS = {
     "sgt_open_with": [_engine, _text, _size, _row, _size, _fault],
+    "sgt_open_bare": [_engine, _u64, _u64, _u64],
     "sgt_put": [_engine, _row, _size, _count],
     "sgt_procedure": [_engine, _text, _size, ctypes.POINTER(ctypes.c_uint16), _fault],
     "sgt_get": [_engine, _u64, _i64, ctypes.POINTER(_i64)],
     "sgt_rows": [_engine, _u64, _i64, _row, _size, _count],
+    "sgt_records": [_engine, _count],
+    "sgt_part": [_engine, _count],
     "sgt_entries": [_engine, _count],
     "sgt_entry": [_engine, _u64, ctypes.POINTER(CEvent), _reply],
     "sgt_calls": [_engine, _u64, ctypes.POINTER(CCall), _size, _count, _count],

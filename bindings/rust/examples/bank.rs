@@ -63,6 +63,10 @@ fn main() -> Result<(), Error> {
     if let Err(Error::Taken(at)) = again.put(&own) {
         println!("row {at} taken");
     }
+    assert_eq!((again.records(), again.part()), (Ok(4), 1));
+    let mut bare = Engine::open_bare(8, 100, true)?;
+    assert_eq!((bare.records()?, bare.procedure(r#"[0,[["put",7,1,2]]]"#)?, bare.run(0, &[])?.0), (0, 0, Some(0)));
+    assert_eq!(Engine::open_bare(33, 100, true).err(), Some(Error::Opening(Fault::BadLimits)));
     let flaw = again.procedure(r#"[0,[["ask",0]]]"#);
     assert_eq!(flaw, Err(Error::Opening(Fault::ProcFlaw(5, 8))));
     let number = again.procedure(r#"[1,[["look",0,7,["arg",0],5],["answer",["reg",0]]]]"#)?;

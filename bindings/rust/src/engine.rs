@@ -1,6 +1,6 @@
 //! The engine for one thread at a time.
 use crate::convert::{call_of, done, event_of, fault_of, no_fault, reply_of, row_for, row_of, told};
-use crate::{Call, Error, Event, Reply, Row};
+use crate::{Call, Error, Event, Fault, Reply, Row};
 use sgt_sys as c;
 
 type Ask = unsafe extern "C" fn(*mut c::Engine, u32, *mut c::Reply) -> u32;
@@ -30,6 +30,16 @@ impl Engine {
         let (bytes, length) = (opening.as_ptr(), opening.len());
         let status = unsafe { c::sgt_open_with(&mut engine.inner, bytes, length, rows.as_ptr(), rows.len(), &mut fault) };
         opened(status, engine, &fault)
+    }
+
+    /// Opens an engine with no records and no procedures, also none of SmallBank's: at most `live` transactions at a time, at most
+    /// `begins` in all, and with `asks` a code is told at the commit.
+    pub fn open_bare(live: u32, begins: u32, asks: bool) -> Result<Engine, Error> {
+        let (mut engine, _) = blank();
+        match unsafe { c::sgt_open_bare(&mut engine.inner, live.into(), begins.into(), asks.into()) } {
+            c::BAD_LIMITS => Err(Error::Opening(Fault::BadLimits)),
+            status => done(status).map(|()| engine),
+        }
     }
 
     /// Puts new records into the opening database, while the history is empty; else `Begun`. Each call goes through all records.
@@ -98,6 +108,19 @@ impl Engine {
         let mut rows = vec![c::Row::default(); count as usize];
         done(unsafe { c::sgt_rows(&mut self.inner, table.into(), number, rows.as_mut_ptr(), rows.len(), &mut count) })?;
         Ok(rows.iter().map(row_of).collect())
+    }
+
+    /// How many records the committed database has.
+    pub fn records(&mut self) -> Result<u64, Error> {
+        let mut count = 0;
+        done(unsafe { c::sgt_records(&mut self.inner, &mut count) }).map(|()| count)
+    }
+
+    /// How many cuts there were. With it a transaction's number is never another's.
+    pub fn part(&mut self) -> u64 {
+        let mut part = 0;
+        unsafe { c::sgt_part(&mut self.inner, &mut part) };
+        part
     }
 
     /// How many entries the history has.

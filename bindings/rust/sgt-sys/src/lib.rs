@@ -189,6 +189,7 @@ extern "C" {
         count: usize,
         fault: *mut Fault,
     ) -> u32;
+    pub fn sgt_open_bare(engine: *mut Engine, live: u64, begins: u64, asks: u64) -> u32;
     pub fn sgt_put(engine: *mut Engine, rows: *const Row, count: usize, at: *mut u64) -> u32;
     pub fn sgt_procedure(
         engine: *mut Engine,
@@ -212,6 +213,7 @@ extern "C" {
     pub fn sgt_quit(engine: *mut Engine, tid: u32, reply: *mut Reply) -> u32;
     pub fn sgt_get(engine: *mut Engine, table: u64, number: i64, value: *mut i64) -> u32;
     pub fn sgt_rows(engine: *mut Engine, table: u64, number: i64, rows: *mut Row, room: usize, count: *mut u64) -> u32;
+    pub fn sgt_records(engine: *mut Engine, count: *mut u64) -> u32;
     pub fn sgt_entries(engine: *mut Engine, count: *mut u64) -> u32;
     pub fn sgt_entry(engine: *mut Engine, place: u64, event: *mut Event, reply: *mut Reply) -> u32;
     pub fn sgt_calls(
@@ -224,6 +226,7 @@ extern "C" {
     ) -> u32;
     pub fn sgt_reserve(engine: *mut Engine, entries: u64) -> u32;
     pub fn sgt_cut(engine: *mut Engine, live: *mut u64) -> u32;
+    pub fn sgt_part(engine: *mut Engine, part: *mut u64) -> u32;
     pub fn sgt_reply_text(reply: *const Reply, text: *mut u8, room: usize, length: *mut u64) -> u32;
     pub fn sgt_fault_text(fault: *const Fault, text: *mut u8, room: usize, length: *mut u64) -> u32;
     pub fn sgt_version() -> *const c_char;
