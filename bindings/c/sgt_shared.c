@@ -460,7 +460,7 @@ static uint32_t may_start(sgt_shared *s, const struct deadline *until)
 }
 
 /* One try of a run. Where the deadline comes, or memory is refused, its transaction is quit. */
-static uint32_t try_once(sgt_shared *s, const struct call *call, const struct deadline *until, sgt_outcome *out)
+static uint32_t try_once(sgt_shared *s, const struct call *call, const struct deadline *until, sgt_shared_outcome *out)
 {
     uint32_t tid = NO_TID;
     uint32_t status = sgt_run(&s->engine, call->procedure, call->args, call->count, &tid, &out->reply);
@@ -486,7 +486,7 @@ static bool is_conflict(const sgt_reply *reply)
     return (reply->kind == SGT_ABORTED && reply->cause == SGT_BY_CYCLE) || (reply->kind == SGT_OVER && reply->cause == SGT_BY_FALL);
 }
 
-static uint32_t run(sgt_shared *s, const struct call *call, const sgt_run_options *options, sgt_outcome *out)
+static uint32_t run(sgt_shared *s, const struct call *call, const sgt_run_options *options, sgt_shared_outcome *out)
 {
     const struct deadline until = deadline_in(options->wait_ns);
     for (;;) {
@@ -502,13 +502,13 @@ static uint32_t run(sgt_shared *s, const struct call *call, const sgt_run_option
 }
 
 uint32_t sgt_shared_run(sgt_shared *shared, uint64_t procedure, const int64_t *args, size_t count, const sgt_run_options *options,
-                        sgt_outcome *outcome)
+                        sgt_shared_outcome *outcome)
 {
     static const sgt_run_options plain = SGT_RUN_OPTIONS;
     struct call call;
     if (!options) options = &plain;
     if (!outcome || outcome->size < sizeof *outcome || options->size < sizeof *options) return SGT_BAD_CALL;
-    sgt_outcome out = {.size = outcome->size};
+    sgt_shared_outcome out = {.size = outcome->size};
     outcome->tries = outcome->waits = 0;
     if (!is_call(&call, procedure, args, count)) return SGT_BAD_CALL;
     uint32_t status = enter(shared);

@@ -6,7 +6,7 @@
  *
  *     sgt_shared *bank;
  *     if (sgt_shared_open(&bank, opening, length, 0, 0, 0, &fault) != SGT_OK) return 1;
- *     sgt_outcome outcome = SGT_OUTCOME;
+ *     sgt_shared_outcome outcome = SGT_SHARED_OUTCOME;
  *     uint32_t status = sgt_shared_run(bank, 1, args, 2, 0, &outcome);      -- from any thread
  *
  * Use sgt_shared_run if you have all arguments of a call at hand: it runs the procedure from its start to its commit in one hold of
@@ -114,16 +114,16 @@ typedef struct sgt_run_options {
 
 #define SGT_RUN_OPTIONS {.size = sizeof(sgt_run_options), .wait_ns = SGT_FOREVER}
 
-/* What became of a run. Begin with SGT_OUTCOME. */
-typedef struct sgt_outcome {
-    size_t size;        /* sizeof(sgt_outcome) */
+/* What became of a run. Begin with SGT_SHARED_OUTCOME. */
+typedef struct sgt_shared_outcome {
+    size_t size;        /* sizeof(sgt_shared_outcome) */
     uint32_t tries;     /* how many transactions were started for it, the last one included */
     uint32_t waits;     /* how often it waited */
     sgt_ticket ticket;  /* the last of these transactions */
     sgt_reply reply;    /* the last reply */
-} sgt_outcome;
+} sgt_shared_outcome;
 
-#define SGT_OUTCOME {.size = sizeof(sgt_outcome)}
+#define SGT_SHARED_OUTCOME {.size = sizeof(sgt_shared_outcome)}
 
 /*
  * Opens a shared engine as sgt_open_with does, with `count` rows, which may be null if there are none. `config` may be null. The
@@ -161,7 +161,7 @@ uint32_t sgt_shared_close(sgt_shared **shared);
  * if the procedure is over 65535, or if a size is too small. With each of these the tries and the waits are written, and no more.
  */
 uint32_t sgt_shared_run(sgt_shared *shared, uint64_t procedure, const int64_t *args, size_t count, const sgt_run_options *options,
-                        sgt_outcome *outcome);
+                        sgt_shared_outcome *outcome);
 
 /*
  * Starts a transaction. At SGT_FULL, and while a cut is awaited, it waits. If the reply is SGT_STARTED the ticket is written.

@@ -40,7 +40,7 @@ struct teller {
 static uint32_t pay(struct teller *it, int64_t from, int64_t to, int64_t amount)
 {
     const int64_t args[] = {from, to, amount};
-    sgt_outcome outcome = SGT_OUTCOME;
+    sgt_shared_outcome outcome = SGT_SHARED_OUTCOME;
     uint32_t status = sgt_shared_run(it->bank, PAY, args, 3, 0, &outcome);
     if (status != SGT_OK) return status;
     if (outcome.reply.kind == SGT_COMMITTED) it->paid++;

@@ -396,12 +396,12 @@ public:
     }
 
     // Runs a procedure from its start to its commit, with a list of arguments or a range of them.
-    [[nodiscard]] sgt_outcome run(std::uint64_t procedure, std::initializer_list<std::int64_t> args, Limits limits = {})
+    [[nodiscard]] sgt_shared_outcome run(std::uint64_t procedure, std::initializer_list<std::int64_t> args, Limits limits = {})
     {
         return run_with(procedure, args.begin(), args.size(), limits);
     }
 
-    template <typename Args> [[nodiscard]] sgt_outcome run(std::uint64_t procedure, const Args &args, Limits limits = {})
+    template <typename Args> [[nodiscard]] sgt_shared_outcome run(std::uint64_t procedure, const Args &args, Limits limits = {})
     {
         return run_with(procedure, std::data(args), std::size(args), limits);
     }
@@ -506,9 +506,9 @@ private:
         static_cast<Configuration *>(context)->cutting(engine, part);
     }
 
-    sgt_outcome run_with(std::uint64_t procedure, const std::int64_t *args, std::size_t count, Limits limits)
+    sgt_shared_outcome run_with(std::uint64_t procedure, const std::int64_t *args, std::size_t count, Limits limits)
     {
-        sgt_outcome outcome{};
+        sgt_shared_outcome outcome{};
         sgt_run_options options{};
         outcome.size = sizeof outcome;
         options.size = sizeof options;

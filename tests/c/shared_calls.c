@@ -117,7 +117,7 @@ static void an_engine_is_taken_over(void)
 static void a_run_is_told(void)
 {
     sgt_shared *shared = bank(0);
-    sgt_outcome outcome = SGT_OUTCOME, small = SGT_OUTCOME;
+    sgt_shared_outcome outcome = SGT_SHARED_OUTCOME, small = SGT_SHARED_OUTCOME;
     sgt_run_options options = SGT_RUN_OPTIONS;
     const int64_t five[] = {1, 2, 3, 4, 5}, unknown[] = {9};
     CHECK(sgt_shared_run(shared, 1, deposit, 2, 0, &outcome) == SGT_OK && outcome.reply.kind == SGT_COMMITTED);
@@ -144,7 +144,7 @@ static void a_run_that_has_to_wait_is_never_left_behind(void)
 {
     sgt_shared *shared = bank(0);
     sgt_run_options options = SGT_RUN_OPTIONS;
-    sgt_outcome outcome = SGT_OUTCOME;
+    sgt_shared_outcome outcome = SGT_SHARED_OUTCOME;
     sgt_reply reply = {0};
     sgt_ticket writer = begins(shared, 3); /* has written, and is live */
     options.wait_ns = 20 * MS;
@@ -168,7 +168,7 @@ struct later {
     sgt_ticket ticket;
     uint32_t (*call)(struct later *it);
     sgt_reply reply;
-    sgt_outcome outcome;
+    sgt_shared_outcome outcome;
     atomic_uint status;
 };
 
@@ -191,7 +191,7 @@ static uint32_t commits(struct later *it) { return sgt_shared_commit(it->shared,
 
 static uint32_t runs(struct later *it)
 {
-    it->outcome = (sgt_outcome)SGT_OUTCOME;
+    it->outcome = (sgt_shared_outcome)SGT_SHARED_OUTCOME;
     return sgt_shared_run(it->shared, 0, name, 1, 0, &it->outcome);
 }
 
@@ -313,7 +313,7 @@ struct heard {
 static void hears(void *context, const sgt_ended *call)
 {
     struct heard *heard = context;
-    sgt_outcome outcome = SGT_OUTCOME;
+    sgt_shared_outcome outcome = SGT_SHARED_OUTCOME;
     int64_t value = 0;
     heard->last = *call;
     heard->calls++;
@@ -337,7 +337,7 @@ static void hooks_are_told(void)
     sgt_shared_config config = SGT_SHARED_CONFIG;
     config.ended = hears, config.cutting = hears_cut, config.context = &heard;
     sgt_shared *shared = heard.shared = bank(&config);
-    sgt_outcome outcome = SGT_OUTCOME;
+    sgt_shared_outcome outcome = SGT_SHARED_OUTCOME;
     sgt_reply reply = {0};
     const int64_t unknown[] = {9, 1};
     CHECK(sgt_shared_run(shared, 1, deposit, 2, 0, &outcome) == SGT_OK && heard.calls == 1 && heard.misuses == 3);
@@ -366,7 +366,7 @@ static void ended_calls_are_drained(void)
     closes(plain);
     config.keeps_ended = 1;
     sgt_shared *shared = bank(&config);
-    sgt_outcome outcome = SGT_OUTCOME;
+    sgt_shared_outcome outcome = SGT_SHARED_OUTCOME;
     CHECK(sgt_shared_drain(shared, 2 * MS, calls, 3, &count) == SGT_OK && count == 0);
     struct later drainer = {.shared = shared, .call = drains};
     in_a_thread(&drainer);
@@ -387,7 +387,7 @@ static void cuts_come_by_themselves(void)
     sgt_shared_config config = SGT_SHARED_CONFIG;
     config.cut_after = 20, config.cut_wait_ns = 5 * MS;
     sgt_shared *shared = bank(&config);
-    sgt_outcome outcome = SGT_OUTCOME;
+    sgt_shared_outcome outcome = SGT_SHARED_OUTCOME;
     sgt_reply reply = {0};
     uint64_t entries = 0, part = 0;
     for (int made = 0; made < 200; made++) { /* more than the limits allow to start in one part */

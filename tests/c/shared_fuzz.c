@@ -113,7 +113,7 @@ static void runs(struct pair *pair, struct input *input)
     const uint16_t procedure = byte(input) % 7;
     const size_t count = byte(input) % 6;
     sgt_run_options options = SGT_RUN_OPTIONS;
-    sgt_outcome outcome = SGT_OUTCOME;
+    sgt_shared_outcome outcome = SGT_SHARED_OUTCOME;
     sgt_reply reply = {0}, quit = {0}, none = {0};
     uint32_t tid = UINT32_MAX;
     options.wait_ns = 0, options.tries = 1;

@@ -37,7 +37,7 @@ static int runs(sgt_shared *shared)
 {
     int refused = 0;
     for (int64_t made = 0; made < DEPOSITS;) {
-        sgt_outcome outcome = SGT_OUTCOME;
+        sgt_shared_outcome outcome = SGT_SHARED_OUTCOME;
         uint32_t status = sgt_shared_run(shared, 1, deposit, 2, 0, &outcome);
         if (status == SGT_OK && outcome.reply.kind != SGT_COMMITTED) return -1;
         if (status != SGT_OK && (status != SGT_NO_MEMORY || outcome.reply.kind != 0)) return -1;

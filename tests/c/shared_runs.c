@@ -146,7 +146,7 @@ static void run_one(struct thread *it)
 {
     int64_t args[2];
     uint32_t procedure = draw_call(it, args);
-    sgt_outcome outcome = SGT_OUTCOME;
+    sgt_shared_outcome outcome = SGT_SHARED_OUTCOME;
     sgt_run_options options = SGT_RUN_OPTIONS;
     options.wait_ns = drawn_wait(it);
     options.tries = (uint32_t)draw(it, 4);

@@ -37,7 +37,7 @@ AnyRow = Union[Row, Tuple[int, int, int]]
 
 
 class CEngine(ctypes.Structure):
-    _fields_ = [("is_open", ctypes.c_bool), ("at", ctypes.c_void_p)]
+    _fields_ = [("is_open", ctypes.c_uint8), ("at", ctypes.c_void_p)]
 
 
 class CFault(ctypes.Structure):

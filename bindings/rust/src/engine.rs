@@ -178,7 +178,7 @@ impl Drop for Engine {
 }
 
 fn blank() -> (Engine, c::Fault) {
-    (Engine { inner: c::Engine { is_open: false, at: std::ptr::null_mut() } }, no_fault())
+    (Engine { inner: c::Engine { is_open: 0, at: std::ptr::null_mut() } }, no_fault())
 }
 
 fn opened(status: u32, engine: Engine, fault: &c::Fault) -> Result<Engine, Error> {

@@ -32,7 +32,7 @@ pub const FOREVER: i64 = i64::MAX;
 #[repr(C)]
 #[derive(Debug)]
 pub struct Engine {
-    pub is_open: bool,
+    pub is_open: u8,
     pub at: *mut u8,
 }
 
@@ -166,7 +166,7 @@ pub struct RunOptions {
     pub spare: u32,
 }
 
-/// `sgt_outcome`: what became of a run.
+/// `sgt_shared_outcome`: what became of a run.
 #[repr(C)]
 #[derive(Clone, Copy, Debug, Default)]
 pub struct Outcome {
