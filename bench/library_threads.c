@@ -5,7 +5,7 @@
  *
  * So many calls of SmallBank's procedures, over 4 accounts, are made by so many threads. WAY is `alone` (sgt_run on an engine without a
  * lock, by one thread), `run` (sgt_shared_run) or `steps` (each event a call, in a shared engine; what aborts is started again). It
- * prints how many calls were carried out each second.
+ * prints how many calls were carried out each second, and the nanoseconds of processor time for each.
  */
 #include <pthread.h>
 #include <stdio.h>
@@ -31,6 +31,13 @@ struct thread {
 static void must(int holds)
 {
     if (!holds) exit(1);
+}
+
+static double seconds(clockid_t clock)
+{
+    struct timespec at;
+    clock_gettime(clock, &at);
+    return (double)at.tv_sec + (double)at.tv_nsec / 1e9;
 }
 
 static int64_t draw(struct thread *it, int64_t below)
@@ -118,15 +125,13 @@ int main(int argc, char **argv)
     sgt_shared_config config = SGT_SHARED_CONFIG;
     config.cut_after = PART, config.cut_wait_ns = 10000000;
     must(sgt_shared_open(&shared, (const uint8_t *)opening, sizeof opening - 1, 0, 0, &config, &fault) == SGT_OK);
-    struct timespec from, to;
-    clock_gettime(CLOCK_MONOTONIC, &from);
+    const double from = seconds(CLOCK_MONOTONIC), worked = seconds(CLOCK_PROCESS_CPUTIME_ID);
     for (int i = 0; i < many; i++) {
         threads[i].drawn = 20190408u + (unsigned)i;
         must(pthread_create(&threads[i].id, 0, work, &threads[i]) == 0);
     }
     for (int i = 0; i < many; i++) pthread_join(threads[i].id, 0);
-    clock_gettime(CLOCK_MONOTONIC, &to);
-    const double took = (double)(to.tv_sec - from.tv_sec) + (double)(to.tv_nsec - from.tv_nsec) / 1e9;
-    printf("%.0f\n", (double)(each * many) / took);
+    const double took = seconds(CLOCK_MONOTONIC) - from, work_time = seconds(CLOCK_PROCESS_CPUTIME_ID) - worked;
+    printf("%.0f %.0f\n", (double)(each * many) / took, work_time * 1e9 / (double)(each * many));
     return sgt_shared_close(&shared) == SGT_OK ? 0 : 1;
 }
