@@ -15,11 +15,14 @@
  *   - An sgt_engine is all zero bytes before its first sgt_open: `sgt_engine engine = {0};`. From then on only the library
  *     writes it, and nobody copies it: a copy would be a second owner of the same engine. It may be moved by memcpy while no
  *     call runs, where the old bytes are never used again.
- *   - An sgt_reply, an sgt_event, an sgt_fault and an sgt_row are filled with anything, but filled: `sgt_reply reply = {0};`.
+ *   - An sgt_reply, an sgt_event, an sgt_call, an sgt_outcome, an sgt_fault and an sgt_row are filled with anything, but filled:
+ *     `sgt_reply reply = {0};`.
  *   - Pointers are not null, are aligned, point to as much as the call says, and no two of one call overlap. Where a count is
  *     0 the pointer may not be null either: pass the address of anything.
  *   - One call at a time to one engine. Another thread calls behind a lock that the thread before it released, or was joined.
- *     Different engines know nothing of each other, and need no common lock.
+ *     Different engines know nothing of each other, and need no common lock. A call that finds another one in the engine returns
+ *     SGT_BUSY and changes nothing. That helps to find a mistake, and is no lock: two calls that enter at the same moment do not see
+ *     each other.
  *   - No call from a signal handler, nor in a forked child of a process with threads.
  *   - malloc, realloc and free are of one allocator, which aligns to 16 bytes.
  *
@@ -35,7 +38,6 @@
 #ifndef SGT_H
 #define SGT_H
 
-#include <stdbool.h>
 #include <stddef.h>
 #include <stdint.h>
 
@@ -45,7 +47,7 @@ extern "C" {
 
 /* An engine, or none: it is closed where all bytes are zero. Its fields are the library's. */
 typedef struct sgt_engine {
-    bool is_open;
+    uint8_t is_open; /* 0 closed, 1 open, 2 while a call is in it */
     void *at;
 } sgt_engine;
 
@@ -167,6 +169,13 @@ typedef struct sgt_call {
     int64_t answer[8];
 } sgt_call;
 
+/* What a call of many was answered: `tid` counts where a transaction was started, and `reply` is the last reply. `spare` is nothing. */
+typedef struct sgt_outcome {
+    uint32_t tid;
+    uint32_t spare;
+    sgt_reply reply;
+} sgt_outcome;
+
 /* The least and the greatest of values, arguments and record numbers. */
 #define SGT_LEAST INT64_C(-999999999999999)
 #define SGT_MOST INT64_C(999999999999999)
@@ -225,7 +234,7 @@ uint32_t sgt_put(sgt_engine *engine, const sgt_row *rows, size_t count, uint64_t
  */
 uint32_t sgt_procedure(sgt_engine *engine, const uint8_t *text, size_t length, uint16_t *number, sgt_fault *fault);
 
-/* Closes an engine, and gives back all that it took. One that is closed stays so. */
+/* Closes an engine, and gives back all that it took. One that is closed stays so, and one that a call is in stays as it is. */
 void sgt_close(sgt_engine *engine);
 
 /*
@@ -263,6 +272,18 @@ uint32_t sgt_quit(sgt_engine *engine, uint32_t tid, sgt_reply *reply);
  * were.
  */
 uint32_t sgt_run(sgt_engine *engine, uint64_t procedure, const int64_t *args, size_t count, uint32_t *tid, sgt_reply *reply);
+
+/*
+ * Runs `count` calls one after another, each as sgt_run does: for batches, and to run again what sgt_calls returned. Of a call only
+ * `procedure`, `args` and `arg` count. The outcome of each call is written to its place in `outcomes`, which has room for `room` of
+ * them. How many calls were run is written into `done`. A call whose start is refused, or whose transaction is aborted or has to wait,
+ * is run too: its outcome says so, and the next call follows.
+ *
+ * SGT_BAD_CALL where a call has over 4 arguments or a procedure over 65535, or `room` is less than `count`, tested first; SGT_CLOSED;
+ * SGT_NO_MEMORY, where the calls before number `done`, counted from 0, have run, and of that one nothing has changed, or its
+ * transaction was started and is quit. But for SGT_OK and SGT_NO_MEMORY outcomes and done stay as they were.
+ */
+uint32_t sgt_run_many(sgt_engine *engine, const sgt_call *calls, size_t count, sgt_outcome *outcomes, size_t room, uint64_t *done);
 
 /*
  * The committed value of a record: the last one that a committed transaction stored, else the opening's.

@@ -387,6 +387,92 @@ static void a_run_goes_to_its_end(void)
     sgt_close(&engine);
 }
 
+static void many_calls_are_run(void)
+{
+    const sgt_call asked[] = {
+        {.procedure = 1, .args = 2, .arg = {1, 100}},
+        {.procedure = 0, .args = 1, .arg = {9}},
+        {.procedure = 77, .args = 4, .arg = {1, 2, 3, 4}},
+        {.procedure = 0, .args = 1, .arg = {1}},
+    };
+    const sgt_call wide = {.procedure = 65536}, long_one = {.args = 5};
+    sgt_engine engine = {0}, other = {0};
+    sgt_fault fault = {0};
+    sgt_call calls[4] = {{0}}, again[4] = {{0}};
+    sgt_outcome outcomes[4] = {{0}};
+    uint64_t done = 77, count = 0, next = 0;
+    int64_t value = 0;
+    CHECK(sgt_run_many(&engine, asked, 4, outcomes, 3, &done) == 5);
+    CHECK(sgt_run_many(&engine, asked, 4, outcomes, 4, &done) == 2);
+    CHECK(opens(&engine, opening, &fault) == 0);
+    CHECK(sgt_run_many(&engine, &wide, 1, outcomes, 4, &done) == 5);
+    CHECK(sgt_run_many(&engine, &long_one, 1, outcomes, 4, &done) == 5);
+    CHECK(done == 77 && outcomes[0].reply.kind == 0);
+    CHECK(sgt_run_many(&engine, asked, 0, outcomes, 0, &done) == 0);
+    CHECK(done == 0);
+    outcomes[3].tid = 99;
+    CHECK(sgt_run_many(&engine, asked, 3, outcomes, 4, &done) == 0);
+    CHECK(done == 3 && outcomes[3].tid == 99 && outcomes[3].reply.kind == 0);
+    CHECK(is_committed(&outcomes[0].reply, 1100) && outcomes[0].tid == 0);
+    CHECK(outcomes[1].reply.kind == 14 && outcomes[1].reply.cause == 2 && outcomes[1].reply.code == 1 && outcomes[1].tid == 1);
+    CHECK(outcomes[2].reply.kind == 2);
+    CHECK(sgt_run_many(&engine, asked, 4, outcomes, 4, &done) == 0);
+    CHECK(done == 4 && is_committed(&outcomes[3].reply, 1700) && outcomes[3].tid == 4);
+    CHECK(sgt_calls(&engine, 0, calls, 4, &count, &next) == 0);
+    CHECK(count == 3);
+    CHECK(opens(&other, opening, &fault) == 0);
+    CHECK(sgt_run_many(&other, calls, count, outcomes, 4, &done) == 0);
+    CHECK(done == 3 && is_committed(&outcomes[2].reply, 1700));
+    CHECK(sgt_calls(&other, 0, again, 4, &count, &next) == 0);
+    CHECK(count == 3 && again[2].procedure == 0 && again[2].answer[0] == 1700);
+    CHECK(sgt_get(&other, 2, 101, &value) == 0);
+    CHECK(value == 1200);
+    sgt_close(&engine);
+    sgt_close(&other);
+}
+
+/* As a second thread finds an engine that a call is in. */
+static void a_busy_engine_is_left_alone(void)
+{
+    const sgt_call asked = {.procedure = 1, .args = 2, .arg = {1, 100}};
+    const sgt_row own = {7, 0, 5, 50};
+    sgt_engine engine = {0};
+    sgt_fault fault = {0};
+    sgt_reply told = {0};
+    sgt_event event = {0};
+    sgt_call call = {0};
+    sgt_outcome outcome = {0};
+    sgt_row row = {0};
+    uint16_t number = 77;
+    uint32_t t = 77;
+    uint64_t count = 77, next = 77;
+    int64_t value = 77;
+    engine.is_open = 2;
+    CHECK(opens(&engine, opening, &fault) == 10);
+    CHECK(opens_with(&engine, opening, &own, 1, &fault) == 10);
+    CHECK(sgt_open_bare(&engine, 8, 100, 1) == 10);
+    CHECK(sgt_put(&engine, &own, 1, &count) == 10);
+    CHECK(sgt_procedure(&engine, (const uint8_t *)"", 0, &number, &fault) == 10);
+    CHECK(sgt_start(&engine, 1, deposit, 2, &told) == 10);
+    CHECK(sgt_step(&engine, 0, &told) == 10);
+    CHECK(sgt_commit(&engine, 0, &told) == 10);
+    CHECK(sgt_quit(&engine, 0, &told) == 10);
+    CHECK(sgt_run(&engine, 1, deposit, 2, &t, &told) == 10);
+    CHECK(sgt_run_many(&engine, &asked, 1, &outcome, 1, &count) == 10);
+    CHECK(sgt_get(&engine, 2, 101, &value) == 10);
+    CHECK(sgt_rows(&engine, 0, 0, &row, 1, &count) == 10);
+    CHECK(sgt_records(&engine, &count) == 10);
+    CHECK(sgt_entries(&engine, &count) == 10);
+    CHECK(sgt_entry(&engine, 0, &event, &told) == 10);
+    CHECK(sgt_calls(&engine, 0, &call, 1, &count, &next) == 10);
+    CHECK(sgt_reserve(&engine, 1) == 10);
+    CHECK(sgt_cut(&engine, &count) == 10);
+    CHECK(sgt_part(&engine, &count) == 10);
+    sgt_close(&engine);
+    CHECK(engine.is_open == 2 && !engine.at);
+    CHECK(told.kind == 0 && number == 77 && t == 77 && count == 77 && next == 77 && value == 77 && fault.kind == 0);
+}
+
 static void wide_numbers_are_refused(void)
 {
     sgt_engine engine = {0};
@@ -599,6 +685,8 @@ int main(void)
     procedures_are_added();
     procedures_have_numbers_of_16_bits();
     a_run_goes_to_its_end();
+    many_calls_are_run();
+    a_busy_engine_is_left_alone();
     wide_numbers_are_refused();
     an_engine_is_opened_bare();
     parts_are_numbered();

@@ -1,6 +1,5 @@
 -- What an engine that is opened with nothing but limits starts from.
 use Rattle.std.specs.Prelude.{ℕ, ◌≤◌, cond, nat_eq}
-use Rattle.sgt_model.specs.declared.limits.Asks.{Asks}
 use Rattle.sgt_model.specs.declared.limits.Asks.TheVariants.{AtStep, AtCommit}
 use Rattle.sgt_model.specs.declared.limits.Limits.{Limits}
 use Rattle.sgt_model.specs.Bounds.{AreInRange}

@@ -1,6 +1,5 @@
 -- What a cut of the history leaves behind a handle.
-use Rattle.std.specs.Prelude.{◌≡◌, ℕ, ◌+◌, ◌^◌, List, length, Option, Some, None}
-use Rattle.sgt_model.specs.declared.entry.Entry.{Entry}
+use Rattle.std.specs.Prelude.{◌≡◌, ℕ, ◌+◌, ◌^◌, length, Option, Some, None}
 use Rattle.sgt_model.specs.Contents.{Key}
 use Rattle.sgt_model.specs.Databases.{contents_of, IsByKey}
 use Rattle.sgt_model.specs.Fates.{live_ones}

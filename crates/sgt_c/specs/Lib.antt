@@ -5,6 +5,7 @@ pub mod EventStructs
 pub mod FaultStructs
 pub mod BufferTexts
 -- the handle
+pub mod Handles
 pub mod SlotOwnership
 -- what the calls do
 pub mod Asked
@@ -13,6 +14,7 @@ pub mod ReplayedCalls
 pub mod Calls
 pub mod Rows
 pub mod Runs
+pub mod ManyRuns
 pub mod Openings
 pub mod BareOpenings
 pub mod Cuts

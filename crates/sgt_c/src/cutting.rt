@@ -3,6 +3,7 @@ ghost use Rattle.std.specs.Prelude.{◌≡◌, ◌+◌, ◌≢◌, ◌≤◌, �
 ghost use Rattle.sgt_model.specs.Fates.{live_ones};
 ghost use Rattle.sgt_engine.specs.Cuts.{NobodyLive};
 ghost use Rattle.sgt_c.specs.Cuts.{Cut, HasNoPart, IsCut, IsLastPart, IsSomeoneLive, IsTooEarly, TellsLive};
+ghost use Rattle.sgt_c.specs.Handles.{IsBusy};
 
 use crate::handle::Handle;
 use crate::held::Held;
@@ -14,7 +15,7 @@ use std::alloc::Global;
 /// opened on it, with no entries, and numbers from 0. Procedures and limits stay, and what the limits allow is counted anew.
 /// It goes once through all records, and takes memory for them meanwhile.
 ///
-/// `CLOSED`; `STILL_LIVE` where a transaction is live, tested next: how many are is written to `live`; `TOO_MANY` where no number
+/// `BUSY`; `CLOSED`; `STILL_LIVE` where a transaction is live, tested next: how many are is written to `live`; `TOO_MANY` where no number
 /// is left for another part, behind 2^64 - 1 cuts; `NO_MEMORY`.
 #[unsafe(no_mangle)]
 pub extern "C" fn sgt_cut(alloc: Global, engine: &mut Handle, live: &mut u64) -> u32
@@ -23,10 +24,16 @@ pub extern "C" fn sgt_cut(alloc: Global, engine: &mut Handle, live: &mut u64) ->
     ensures still_live { (result ≡ 6) ↔ IsSomeoneLive engine.old.slot.held }
     ensures live { result ≡ 6 → TellsLive engine.old.slot.held live.new }
     ensures kept { result ≢ 6 → live.new ≡ live.old }
-    ensures closed { (result ≡ 2) ↔ (engine.old.slot.held ≡ None) }
+    ensures busy { (result ≡ 10) ↔ IsBusy engine.old.state }
+    ensures closed { (result ≡ 2) ↔ ((¬ IsBusy engine.old.state) × (engine.old.slot.held ≡ None)) }
     ensures too_many { (result ≡ 9) ↔ IsLastPart engine.old.slot.held }
-    ensures statuses { result ≢ 6 → result ≢ 9 → result ≤ 2 }
+    ensures statuses { result ≢ 10 → result ≢ 6 → result ≢ 9 → result ≤ 2 }
+    ensures leaves { IsBusy engine.new.state → IsBusy engine.old.state }
+    ensures stays { IsBusy engine.old.state → engine.new.state ≡ engine.old.state }
 {
+    if engine.is_busy() {
+        return status::BUSY;
+    }
     let Some(mut held) = engine.take(alloc) else {
         return status::CLOSED;
     };
@@ -46,15 +53,21 @@ pub extern "C" fn sgt_cut(alloc: Global, engine: &mut Handle, live: &mut u64) ->
 /// The number of the part that the history is: how many cuts there were since the opening. With it a transaction's number is never
 /// taken for that of another part.
 ///
-/// `CLOSED`.
+/// `BUSY`; `CLOSED`.
 #[unsafe(no_mangle)]
 pub extern "C" fn sgt_part(alloc: Global, engine: &mut Handle, part: &mut u64) -> u32
     ensures part { result ≡ 0 → IfSome engine.old.slot.held (λ h. part.new ≡ h.part) }
-    ensures closed { (result ≡ 2) ↔ (engine.old.slot.held ≡ None) }
-    ensures statuses { result ≢ 0 → result ≡ 2 }
+    ensures busy { (result ≡ 10) ↔ IsBusy engine.old.state }
+    ensures closed { (result ≡ 2) ↔ ((¬ IsBusy engine.old.state) × (engine.old.slot.held ≡ None)) }
+    ensures statuses { result ≢ 10 → result ≢ 0 → result ≡ 2 }
     ensures kept { result ≢ 0 → part.new ≡ part.old }
     ensures same { engine.new.slot.held ≡ engine.old.slot.held }
+    ensures leaves { IsBusy engine.new.state → IsBusy engine.old.state }
+    ensures stays { IsBusy engine.old.state → engine.new.state ≡ engine.old.state }
 {
+    if engine.is_busy() {
+        return status::BUSY;
+    }
     let Some(held) = engine.take(alloc) else {
         return status::CLOSED;
     };

@@ -9,6 +9,7 @@ ghost use Rattle.sgt_engine.specs.EngineView.{setting_of};
 ghost use Rattle.sgt_model.specs.declared.event.Event.TheVariants.{Start, Step, Commit, Quit};
 ghost use Rattle.sgt_c.specs.Calls.{Answered, EndsSucceed, QuitsSucceed};
 ghost use Rattle.sgt_c.specs.Asked.{IsCall};
+ghost use Rattle.sgt_c.specs.Handles.{IsBusy};
 
 use crate::asked::call;
 use crate::handle::Handle;
@@ -20,7 +21,7 @@ use std::alloc::Global;
 
 /// Starts a transaction that runs the procedure of this number with these arguments.
 ///
-/// `NO_MEMORY`; `CLOSED`; `BAD_CALL` where the number is over 65535, or there are over 4 arguments, tested first.
+/// `NO_MEMORY`; `BUSY`; `CLOSED`; `BAD_CALL` where the number is over 65535, or there are over 4 arguments, tested first.
 #[unsafe(no_mangle)]
 pub extern "C" fn sgt_start(
     alloc: Global,
@@ -33,8 +34,11 @@ pub extern "C" fn sgt_start(
     ensures unchanged { result ≢ 0 → engine.new.slot.held ≡ engine.old.slot.held }
     ensures unwritten { result ≢ 0 → reply.new ≡ reply.old }
     ensures bad_call { (result ≡ 5) ↔ (¬ IsCall procedure args.now) }
-    ensures closed { (result ≡ 2) ↔ (IsCall procedure args.now × (engine.old.slot.held ≡ None)) }
-    ensures statuses { result ≢ 5 → result ≤ 2 }
+    ensures busy { (result ≡ 10) ↔ (IsCall procedure args.now × IsBusy engine.old.state) }
+    ensures closed { (result ≡ 2) ↔ (IsCall procedure args.now × ((¬ IsBusy engine.old.state) × (engine.old.slot.held ≡ None))) }
+    ensures statuses { result ≢ 10 → result ≢ 5 → result ≤ 2 }
+    ensures leaves { IsBusy engine.new.state → IsBusy engine.old.state }
+    ensures stays { IsBusy engine.old.state → engine.new.state ≡ engine.old.state }
 {
     match call(procedure, args) {
         Some((procedure, args)) => ask(alloc, engine, Event::Start { procedure, args }, reply),
@@ -44,22 +48,25 @@ pub extern "C" fn sgt_start(
 
 /// Lets the transaction make its next access.
 ///
-/// `NO_MEMORY`; `CLOSED`.
+/// `NO_MEMORY`; `BUSY`; `CLOSED`.
 #[unsafe(no_mangle)]
 pub extern "C" fn sgt_step(alloc: Global, engine: &mut Handle, t: u32, reply: &mut SgtReply) -> u32
     ensures ok { result ≡ 0 → Answered (Step t) engine.old.slot.held engine.new.slot.held reply.new }
     ensures unchanged { result ≢ 0 → engine.new.slot.held ≡ engine.old.slot.held }
     ensures unwritten { result ≢ 0 → reply.new ≡ reply.old }
-    ensures closed { (result ≡ 2) ↔ (engine.old.slot.held ≡ None) }
+    ensures busy { (result ≡ 10) ↔ IsBusy engine.old.state }
+    ensures closed { (result ≡ 2) ↔ ((¬ IsBusy engine.old.state) × (engine.old.slot.held ≡ None)) }
     ensures ends { EndsSucceed (Step t) engine.old.slot.held result }
-    ensures statuses { result ≤ 2 }
+    ensures statuses { result ≢ 10 → result ≤ 2 }
+    ensures leaves { IsBusy engine.new.state → IsBusy engine.old.state }
+    ensures stays { IsBusy engine.old.state → engine.new.state ≡ engine.old.state }
 {
     ask(alloc, engine, Event::Step(Tid(t)), reply)
 }
 
 /// Commits the transaction.
 ///
-/// `NO_MEMORY`; `CLOSED`.
+/// `NO_MEMORY`; `BUSY`; `CLOSED`.
 #[unsafe(no_mangle)]
 pub extern "C" fn sgt_commit(
     alloc: Global,
@@ -70,24 +77,30 @@ pub extern "C" fn sgt_commit(
     ensures ok { result ≡ 0 → Answered (Commit t) engine.old.slot.held engine.new.slot.held reply.new }
     ensures unchanged { result ≢ 0 → engine.new.slot.held ≡ engine.old.slot.held }
     ensures unwritten { result ≢ 0 → reply.new ≡ reply.old }
-    ensures closed { (result ≡ 2) ↔ (engine.old.slot.held ≡ None) }
+    ensures busy { (result ≡ 10) ↔ IsBusy engine.old.state }
+    ensures closed { (result ≡ 2) ↔ ((¬ IsBusy engine.old.state) × (engine.old.slot.held ≡ None)) }
     ensures ends { EndsSucceed (Commit t) engine.old.slot.held result }
-    ensures statuses { result ≤ 2 }
+    ensures statuses { result ≢ 10 → result ≤ 2 }
+    ensures leaves { IsBusy engine.new.state → IsBusy engine.old.state }
+    ensures stays { IsBusy engine.old.state → engine.new.state ≡ engine.old.state }
 {
     ask(alloc, engine, Event::Commit(Tid(t)), reply)
 }
 
 /// Quits the transaction: it is aborted. Where it is live, this succeeds.
 ///
-/// `NO_MEMORY`; `CLOSED`.
+/// `NO_MEMORY`; `BUSY`; `CLOSED`.
 #[unsafe(no_mangle)]
 pub extern "C" fn sgt_quit(alloc: Global, engine: &mut Handle, t: u32, reply: &mut SgtReply) -> u32
     ensures ok { result ≡ 0 → Answered (Quit t) engine.old.slot.held engine.new.slot.held reply.new }
     ensures unchanged { result ≢ 0 → engine.new.slot.held ≡ engine.old.slot.held }
     ensures unwritten { result ≢ 0 → reply.new ≡ reply.old }
-    ensures closed { (result ≡ 2) ↔ (engine.old.slot.held ≡ None) }
+    ensures busy { (result ≡ 10) ↔ IsBusy engine.old.state }
+    ensures closed { (result ≡ 2) ↔ ((¬ IsBusy engine.old.state) × (engine.old.slot.held ≡ None)) }
     ensures quits { QuitsSucceed (Quit t) engine.old.slot.held result }
-    ensures statuses { result ≤ 2 }
+    ensures statuses { result ≢ 10 → result ≤ 2 }
+    ensures leaves { IsBusy engine.new.state → IsBusy engine.old.state }
+    ensures stays { IsBusy engine.old.state → engine.new.state ≡ engine.old.state }
 {
     ask(alloc, engine, Event::Quit(Tid(t)), reply)
 }
@@ -97,11 +110,17 @@ fn ask(alloc: Global, engine: &mut Handle, event: Event, reply: &mut SgtReply) -
     ensures ok { result ≡ 0 → Answered event engine.old.slot.held engine.new.slot.held reply.new }
     ensures unchanged { result ≢ 0 → engine.new.slot.held ≡ engine.old.slot.held }
     ensures unwritten { result ≢ 0 → reply.new ≡ reply.old }
-    ensures closed { (result ≡ 2) ↔ (engine.old.slot.held ≡ None) }
+    ensures busy { (result ≡ 10) ↔ IsBusy engine.old.state }
+    ensures closed { (result ≡ 2) ↔ ((¬ IsBusy engine.old.state) × (engine.old.slot.held ≡ None)) }
     ensures ends { EndsSucceed event engine.old.slot.held result }
     ensures quits { QuitsSucceed event engine.old.slot.held result }
-    ensures statuses { result ≤ 2 }
+    ensures statuses { result ≢ 10 → result ≤ 2 }
+    ensures leaves { IsBusy engine.new.state → IsBusy engine.old.state }
+    ensures stays { IsBusy engine.old.state → engine.new.state ≡ engine.old.state }
 {
+    if engine.is_busy() {
+        return status::BUSY;
+    }
     match engine.take(alloc) {
         Some(mut held) => {
             let answered = answer(&mut held, event, reply);

@@ -1,52 +1,91 @@
 //! The handle in which C keeps an engine.
-ghost use Rattle.std.specs.Prelude.{◌≡◌, Some, None, option_map};
+ghost use Rattle.std.specs.Prelude.{◌≡◌, ◌↔◌, Some, None, IsNone, IsSome, IsTrue, nat_eq, option_map};
 ghost use Rattle.std.specs.Option.{is_some};
+ghost use Rattle.sgt_c.specs.Handles.{IsBusy};
 
 use crate::held::Held;
 use crate::slot::Slot;
 use std::alloc::Global;
 use std::mem::replace;
 
+/// The state of a handle that holds nothing.
+const CLOSED: u8 = 0;
+
+/// The state of one that holds an engine.
+const OPEN: u8 = 1;
+
+/// The state of one whose engine a call has taken out.
+const BUSY: u8 = 2;
+
 /// What C holds of an engine: all bytes zero before `sgt_open` and behind `sgt_close`.
 #[repr(C)]
 #[derive(Drop)]
 pub struct Handle {
-    pub is_open: bool,
+    pub state: u8,
     pub slot: Slot,
-    pub ghost agrees: { is_open ≡ is_some slot.held },
+    pub ghost agrees: { nat_eq state 1 ≡ is_some slot.held },
 }
 
 impl Handle {
     /// A closed handle.
     pub fn closed(alloc: Global) -> Handle
-        ensures { result.slot.held ≡ None }
+        ensures held { result.slot.held ≡ None }
+        ensures free { ¬ IsBusy result.state }
     {
         Handle {
-            is_open: false,
+            state: CLOSED,
             slot: Slot::empty(alloc),
         }
     }
 
-    /// Takes the engine out, if there is one, and leaves the handle closed.
-    pub fn take(&mut self, alloc: Global) -> Option<Box<Held>>
-        ensures taken { option_map (λ b. b.value) result ≡ self.old.slot.held }
-        ensures closed { self.new.slot.held ≡ None }
+    // One that holds nothing, as a call has taken the engine out.
+    fn busy(alloc: Global) -> Handle
+        ensures held { result.slot.held ≡ None }
+        ensures busy { IsBusy result.state }
     {
-        let Handle { is_open, slot } = replace(self, Handle::closed(alloc));
-        if is_open {
-            Some(slot.into_engine())
-        } else {
-            None
+        Handle {
+            state: BUSY,
+            slot: Slot::empty(alloc),
         }
     }
 
-    /// Puts an engine in. The handle is closed.
+    /// Whether it holds an engine.
+    pub fn is_open(&self) -> bool
+        ensures { result ≡ is_some self.now.slot.held }
+    {
+        self.state == OPEN
+    }
+
+    /// Whether a call is in it.
+    pub fn is_busy(&self) -> bool
+        ensures { IsTrue result ↔ IsBusy self.now.state }
+    {
+        self.state >= BUSY
+    }
+
+    /// Takes the engine out, if there is one, and leaves the handle busy. Else nothing changes.
+    pub fn take(&mut self, alloc: Global) -> Option<Box<Held>>
+        ensures taken { option_map (λ b. b.value) result ≡ self.old.slot.held }
+        ensures closed { self.new.slot.held ≡ None }
+        ensures open { IsSome result → ¬ IsBusy self.old.state }
+        ensures busy { IsSome result → IsBusy self.new.state }
+        ensures same { IsNone result → self.new.state ≡ self.old.state }
+    {
+        if !self.is_open() {
+            return None;
+        }
+        let Handle { slot, .. } = replace(self, Handle::busy(alloc));
+        Some(slot.into_engine())
+    }
+
+    /// Puts an engine in, where there is none. No call is in the handle behind it.
     pub fn put(&mut self, engine: Box<Held>)
         requires { self.old.slot.held ≡ None }
-        ensures { self.new.slot.held ≡ Some engine.value }
+        ensures held { self.new.slot.held ≡ Some engine.value }
+        ensures free { ¬ IsBusy self.new.state }
     {
         *self = Handle {
-            is_open: true,
+            state: OPEN,
             slot: Slot::holding(engine),
         };
     }

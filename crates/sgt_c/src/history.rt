@@ -1,6 +1,7 @@
 //! The history: how many entries it has, what they say, and the room for more.
 ghost use Rattle.std.specs.Prelude.{◌≡◌, ◌≢◌, ◌≤◌, ◌↔◌, None, IfSome, length};
 ghost use Rattle.sgt_c.specs.Entries.{ReturnsEntry, HasNoEntry};
+ghost use Rattle.sgt_c.specs.Handles.{IsBusy};
 
 use crate::event_struct::{SgtEvent, write_event};
 use crate::handle::Handle;
@@ -11,15 +12,21 @@ use std::alloc::Global;
 
 /// How many events were answered since the opening.
 ///
-/// `CLOSED`.
+/// `BUSY`; `CLOSED`.
 #[unsafe(no_mangle)]
 pub extern "C" fn sgt_entries(alloc: Global, engine: &mut Handle, count: &mut u64) -> u32
     ensures count { result ≡ 0 → IfSome engine.old.slot.held (λ h. count.new ≡ length h.engine.past) }
-    ensures closed { (result ≡ 2) ↔ (engine.old.slot.held ≡ None) }
-    ensures statuses { result ≢ 0 → result ≡ 2 }
+    ensures busy { (result ≡ 10) ↔ IsBusy engine.old.state }
+    ensures closed { (result ≡ 2) ↔ ((¬ IsBusy engine.old.state) × (engine.old.slot.held ≡ None)) }
+    ensures statuses { result ≢ 10 → result ≢ 0 → result ≡ 2 }
     ensures kept { result ≢ 0 → count.new ≡ count.old }
     ensures same { engine.new.slot.held ≡ engine.old.slot.held }
+    ensures leaves { IsBusy engine.new.state → IsBusy engine.old.state }
+    ensures stays { IsBusy engine.old.state → engine.new.state ≡ engine.old.state }
 {
+    if engine.is_busy() {
+        return status::BUSY;
+    }
     let Some(held) = engine.take(alloc) else {
         return status::CLOSED;
     };
@@ -30,7 +37,7 @@ pub extern "C" fn sgt_entries(alloc: Global, engine: &mut Handle, count: &mut u6
 
 /// The entry at a place of the history, counted from 0, oldest first: what was asked, and what was answered.
 ///
-/// `CLOSED`; `NONE` where there are not so many entries.
+/// `BUSY`; `CLOSED`; `NONE` where there are not so many entries.
 #[unsafe(no_mangle)]
 pub extern "C" fn sgt_entry(
     alloc: Global,
@@ -41,12 +48,18 @@ pub extern "C" fn sgt_entry(
 ) -> u32
     ensures returned { result ≡ 0 → ReturnsEntry engine.old.slot.held place event.new reply.new }
     ensures none { (result ≡ 4) ↔ HasNoEntry engine.old.slot.held place }
-    ensures closed { (result ≡ 2) ↔ (engine.old.slot.held ≡ None) }
-    ensures statuses { result ≢ 0 → result ≢ 2 → result ≡ 4 }
+    ensures busy { (result ≡ 10) ↔ IsBusy engine.old.state }
+    ensures closed { (result ≡ 2) ↔ ((¬ IsBusy engine.old.state) × (engine.old.slot.held ≡ None)) }
+    ensures statuses { result ≢ 10 → result ≢ 0 → result ≢ 2 → result ≡ 4 }
     ensures event_unwritten { result ≢ 0 → event.new ≡ event.old }
     ensures unwritten { result ≢ 0 → reply.new ≡ reply.old }
     ensures same { engine.new.slot.held ≡ engine.old.slot.held }
+    ensures leaves { IsBusy engine.new.state → IsBusy engine.old.state }
+    ensures stays { IsBusy engine.old.state → engine.new.state ≡ engine.old.state }
 {
+    if engine.is_busy() {
+        return status::BUSY;
+    }
     let Some(held) = engine.take(alloc) else {
         return status::CLOSED;
     };
@@ -65,13 +78,19 @@ pub extern "C" fn sgt_entry(
 /// Takes memory for so many more entries, but for what their lists will hold, so that those that are there need not be moved
 /// until then. Nothing else changes.
 ///
-/// `NO_MEMORY`; `CLOSED`.
+/// `NO_MEMORY`; `BUSY`; `CLOSED`.
 #[unsafe(no_mangle)]
 pub extern "C" fn sgt_reserve(alloc: Global, engine: &mut Handle, entries: u64) -> u32
-    ensures closed { (result ≡ 2) ↔ (engine.old.slot.held ≡ None) }
-    ensures statuses { result ≤ 2 }
+    ensures busy { (result ≡ 10) ↔ IsBusy engine.old.state }
+    ensures closed { (result ≡ 2) ↔ ((¬ IsBusy engine.old.state) × (engine.old.slot.held ≡ None)) }
+    ensures statuses { result ≢ 10 → result ≤ 2 }
     ensures same { engine.new.slot.held ≡ engine.old.slot.held }
+    ensures leaves { IsBusy engine.new.state → IsBusy engine.old.state }
+    ensures stays { IsBusy engine.old.state → engine.new.state ≡ engine.old.state }
 {
+    if engine.is_busy() {
+        return status::BUSY;
+    }
     let Some(mut held) = engine.take(alloc) else {
         return status::CLOSED;
     };

@@ -2,6 +2,7 @@
 ghost use Rattle.std.specs.Prelude.{◌≡◌, ◌≢◌, ◌≤◌, ◌↔◌, None, IsSome, IfSome, IfOk, IfErr};
 ghost use Rattle.sgt_format.specs.Openings.{Refuses};
 ghost use Rattle.sgt_c.specs.Openings.{OpenedAs, RefusedAs};
+ghost use Rattle.sgt_c.specs.Handles.{IsBusy};
 
 use crate::fault_struct::{SgtFault, write_fault};
 use crate::handle::Handle;
@@ -13,7 +14,7 @@ use std::alloc::Global;
 
 /// Opens an engine in a closed handle, of an opening's bytes as the first line of a script has them, without its end.
 ///
-/// `NO_MEMORY`; `OPEN` where the handle is open, tested first; from 16 on a fault of the opening, which is told.
+/// `NO_MEMORY`; `BUSY`, tested first; `OPEN` where the handle is open; from 16 on a fault of the opening, which is told.
 #[unsafe(no_mangle)]
 pub extern "C" fn sgt_open(
     alloc: Global,
@@ -24,11 +25,17 @@ pub extern "C" fn sgt_open(
     ensures opened { result ≡ 0 → IfSome engine.new.slot.held (λ h. OpenedAs opening.now h.engine) }
     ensures first_part { result ≡ 0 → IfSome engine.new.slot.held (λ h. h.part ≡ 0) }
     ensures is_open { result ≡ 0 → IsSome engine.new.slot.held }
+    ensures busy { (result ≡ 10) ↔ IsBusy engine.old.state }
     ensures open { (result ≡ 3) ↔ IsSome engine.old.slot.held }
     ensures refused { 16 ≤ result → (result ≡ fault.new.kind) × RefusedAs opening.now fault.new }
     ensures unchanged { result ≢ 0 → engine.new.slot.held ≡ engine.old.slot.held }
+    ensures leaves { IsBusy engine.new.state → IsBusy engine.old.state }
+    ensures stays { IsBusy engine.old.state → engine.new.state ≡ engine.old.state }
 {
-    if engine.is_open {
+    if engine.is_busy() {
+        return status::BUSY;
+    }
+    if engine.is_open() {
         return status::OPEN;
     }
     match make(alloc, opening) {
@@ -51,10 +58,15 @@ fn make(alloc: Global, opening: &[u8]) -> Result<Box<Held>, OpeningError>
     Ok(Held::boxed(alloc, engine)?)
 }
 
-/// Closes the handle, and frees all that the engine held. A closed one stays closed.
+/// Closes the handle, and frees all that the engine held. A closed one stays closed, and a busy one is left as it is.
 #[unsafe(no_mangle)]
 pub extern "C" fn sgt_close(alloc: Global, engine: &mut Handle)
-    ensures { engine.new.slot.held ≡ None }
+    ensures closed { engine.new.slot.held ≡ None }
+    ensures leaves { IsBusy engine.new.state → IsBusy engine.old.state }
+    ensures stays { IsBusy engine.old.state → engine.new.state ≡ engine.old.state }
 {
-    drop(engine.take(alloc));
+    if let Some(held) = engine.take(alloc) {
+        drop(held);
+        *engine = Handle::closed(alloc);
+    }
 }

@@ -3,6 +3,7 @@ ghost use Rattle.std.specs.Prelude.{◌≡◌, ◌≢◌, ◌≤◌, ◌↔◌, 
 ghost use Rattle.sgt_model.specs.Bounds.{AreInRange};
 ghost use Rattle.sgt_engine.specs.EngineView.{made_of};
 ghost use Rattle.sgt_c.specs.BareOpenings.{AreLimits, limits_by};
+ghost use Rattle.sgt_c.specs.Handles.{IsBusy};
 
 use crate::handle::Handle;
 use crate::held::Held;
@@ -14,7 +15,7 @@ use std::alloc::Global;
 /// Opens an engine in a closed handle with these three limits, without records and without procedures: SmallBank's are not in it.
 /// Rows and procedures are added by `sgt_put` and `sgt_procedure`, and procedures are numbered from 0.
 ///
-/// `OPEN` where the handle is open, tested first; then `BAD_LIMITS` where a limit is out of its range; `NO_MEMORY`.
+/// `BUSY`, tested first; `OPEN` where the handle is open; then `BAD_LIMITS` where a limit is out of its range; `NO_MEMORY`.
 #[unsafe(no_mangle)]
 pub extern "C" fn sgt_open_bare(
     alloc: Global,
@@ -27,12 +28,18 @@ pub extern "C" fn sgt_open_bare(
         h.engine ≡ made_of [] [] (limits_by live begins asks)) }
     ensures first_part { result ≡ 0 → IfSome engine.new.slot.held (λ h. h.part ≡ 0) }
     ensures is_open { result ≡ 0 → IsSome engine.new.slot.held }
+    ensures busy { (result ≡ 10) ↔ IsBusy engine.old.state }
     ensures open { (result ≡ 3) ↔ IsSome engine.old.slot.held }
-    ensures bad_limits { (result ≡ 18) ↔ ((engine.old.slot.held ≡ None) × (¬ AreLimits live begins asks)) }
-    ensures statuses { result ≢ 3 → result ≢ 18 → result ≤ 1 }
+    ensures bad_limits { (result ≡ 18) ↔ ((¬ IsBusy engine.old.state) × (engine.old.slot.held ≡ None) × (¬ AreLimits live begins asks)) }
+    ensures statuses { result ≢ 10 → result ≢ 3 → result ≢ 18 → result ≤ 1 }
     ensures unchanged { result ≢ 0 → engine.new.slot.held ≡ engine.old.slot.held }
+    ensures leaves { IsBusy engine.new.state → IsBusy engine.old.state }
+    ensures stays { IsBusy engine.old.state → engine.new.state ≡ engine.old.state }
 {
-    if engine.is_open {
+    if engine.is_busy() {
+        return status::BUSY;
+    }
+    if engine.is_open() {
         return status::OPEN;
     }
     let Some(limits) = limits(live, begins, asks) else {

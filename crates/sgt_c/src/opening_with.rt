@@ -6,6 +6,7 @@ ghost use Rattle.sgt_model.specs.Databases.{contents_of};
 ghost use Rattle.sgt_format.specs.Openings.{Refuses};
 ghost use Rattle.sgt_c.specs.Openings.{OpenedWith, RefusedAs};
 ghost use Rattle.sgt_c.specs.Rows.{IsRow, row_of, with_rows};
+ghost use Rattle.sgt_c.specs.Handles.{IsBusy};
 
 use crate::fault_struct::{SgtFault, write_fault};
 use crate::handle::Handle;
@@ -21,7 +22,7 @@ use std::alloc::Global;
 /// another: each in place of the value that its key has, or as a new one. So an engine goes on from a database that is kept
 /// elsewhere.
 ///
-/// `OPEN` where the handle is open, tested first; then `BAD_CALL` where a row is out of its range; `NO_MEMORY`; from 16 on a
+/// `BUSY`, tested first; `OPEN` where the handle is open; then `BAD_CALL` where a row is out of its range; `NO_MEMORY`; from 16 on a
 /// fault of the opening, which is told.
 #[unsafe(no_mangle)]
 pub extern "C" fn sgt_open_with(
@@ -34,12 +35,18 @@ pub extern "C" fn sgt_open_with(
     ensures opened { result ≡ 0 → IfSome engine.new.slot.held (λ h. OpenedWith opening.now rows.now h.engine) }
     ensures first_part { result ≡ 0 → IfSome engine.new.slot.held (λ h. h.part ≡ 0) }
     ensures is_open { result ≡ 0 → IsSome engine.new.slot.held }
+    ensures busy { (result ≡ 10) ↔ IsBusy engine.old.state }
     ensures open { (result ≡ 3) ↔ IsSome engine.old.slot.held }
-    ensures bad_call { (result ≡ 5) ↔ ((engine.old.slot.held ≡ None) × (¬ All IsRow rows.now)) }
+    ensures bad_call { (result ≡ 5) ↔ ((¬ IsBusy engine.old.state) × (engine.old.slot.held ≡ None) × (¬ All IsRow rows.now)) }
     ensures refused { 16 ≤ result → (result ≡ fault.new.kind) × RefusedAs opening.now fault.new }
     ensures unchanged { result ≢ 0 → engine.new.slot.held ≡ engine.old.slot.held }
+    ensures leaves { IsBusy engine.new.state → IsBusy engine.old.state }
+    ensures stays { IsBusy engine.old.state → engine.new.state ≡ engine.old.state }
 {
-    if engine.is_open {
+    if engine.is_busy() {
+        return status::BUSY;
+    }
+    if engine.is_open() {
         return status::OPEN;
     }
     if first_bad(rows).is_some() {

@@ -1,6 +1,7 @@
 //! Adding procedures.
 ghost use Rattle.std.specs.Prelude.{◌≡◌, ◌≢◌, ◌<◌, ◌≤◌, ◌↔◌, None, IfErr, IfOk, OnErr};
 ghost use Rattle.sgt_c.specs.Puts.{Added, HasBegun, HasNoNumber, IsAdded, IsRefusal, IsTextRefused};
+ghost use Rattle.sgt_c.specs.Handles.{IsBusy};
 
 use crate::fault_struct::{SgtFault, write_fault};
 use crate::handle::Handle;
@@ -14,7 +15,7 @@ use std::alloc::Global;
 /// Adds the procedure that a text spells, as one of an opening's list, behind the others, where the history is empty. Its number is
 /// written to `number`.
 ///
-/// `CLOSED`; `BEGUN` where there is a history; `TOO_MANY` where no number is left, of 65536; from 16 on a fault of the text,
+/// `BUSY`; `CLOSED`; `BEGUN` where there is a history; `TOO_MANY` where no number is left, of 65536; from 16 on a fault of the text,
 /// which is told of the number that the procedure was to have; `NO_MEMORY`.
 #[unsafe(no_mangle)]
 pub extern "C" fn sgt_procedure(
@@ -26,14 +27,20 @@ pub extern "C" fn sgt_procedure(
 ) -> u32
     ensures added { result ≡ 0 → Added engine.old.slot.held text.now engine.new.slot.held number.new }
     ensures unchanged { result ≢ 0 → engine.new.slot.held ≡ engine.old.slot.held }
-    ensures closed { (result ≡ 2) ↔ (engine.old.slot.held ≡ None) }
+    ensures busy { (result ≡ 10) ↔ IsBusy engine.old.state }
+    ensures closed { (result ≡ 2) ↔ ((¬ IsBusy engine.old.state) × (engine.old.slot.held ≡ None)) }
     ensures begun { (result ≡ 7) ↔ HasBegun engine.old.slot.held }
     ensures too_many { (result ≡ 9) ↔ HasNoNumber engine.old.slot.held }
     ensures refused { 16 ≤ result → (result ≡ fault.new.kind) × IsTextRefused engine.old.slot.held text.now fault.new }
-    ensures statuses { result < 16 → result ≢ 7 → result ≢ 9 → result ≤ 2 }
+    ensures statuses { result ≢ 10 → result < 16 → result ≢ 7 → result ≢ 9 → result ≤ 2 }
     ensures kept { result ≢ 0 → number.new ≡ number.old }
     ensures unwritten { result ≢ 1 → result < 16 → fault.new ≡ fault.old }
+    ensures leaves { IsBusy engine.new.state → IsBusy engine.old.state }
+    ensures stays { IsBusy engine.old.state → engine.new.state ≡ engine.old.state }
 {
+    if engine.is_busy() {
+        return status::BUSY;
+    }
     let Some(mut held) = engine.take(alloc) else {
         return status::CLOSED;
     };

@@ -5,6 +5,7 @@ ghost use Rattle.sgt_model.specs.Databases.{HasValues};
 ghost use Rattle.sgt_engine.specs.Puts.{AreRefused, PutsRows};
 ghost use Rattle.sgt_c.specs.Puts.{HasBegun, IsFirstBad, IsTakenIn, Put};
 ghost use Rattle.sgt_c.specs.Rows.{IsRow, row_of};
+ghost use Rattle.sgt_c.specs.Handles.{IsBusy};
 
 use crate::handle::Handle;
 use crate::held::Held;
@@ -17,7 +18,7 @@ use std::alloc::Global;
 /// Puts rows into the opening database, where the history is empty: values at keys that have none. So an engine is opened on the
 /// caller's own store, also bit by bit. It goes once through all records, and takes memory for them and for the rows meanwhile.
 ///
-/// `BAD_CALL` where a row is out of its range, tested first: the place of the first one is written to `at`; `CLOSED`; `BEGUN`
+/// `BAD_CALL` where a row is out of its range, tested first: the place of the first one is written to `at`; `BUSY`; `CLOSED`; `BEGUN`
 /// where there is a history; `TAKEN` where the key of a row has a value, or that of a row before it: the place of the first such
 /// row is written to `at`; `NO_MEMORY`.
 #[unsafe(no_mangle)]
@@ -26,15 +27,21 @@ pub extern "C" fn sgt_put(alloc: Global, engine: &mut Handle, rows: &[SgtRow], a
     ensures unchanged { result ≢ 0 → engine.new.slot.held ≡ engine.old.slot.held }
     ensures bad_call { (result ≡ 5) ↔ (¬ All IsRow rows.now) }
     ensures bad_row { result ≡ 5 → IsFirstBad rows.now at.new }
-    ensures closed { (result ≡ 2) ↔ (All IsRow rows.now × (engine.old.slot.held ≡ None)) }
+    ensures busy { (result ≡ 10) ↔ (All IsRow rows.now × IsBusy engine.old.state) }
+    ensures closed { (result ≡ 2) ↔ (All IsRow rows.now × ((¬ IsBusy engine.old.state) × (engine.old.slot.held ≡ None))) }
     ensures begun { (result ≡ 7) ↔ (All IsRow rows.now × HasBegun engine.old.slot.held) }
     ensures taken { result ≡ 8 → IsTakenIn engine.old.slot.held rows.now at.new }
     ensures kept { result ≢ 5 → result ≢ 8 → at.new ≡ at.old }
-    ensures statuses { result ≢ 5 → result ≢ 7 → result ≢ 8 → result ≤ 2 }
+    ensures statuses { result ≢ 10 → result ≢ 5 → result ≢ 7 → result ≢ 8 → result ≤ 2 }
+    ensures leaves { IsBusy engine.new.state → IsBusy engine.old.state }
+    ensures stays { IsBusy engine.old.state → engine.new.state ≡ engine.old.state }
 {
     if let Some(bad) = first_bad(rows) {
         *at = bad as u64;
         return status::BAD_CALL;
+    }
+    if engine.is_busy() {
+        return status::BUSY;
     }
     let Some(mut held) = engine.take(alloc) else {
         return status::CLOSED;

@@ -6,6 +6,7 @@ ghost use Rattle.sgt_model.specs.Progress.{call_in as started_in, call_of};
 ghost use Rattle.sgt_model.specs.Replay.{told_call_in, told_in};
 ghost use Rattle.sgt_c.specs.Entries.{HasNoPlace};
 ghost use Rattle.sgt_c.specs.ReplayedCalls.{ArePassed, IsToldAt, ReturnsCalls, call_in, called, ends_by, ends_in, listed, past_at, result_in};
+ghost use Rattle.sgt_c.specs.Handles.{IsBusy};
 
 use crate::call_struct::{SgtCall, Started};
 use crate::handle::Handle;
@@ -20,7 +21,7 @@ use std::alloc::Global;
 ///
 /// It reads the entries from `from` to `next`, and for each call that it finds the entries back to the transaction's start.
 ///
-/// `CLOSED`; `NONE` where the history has not so many entries before the place.
+/// `BUSY`; `CLOSED`; `NONE` where the history has not so many entries before the place.
 #[unsafe(no_mangle)]
 pub extern "C" fn sgt_calls(
     alloc: Global,
@@ -34,12 +35,18 @@ pub extern "C" fn sgt_calls(
     ensures rest { drop count.new calls.new ≡ drop count.new calls.old }
     ensures room { length calls.new ≡ length calls.old }
     ensures none { (result ≡ 4) ↔ HasNoPlace engine.old.slot.held from }
-    ensures closed { (result ≡ 2) ↔ (engine.old.slot.held ≡ None) }
-    ensures statuses { result ≢ 0 → result ≢ 2 → result ≡ 4 }
+    ensures busy { (result ≡ 10) ↔ IsBusy engine.old.state }
+    ensures closed { (result ≡ 2) ↔ ((¬ IsBusy engine.old.state) × (engine.old.slot.held ≡ None)) }
+    ensures statuses { result ≢ 10 → result ≢ 0 → result ≢ 2 → result ≡ 4 }
     ensures unwritten { result ≢ 0 → calls.new ≡ calls.old }
     ensures kept { result ≢ 0 → (count.new ≡ count.old) × (next.new ≡ next.old) }
     ensures same { engine.new.slot.held ≡ engine.old.slot.held }
+    ensures leaves { IsBusy engine.new.state → IsBusy engine.old.state }
+    ensures stays { IsBusy engine.old.state → engine.new.state ≡ engine.old.state }
 {
+    if engine.is_busy() {
+        return status::BUSY;
+    }
     let Some(held) = engine.take(alloc) else {
         return status::CLOSED;
     };

@@ -30,6 +30,31 @@ pub struct SgtReply {
     pub fell: [u32; 32],
 }
 
+impl SgtReply {
+    /// One that says nothing.
+    pub fn blank() -> SgtReply
+        ensures { result.kind ≡ 0 }
+    {
+        SgtReply {
+            kind: 0,
+            cause: 0,
+            tid: 0,
+            code: 0,
+            table: 0,
+            found: 0,
+            number: 0,
+            value: 0,
+            answers: 0,
+            walked: 0,
+            fallen: 0,
+            spare: 0,
+            answer: [0; 8],
+            walk: [0; 32],
+            fell: [0; 32],
+        }
+    }
+}
+
 /// Writes a reply for C.
 pub fn write_reply(into: &mut SgtReply, reply: &Reply)
     ensures { HoldsReply into.new reply.now }

@@ -2,6 +2,7 @@
 ghost use Rattle.std.specs.Prelude.{◌≡◌, ◌≢◌, ◌≤◌, ◌↔◌, None, length, drop};
 ghost use Rattle.sgt_model.specs.Numbers.{IsValue};
 ghost use Rattle.sgt_c.specs.Rows.{CountsRows, HoldRows, ReturnsRows, row_of, rows_from};
+ghost use Rattle.sgt_c.specs.Handles.{IsBusy};
 
 use crate::asked::keyed;
 use crate::handle::Handle;
@@ -13,7 +14,7 @@ use std::alloc::Global;
 /// The committed database from a key on, by table and then by number: into `rows` go the first of its rows, as many as there is
 /// room for, and into `count` how many there are. It goes once through all records, and takes memory for them meanwhile.
 ///
-/// `BAD_CALL` where the table is over 7 or the number is no value, tested first; `CLOSED`; `NO_MEMORY`.
+/// `BAD_CALL` where the table is over 7 or the number is no value, tested first; `BUSY`; `CLOSED`; `NO_MEMORY`.
 #[unsafe(no_mangle)]
 pub extern "C" fn sgt_rows(
     alloc: Global,
@@ -27,14 +28,20 @@ pub extern "C" fn sgt_rows(
     ensures rest { drop count.new rows.new ≡ drop count.new rows.old }
     ensures room { length rows.new ≡ length rows.old }
     ensures bad_call { (result ≡ 5) ↔ (¬ ((table ≤ 7) × IsValue number)) }
-    ensures closed { (result ≡ 2) ↔ (((table ≤ 7) × IsValue number) × (engine.old.slot.held ≡ None)) }
-    ensures statuses { result ≢ 5 → result ≤ 2 }
+    ensures busy { (result ≡ 10) ↔ (((table ≤ 7) × IsValue number) × IsBusy engine.old.state) }
+    ensures closed { (result ≡ 2) ↔ (((table ≤ 7) × IsValue number) × ((¬ IsBusy engine.old.state) × (engine.old.slot.held ≡ None))) }
+    ensures statuses { result ≢ 10 → result ≢ 5 → result ≤ 2 }
     ensures unwritten { result ≢ 0 → (rows.new ≡ rows.old) × (count.new ≡ count.old) }
     ensures same { engine.new.slot.held ≡ engine.old.slot.held }
+    ensures leaves { IsBusy engine.new.state → IsBusy engine.old.state }
+    ensures stays { IsBusy engine.old.state → engine.new.state ≡ engine.old.state }
 {
     let Some(key) = keyed(table, number) else {
         return status::BAD_CALL;
     };
+    if engine.is_busy() {
+        return status::BUSY;
+    }
     let Some(held) = engine.take(alloc) else {
         return status::CLOSED;
     };
@@ -53,15 +60,21 @@ pub extern "C" fn sgt_rows(
 
 /// How many records the committed database has. It goes once through all of them, and takes memory for them meanwhile.
 ///
-/// `CLOSED`; `NO_MEMORY`.
+/// `BUSY`; `CLOSED`; `NO_MEMORY`.
 #[unsafe(no_mangle)]
 pub extern "C" fn sgt_records(alloc: Global, engine: &mut Handle, count: &mut u64) -> u32
     ensures counted { result ≡ 0 → CountsRows engine.old.slot.held count.new }
-    ensures closed { (result ≡ 2) ↔ (engine.old.slot.held ≡ None) }
-    ensures statuses { result ≤ 2 }
+    ensures busy { (result ≡ 10) ↔ IsBusy engine.old.state }
+    ensures closed { (result ≡ 2) ↔ ((¬ IsBusy engine.old.state) × (engine.old.slot.held ≡ None)) }
+    ensures statuses { result ≢ 10 → result ≤ 2 }
     ensures kept { result ≢ 0 → count.new ≡ count.old }
     ensures same { engine.new.slot.held ≡ engine.old.slot.held }
+    ensures leaves { IsBusy engine.new.state → IsBusy engine.old.state }
+    ensures stays { IsBusy engine.old.state → engine.new.state ≡ engine.old.state }
 {
+    if engine.is_busy() {
+        return status::BUSY;
+    }
     let Some(held) = engine.take(alloc) else {
         return status::CLOSED;
     };

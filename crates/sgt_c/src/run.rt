@@ -6,6 +6,7 @@ ghost use Rattle.sgt_model.specs.Fates.{live};
 ghost use Rattle.sgt_engine.specs.EngineView.{with_entry};
 ghost use Rattle.sgt_c.specs.Asked.{IsCall};
 ghost use Rattle.sgt_c.specs.Runs.{Ran, GaveUp, Runs, GivesUp, RunsOn, StepsOn, StopsLive, is_access, is_end};
+ghost use Rattle.sgt_c.specs.Handles.{IsBusy};
 
 use crate::asked::call;
 use crate::handle::Handle;
@@ -19,7 +20,7 @@ use std::alloc::Global;
 /// told: that to the commit, to the step at which the transaction was aborted, or to the start that was refused. Each event is
 /// an entry. The number of a transaction that was started is written to `tid`.
 ///
-/// `NO_MEMORY`, where nothing has changed, or the transaction that was started is quit; `CLOSED`; `BAD_CALL` where there are over
+/// `NO_MEMORY`, where nothing has changed, or the transaction that was started is quit; `BUSY`; `CLOSED`; `BAD_CALL` where there are over
 /// 4 arguments, tested first.
 #[unsafe(no_mangle)]
 pub extern "C" fn sgt_run(
@@ -37,12 +38,18 @@ pub extern "C" fn sgt_run(
     ensures unchanged { 2 ≤ result → engine.new.slot.held ≡ engine.old.slot.held }
     ensures unwritten { result ≢ 0 → (tid.new ≡ tid.old) × (reply.new ≡ reply.old) }
     ensures bad_call { (result ≡ 5) ↔ (¬ IsCall procedure args.now) }
-    ensures closed { (result ≡ 2) ↔ (IsCall procedure args.now × (engine.old.slot.held ≡ None)) }
-    ensures statuses { result ≢ 5 → result ≤ 2 }
+    ensures busy { (result ≡ 10) ↔ (IsCall procedure args.now × IsBusy engine.old.state) }
+    ensures closed { (result ≡ 2) ↔ (IsCall procedure args.now × ((¬ IsBusy engine.old.state) × (engine.old.slot.held ≡ None))) }
+    ensures statuses { result ≢ 10 → result ≢ 5 → result ≤ 2 }
+    ensures leaves { IsBusy engine.new.state → IsBusy engine.old.state }
+    ensures stays { IsBusy engine.old.state → engine.new.state ≡ engine.old.state }
 {
     let Some((procedure, args)) = call(procedure, args) else {
         return status::BAD_CALL;
     };
+    if engine.is_busy() {
+        return status::BUSY;
+    }
     let Some(mut held) = engine.take(alloc) else {
         return status::CLOSED;
     };
@@ -63,13 +70,13 @@ pub extern "C" fn sgt_run(
 
 /// What a run was answered: the number of its transaction, if one was started, and the last reply.
 #[derive(Drop)]
-struct Outcome {
-    started: Option<Tid>,
-    last: Reply,
+pub struct Outcome {
+    pub started: Option<Tid>,
+    pub last: Reply,
 }
 
 /// Runs a procedure from its start to its commit. Where a growth is refused behind the start, the transaction is quit.
-fn run(engine: &mut SgtEngine, procedure: u16, args: Args) -> Result<Outcome, NoMemory>
+pub fn run(engine: &mut SgtEngine, procedure: u16, args: Args) -> Result<Outcome, NoMemory>
     ensures ran { IfOk result (λ r. Runs (Start procedure args) r.started r.last engine.old engine.new) }
     ensures gave_up { OnErr result
         ((started : Option ℕ) × GivesUp (Start procedure args) started engine.old engine.new) }

@@ -30,6 +30,9 @@ pub const TAKEN: u32 = 8;
 /// No number is left for a procedure.
 pub const TOO_MANY: u32 = 9;
 
+/// Another call is in the engine.
+pub const BUSY: u32 = 10;
+
 /// The opening is no JSON.
 pub const NOT_JSON: u32 = 16;
 

@@ -6,4 +6,4 @@ use Rattle.sgt_c.proofs.opening_with.sgt_open_with.Goals as goal
 pub returns-in-Ok-clause-bad_call : goal.returns-in-Ok-clause-bad_call
 returns-in-Ok-clause-bad_call c =
     let rows : All IsRow c.args.rows.now = search rules in
-    (λ is. absurd (omega (arith, is)), λ bad. absurd (bad.1 rows))
+    (λ is. absurd (omega (arith, is)), λ bad. absurd (bad.2 rows))

@@ -1,0 +1,42 @@
+//! What a run was answered, for C.
+ghost use Rattle.std.specs.Prelude.{◌≡◌};
+ghost use Rattle.sgt_c.specs.ReplyStructs.{HoldsReply};
+ghost use Rattle.sgt_c.specs.Runs.{IsNumberTold};
+
+use crate::reply_struct::{SgtReply, write_reply};
+use crate::run::Outcome;
+use sgt_model::Tid;
+
+/// What a run was answered, for C: the number of its transaction, if one was started, and its last reply.
+#[repr(C)]
+#[derive(Drop)]
+pub struct SgtOutcome {
+    pub tid: u32,
+    pub spare: u32,
+    pub reply: SgtReply,
+}
+
+impl SgtOutcome {
+    /// An outcome for C.
+    pub fn of(outcome: &Outcome) -> SgtOutcome
+        ensures tid { IsNumberTold outcome.now.started result.tid }
+        ensures reply { HoldsReply result.reply outcome.now.last }
+    {
+        let mut reply = SgtReply::blank();
+        write_reply(&mut reply, &outcome.last);
+        SgtOutcome {
+            tid: number_or_0(outcome.started),
+            spare: 0,
+            reply,
+        }
+    }
+}
+
+fn number_or_0(t: Option<Tid>) -> u32
+    ensures { IsNumberTold t result }
+{
+    match t {
+        Some(t) => t.0,
+        None => 0,
+    }
+}

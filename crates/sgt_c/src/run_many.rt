@@ -1,0 +1,134 @@
+//! Many transactions, run one after another by one call.
+ghost use Rattle.std.specs.Prelude.{◌≡◌, ◌≢◌, ◌≤◌, ◌↔◌, ℕ, None, Option, IsTrue, IfOk, OnOk, IfErr, OnErr, drop, length};
+ghost use Rattle.std.specs.List.{All};
+ghost use Rattle.sgt_model.specs.declared.event.Event.TheVariants.{Start};
+ghost use Rattle.sgt_c.specs.ManyRuns.{GaveUpAt, IsAsked, RanAll, RanMany, RanOne, StoppedAt, args_in};
+ghost use Rattle.sgt_c.specs.Runs.{GivesUp};
+ghost use Rattle.sgt_c.specs.Handles.{IsBusy};
+
+use crate::call_struct::SgtCall;
+use crate::handle::Handle;
+use crate::outcome_struct::SgtOutcome;
+use crate::run::run;
+use crate::status;
+use sgt_assembly::SgtEngine;
+use sgt_model::{Args, NoMemory};
+use std::alloc::Global;
+
+/// Runs calls one after another, each from its start to its commit as `sgt_run` does. Of a call the procedure and the arguments
+/// count. The outcome of each is written to its place in `outcomes`, and how many were run to `done`.
+///
+/// `BAD_CALL` where the number of a procedure is over 65535, or a call has over 4 arguments, or there are fewer outcomes than calls,
+/// tested first; `BUSY`; `CLOSED`; `NO_MEMORY`, where the calls before number `done` have run, and of that one nothing has changed, or the
+/// transaction that was started is quit.
+#[unsafe(no_mangle)]
+pub extern "C" fn sgt_run_many(
+    alloc: Global,
+    engine: &mut Handle,
+    calls: &[SgtCall],
+    outcomes: &mut [SgtOutcome],
+    done: &mut u64,
+) -> u32
+    ensures ran { result ≡ 0 → RanMany engine.old.slot.held calls.now outcomes.new engine.new.slot.held }
+    ensures all { result ≡ 0 → done.new ≡ length calls.now }
+    ensures gave_up { result ≡ 1 →
+        GaveUpAt done.new engine.old.slot.held calls.now outcomes.new engine.new.slot.held }
+    ensures rest { result ≤ 1 → drop done.new outcomes.new ≡ drop done.new outcomes.old }
+    ensures room { length outcomes.new ≡ length outcomes.old }
+    ensures unchanged { 2 ≤ result → engine.new.slot.held ≡ engine.old.slot.held }
+    ensures unwritten { 2 ≤ result → (outcomes.new ≡ outcomes.old) × (done.new ≡ done.old) }
+    ensures bad_call { (result ≡ 5) ↔ (¬ (All IsAsked calls.now × (length calls.now ≤ length outcomes.old))) }
+    ensures busy { (result ≡ 10) ↔ ((All IsAsked calls.now × (length calls.now ≤ length outcomes.old))
+        × IsBusy engine.old.state) }
+    ensures closed { (result ≡ 2) ↔ ((All IsAsked calls.now × (length calls.now ≤ length outcomes.old))
+        × ((¬ IsBusy engine.old.state) × (engine.old.slot.held ≡ None))) }
+    ensures statuses { result ≢ 10 → result ≢ 5 → result ≤ 2 }
+    ensures leaves { IsBusy engine.new.state → IsBusy engine.old.state }
+    ensures stays { IsBusy engine.old.state → engine.new.state ≡ engine.old.state }
+{
+    if !are_asked(calls) || calls.len() > outcomes.len() {
+        return status::BAD_CALL;
+    }
+    if engine.is_busy() {
+        return status::BUSY;
+    }
+    let Some(mut held) = engine.take(alloc) else {
+        return status::CLOSED;
+    };
+    let ran = run_each(&mut held.engine, calls, outcomes);
+    let _ = held.engine.history();
+    engine.put(held);
+    match ran {
+        Ok(()) => {
+            *done = calls.len() as u64;
+            status::OK
+        }
+        Err(at) => {
+            *done = at as u64;
+            status::NO_MEMORY
+        }
+    }
+}
+
+/// Whether each call may be asked for.
+fn are_asked(calls: &[SgtCall]) -> bool
+    ensures { IsTrue result ↔ All IsAsked calls.now }
+{
+    for call in calls {
+        if !is_asked(call) {
+            return false;
+        }
+    }
+    true
+}
+
+fn is_asked(call: &SgtCall) -> bool
+    ensures { IsTrue result ↔ IsAsked call.now }
+{
+    call.procedure <= 65_535 && call.args <= 4
+}
+
+/// Runs calls one after another. Where memory is refused, the place of that call is the error.
+fn run_each(
+    engine: &mut SgtEngine,
+    calls: &[SgtCall],
+    outcomes: &mut [SgtOutcome],
+) -> Result<(), usize>
+    requires asked { All IsAsked calls.now }
+    requires room { length calls.now ≤ length outcomes.old }
+    ensures ran { OnOk result (RanAll calls.now outcomes.new engine.old engine.new) }
+    ensures rest_ok { OnOk result (drop (length calls.now) outcomes.new ≡ drop (length calls.now) outcomes.old) }
+    ensures stopped { IfErr result (λ at. StoppedAt at calls.now outcomes.new engine.old engine.new) }
+    ensures rest_err { IfErr result (λ at. drop at outcomes.new ≡ drop at outcomes.old) }
+    ensures room { length outcomes.new ≡ length outcomes.old }
+{
+    for (index, call) in calls.iter().enumerate() {
+        match run_one(engine, call) {
+            Ok(outcome) => outcomes[index] = outcome,
+            Err(NoMemory) => return Err(index),
+        }
+    }
+    Ok(())
+}
+
+/// Runs a call, and gives its outcome for C.
+fn run_one(engine: &mut SgtEngine, call: &SgtCall) -> Result<SgtOutcome, NoMemory>
+    requires { IsAsked call.now }
+    ensures ran { IfOk result (λ outcome. RanOne call.now outcome engine.old engine.new) }
+    ensures gave_up { OnErr result ((started : Option ℕ)
+        × GivesUp (Start call.now.procedure (args_in call.now)) started engine.old engine.new) }
+{
+    let outcome = run(engine, call.procedure as u16, args(call))?;
+    Ok(SgtOutcome::of(&outcome))
+}
+
+/// The arguments of a call.
+fn args(call: &SgtCall) -> Args
+    requires { IsAsked call.now }
+    ensures { result ≡ args_in call.now }
+{
+    match Args::from_slice(&call.arg[..call.args as usize]) {
+        Some(args) => args,
+        None => unreachable!(),
+    }
+}
