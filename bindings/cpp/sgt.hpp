@@ -176,6 +176,19 @@ public:
         return {tid == no_tid ? std::nullopt : std::optional(tid), reply};
     }
 
+    // Runs these calls one after another, each as `run` does; of each, `procedure`, `args` and `arg` count. There are fewer outcomes
+    // than calls where memory was short: then the calls behind them have not run.
+    [[nodiscard]] std::vector<sgt_outcome> run_many(const std::vector<sgt_call> &calls)
+    {
+        static const sgt_call none{};
+        std::vector<sgt_outcome> outcomes(calls.size() + 1);
+        std::uint64_t done = 0;
+        auto status = sgt_run_many(&engine, calls.empty() ? &none : calls.data(), calls.size(), outcomes.data(), calls.size(), &done);
+        if (status != SGT_NO_MEMORY) check(status);
+        outcomes.resize(done);
+        return outcomes;
+    }
+
     sgt_reply step(std::uint32_t tid) { return ask(sgt_step, tid); }
     sgt_reply commit(std::uint32_t tid) { return ask(sgt_commit, tid); }
     sgt_reply quit(std::uint32_t tid) { return ask(sgt_quit, tid); }

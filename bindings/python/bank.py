@@ -87,6 +87,8 @@ with Engine(limits=(8, 100), rows=rows) as again:
     assert (again.records(), again.part()) == (4, 1)
     with Engine.bare(8, 100) as bare:
         assert (bare.records(), bare.procedure([0, [["put", 7, 1, 2]]]), bare.run(0)[0]) == (0, 0, 0)
+        ran = bare.run_many([(0,), (9,)])
+        assert [(tid, reply.kind) for tid, reply in ran] == [(1, Kind.COMMITTED), (None, Kind.NO_PROCEDURE)], ran
     try:
         Engine.bare(33, 100)
         raise SystemExit("an engine was opened with too many live")

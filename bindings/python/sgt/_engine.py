@@ -6,12 +6,13 @@ import ctypes
 import json
 from typing import Callable, Optional, Sequence, Union
 
-from ._errors import NoSuchEntry, OpeningRefused, ProcedureRefused, StillLive, Taken
+from ._errors import NoMemory, NoSuchEntry, OpeningRefused, ProcedureRefused, StillLive, Taken
 from ._library import (
     FIRST_FAULT,
     HELD,
     LEAST,
     MOST,
+    NO_MEMORY,
     NO_TID,
     NONE,
     STILL_LIVE,
@@ -21,6 +22,7 @@ from ._library import (
     CEngine,
     CEvent,
     CFault,
+    COutcome,
     CReply,
     Row,
     Uncopied,
@@ -32,7 +34,7 @@ from ._library import (
     whole,
     written,
 )
-from ._replies import Call, Event, Reply, call_of, event_of, free_room, reply_of, room
+from ._replies import Call, Event, Kind, Reply, call_of, event_of, free_room, reply_of, room
 
 
 def _quick(name: str) -> Callable[..., int]:
@@ -47,6 +49,14 @@ _SIZES = [ctypes.c_size_t(count) for count in range(5)]
 def _tid(tid: int) -> int:
     """A transaction's number. BadCall where it is out of its range."""
     return whole(tid, 0, 2**32 - 1)
+
+
+_NOT_STARTED = (Kind.NO_PROCEDURE, Kind.BAD_ARGS, Kind.SPENT, Kind.FULL)
+
+
+def _outcome(told: COutcome) -> tuple[Optional[int], Reply]:
+    reply = reply_of(told.reply, told.reply)
+    return (None if reply.kind in _NOT_STARTED else told.tid), reply
 
 
 class Engine(Uncopied):
@@ -136,6 +146,22 @@ class Engine(Uncopied):
         tid, reply = to.tid.value, reply_of(to.told, to.fields)
         free_room(to)
         return (None if tid == NO_TID else tid), reply
+
+    def run_many(self, calls: Sequence[Sequence[int]]) -> list[tuple[Optional[int], Reply]]:
+        """Runs these calls, each a procedure with its arguments, one after another, each as `run` does. Each has its outcome, also one
+        that is refused, aborted or has to wait. NoMemory, with the outcomes of the calls before it.
+        """
+        given, count = (CCall * max(1, len(calls)))(), len(calls)
+        outcomes, done = (COutcome * max(1, count))(), ctypes.c_uint64()
+        for to, (procedure, *args) in zip(given, calls):
+            pack_args(to.arg, args)
+            to.procedure, to.args = whole(procedure, 0, 65535), len(args)
+        status = HELD.sgt_run_many(self._engine, given, count, outcomes, count, done)
+        ran = [_outcome(outcome) for outcome in outcomes[: done.value]]
+        if status == NO_MEMORY:
+            raise NoMemory(ran)
+        check(status)
+        return ran
 
     def step(self, tid: int) -> Reply:
         """Lets the transaction make its next access. BadCall where the number is none of 32 bits, as of each call that names one."""

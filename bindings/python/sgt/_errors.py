@@ -2,7 +2,7 @@
 
 from __future__ import annotations
 
-from typing import TYPE_CHECKING
+from typing import TYPE_CHECKING, Optional, Sequence
 
 if TYPE_CHECKING:
     from ._replies import Reply
@@ -13,10 +13,11 @@ class Error(Exception):
 
 
 class NoMemory(Error, MemoryError):
-    """An allocation failed."""
+    """An allocation failed. `outcomes` are those of the calls of a `run_many` that had run by then."""
 
-    def __init__(self) -> None:
+    def __init__(self, outcomes: Sequence[tuple[Optional[int], Reply]] = ()) -> None:
         super().__init__("sgt: out of memory")
+        self.outcomes = outcomes
 
 
 class Closed(Error, ValueError):

@@ -91,6 +91,10 @@ class CCall(ctypes.Structure):
     ]
 
 
+class COutcome(ctypes.Structure):
+    _fields_ = [("tid", ctypes.c_uint32), ("spare", ctypes.c_uint32), ("reply", CReply)]
+
+
 class CEnded(ctypes.Structure):
     _fields_ = [("sequence", ctypes.c_uint64), ("ticket", CTicket), ("call", CCall)]
 
@@ -119,7 +123,7 @@ class CRunOptions(ctypes.Structure):
     _fields_ = [("size", ctypes.c_size_t), ("wait_ns", ctypes.c_int64), ("tries", ctypes.c_uint32), ("spare", ctypes.c_uint32)]
 
 
-class COutcome(ctypes.Structure):
+class CSharedOutcome(ctypes.Structure):
     _fields_ = [
         ("size", ctypes.c_size_t),
         ("tries", ctypes.c_uint32),
@@ -149,6 +153,7 @@ _ENGINE_CALLS = {
     "sgt_open_bare": [_engine, _u64, _u64, _u64],
     "sgt_put": [_engine, _row, _size, _count],
     "sgt_procedure": [_engine, _text, _size, ctypes.POINTER(ctypes.c_uint16), _fault],
+    "sgt_run_many": [_engine, ctypes.POINTER(CCall), _size, ctypes.POINTER(COutcome), _size, _count],
     "sgt_get": [_engine, _u64, _i64, ctypes.POINTER(_i64)],
     "sgt_rows": [_engine, _u64, _i64, _row, _size, _count],
     "sgt_records": [_engine, _count],
@@ -165,7 +170,7 @@ _ENGINE_CALLS = {
 _SHARED_CALLS = {
     "sgt_shared_open": [ctypes.POINTER(_shared), _text, _size, _row, _size, ctypes.POINTER(CSharedConfig), _fault],
     "sgt_shared_close": [ctypes.POINTER(_shared)],
-    "sgt_shared_run": [_shared, _u64, ctypes.POINTER(_i64), _size, ctypes.POINTER(CRunOptions), ctypes.POINTER(COutcome)],
+    "sgt_shared_run": [_shared, _u64, ctypes.POINTER(_i64), _size, ctypes.POINTER(CRunOptions), ctypes.POINTER(CSharedOutcome)],
     "sgt_shared_start": [_shared, _u64, ctypes.POINTER(_i64), _size, _i64, _ticket, _reply],
     "sgt_shared_step": [_shared, _ticket, _reply],
     "sgt_shared_quit": [_shared, _ticket, _reply],

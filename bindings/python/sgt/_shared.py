@@ -21,7 +21,7 @@ from ._library import (
     CEnded,
     CFault,
     CLive,
-    COutcome,
+    CSharedOutcome,
     CReply,
     CRunOptions,
     CSharedConfig,
@@ -156,7 +156,7 @@ class SharedEngine(Uncopied):
 
         TimedOut if the deadline came, and then nothing of it is left live. A signal is seen to when the call returns.
         """
-        given, outcome = (ctypes.c_int64 * 4)(), COutcome(size=ctypes.sizeof(COutcome))
+        given, outcome = (ctypes.c_int64 * 4)(), CSharedOutcome(size=ctypes.sizeof(CSharedOutcome))
         pack_args(given, args)
         options = CRunOptions(ctypes.sizeof(CRunOptions), _ns(timeout), whole(tries, 0, 2**32 - 1))
         check(self._ask(FREE.sgt_shared_run, whole(procedure, 0, 65535), given, len(args), options, outcome))

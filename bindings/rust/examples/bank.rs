@@ -66,6 +66,9 @@ fn main() -> Result<(), Error> {
     assert_eq!((again.records(), again.part()), (Ok(4), 1));
     let mut bare = Engine::open_bare(8, 100, true)?;
     assert_eq!((bare.records()?, bare.procedure(r#"[0,[["put",7,1,2]]]"#)?, bare.run(0, &[])?.0), (0, 0, Some(0)));
+    let ran = bare.run_many(&[(0, vec![]), (9, vec![])]).map_err(|(_, error)| error)?;
+    assert_eq!(ran, [(Some(1), Reply::Committed(vec![])), (None, Reply::NoProcedure)]);
+    assert_eq!(bare.run_many(&[(0, vec![0; 5])]), Err((vec![], Error::BadCall)));
     assert_eq!(Engine::open_bare(33, 100, true).err(), Some(Error::Opening(Fault::BadLimits)));
     let flaw = again.procedure(r#"[0,[["ask",0]]]"#);
     assert_eq!(flaw, Err(Error::Opening(Fault::ProcFlaw(5, 8))));

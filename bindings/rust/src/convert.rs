@@ -132,6 +132,20 @@ pub(crate) fn event_of(event: &c::Event) -> Event {
     }
 }
 
+/// A call for `sgt_run_many`. None where it has over four arguments.
+pub(crate) fn call_for((procedure, args): &(u16, Vec<i64>)) -> Option<c::Call> {
+    let mut call = c::Call { procedure: u32::from(*procedure), args: args.len() as u32, ..c::Call::default() };
+    call.arg.get_mut(..args.len())?.copy_from_slice(args);
+    Some(call)
+}
+
+/// What a call was answered: the number of its transaction, if one was started, and the last reply.
+pub(crate) fn outcome_of(outcome: &c::Outcome) -> (Option<u32>, Reply) {
+    let reply = reply_of(&outcome.reply);
+    let is_started = !matches!(reply, Reply::NoProcedure | Reply::BadArgs | Reply::Spent | Reply::Full);
+    (is_started.then_some(outcome.tid), reply)
+}
+
 pub(crate) fn call_of(call: &c::Call) -> Call {
     let answers = || call.answer[..call.answers as usize].to_vec();
     Call {

@@ -1,7 +1,10 @@
 //! The engine for one thread at a time.
-use crate::convert::{call_of, done, event_of, fault_of, no_fault, reply_of, row_for, row_of, told};
+use crate::convert::{call_for, call_of, done, event_of, fault_of, no_fault, outcome_of, reply_of, row_for, row_of, told};
 use crate::{Call, Error, Event, Fault, Reply, Row};
 use sgt_sys as c;
+
+/// What a run was answered: the number of its transaction, if one was started, and the last reply.
+pub type Ran = (Option<u32>, Reply);
 
 type Ask = unsafe extern "C" fn(*mut c::Engine, u32, *mut c::Reply) -> u32;
 
@@ -69,12 +72,28 @@ impl Engine {
     }
 
     /// Runs a procedure from its start to its commit: the number of its transaction, if one was started, and the last reply.
-    pub fn run(&mut self, procedure: u16, args: &[i64]) -> Result<(Option<u32>, Reply), Error> {
+    pub fn run(&mut self, procedure: u16, args: &[i64]) -> Result<Ran, Error> {
         let mut reply = c::Reply::default();
         let mut tid = u32::MAX; // a number that the limits never allow
         let status =
             unsafe { c::sgt_run(&mut self.inner, procedure.into(), args.as_ptr(), args.len(), &mut tid, &mut reply) };
         told(status, &reply).map(|reply| ((tid != u32::MAX).then_some(tid), reply))
+    }
+
+    /// Runs these calls, of procedures with their arguments, one after another, each as `run` does. Each has its outcome, also one that
+    /// is refused, aborted or has to wait. With `NoMemory` come the outcomes of the calls before it, which have run.
+    pub fn run_many(&mut self, calls: &[(u16, Vec<i64>)]) -> Result<Vec<Ran>, (Vec<Ran>, Error)> {
+        let calls: Option<Vec<c::Call>> = calls.iter().map(call_for).collect();
+        let calls = calls.ok_or((Vec::new(), Error::BadCall))?;
+        let (mut outcomes, mut done_calls) = (vec![c::Outcome::default(); calls.len()], 0);
+        let (to, room) = (outcomes.as_mut_ptr(), outcomes.len());
+        let status =
+            unsafe { c::sgt_run_many(&mut self.inner, calls.as_ptr(), calls.len(), to, room, &mut done_calls) };
+        let ran = outcomes[..done_calls as usize].iter().map(outcome_of).collect();
+        match done(status) {
+            Ok(()) => Ok(ran),
+            Err(error) => Err((ran, error)),
+        }
     }
 
     /// Lets a transaction make its next access.

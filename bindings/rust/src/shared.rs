@@ -143,7 +143,7 @@ impl SharedEngine {
             tries: limits.tries,
             spare: 0,
         };
-        let mut outcome = c::Outcome { size: size_of::<c::Outcome>(), ..c::Outcome::default() };
+        let mut outcome = c::SharedOutcome { size: size_of::<c::SharedOutcome>(), ..c::SharedOutcome::default() };
         done(unsafe {
             c::sgt_shared_run(self.at(), procedure.into(), args.as_ptr(), args.len(), &options, &mut outcome)
         })?;

@@ -120,6 +120,15 @@ pub struct Call {
     pub answer: [i64; 8],
 }
 
+/// `sgt_outcome`: what a call of `sgt_run_many` was answered.
+#[repr(C)]
+#[derive(Clone, Copy, Debug, Default, PartialEq, Eq)]
+pub struct Outcome {
+    pub tid: u32,
+    pub spare: u32,
+    pub reply: Reply,
+}
+
 /// `sgt_ended`: such a call of a shared engine.
 #[repr(C)]
 #[derive(Clone, Copy, Debug, Default, PartialEq, Eq)]
@@ -166,10 +175,10 @@ pub struct RunOptions {
     pub spare: u32,
 }
 
-/// `sgt_shared_outcome`: what became of a run.
+/// `sgt_shared_outcome`: what became of a run of a shared engine.
 #[repr(C)]
 #[derive(Clone, Copy, Debug, Default)]
-pub struct Outcome {
+pub struct SharedOutcome {
     pub size: usize,
     pub tries: u32,
     pub waits: u32,
@@ -207,6 +216,14 @@ extern "C" {
         count: usize,
         tid: *mut u32,
         reply: *mut Reply,
+    ) -> u32;
+    pub fn sgt_run_many(
+        engine: *mut Engine,
+        calls: *const Call,
+        count: usize,
+        outcomes: *mut Outcome,
+        room: usize,
+        done: *mut u64,
     ) -> u32;
     pub fn sgt_step(engine: *mut Engine, tid: u32, reply: *mut Reply) -> u32;
     pub fn sgt_commit(engine: *mut Engine, tid: u32, reply: *mut Reply) -> u32;
@@ -249,7 +266,7 @@ extern "C" {
         args: *const i64,
         count: usize,
         options: *const RunOptions,
-        outcome: *mut Outcome,
+        outcome: *mut SharedOutcome,
     ) -> u32;
     pub fn sgt_shared_start(
         shared: *mut Shared,
