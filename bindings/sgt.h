@@ -54,7 +54,7 @@ typedef struct sgt_engine {
 /* What a call answers. From 16 on it is a fault of an opening or of a procedure's text, and stands in sgt_fault.kind too. */
 enum sgt_status {
     SGT_OK = 0,
-    SGT_NO_MEMORY = 1,   /* malloc or realloc gave nothing; nothing has changed, and the call may be made again */
+    SGT_NO_MEMORY = 1,   /* malloc or realloc gave nothing; nothing has changed, but of sgt_run, and the call may be made again */
     SGT_CLOSED = 2,      /* the engine is closed */
     SGT_OPEN = 3,        /* the engine is open already */
     SGT_NONE = 4,        /* there is no such record or entry */
@@ -64,6 +64,9 @@ enum sgt_status {
     SGT_TAKEN = 8,       /* the key of a row has a value already */
     SGT_TOO_MANY = 9,    /* no number is left for a procedure, or for the part behind a cut */
     SGT_BUSY = 10,       /* another call is in the engine */
+    SGT_TIMED_OUT = 12,  /* of sgt_shared.h: the deadline came */
+    SGT_STALE = 13,      /* of sgt_shared.h: the transaction is of a part of the history that was cut off */
+    SGT_MISUSE = 14,     /* of sgt_shared.h: a call that may not be made from here, or a ticket of another engine */
     SGT_NOT_JSON = 16,   /* the opening, or the procedure's text, is no JSON */
     SGT_BAD_LINE = 17,   /* the opening is JSON, and has not the shape of one */
     SGT_BAD_LIMITS = 18, /* a limit is out of its range */
@@ -376,6 +379,18 @@ uint32_t sgt_reply_text(const sgt_reply *reply, char *text, size_t room, uint64_
  * SGT_BAD_CALL where `kind` is no fault's; SGT_NO_MEMORY. But for SGT_OK text and length stay as they were.
  */
 uint32_t sgt_fault_text(const sgt_fault *fault, char *text, size_t room, uint64_t *length);
+
+/*
+ * What is below takes no engine and is not proved. The version is that of this header, and sgt_version returns that of the library
+ * that is linked: a program can compare the two. sgt_status_text returns a sentence for a status. Neither text is ever freed.
+ */
+#define SGT_VERSION_MAJOR 0
+#define SGT_VERSION_MINOR 1
+#define SGT_VERSION_PATCH 0
+#define SGT_VERSION "0.1.0"
+
+const char *sgt_version(void);
+const char *sgt_status_text(uint32_t status);
 
 #ifdef __cplusplus
 }

@@ -10,82 +10,108 @@ of `bindings` is built and run, where its compiler is there, and what it writes 
 is missing on this machine, what was left out is told. The last line counts the cases.
 """
 
+import copy
 import os
 import pathlib
+import pickle
 import shutil
-import subprocess
+import signal
 import sys
 import tempfile
+import threading
+import time
 
 sys.dont_write_bytecode = True
 from helpers.cases import C_SOURCES, TESTS, Differs, same, tell  # noqa: E402
+from helpers.library import BINDINGS, C_FLAGS, CPP_FLAGS, OUT, SANITIZERS, WRAPS, built, can, run  # noqa: E402
 
 TOP = TESTS.parent
-BINDINGS = TOP / "bindings"
-OUT = BINDINGS / "out"
 STORY = (BINDINGS / "bank.out").read_text()
 TRANSFERS = (BINDINGS / "transfers.out").read_text()
-SECONDS = 300
 BUILD_SECONDS = 3600
 
-C_FLAGS = ["-std=c11", "-Wall", "-Wextra", "-Werror", "-O2", f"-I{BINDINGS}"]
-CPP_FLAGS = ["-std=c++17", "-Wall", "-Wextra", "-Werror", "-O2", f"-I{BINDINGS}", f"-I{BINDINGS / 'cpp'}"]
-SANITIZERS = ["-g", "-fsanitize=address,undefined", "-fno-sanitize-recover=all"]
-WRAPS = ["-Wl,--wrap=malloc,--wrap=realloc"]
-
-
-def run(words, seconds=SECONDS, env=None, cwd=None):
-    """What the words write, where they end well."""
-    words = [str(word) for word in words]
-    try:
-        ran = subprocess.run(words, capture_output=True, timeout=seconds, check=False, env=env, cwd=cwd)
-    except subprocess.TimeoutExpired:
-        raise Differs(f"{words[0]}: no end after {seconds} seconds") from None
-    if ran.returncode:
-        raise Differs(f"{words[0]}: status {ran.returncode}: {(ran.stdout + ran.stderr).decode()[-600:]}")
-    return ran.stdout.decode()
-
-
-def built(room, compiler, flags, source, extra=()):
-    """The program that the source makes with the static library."""
-    program = room / f"{source.stem}{len(extra)}"
-    run([compiler, *flags, *extra, "-o", program, source, OUT / "libsgt.a", "-lpthread"])
-    return program
-
-
-def has_sanitizers(room, compiler):
-    """Whether programs with the compiler's sanitizers can be built and run here."""
-    source = room / "nothing.c"
-    source.write_text("int main(void) { return 0; }\n")
-    try:
-        run([compiler, *SANITIZERS, "-o", room / "nothing", source])
-        run([room / "nothing"])
-    except (Differs, OSError):
-        return False
-    return True
+# What the examples with threads tell: in C, and in the other languages.
+MONEY = "80000 calls, 4000 of 4000\n"
+LEFT = "4000 of 4000, 0 entries\n"
 
 
 def makes_the_library(_):
     run([BINDINGS / "build", *sys.argv[1:]], seconds=BUILD_SECONDS)
-    names = run(["nm", "-D", "--defined-only", OUT / "libsgt.so"]).split("\n")
-    seen = {line.split()[-1] for line in names if line}
-    same("names of libsgt.so that are not the header's", [], sorted(seen - declared()))
-    same("names of the header that libsgt.so has not", [], sorted(declared() - seen))
+    names = [line.split()[-1] for line in run(["nm", "-D", "--defined-only", OUT / "libsgt.so"]).splitlines()]
+    seen = {name.partition("@")[0] for name in names if not name.startswith("SGT_0")}
+    same("names of libsgt.so that are not the headers'", [], sorted(seen - declared()))
+    same("names of the headers that libsgt.so has not", [], sorted(declared() - seen))
+    same("names without a version", [], [name for name in names if not name.endswith("SGT_0")])
 
 
 def declared():
-    """The functions that the header declares."""
-    lines = (BINDINGS / "sgt.h").read_text().splitlines()
-    return {line.split("(")[0].split()[-1] for line in lines if line.startswith(("uint32_t sgt_", "void sgt_"))}
+    """The functions that the headers declare."""
+    lines = [line for header in ("sgt.h", "c/sgt_shared.h") for line in (BINDINGS / header).read_text().splitlines()]
+    heads = ("uint32_t sgt_", "void sgt_", "const char *sgt_")
+    return {line.split("(")[0].split()[-1].lstrip("*") for line in lines if line.startswith(heads)}
+
+
+def runs_installed(room, folder, lib, flags):
+    """Builds a program by these flags, and runs it with the library of the folder."""
+    program = room / "installed"
+    run(["cc", "-std=c11", "-o", program, BINDINGS / "c" / "threads.c", *flags])
+    same("the money", MONEY, run([program], env={"LD_LIBRARY_PATH": str(folder / lib)}))
 
 
 def installs(room):
-    prefix = room / "prefix"
-    run([BINDINGS / "build", "install", prefix], seconds=BUILD_SECONDS)
-    program = room / "installed"
-    source = BINDINGS / "c" / "bank.c"
-    run(["cc", "-std=c11", f"-I{prefix / 'include'}", "-o", program, source, f"-L{prefix / 'lib'}", "-lsgt"])
-    same("the story", STORY, run([program], env={"LD_LIBRARY_PATH": str(prefix / "lib")}))
+    """Under a prefix that is named from the folder one stands in; in stages; and with another folder for libraries."""
+    run([BINDINGS / "build", "install", "near/prefix"], seconds=BUILD_SECONDS, cwd=room)
+    prefix = room / "near" / "prefix"
+    same("the prefix of sgt.pc", f"prefix={prefix}", (prefix / "lib" / "pkgconfig" / "sgt.pc").read_text().splitlines()[0])
+    runs_installed(room, prefix, "lib", [f"-I{prefix / 'include'}", f"-L{prefix / 'lib'}", "-lsgt", "-pthread"])
+    staged = dict(os.environ, DESTDIR=str(room / "stage"), LIBDIR="/opt/sgt/lib64", CC="cc", AR="ar")
+    run([BINDINGS / "build", "install", "/opt/sgt"], env=staged)
+    stage = room / "stage" / "opt" / "sgt"
+    text = (stage / "lib64" / "pkgconfig" / "sgt.pc").read_text()
+    same("the folder of libraries of sgt.pc", True, "libdir=/opt/sgt/lib64\n" in text and "prefix=/opt/sgt\n" in text)
+    same("the headers", ["sgt.h", "sgt.hpp", "sgt_shared.h"], sorted(path.name for path in (stage / "include").iterdir()))
+    runs_installed(room, stage, "lib64", [f"-I{stage / 'include'}", f"-L{stage / 'lib64'}", "-lsgt", "-pthread"])
+
+
+def is_found_by_pkg_config(room):
+    if not shutil.which("pkg-config"):
+        return "left out: no pkg-config here"
+    prefix = room / "near" / "prefix"
+    env = dict(os.environ, PKG_CONFIG_PATH=str(prefix / "lib" / "pkgconfig"))
+    flags = run(["pkg-config", "--cflags", "--libs", "sgt"], env=env).split()
+    same("the version", declared_version(), run(["pkg-config", "--modversion", "sgt"], env=env).strip())
+    runs_installed(room, prefix, "lib", [*flags, "-pthread"])
+    return None
+
+
+def is_found_by_cmake(room):
+    if not shutil.which("cmake"):
+        return "left out: no cmake here"
+    folder = room / "cmake"
+    folder.mkdir()
+    (folder / "CMakeLists.txt").write_text(
+        "cmake_minimum_required(VERSION 3.10)\nproject(bank C)\nset(CMAKE_C_STANDARD 11)\n"
+        f"find_package(sgt {declared_version()} REQUIRED)\nfind_package(Threads REQUIRED)\n"
+        f"foreach(kind sgt static)\nadd_executable(bank_${{kind}} {BINDINGS / 'c' / 'threads.c'})\n"
+        "target_link_libraries(bank_${kind} sgt::${kind} Threads::Threads)\nendforeach()\n"
+    )
+    run(["cmake", "-S", folder, "-B", folder / "build", f"-DCMAKE_PREFIX_PATH={room / 'near' / 'prefix'}"])
+    run(["cmake", "--build", folder / "build"])
+    for kind in ("sgt", "static"):
+        same("the money", MONEY, run([folder / "build" / f"bank_{kind}"]))
+    return None
+
+
+def declared_version():
+    """That of the header, which is the one place where it stands."""
+    lines = (BINDINGS / "sgt.h").read_text().splitlines()
+    return next(line.split('"')[1] for line in lines if line.startswith("#define SGT_VERSION "))
+
+
+def has_one_version(_):
+    for manifest in ("rust/Cargo.toml", "rust/sgt-sys/Cargo.toml"):
+        lines = (BINDINGS / manifest).read_text().splitlines()
+        same(f"the version of {manifest}", f'version = "{declared_version()}"', next(line for line in lines if line.startswith("version")))
 
 
 def tells_the_story_in_c(room):
@@ -96,9 +122,8 @@ def transfers_side_by_side(room):
     same("the transfers", TRANSFERS, run([built(room, "cc", C_FLAGS, BINDINGS / "c" / "transfers.c")]))
 
 
-def counts_the_money_of_four_threads(room):
-    wanted = "80000 committed, 80000 deposited\n"
-    same("the money", wanted, run([built(room, "cc", C_FLAGS, BINDINGS / "c" / "threads.c")]))
+def counts_the_money_of_eight_threads(room):
+    same("the money", MONEY, run([built(room, "cc", C_FLAGS, BINDINGS / "c" / "threads.c")]))
 
 
 def tells_the_status_of_each_call(room):
@@ -116,7 +141,7 @@ def goes_on_where_each_allocation_is_refused(room):
 
 
 def is_clean_under_sanitizers(room):
-    if not has_sanitizers(room, "cc"):
+    if not can(room, "cc", SANITIZERS):
         return "left out: cc has no sanitizers here"
     c = BINDINGS / "c"
     for source, extra in ((c / "bank.c", []), (c / "transfers.c", []), (c / "refused.c", WRAPS), (c / "threads.c", []), (C_SOURCES / "calls.c", [])):
@@ -127,39 +152,99 @@ def is_clean_under_sanitizers(room):
 def tells_the_story_in_cpp(room):
     if not shutil.which("c++"):
         return "left out: no c++ here"
-    same("the story", STORY, run([built(room, "c++", CPP_FLAGS, BINDINGS / "cpp" / "bank.cpp")]))
+    cpp = BINDINGS / "cpp"
+    same("the story", STORY, run([built(room, "c++", CPP_FLAGS, cpp / "bank.cpp")]))
+    same("the money", LEFT, run([built(room, "c++", CPP_FLAGS, cpp / "threads.cpp")]))
     return None
 
 
 def tells_the_story_in_rust(room):
     if not shutil.which("rustc"):
         return "left out: no rustc here"
-    rust, crate = BINDINGS / "rust", room / "libsgt.rlib"
+    rust, find = BINDINGS / "rust", ["-L", f"native={OUT}", "-L", room]
     words = ["rustc", "--edition", "2021", "-O", "-D", "warnings"]
-    run([*words, "--crate-type", "lib", "--crate-name", "sgt", "-L", f"native={OUT}", "-l", "static=sgt", "-o", crate, rust / "src" / "lib.rs"])
-    program = room / "bank_rust"
-    run([*words, "--extern", f"sgt={crate}", "-L", f"native={OUT}", "-o", program, rust / "examples" / "bank.rs"])
-    same("the story", STORY, run([program]))
+    lib = [*words, "--crate-type", "lib", "--out-dir", room]
+    run([*lib, "--crate-name", "sgt_sys", *find, "-l", "static=sgt", rust / "sgt-sys" / "src" / "lib.rs"])
+    run([*lib, "--crate-name", "sgt", *find, "--extern", "sgt_sys", rust / "src" / "lib.rs"])
+    for example, wanted in (("bank", STORY), ("threads", LEFT)):
+        program = room / f"{example}_rust"
+        run([*words, *find, "--extern", "sgt", "-o", program, rust / "examples" / f"{example}.rs"])
+        same(f"what {example} tells", wanted, run([program]))
     return None
 
 
 def tells_the_story_by_cargo(room):
     if not shutil.which("cargo"):
         return "left out: no cargo here"
-    env = dict(os.environ, CARGO_TARGET_DIR=str(room / "target"))
-    same("the story", STORY, run(["cargo", "run", "--offline", "--quiet", "--example", "bank"], env=env, cwd=BINDINGS / "rust"))
+    folder = room / "lib"
+    folder.mkdir()
+    shutil.copy(OUT / "libsgt.a", folder)
+    env = dict(os.environ, CARGO_TARGET_DIR=str(room / "target"), SGT_LIB_DIR=str(folder))
+    words = ["cargo", "run", "--offline", "--quiet", "--example"]
+    same("the story", STORY, run([*words, "bank"], env=env, cwd=BINDINGS / "rust"))
+    same("the money", LEFT, run([*words, "threads"], env=env, cwd=BINDINGS / "rust"))
+    os.utime(folder / "libsgt.a", (time.time() + 5, time.time() + 5))  # a library that has changed is linked anew
+    told = run(["cargo", "build", "--offline", "--verbose", "--example", "bank"], env=env, cwd=BINDINGS / "rust", also_errors=True)
+    same("that a changed library is seen", True, "Dirty sgt-sys" in told)
     return None
 
 
 def tells_the_story_in_python(_):
     env = dict(os.environ, PYTHONDONTWRITEBYTECODE="1")
     same("the story", STORY, run([sys.executable, BINDINGS / "python" / "bank.py"], env=env))
+    same("the money", LEFT, run([sys.executable, BINDINGS / "python" / "threads.py"], env=env))
+
+
+def is_a_wheel(room):
+    """A wheel, unpacked elsewhere, finds the library that it holds."""
+    run([BINDINGS / "build", "wheel", room / "wheels"])
+    wheel = next((room / "wheels").glob("*.whl"))
+    same("its name", f"sgt-{declared_version()}-py3-none-", wheel.name[: len(f"sgt-{declared_version()}-py3-none-")])
+    shutil.unpack_archive(wheel, room / "site", "zip")
+    shutil.copy(BINDINGS / "python" / "threads.py", room / "site")
+    env = {name: value for name, value in os.environ.items() if name != "SGT_LIBRARY"}
+    same("the money", LEFT, run([sys.executable, room / "site" / "threads.py"], env=env, cwd=room))
+    same("what says that it is typed", True, (room / "site" / "sgt" / "py.typed").exists())
+
+
+def programs_of(language, mark):
+    """The programs of the page in this language: its blocks with this mark in them."""
+    blocks = (TOP / "docs" / "LIBRARY.md").read_text().split(f"```{language}\n")[1:]
+    return [block.split("```")[0] for block in blocks if mark in block.split("```")[0]]
+
+
+def runs_the_programs_of_its_page(room):
+    """As a reader copies them, without warnings."""
+    told = []
+    for number, text in enumerate(programs_of("c", "int main(void)")):
+        source = room / f"page{number}.c"
+        source.write_text(text)
+        told.append(run([built(room, "cc", C_FLAGS, source)]))
+    env = dict(os.environ, PYTHONPATH=str(BINDINGS / "python"), PYTHONDONTWRITEBYTECODE="1")
+    told += [run([sys.executable, "-W", "error", "-c", text], env=env) for text in programs_of("python", "with ")]
+    same("what the programs tell", ["80000\n", "1500\n", "80000\n", "COMMITTED 1500\n"], told)
+    if not shutil.which("rustc") or not (room / "libsgt.rlib").exists():
+        return "but for those in Rust: no rustc here"
+    program = room / "page_rust"
+    words = ["rustc", "--edition", "2021", "-D", "warnings", "-L", f"native={OUT}", "-L", room, "--extern", "sgt", "-o", program]
+    for text in programs_of("rust", "fn main()"):
+        (room / "page.rs").write_text(text)
+        run([*words, room / "page.rs"])
+        same("what the program in Rust tells", "80000\n", run([program]))
+    return None
+
+
+def module():
+    """The package for Python."""
+    sys.path.insert(0, str(BINDINGS / "python"))
+    import sgt
+
+    return sgt
 
 
 def gives_each_reply_and_fault_its_text(_):
-    sys.path.insert(0, str(BINDINGS / "python"))
-    import sgt
-    from sgt import Cause, Kind, Reply
+    sgt = module()
+    Cause, Kind, Reply = sgt.Cause, sgt.Kind, sgt.Reply
 
     many = tuple(range(32))
     texts = [
@@ -219,8 +304,7 @@ def gives_each_reply_and_fault_its_text(_):
 
 
 def tells_why_nothing_is_added(_):
-    sys.path.insert(0, str(BINDINGS / "python"))
-    import sgt
+    sgt = module()
 
     procedures = [
         ("nope", "not JSON"),
@@ -247,9 +331,8 @@ def tells_why_nothing_is_added(_):
 
 
 def takes_no_number_for_another_transactions(_):
-    sys.path.insert(0, str(BINDINGS / "python"))
-    from sgt import Engine, Kind
-
+    sgt = module()
+    Engine, Kind = sgt.Engine, sgt.Kind
     with Engine(limits=(8, 100), accounts=[(1, 101, 500, 1000)]) as engine:
         tid = engine.start(0, 1).tid
         for number in (tid - 1, tid + 2**32, tid + 2**64):
@@ -258,22 +341,138 @@ def takes_no_number_for_another_transactions(_):
         same("the entries", 1, len(engine))
         same("a number that none has", Kind.UNKNOWN, engine.step(2**32 - 1).kind)
         same("its own", Kind.LOOKED, engine.step(tid).kind)
+        for place in (2**64, 2**64 + 1, -1):
+            same(f"the entry at {place}", "refused", refusal(lambda: engine.entry(place)))
+        same("a reserve of too many", "refused", refusal(lambda: engine.reserve(2**64)))
+        for table, number in ((258, 101), (2**32 + 2, 101), (2, 2**64 + 101)):
+            same(f"a read of {table}/{number}", "refused", refusal(lambda: engine.get(table, number)))
+        same("a start of procedure 65537", "refused", refusal(lambda: engine.start(65537, 1, 1)))
+
+
+def keeps_an_engine_whole(_):
+    """A copy is refused, so it can't close the original; an engine without history is true; one error is the base of all."""
+    sgt = module()
+    with sgt.Engine(limits=(8, 100)) as engine, sgt.SharedEngine(limits=(8, 100)) as shared:
+        for one in (engine, shared):
+            for how in (copy.copy, copy.deepcopy, pickle.dumps):
+                try:
+                    how(one)
+                except TypeError:
+                    continue
+                raise Differs(f"{how.__name__} of {one} was made")
+        same("an engine without history", True, bool(engine))
+        same("the rows", [], engine.rows())
+    for name in sgt.__all__:
+        error = getattr(sgt, name)
+        if isinstance(error, type) and issubclass(error, Exception):
+            same(f"that {name} is an Error", True, issubclass(error, sgt.Error))
+    same("the version", (declared_version(),) * 2, (sgt.version(), sgt.__version__))
+
+
+def puts_a_million_rows_soon(_):
+    """Before, it took some seven seconds."""
+    sgt = module()
+    rows = [(7, number, number) for number in range(1_000_000)]
+    with sgt.Engine(limits=(8, 100)) as engine:
+        began = time.process_time()
+        engine.put(rows)
+        took = time.process_time() - began
+        same("the last row", 999_999, engine.get(7, 999_999))
+        same("how many rows there are", 1_000_000, len(engine.rows()))
+    return f"{took:.1f} s of processor time"
+
+
+def mixes_no_threads_replies(_):
+    """Threads that share an engine, and a handler of a signal that calls it, are told each its own reply."""
+    sgt = module()
+    wrong, over = [], threading.Event()
+    with sgt.Engine(limits=(32, 4_000_000), accounts=[(n, 100 + n, n, 0) for n in range(8)]) as engine:
+
+        def asks(number):
+            while not over.is_set():
+                reply = engine.run(0, number)[1]
+                if reply.answers != (number,):
+                    wrong.append((number, reply))
+
+        threads = [threading.Thread(target=asks, args=(number,)) for number in range(4)]
+        switch = sys.getswitchinterval()
+        sys.setswitchinterval(1e-6)
+        before = signal.signal(signal.SIGALRM, lambda *_: engine.run(0, 7))
+        signal.setitimer(signal.ITIMER_REAL, 0.0005, 0.0005)
+        for thread in threads:
+            thread.start()
+        for _ in range(20_000):
+            reply = engine.run(0, 5)[1]
+            if reply.answers != (5,):
+                wrong.append((5, reply))
+        signal.setitimer(signal.ITIMER_REAL, 0)
+        signal.signal(signal.SIGALRM, before)
+        over.set()
+        for thread in threads:
+            thread.join()
+        sys.setswitchinterval(switch)
+        same("replies of others", [], wrong[:3])
+
+
+def waits_with_deadlines_in_python(_):
+    """A shared engine's deadlines, tickets and misuse, as Python tells them."""
+    sgt = module()
+    with sgt.SharedEngine(limits=(2, 100, 1), accounts=[(1, 101, 500, 1000)]) as bank:
+        writer = bank.transaction(1, 1, 100)
+        for _ in range(3):
+            writer.step()
+        for call in (lambda: bank.run(0, 1, timeout=0.01), lambda: bank.cut(0.01)):
+            same("a call that has to wait", "timed out", what(sgt.TimedOut, call, "timed out"))
+        with bank.transaction(0, 1) as reader:
+            while reader.step().kind is not sgt.Kind.ENDED:
+                pass
+            same("a third start", "timed out", what(sgt.TimedOut, lambda: bank.transaction(0, 1, timeout=0.01), "timed out"))
+            same("a commit", "timed out", what(sgt.TimedOut, lambda: reader.commit(0.01), "timed out"))
+            began = time.monotonic()
+            threading.Timer(0.05, writer.commit).start()
+            same("its answers", (1600,), reader.commit(5).answers)
+            same("that it waited", True, 0.04 < time.monotonic() - began < 4)
+        same("who is live", [], bank.live())
+        same("a refused start", "no procedure", what(sgt.NotStarted, lambda: bank.transaction(99), "no procedure"))
+        bank.cut()
+        same("an old ticket", "stale", what(sgt.Stale, writer.step, "stale"))
+        with sgt.SharedEngine(limits=(2, 100)) as other:
+            same("a strange ticket", "misuse", what(sgt.Misuse, lambda: other.quit(writer.ticket), "misuse"))
+        waiting = bank.transaction(1, 1, 1)
+        cutter = threading.Thread(target=lambda: what(sgt.TimedOut, lambda: bank.cut(0.3), ""))
+        cutter.start()
+        time.sleep(0.05)
+        same("a close while a call is under way", "busy", what(sgt.Busy, bank.close, "busy"))
+        cutter.join()
+        waiting.quit()
+    same("a closed engine", "refused", refusal(lambda: bank.get(2, 101)))
+
+
+def what(error, call, told):
+    """What is told of a call: that it raised this error, or what it gave."""
+    try:
+        return call()
+    except error:
+        return told
 
 
 def refusal(call):
     """Whether the call is refused, as a word or by what it gives."""
     try:
         return call()
-    except ValueError:
+    except (ValueError, IndexError):
         return "refused"
 
 
 CASES = [
     makes_the_library,
+    has_one_version,
     installs,
+    is_found_by_pkg_config,
+    is_found_by_cmake,
     tells_the_story_in_c,
     transfers_side_by_side,
-    counts_the_money_of_four_threads,
+    counts_the_money_of_eight_threads,
     tells_the_status_of_each_call,
     goes_on_where_each_allocation_is_refused,
     is_clean_under_sanitizers,
@@ -281,9 +480,15 @@ CASES = [
     tells_the_story_in_rust,
     tells_the_story_by_cargo,
     tells_the_story_in_python,
+    is_a_wheel,
+    runs_the_programs_of_its_page,
     gives_each_reply_and_fault_its_text,
     tells_why_nothing_is_added,
     takes_no_number_for_another_transactions,
+    keeps_an_engine_whole,
+    puts_a_million_rows_soon,
+    mixes_no_threads_replies,
+    waits_with_deadlines_in_python,
 ]
 
 

@@ -1,86 +1,91 @@
-/* Four threads on one engine under one mutex: 80,000 deposits of 1, and the money is counted. */
+/*
+ * Eight threads pay each other on one shared engine, and the money is counted.
+ *
+ *     cc -Ibindings -Ibindings/c bindings/c/threads.c bindings/out/libsgt.a -pthread
+ */
 #include <inttypes.h>
 #include <pthread.h>
-#include <stdbool.h>
 #include <stdio.h>
+#include <stdlib.h>
 #include <string.h>
 
-#include "sgt.h"
+#include "sgt_shared.h"
 
-enum { THREADS = 4, EACH = 20000 };
+enum { THREADS = 8, EACH = 10000, ACCOUNTS = 4, PAY = 5 };
 
-static const char opening[] = "{\"limits\":[8,4000000],\"accounts\":[[1,101,0,0],[2,102,0,0]],\"procedures\":[]}";
-static sgt_engine engine;
-static pthread_mutex_t lock = PTHREAD_MUTEX_INITIALIZER;
-static pthread_cond_t ended = PTHREAD_COND_INITIALIZER;
+/*
+ * Four customers, 101 to 104, with a checking of 1000 each. PAY is the first procedure behind SmallBank's five: from a customer, to a
+ * customer, so much. It raises 6 if there is no such customer, and 7 if the money does not suffice.
+ */
+static const char opening[] =
+    "{\"limits\":[8,4000000,1],"
+    "\"accounts\":[[1,101,0,1000],[2,102,0,1000],[3,103,0,1000],[4,104,0,1000]],"
+    "\"procedures\":[[3,["
+    "[\"look\",0,2,[\"arg\",0],6],"
+    "[\"if\",[\"less\",[\"reg\",0],[\"arg\",2]],[[\"ask\",7]],[]],"
+    "[\"put\",2,[\"arg\",0],[\"diff\",[\"reg\",0],[\"arg\",2]]],"
+    "[\"look\",1,2,[\"arg\",1],6],"
+    "[\"put\",2,[\"arg\",1],[\"sum\",[\"reg\",1],[\"arg\",2]]]"
+    "]]]}";
 
-/* Whether the reply ends a live transaction. A commit that waits may go on after each such end, and after no other reply. */
-static bool ends_one(const sgt_reply *reply)
+struct teller {
+    pthread_t id;
+    sgt_shared *bank;
+    unsigned number;
+    int paid, refused;
+    uint32_t status; /* of the first call that was not carried out */
+};
+
+/* One payment. If it is not SGT_OK no money has moved, so the caller may make it again or give it up. */
+static uint32_t pay(struct teller *it, int64_t from, int64_t to, int64_t amount)
 {
-    return reply->kind == SGT_COMMITTED || reply->kind == SGT_ABORTED || reply->kind == SGT_REFUSED;
+    const int64_t args[] = {from, to, amount};
+    sgt_shared_outcome outcome = SGT_SHARED_OUTCOME;
+    uint32_t status = sgt_shared_run(it->bank, PAY, args, 3, 0, &outcome);
+    if (status != SGT_OK) return status;
+    if (outcome.reply.kind == SGT_COMMITTED) it->paid++;
+    else it->refused++; /* SGT_REFUSED, and outcome.reply.code says why */
+    return SGT_OK;
 }
 
-/* One event. The caller holds the lock. Each end of a transaction wakes all that wait for one. */
-static void ask(uint32_t (*event)(sgt_engine *, uint32_t, sgt_reply *), uint32_t tid, sgt_reply *reply)
+static void *work(void *of)
 {
-    if (event(&engine, tid, reply) != SGT_OK) reply->kind = 0;
-    if (ends_one(reply)) pthread_cond_broadcast(&ended);
-}
-
-/* One deposit, which is given up where it is aborted. Between two of its events other threads make theirs. */
-static int deposit(int64_t account)
-{
-    sgt_reply reply = {0};
-    const int64_t args[] = {account, 1};
-    pthread_mutex_lock(&lock);
-    if (sgt_start(&engine, 1, args, 2, &reply) != SGT_OK) reply.kind = 0;
-    pthread_mutex_unlock(&lock);
-    if (reply.kind != SGT_STARTED) return 0;
-    uint32_t tid = reply.tid;
-    do {
-        pthread_mutex_lock(&lock);
-        ask(sgt_step, tid, &reply);
-        pthread_mutex_unlock(&lock);
-    } while (reply.kind == SGT_LOOKED || reply.kind == SGT_WROTE);
-    if (reply.kind != SGT_ENDED) return 0;
-    pthread_mutex_lock(&lock);
-    ask(sgt_commit, tid, &reply);
-    while (reply.kind == SGT_WAITS) {
-        pthread_cond_wait(&ended, &lock);
-        ask(sgt_commit, tid, &reply);
+    struct teller *it = of;
+    for (unsigned made = 0; made < EACH && it->status == SGT_OK; made++) {
+        unsigned from = (it->number + made) % ACCOUNTS, to = (it->number + 3 * made + 1) % ACCOUNTS;
+        it->status = pay(it, 101 + from, 101 + to, made % 500);
     }
-    pthread_mutex_unlock(&lock);
-    return reply.kind == SGT_COMMITTED;
-}
-
-static void *work(void *account)
-{
-    intptr_t committed = 0;
-    for (int made = 0; made < EACH; made++) {
-        while (!deposit(*(const int64_t *)account)) {}
-        committed++;
-    }
-    return (void *)committed;
+    return 0;
 }
 
 int main(void)
 {
+    static struct teller tellers[THREADS];
+    sgt_shared *bank = 0;
     sgt_fault fault = {0};
-    static const int64_t accounts[] = {1, 2};
-    pthread_t threads[THREADS];
-    int64_t committed = 0, first = 0, second = 0;
-    if (sgt_open(&engine, (const uint8_t *)opening, strlen(opening), &fault) != SGT_OK) return 1;
-    for (int i = 0; i < THREADS; i++) {
-        if (pthread_create(&threads[i], 0, work, (void *)&accounts[i % 2]) != 0) return 1;
+    sgt_shared_config config = SGT_SHARED_CONFIG;
+    int64_t money = 0;
+    int calls = 0;
+    config.cut_after = 100000; /* entries of the history, 72 bytes each */
+    uint32_t status = sgt_shared_open(&bank, (const uint8_t *)opening, strlen(opening), 0, 0, &config, &fault);
+    if (status != SGT_OK) {
+        fprintf(stderr, "%s\n", sgt_status_text(status));
+        return 1;
     }
-    for (int i = 0; i < THREADS; i++) {
-        void *did;
-        pthread_join(threads[i], &did);
-        committed += (intptr_t)did;
+    for (unsigned i = 0; i < THREADS; i++) {
+        tellers[i] = (struct teller){.bank = bank, .number = i};
+        if (pthread_create(&tellers[i].id, 0, work, &tellers[i]) != 0) return 1;
     }
-    sgt_get(&engine, 2, 101, &first);
-    sgt_get(&engine, 2, 102, &second);
-    printf("%" PRId64 " committed, %" PRId64 " deposited\n", committed, first + second);
-    sgt_close(&engine);
-    return 0;
+    for (unsigned i = 0; i < THREADS; i++) {
+        pthread_join(tellers[i].id, 0);
+        if (tellers[i].status != SGT_OK) fprintf(stderr, "%s\n", sgt_status_text(tellers[i].status));
+        calls += tellers[i].paid + tellers[i].refused;
+    }
+    for (int64_t customer = 101; customer <= 104; customer++) {
+        int64_t checking = 0;
+        if (sgt_shared_get(bank, 2, customer, &checking) != SGT_OK) return 1;
+        money += checking;
+    }
+    printf("%d calls, %" PRId64 " of 4000\n", calls, money);
+    return sgt_shared_close(&bank) == SGT_OK ? 0 : 1;
 }

@@ -31,6 +31,8 @@ int main()
     std::cout << "entry 8: " << (entry.event.kind == SGT_COMMIT ? "commit" : "other") << " of " << entry.event.tid << ", ";
     show(entry.reply);
     if (engine.entry(11)) return 1;
+    auto calls = engine.calls(0, 9).value();
+    if (calls.first.size() != 2 || calls.first[1].answer[0] != 1600 || calls.second != 11 || engine.calls(12, 9)) return 1;
     auto rows = engine.rows();
     for (const auto &row : rows) std::cout << row.table << '/' << row.number << ' ' << row.value << '\n';
     rows.back().value = 7; // an engine that goes on from these rows, but for one
@@ -59,6 +61,10 @@ int main()
     } catch (const sgt::Taken &why) {
         std::cout << "row " << why.at << " taken\n";
     }
+    sgt::Engine bare = sgt::Engine::bare(8, 100);
+    if (again.records() != 4 || again.part() != 1 || bare.records() != 0 || bare.procedure(R"([0,[["put",7,1,2]]])") != 0) return 1;
+    auto many = bare.run_many({{0, 0, 0, 0, 0, 0, {}, {}}, {0, 0, 9, 0, 0, 0, {}, {}}});
+    if (many.size() != 2 || many[0].reply.kind != SGT_COMMITTED || many[1].reply.kind != SGT_NO_PROCEDURE) return 1;
     std::uint16_t number = again.procedure(R"([1,[["look",0,7,["arg",0],5],["answer",["reg",0]]]])");
     std::cout << "procedure " << number << ": ";
     show(again.run(number, {1}).reply);

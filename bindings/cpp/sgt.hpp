@@ -1,17 +1,25 @@
-// sgt for C++: `sgt::Engine`, which closes itself and cannot be copied. See sgt.h for what calls do.
+// sgt for C++: `sgt::SharedEngine` for many threads, and `sgt::Engine` for one. Both close themselves. See sgt_shared.h and sgt.h
+// for what calls do.
 #ifndef SGT_HPP
 #define SGT_HPP
 
+#include <chrono>
+#include <cstddef>
 #include <cstdint>
+#include <functional>
 #include <initializer_list>
+#include <iterator>
+#include <memory>
 #include <new>
 #include <optional>
 #include <stdexcept>
 #include <string>
 #include <string_view>
+#include <utility>
 #include <vector>
 
 #include "sgt.h"
+#include "sgt_shared.h"
 
 namespace sgt {
 
@@ -78,13 +86,26 @@ struct Entry {
     sgt_reply reply;
 };
 
+// What `SharedEngine` throws if the deadline came first.
+class TimedOut : public std::runtime_error {
+public:
+    TimedOut() : std::runtime_error("sgt: the deadline came") {}
+};
+
+// What `SharedEngine` throws if a ticket's transaction is of a part of the history that was cut off.
+class Stale : public std::runtime_error {
+public:
+    Stale() : std::runtime_error("sgt: the transaction is of a part of the history that was cut off") {}
+};
+
 // What a run was answered: the last reply, and the number of its transaction, if one was started.
 struct Ran {
     std::optional<std::uint32_t> tid;
     sgt_reply reply;
 };
 
-// An engine. Want of memory is std::bad_alloc, and has changed nothing; too many arguments are std::invalid_argument.
+// An engine for one thread at a time. If memory is short a call throws std::bad_alloc: then nothing has changed, but that a run may
+// have started its transaction and quit it. Too many arguments are std::invalid_argument.
 class Engine {
 public:
     explicit Engine(std::string_view opening) : Engine(opening, {}) {}
@@ -102,12 +123,18 @@ public:
         check(status);
     }
 
+    // With no records and no procedures, also none of SmallBank's; std::invalid_argument where a limit is out of its range.
+    static Engine bare(std::uint64_t live, std::uint64_t begins, bool asks = true)
+    {
+        return Engine(live, begins, asks);
+    }
+
     ~Engine() { sgt_close(&engine); }
 
     Engine(const Engine &) = delete;
     Engine &operator=(const Engine &) = delete;
 
-    sgt_reply start(std::uint16_t procedure, std::initializer_list<std::int64_t> args)
+    sgt_reply start(std::uint64_t procedure, std::initializer_list<std::int64_t> args)
     {
         sgt_reply reply{};
         static const std::int64_t none = 0;
@@ -139,7 +166,7 @@ public:
     }
 
     // Runs a procedure from its start to its commit.
-    Ran run(std::uint16_t procedure, std::initializer_list<std::int64_t> args)
+    Ran run(std::uint64_t procedure, std::initializer_list<std::int64_t> args)
     {
         sgt_reply reply{};
         static const std::int64_t none = 0;
@@ -149,12 +176,25 @@ public:
         return {tid == no_tid ? std::nullopt : std::optional(tid), reply};
     }
 
+    // Runs these calls one after another, each as `run` does; of each, `procedure`, `args` and `arg` count. There are fewer outcomes
+    // than calls where memory was short: then the calls behind them have not run.
+    [[nodiscard]] std::vector<sgt_outcome> run_many(const std::vector<sgt_call> &calls)
+    {
+        static const sgt_call none{};
+        std::vector<sgt_outcome> outcomes(calls.size() + 1);
+        std::uint64_t done = 0;
+        auto status = sgt_run_many(&engine, calls.empty() ? &none : calls.data(), calls.size(), outcomes.data(), calls.size(), &done);
+        if (status != SGT_NO_MEMORY) check(status);
+        outcomes.resize(done);
+        return outcomes;
+    }
+
     sgt_reply step(std::uint32_t tid) { return ask(sgt_step, tid); }
     sgt_reply commit(std::uint32_t tid) { return ask(sgt_commit, tid); }
     sgt_reply quit(std::uint32_t tid) { return ask(sgt_quit, tid); }
 
     // The committed value, or none where there is no such record.
-    std::optional<std::int64_t> get(std::uint8_t table, std::int64_t number)
+    std::optional<std::int64_t> get(std::uint64_t table, std::int64_t number)
     {
         std::int64_t value = 0;
         auto status = sgt_get(&engine, table, number, &value);
@@ -164,7 +204,7 @@ public:
     }
 
     // The committed database from a record on, by table and then by number.
-    std::vector<sgt_row> rows(std::uint8_t table = 0, std::int64_t number = SGT_LEAST)
+    std::vector<sgt_row> rows(std::uint64_t table = 0, std::int64_t number = SGT_LEAST)
     {
         sgt_row none{};
         std::uint64_t count = 0;
@@ -172,6 +212,22 @@ public:
         std::vector<sgt_row> rows(count);
         if (count) check(sgt_rows(&engine, table, number, rows.data(), rows.size(), &count));
         return rows;
+    }
+
+    // How many records the committed database has.
+    std::uint64_t records()
+    {
+        std::uint64_t count = 0;
+        check(sgt_records(&engine, &count));
+        return count;
+    }
+
+    // How many cuts there were. With it a transaction's number is never another's.
+    std::uint64_t part()
+    {
+        std::uint64_t part = 0;
+        check(sgt_part(&engine, &part));
+        return part;
     }
 
     std::uint64_t entries()
@@ -191,6 +247,19 @@ public:
         return entry;
     }
 
+    // At most so many of the committed and refused calls, in reply order, that the history has from a place on, and the place to go on
+    // from; none where there are not so many entries. Run one after another, these calls give the same answers.
+    std::optional<std::pair<std::vector<sgt_call>, std::uint64_t>> calls(std::uint64_t from, std::size_t most)
+    {
+        std::vector<sgt_call> calls(most ? most : 1);
+        std::uint64_t count = 0, next = 0;
+        auto status = sgt_calls(&engine, from, calls.data(), most, &count, &next);
+        if (status == SGT_NONE) return std::nullopt;
+        check(status);
+        calls.resize(count);
+        return std::pair(calls, next);
+    }
+
     // Takes memory for so many more entries.
     void reserve(std::uint64_t entries) { check(sgt_reserve(&engine, entries)); }
 
@@ -206,6 +275,13 @@ public:
 private:
     sgt_engine engine{};
 
+    Engine(std::uint64_t live, std::uint64_t begins, bool asks)
+    {
+        auto status = sgt_open_bare(&engine, live, begins, asks);
+        if (status == SGT_BAD_LIMITS) throw std::invalid_argument("sgt: bad limits");
+        check(status);
+    }
+
     static void check(std::uint32_t status)
     {
         if (status == SGT_OK) return;
@@ -213,7 +289,7 @@ private:
         if (status == SGT_BAD_CALL) throw std::invalid_argument("sgt: a number is out of its range");
         if (status == SGT_BEGUN) throw Begun();
         if (status == SGT_TOO_MANY) throw std::length_error("sgt: no number is left for a procedure");
-        throw std::logic_error("sgt: the engine is closed");
+        throw std::logic_error(std::string("sgt: ") + sgt_status_text(status));
     }
 
     sgt_reply ask(std::uint32_t (*event)(sgt_engine *, std::uint32_t, sgt_reply *), std::uint32_t tid)
@@ -223,6 +299,262 @@ private:
         return reply;
     }
 };
+
+// How long a call may wait: for ever, or so long.
+using Wait = std::optional<std::chrono::nanoseconds>;
+
+// What a shared engine is to do beside its calls: see sgt_shared_config. A hook that throws ends the program.
+struct Configuration {
+    std::function<void(const sgt_ended &)> ended;
+    std::function<void(sgt_engine *, std::uint64_t part)> cutting;
+    bool keeps_ended = false;
+    std::uint64_t cut_after = 0;
+    std::chrono::nanoseconds cut_wait{0};
+};
+
+// How often a run is tried, and how long it may wait: see sgt_run_options.
+struct Limits {
+    Wait wait = std::nullopt;
+    std::uint32_t tries = 0;
+};
+
+class SharedEngine;
+
+// A live transaction of a shared engine. Its end quits it, unless it has ended before. It must not outlive the engine.
+class [[nodiscard]] Transaction {
+public:
+    Transaction(Transaction &&other) noexcept
+        : shared(std::exchange(other.shared, nullptr)), of(other.of)
+    {
+    }
+
+    Transaction &operator=(Transaction &&other) noexcept
+    {
+        std::swap(shared, other.shared);
+        std::swap(of, other.of);
+        return *this;
+    }
+
+    Transaction(const Transaction &) = delete;
+    Transaction &operator=(const Transaction &) = delete;
+
+    ~Transaction()
+    {
+        sgt_reply reply{};
+        if (shared) sgt_shared_quit(shared, &of, &reply);
+    }
+
+    [[nodiscard]] const sgt_ticket &ticket() const { return of; }
+
+    // Lets it make its next access.
+    [[nodiscard]] sgt_reply step()
+    {
+        sgt_reply reply{};
+        return told(sgt_shared_step(shared, &of, &reply), reply);
+    }
+
+    // Commits it, and waits for others where it has to; TimedOut, and then it is still live.
+    [[nodiscard]] sgt_reply commit(Wait wait = std::nullopt);
+
+    // Quits it.
+    sgt_reply quit()
+    {
+        sgt_reply reply{};
+        return told(sgt_shared_quit(shared, &of, &reply), reply);
+    }
+
+private:
+    friend class SharedEngine;
+
+    Transaction(sgt_shared *shared, const sgt_ticket &of) : shared(shared), of(of) {}
+
+    sgt_reply told(std::uint32_t status, const sgt_reply &reply);
+
+    sgt_shared *shared; // null once it has ended
+    sgt_ticket of;
+};
+
+// An engine for many threads: each of its calls may be made by any thread at any time. It is moved and closed by one thread, while no
+// other one uses it.
+class SharedEngine {
+public:
+    explicit SharedEngine(std::string_view opening, const std::vector<sgt_row> &rows = {}, Configuration with = {})
+        : hooks(std::make_unique<Configuration>(std::move(with)))
+    {
+        static const std::uint8_t none = 0;
+        sgt_fault fault{};
+        sgt_shared_config config{};
+        config.size = sizeof config;
+        config.context = hooks.get();
+        if (hooks->ended) config.ended = tell_ended;
+        if (hooks->cutting) config.cutting = tell_cutting;
+        config.keeps_ended = hooks->keeps_ended;
+        config.cut_after = hooks->cut_after;
+        config.cut_wait_ns = hooks->cut_wait.count();
+        auto bytes = reinterpret_cast<const std::uint8_t *>(opening.data());
+        auto status = sgt_shared_open(&shared, bytes ? bytes : &none, opening.size(), rows.data(), rows.size(), &config, &fault);
+        if (status >= SGT_NOT_JSON) throw Refused(fault);
+        check(status);
+    }
+
+    ~SharedEngine() { sgt_shared_close(&shared); }
+
+    SharedEngine(SharedEngine &&other) noexcept : hooks(std::move(other.hooks)), shared(std::exchange(other.shared, nullptr)) {}
+
+    SharedEngine &operator=(SharedEngine &&other) noexcept
+    {
+        std::swap(hooks, other.hooks);
+        std::swap(shared, other.shared);
+        return *this;
+    }
+
+    // Runs a procedure from its start to its commit, with a list of arguments or a range of them.
+    [[nodiscard]] sgt_shared_outcome run(std::uint64_t procedure, std::initializer_list<std::int64_t> args, Limits limits = {})
+    {
+        return run_with(procedure, args.begin(), args.size(), limits);
+    }
+
+    template <typename Args> [[nodiscard]] sgt_shared_outcome run(std::uint64_t procedure, const Args &args, Limits limits = {})
+    {
+        return run_with(procedure, std::data(args), std::size(args), limits);
+    }
+
+    // Starts a transaction: it, or the reply to a start that is refused.
+    [[nodiscard]] std::pair<std::optional<Transaction>, sgt_reply> start(std::uint64_t procedure,
+                                                                         std::initializer_list<std::int64_t> args,
+                                                                         Wait wait = std::nullopt)
+    {
+        return start_with(procedure, args.begin(), args.size(), wait);
+    }
+
+    template <typename Args>
+    [[nodiscard]] std::pair<std::optional<Transaction>, sgt_reply> start(std::uint64_t procedure, const Args &args,
+                                                                         Wait wait = std::nullopt)
+    {
+        return start_with(procedure, std::data(args), std::size(args), wait);
+    }
+
+    // Quits the transaction of a ticket, as `live` and the hooks tell it.
+    sgt_reply quit(const sgt_ticket &ticket)
+    {
+        sgt_reply reply{};
+        check(sgt_shared_quit(shared, &ticket, &reply));
+        return reply;
+    }
+
+    // Who is live.
+    [[nodiscard]] std::vector<sgt_live> live()
+    {
+        std::vector<sgt_live> rows(32); // no more are ever live
+        std::uint64_t count = 0;
+        check(sgt_shared_live(shared, rows.data(), rows.size(), &count));
+        rows.resize(count);
+        return rows;
+    }
+
+    // Cuts the history off when nobody is live; new transactions wait meanwhile.
+    void cut(Wait wait = std::nullopt) { check(sgt_shared_cut(shared, nanoseconds(wait))); }
+
+    // The committed value, or none if there is no such record.
+    [[nodiscard]] std::optional<std::int64_t> get(std::uint64_t table, std::int64_t number)
+    {
+        std::int64_t value = 0;
+        auto status = sgt_shared_get(shared, table, number, &value);
+        if (status == SGT_NONE) return std::nullopt;
+        check(status);
+        return value;
+    }
+
+    // The committed database from a record on. Others may go on between the two calls, so it asks until the room suffices.
+    [[nodiscard]] std::vector<sgt_row> rows(std::uint64_t table = 0, std::int64_t number = SGT_LEAST)
+    {
+        std::vector<sgt_row> rows;
+        std::uint64_t count = 0;
+        do {
+            rows.resize(count);
+            check(sgt_shared_rows(shared, table, number, rows.data(), rows.size(), &count));
+        } while (count > rows.size());
+        rows.resize(count);
+        return rows;
+    }
+
+    // How many entries the history has since the last cut.
+    [[nodiscard]] std::uint64_t entries()
+    {
+        std::uint64_t count = 0;
+        check(sgt_shared_entries(shared, &count, nullptr));
+        return count;
+    }
+
+    // Takes at most so many of the stored calls; none if none comes in time.
+    [[nodiscard]] std::vector<sgt_ended> drain(std::size_t most, Wait wait = std::nullopt)
+    {
+        std::vector<sgt_ended> calls(most);
+        std::uint64_t count = 0;
+        check(sgt_shared_drain(shared, nanoseconds(wait), calls.data(), calls.size(), &count));
+        calls.resize(count);
+        return calls;
+    }
+
+    static std::int64_t nanoseconds(Wait wait) { return wait ? std::int64_t{wait->count()} : SGT_FOREVER; }
+
+    static void check(std::uint32_t status)
+    {
+        if (status == SGT_OK) return;
+        if (status == SGT_NO_MEMORY) throw std::bad_alloc();
+        if (status == SGT_TIMED_OUT) throw TimedOut();
+        if (status == SGT_STALE) throw Stale();
+        if (status == SGT_BAD_CALL) throw std::invalid_argument("sgt: an argument of the call is out of its range");
+        throw std::logic_error(std::string("sgt: ") + sgt_status_text(status));
+    }
+
+private:
+    std::unique_ptr<Configuration> hooks; // at an address of its own, which the library is given
+    sgt_shared *shared = nullptr;
+
+    static void tell_ended(void *context, const sgt_ended *call) noexcept { static_cast<Configuration *>(context)->ended(*call); }
+
+    static void tell_cutting(void *context, sgt_engine *engine, std::uint64_t part) noexcept
+    {
+        static_cast<Configuration *>(context)->cutting(engine, part);
+    }
+
+    sgt_shared_outcome run_with(std::uint64_t procedure, const std::int64_t *args, std::size_t count, Limits limits)
+    {
+        sgt_shared_outcome outcome{};
+        sgt_run_options options{};
+        outcome.size = sizeof outcome;
+        options.size = sizeof options;
+        options.wait_ns = nanoseconds(limits.wait);
+        options.tries = limits.tries;
+        check(sgt_shared_run(shared, procedure, args, count, &options, &outcome));
+        return outcome;
+    }
+
+    std::pair<std::optional<Transaction>, sgt_reply> start_with(std::uint64_t procedure, const std::int64_t *args, std::size_t count,
+                                                                Wait wait)
+    {
+        sgt_ticket ticket{};
+        sgt_reply reply{};
+        check(sgt_shared_start(shared, procedure, args, count, nanoseconds(wait), &ticket, &reply));
+        if (reply.kind != SGT_STARTED) return {std::nullopt, reply};
+        return {Transaction(shared, ticket), reply};
+    }
+};
+
+inline sgt_reply Transaction::commit(Wait wait)
+{
+    sgt_reply reply{};
+    return told(sgt_shared_commit(shared, &of, SharedEngine::nanoseconds(wait), &reply), reply);
+}
+
+inline sgt_reply Transaction::told(std::uint32_t status, const sgt_reply &reply)
+{
+    SharedEngine::check(status);
+    bool ends = reply.kind == SGT_COMMITTED || reply.kind == SGT_ABORTED || reply.kind == SGT_REFUSED || reply.kind == SGT_OVER;
+    if (ends) shared = nullptr;
+    return reply;
+}
 
 } // namespace sgt
 

@@ -36,6 +36,8 @@ with Engine(limits=(8, 100), accounts=[(1, 101, 500, 1000)]) as engine:
     print(f"entry 8: commit of {event.tid}, ", end="")
     show(reply)
     assert engine.entry(0)[0].args == (1, 100)
+    calls, after = engine.calls()
+    assert after == len(engine) and [call.answers for call in calls] == [(1100,), (1600,)], calls
     for args in ((1, 2, 3, 4, 5), (1, 2**63)):
         try:
             engine.start(1, *args)
@@ -82,6 +84,16 @@ with Engine(limits=(8, 100), rows=rows) as again:
         raise SystemExit("a procedure with a flaw was added")
     except ProcedureRefused as why:
         assert str(why) == "procedure 5 flaw 8", why
+    assert (again.records(), again.part()) == (4, 1)
+    with Engine.bare(8, 100) as bare:
+        assert (bare.records(), bare.procedure([0, [["put", 7, 1, 2]]]), bare.run(0)[0]) == (0, 0, 0)
+        ran = bare.run_many([(0,), (9,)])
+        assert [(tid, reply.kind) for tid, reply in ran] == [(1, Kind.COMMITTED), (None, Kind.NO_PROCEDURE)], ran
+    try:
+        Engine.bare(33, 100)
+        raise SystemExit("an engine was opened with too many live")
+    except OpeningRefused as why:
+        assert str(why) == "bad limits", why
     number = again.procedure([1, [["look", 0, 7, ["arg", 0], 5], ["answer", ["reg", 0]]]])
     print(f"procedure {number}: ", end="")
     show(again.run(number, 1)[1])

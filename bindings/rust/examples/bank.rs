@@ -33,6 +33,10 @@ fn main() -> Result<(), Error> {
         show(reply);
     }
     assert_eq!(engine.entry(11), None);
+    let (calls, next) = engine.calls(0, 9)?.expect("there is a history");
+    assert_eq!((calls.len(), next), (2, engine.entries()));
+    assert_eq!((calls[1].procedure, &calls[1].args, &calls[1].told), (0, &vec![1], &Ok(vec![1600])));
+    assert_eq!(engine.calls(next + 1, 9)?, None);
     let mut rows = engine.rows(0, LEAST)?;
     for Row { table, number, value } in &rows {
         println!("{table}/{number} {value}");
@@ -59,6 +63,13 @@ fn main() -> Result<(), Error> {
     if let Err(Error::Taken(at)) = again.put(&own) {
         println!("row {at} taken");
     }
+    assert_eq!((again.records(), again.part()), (Ok(4), 1));
+    let mut bare = Engine::open_bare(8, 100, true)?;
+    assert_eq!((bare.records()?, bare.procedure(r#"[0,[["put",7,1,2]]]"#)?, bare.run(0, &[])?.0), (0, 0, Some(0)));
+    let ran = bare.run_many(&[(0, vec![]), (9, vec![])]).map_err(|(_, error)| error)?;
+    assert_eq!(ran, [(Some(1), Reply::Committed(vec![])), (None, Reply::NoProcedure)]);
+    assert_eq!(bare.run_many(&[(0, vec![0; 5])]), Err((vec![], Error::BadCall)));
+    assert_eq!(Engine::open_bare(33, 100, true).err(), Some(Error::Opening(Fault::BadLimits)));
     let flaw = again.procedure(r#"[0,[["ask",0]]]"#);
     assert_eq!(flaw, Err(Error::Opening(Fault::ProcFlaw(5, 8))));
     let number = again.procedure(r#"[1,[["look",0,7,["arg",0],5],["answer",["reg",0]]]]"#)?;
@@ -72,6 +83,8 @@ fn main() -> Result<(), Error> {
     }
     let aborted = Reply::Aborted { cause: Cause::Cycle(vec![1, 2]), fell: vec![3] };
     assert_eq!(aborted.to_string(), "aborted cycle 1 2 fell 3");
+    let none = Reply::Wrote { table: 8, number: 0, value: 0 }; // no such table: the library has no line for it
+    assert_eq!(none.to_string(), format!("{none:?}"));
     let refused = Engine::open(r#"{"limits":[99,1],"accounts":[],"procedures":[]}"#);
     assert_eq!(refused.err(), Some(Error::Opening(Fault::BadLimits)));
     let engine = std::sync::Mutex::new(engine);

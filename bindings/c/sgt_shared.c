@@ -1,0 +1,645 @@
+/* See sgt_shared.h. Every call enters, holds the lock while it works, releases it where it rests, and leaves. */
+#define _POSIX_C_SOURCE 200809L
+#include <pthread.h>
+#include <stdatomic.h>
+#include <stdbool.h>
+#include <stdlib.h>
+#include <string.h>
+#include <time.h>
+
+#include "sgt_shared.h"
+
+enum { MOST_LIVE = 32, MOST_ARGS = 4, MOST_PROCEDURE = 65535 };
+
+static const uint32_t NO_TID = UINT32_MAX; /* the limits never allow this number */
+static const int64_t SECOND = 1000000000;
+
+/* A call of a procedure. */
+struct call {
+    uint32_t procedure;
+    uint32_t count;
+    int64_t args[MOST_ARGS];
+};
+
+/* A transaction that is live between two calls to the engine. */
+struct live {
+    uint32_t tid;
+    uint32_t procedure;
+    bool waits;
+    int64_t since;
+};
+
+/* The calls that ended and were not drained yet: `count` of them, from `first` on. */
+struct queue {
+    sgt_ended *at;
+    size_t first, count, room;
+};
+
+struct sgt_shared {
+    pthread_mutex_t lock;
+    pthread_cond_t changed;      /* a transaction has ended, or a cut is over */
+    pthread_cond_t queued;       /* a call can be drained */
+    atomic_uint inside;          /* threads that are in a call */
+    unsigned forks;              /* how many forks this process comes from, as of the opening */
+    sgt_engine engine;
+    sgt_shared_config config;
+    uint64_t number;             /* of this engine, in its tickets */
+    uint64_t part;               /* cuts so far, as sgt_part tells */
+    uint64_t sequence;           /* calls that were committed or refused so far */
+    uint64_t read;               /* the place of the history up to which these were handed on */
+    uint64_t ends;               /* transactions that have ended so far, runs included */
+    struct live live[MOST_LIVE]; /* by rising numbers */
+    uint32_t lives;
+    uint32_t most;               /* how many the limits allow, as SGT_FULL has told it */
+    uint32_t committing;         /* threads that wait for a commit and have yet to be told how it ended */
+    uint32_t cutters;            /* threads that wait for a cut */
+    uint64_t cut_at;             /* so many entries make a cut due */
+    bool pauses;                 /* starts wait for a cut that is due, until `pause` */
+    struct timespec pause;
+    struct queue queue;
+};
+
+/* The engines in whose hooks this thread is, the innermost first. */
+struct hook {
+    const sgt_shared *shared;
+    const struct hook *outer;
+};
+
+static _Thread_local const struct hook *hooks;
+static atomic_uint forks;
+static atomic_uint_fast64_t opened;
+
+/* Time */
+
+struct deadline {
+    bool never;
+    struct timespec at;
+};
+
+static int64_t now(void)
+{
+    struct timespec at;
+    clock_gettime(CLOCK_MONOTONIC, &at);
+    return (int64_t)at.tv_sec * SECOND + at.tv_nsec;
+}
+
+static struct timespec in_ns(int64_t ns)
+{
+    struct timespec at;
+    clock_gettime(CLOCK_MONOTONIC, &at);
+    if (ns <= 0) return at;
+    at.tv_sec += (time_t)(ns / SECOND);
+    at.tv_nsec += (long)(ns % SECOND);
+    if (at.tv_nsec >= SECOND) at.tv_sec++, at.tv_nsec -= (long)SECOND;
+    return at;
+}
+
+static struct deadline deadline_in(int64_t ns)
+{
+    struct deadline until = {.never = ns == SGT_FOREVER};
+    if (!until.never) until.at = in_ns(ns);
+    return until;
+}
+
+static bool is_before(const struct timespec *a, const struct timespec *b)
+{
+    return a->tv_sec < b->tv_sec || (a->tv_sec == b->tv_sec && a->tv_nsec < b->tv_nsec);
+}
+
+/* Waits for the condition. Whether the deadline has not come. */
+static bool rest(sgt_shared *s, pthread_cond_t *condition, const struct deadline *until)
+{
+    if (until->never) return pthread_cond_wait(condition, &s->lock) == 0;
+    return pthread_cond_timedwait(condition, &s->lock, &until->at) == 0;
+}
+
+/* Entering and leaving */
+
+static void count_fork(void) { atomic_fetch_add(&forks, 1); }
+
+static void watch_forks(void) { pthread_atfork(0, 0, count_fork); }
+
+/* Whether this thread may not call this engine. */
+static bool is_misuse(const sgt_shared *s)
+{
+    for (const struct hook *hook = hooks; hook; hook = hook->outer) {
+        if (hook->shared == s) return true;
+    }
+    return s->forks != atomic_load_explicit(&forks, memory_order_relaxed);
+}
+
+static uint32_t enter(sgt_shared *s)
+{
+    if (!s) return SGT_CLOSED;
+    if (is_misuse(s)) return SGT_MISUSE;
+    atomic_fetch_add_explicit(&s->inside, 1, memory_order_acquire);
+    pthread_mutex_lock(&s->lock);
+    return SGT_OK;
+}
+
+static void cut_if_due(sgt_shared *s);
+
+static uint32_t leave(sgt_shared *s, uint32_t status)
+{
+    if (s->config.cut_after) cut_if_due(s);
+    pthread_mutex_unlock(&s->lock);
+    atomic_fetch_sub_explicit(&s->inside, 1, memory_order_release);
+    return status;
+}
+
+/* Enters for a call that names a transaction. */
+static uint32_t enter_for(sgt_shared *s, const sgt_ticket *ticket)
+{
+    if (!s) return SGT_CLOSED;
+    if (!ticket) return SGT_BAD_CALL;
+    if (ticket->engine != s->number) return SGT_MISUSE;
+    uint32_t status = enter(s);
+    if (status == SGT_OK && ticket->part != s->part) return leave(s, SGT_STALE);
+    return status;
+}
+
+/* Who is live */
+
+static struct live *find(sgt_shared *s, uint32_t tid)
+{
+    for (uint32_t i = 0; i < s->lives; i++) {
+        if (s->live[i].tid == tid) return &s->live[i];
+    }
+    return 0;
+}
+
+/* Numbers rise, so the newest is the last. */
+static void add(sgt_shared *s, uint32_t tid, uint32_t procedure)
+{
+    if (s->lives < MOST_LIVE) s->live[s->lives++] = (struct live){.tid = tid, .procedure = procedure, .since = now()};
+}
+
+static void drop(sgt_shared *s, uint32_t tid)
+{
+    struct live *it = find(s, tid);
+    if (!it) return;
+    size_t behind = (size_t)(&s->live[s->lives] - (it + 1));
+    memmove(it, it + 1, behind * sizeof *it);
+    s->lives--;
+}
+
+static sgt_ticket ticket_of(const sgt_shared *s, uint32_t tid) { return (sgt_ticket){s->number, s->part, tid, 0}; }
+
+/* Calls that ended */
+
+/* Makes room for so many calls more, so that an end never asks for memory. */
+static bool reserve(struct queue *queue, size_t more)
+{
+    if (queue->first + queue->count + more <= queue->room) return true;
+    if (queue->first > 0 && queue->first >= queue->count) {
+        memmove(queue->at, queue->at + queue->first, queue->count * sizeof *queue->at);
+        queue->first = 0;
+        return reserve(queue, more);
+    }
+    size_t room = 2 * (queue->first + queue->count + more);
+    sgt_ended *at = realloc(queue->at, room * sizeof *at);
+    if (!at) return false;
+    queue->at = at, queue->room = room;
+    return true;
+}
+
+static void call_hook(sgt_shared *s, const sgt_ended *ended)
+{
+    struct hook hook = {s, hooks};
+    hooks = &hook;
+    s->config.ended(s->config.context, ended);
+    hooks = hook.outer;
+}
+
+/*
+ * Hands on the call that has just been committed or refused. It is the next one of the list of sgt_calls, which is proved to be what
+ * gives the same answers one after another.
+ */
+static void deliver(sgt_shared *s, uint32_t tid)
+{
+    sgt_ended ended = {.sequence = s->sequence++, .ticket = ticket_of(s, tid)};
+    uint64_t count = 0;
+    if (!s->config.ended && !s->config.keeps_ended) return;
+    sgt_calls(&s->engine, s->read, &ended.call, 1, &count, &s->read);
+    if (s->config.keeps_ended) {
+        s->queue.at[s->queue.first + s->queue.count++] = ended;
+        pthread_cond_signal(&s->queued);
+    }
+    if (s->config.ended) call_hook(s, &ended);
+}
+
+/* What the reply to an event of this transaction changes. */
+static void answered(sgt_shared *s, uint32_t tid, const sgt_reply *reply)
+{
+    if (reply->kind != SGT_COMMITTED && reply->kind != SGT_REFUSED && reply->kind != SGT_ABORTED) return;
+    if (reply->kind != SGT_ABORTED) deliver(s, tid);
+    drop(s, tid);
+    for (uint32_t i = 0; reply->kind != SGT_COMMITTED && i < reply->fallen; i++) drop(s, reply->fell[i]);
+    s->ends++;
+    pthread_cond_broadcast(&s->changed);
+}
+
+/* An event of a transaction that was started. */
+static uint32_t ask(sgt_shared *s, uint32_t (*event)(sgt_engine *, uint32_t, sgt_reply *), uint32_t tid, sgt_reply *reply)
+{
+    uint32_t status = event(&s->engine, tid, reply);
+    if (status == SGT_OK) answered(s, tid, reply);
+    return status;
+}
+
+/* Waiting */
+
+/* Waits until some transaction has ended, or nobody is live. Whether that came before the deadline. */
+static bool await_end(sgt_shared *s, const struct deadline *until)
+{
+    const uint64_t ends = s->ends;
+    bool in_time = true;
+    while (s->ends == ends && s->lives > 0 && in_time) in_time = rest(s, &s->changed, until);
+    return s->ends != ends || s->lives == 0;
+}
+
+/* Waits until fewer are live than the limits allow. Whether that came before the deadline. */
+static bool await_room(sgt_shared *s, const struct deadline *until)
+{
+    bool in_time = true;
+    while (s->lives >= s->most && in_time) in_time = rest(s, &s->changed, until);
+    return s->lives < s->most;
+}
+
+/* Waits until a transaction, or the one that its commit waits for, has ended. Whether that came before the deadline. */
+static bool await_turn(sgt_shared *s, uint32_t tid, uint32_t first, const struct deadline *until)
+{
+    bool in_time = true;
+    struct live *it = find(s, tid);
+    if (it) it->waits = true;
+    while (find(s, tid) && find(s, first) && in_time) in_time = rest(s, &s->changed, until);
+    it = find(s, tid);
+    if (it) it->waits = false;
+    return !it || !find(s, first);
+}
+
+/*
+ * Goes on with a commit whose reply this is: as long as it has to wait, it waits, and asks again. No cut comes before its thread has
+ * been told how it ended.
+ */
+static uint32_t go_on(sgt_shared *s, uint32_t tid, const struct deadline *until, sgt_reply *reply, uint32_t *waits)
+{
+    uint32_t status = SGT_OK;
+    s->committing++;
+    while (status == SGT_OK && reply->kind == SGT_WAITS) {
+        ++*waits;
+        status = await_turn(s, tid, reply->tid, until) ? ask(s, sgt_commit, tid, reply) : (uint32_t)SGT_TIMED_OUT;
+    }
+    if (--s->committing == 0 && s->lives == 0) pthread_cond_broadcast(&s->changed);
+    return status;
+}
+
+/* Cutting */
+
+static bool is_busy(const sgt_shared *s) { return s->lives > 0 || s->committing > 0; }
+
+static uint64_t entries(sgt_shared *s)
+{
+    uint64_t count = 0;
+    sgt_entries(&s->engine, &count);
+    return count;
+}
+
+/* Cuts the history off. Nobody is live. */
+static uint32_t cut(sgt_shared *s)
+{
+    uint64_t live = 0;
+    if (s->config.cutting) {
+        struct hook hook = {s, hooks};
+        hooks = &hook;
+        s->config.cutting(s->config.context, &s->engine, s->part);
+        hooks = hook.outer;
+    }
+    uint32_t status = sgt_cut(&s->engine, &live);
+    if (status != SGT_OK) return status;
+    sgt_part(&s->engine, &s->part);
+    s->read = 0, s->cut_at = s->config.cut_after, s->pauses = false;
+    return SGT_OK;
+}
+
+/* Puts a cut that is due off. */
+static void put_off(sgt_shared *s)
+{
+    s->cut_at = entries(s) + s->config.cut_after;
+    s->pauses = false;
+    pthread_cond_broadcast(&s->changed);
+}
+
+/* Makes the cut that the configuration asks for, or has starts wait for it. */
+static void cut_if_due(sgt_shared *s)
+{
+    if (entries(s) < s->cut_at) return;
+    if (!is_busy(s)) {
+        if (cut(s) != SGT_OK) put_off(s);
+        pthread_cond_broadcast(&s->changed);
+    } else if (s->config.cut_wait_ns > 0 && !s->pauses) {
+        s->pauses = true;
+        s->pause = in_ns(s->config.cut_wait_ns);
+    }
+}
+
+/* Waits while a cut is awaited. Whether it is over before the deadline. */
+static bool await_cut(sgt_shared *s, const struct deadline *until)
+{
+    while (s->cutters > 0 || s->pauses) {
+        if (s->pauses && !is_busy(s)) {
+            cut_if_due(s);
+            continue;
+        }
+        const bool is_own = s->cutters > 0 || (!until->never && is_before(&until->at, &s->pause));
+        const struct deadline pause = {false, s->pause};
+        if (rest(s, &s->changed, is_own ? until : &pause)) continue;
+        if (is_own) return s->cutters == 0 && !s->pauses;
+        if (s->pauses && !is_before(&pause.at, &s->pause)) put_off(s);
+    }
+    return true;
+}
+
+/* Opening and closing */
+
+/* Copies as much of the caller's configuration as it has. */
+static bool configured(sgt_shared_config *to, const sgt_shared_config *from)
+{
+    if (!from) return true;
+    if (from->size < sizeof *from) return false;
+    *to = *from;
+    return true;
+}
+
+static sgt_shared *made(const sgt_shared_config *config)
+{
+    static pthread_once_t once = PTHREAD_ONCE_INIT;
+    sgt_shared *s = calloc(1, sizeof *s);
+    pthread_condattr_t attributes;
+    if (!s) return 0;
+    pthread_once(&once, watch_forks);
+    s->config = *config;
+    s->cut_at = config->cut_after;
+    s->forks = atomic_load(&forks);
+    s->number = atomic_fetch_add(&opened, 1) + 1;
+    pthread_condattr_init(&attributes);
+    pthread_condattr_setclock(&attributes, CLOCK_MONOTONIC);
+    pthread_mutex_init(&s->lock, 0);
+    pthread_cond_init(&s->changed, &attributes);
+    pthread_cond_init(&s->queued, &attributes);
+    pthread_condattr_destroy(&attributes);
+    return s;
+}
+
+static void unmade(sgt_shared *s)
+{
+    sgt_close(&s->engine);
+    pthread_cond_destroy(&s->queued);
+    pthread_cond_destroy(&s->changed);
+    pthread_mutex_destroy(&s->lock);
+    free(s->queue.at);
+    free(s);
+}
+
+uint32_t sgt_shared_open(sgt_shared **shared, const uint8_t *opening, size_t length, const sgt_row *rows, size_t count,
+                         const sgt_shared_config *config, sgt_fault *fault)
+{
+    static const sgt_row none;
+    sgt_shared_config with = SGT_SHARED_CONFIG;
+    if (!shared || !opening || !fault || (count > 0 && !rows) || !configured(&with, config)) return SGT_BAD_CALL;
+    sgt_shared *s = made(&with);
+    if (!s) return SGT_NO_MEMORY;
+    uint32_t status = sgt_open_with(&s->engine, opening, length, rows ? rows : &none, count, fault);
+    if (status == SGT_OK) *shared = s;
+    else unmade(s);
+    return status;
+}
+
+uint32_t sgt_shared_take(sgt_shared **shared, sgt_engine *engine, const sgt_shared_config *config)
+{
+    sgt_shared_config with = SGT_SHARED_CONFIG;
+    uint64_t count = 0;
+    if (!shared || !engine || !configured(&with, config)) return SGT_BAD_CALL;
+    uint32_t status = sgt_entries(engine, &count);
+    if (status != SGT_OK) return status;
+    if (count > 0) return SGT_BEGUN;
+    sgt_shared *s = made(&with);
+    if (!s) return SGT_NO_MEMORY;
+    s->engine = *engine;
+    sgt_part(&s->engine, &s->part);
+    memset(engine, 0, sizeof *engine);
+    *shared = s;
+    return SGT_OK;
+}
+
+uint32_t sgt_shared_close(sgt_shared **shared)
+{
+    if (!shared || !*shared) return SGT_CLOSED;
+    if (is_misuse(*shared)) return SGT_MISUSE;
+    if (atomic_load_explicit(&(*shared)->inside, memory_order_acquire) > 0) return SGT_BUSY;
+    unmade(*shared);
+    *shared = 0;
+    return SGT_OK;
+}
+
+/* Runs */
+
+static bool is_call(struct call *call, uint64_t procedure, const int64_t *args, size_t count)
+{
+    if (procedure > MOST_PROCEDURE || count > MOST_ARGS || (count > 0 && !args)) return false;
+    *call = (struct call){.procedure = (uint32_t)procedure, .count = (uint32_t)count};
+    if (count > 0) memcpy(call->args, args, count * sizeof *args);
+    return true;
+}
+
+/* Waits until a transaction may be started. */
+static uint32_t may_start(sgt_shared *s, const struct deadline *until)
+{
+    if (!await_cut(s, until)) return SGT_TIMED_OUT;
+    return !s->config.keeps_ended || reserve(&s->queue, s->lives + 1) ? SGT_OK : SGT_NO_MEMORY;
+}
+
+/* One try of a run. Where the deadline comes, or memory is refused, its transaction is quit. */
+static uint32_t try_once(sgt_shared *s, const struct call *call, const struct deadline *until, sgt_shared_outcome *out)
+{
+    uint32_t tid = NO_TID;
+    uint32_t status = sgt_run(&s->engine, call->procedure, call->args, call->count, &tid, &out->reply);
+    if (status != SGT_OK) return status;
+    if (tid != NO_TID) out->tries++, out->ticket = ticket_of(s, tid);
+    if (out->reply.kind == SGT_FULL) s->most = s->lives;
+    if (out->reply.kind != SGT_WAITS) {
+        answered(s, tid, &out->reply);
+        return SGT_OK;
+    }
+    add(s, tid, call->procedure);
+    status = go_on(s, tid, until, &out->reply, &out->waits);
+    if (status != SGT_OK && find(s, tid)) {
+        sgt_reply quit = {0};
+        ask(s, sgt_quit, tid, &quit);
+    }
+    return status;
+}
+
+/* Whether the reply is of a conflict, so that the call is run anew. */
+static bool is_conflict(const sgt_reply *reply)
+{
+    return (reply->kind == SGT_ABORTED && reply->cause == SGT_BY_CYCLE) || (reply->kind == SGT_OVER && reply->cause == SGT_BY_FALL);
+}
+
+static uint32_t run(sgt_shared *s, const struct call *call, const sgt_run_options *options, sgt_shared_outcome *out)
+{
+    const struct deadline until = deadline_in(options->wait_ns);
+    for (;;) {
+        uint32_t status = may_start(s, &until);
+        if (status == SGT_OK) status = try_once(s, call, &until, out);
+        if (status != SGT_OK) return status;
+        const bool is_full = out->reply.kind == SGT_FULL;
+        if (!is_full && (!is_conflict(&out->reply) || out->tries == options->tries)) return SGT_OK;
+        if (out->reply.kind == SGT_OVER) continue; /* one has just ended */
+        out->waits++;
+        if (!(is_full ? await_room(s, &until) : await_end(s, &until))) return SGT_TIMED_OUT;
+    }
+}
+
+uint32_t sgt_shared_run(sgt_shared *shared, uint64_t procedure, const int64_t *args, size_t count, const sgt_run_options *options,
+                        sgt_shared_outcome *outcome)
+{
+    static const sgt_run_options plain = SGT_RUN_OPTIONS;
+    struct call call;
+    if (!options) options = &plain;
+    if (!outcome || outcome->size < sizeof *outcome || options->size < sizeof *options) return SGT_BAD_CALL;
+    sgt_shared_outcome out = {.size = outcome->size};
+    outcome->tries = outcome->waits = 0;
+    if (!is_call(&call, procedure, args, count)) return SGT_BAD_CALL;
+    uint32_t status = enter(shared);
+    if (status != SGT_OK) return status;
+    status = leave(shared, run(shared, &call, options, &out));
+    if (status == SGT_OK) *outcome = out;
+    outcome->tries = out.tries, outcome->waits = out.waits;
+    return status;
+}
+
+/* Steps */
+
+static uint32_t start(sgt_shared *s, const struct call *call, const struct deadline *until, sgt_ticket *ticket, sgt_reply *reply)
+{
+    for (;;) {
+        uint32_t status = may_start(s, until);
+        if (status != SGT_OK) return status;
+        status = sgt_start(&s->engine, call->procedure, call->args, call->count, reply);
+        if (status != SGT_OK) return status;
+        if (reply->kind == SGT_STARTED) add(s, reply->tid, call->procedure), *ticket = ticket_of(s, reply->tid);
+        if (reply->kind != SGT_FULL) return SGT_OK;
+        s->most = s->lives;
+        if (!await_room(s, until)) return SGT_TIMED_OUT;
+    }
+}
+
+uint32_t sgt_shared_start(sgt_shared *shared, uint64_t procedure, const int64_t *args, size_t count, int64_t wait_ns,
+                          sgt_ticket *ticket, sgt_reply *reply)
+{
+    struct call call;
+    sgt_reply told = {0};
+    if (!ticket || !reply || !is_call(&call, procedure, args, count)) return SGT_BAD_CALL;
+    const struct deadline until = deadline_in(wait_ns);
+    uint32_t status = enter(shared);
+    if (status != SGT_OK) return status;
+    status = leave(shared, start(shared, &call, &until, ticket, &told));
+    if (status == SGT_OK) *reply = told;
+    return status;
+}
+
+uint32_t sgt_shared_step(sgt_shared *shared, const sgt_ticket *ticket, sgt_reply *reply)
+{
+    uint32_t status = reply ? enter_for(shared, ticket) : (uint32_t)SGT_BAD_CALL;
+    return status == SGT_OK ? leave(shared, ask(shared, sgt_step, ticket->tid, reply)) : status;
+}
+
+uint32_t sgt_shared_quit(sgt_shared *shared, const sgt_ticket *ticket, sgt_reply *reply)
+{
+    uint32_t status = reply ? enter_for(shared, ticket) : (uint32_t)SGT_BAD_CALL;
+    return status == SGT_OK ? leave(shared, ask(shared, sgt_quit, ticket->tid, reply)) : status;
+}
+
+uint32_t sgt_shared_commit(sgt_shared *shared, const sgt_ticket *ticket, int64_t wait_ns, sgt_reply *reply)
+{
+    const struct deadline until = deadline_in(wait_ns);
+    uint32_t waits = 0;
+    sgt_reply told = {0};
+    uint32_t status = reply ? enter_for(shared, ticket) : (uint32_t)SGT_BAD_CALL;
+    if (status != SGT_OK) return status;
+    status = ask(shared, sgt_commit, ticket->tid, &told);
+    if (status == SGT_OK) status = go_on(shared, ticket->tid, &until, &told, &waits);
+    if (leave(shared, status) == SGT_OK) *reply = told;
+    return status;
+}
+
+uint32_t sgt_shared_live(sgt_shared *shared, sgt_live *rows, size_t room, uint64_t *count)
+{
+    uint32_t status = count && (rows || room == 0) ? enter(shared) : (uint32_t)SGT_BAD_CALL;
+    if (status != SGT_OK) return status;
+    const int64_t at = now();
+    for (uint32_t i = 0; i < shared->lives && i < room; i++) {
+        const struct live *it = &shared->live[i];
+        rows[i] = (sgt_live){ticket_of(shared, it->tid), at - it->since, it->procedure, it->waits};
+    }
+    *count = shared->lives;
+    return leave(shared, SGT_OK);
+}
+
+/* The rest */
+
+uint32_t sgt_shared_cut(sgt_shared *shared, int64_t wait_ns)
+{
+    const struct deadline until = deadline_in(wait_ns);
+    bool in_time = true;
+    uint32_t status = enter(shared);
+    if (status != SGT_OK) return status;
+    const uint64_t part = shared->part;
+    shared->cutters++;
+    while (shared->part == part && is_busy(shared) && in_time) in_time = rest(shared, &shared->changed, &until);
+    if (shared->part == part) status = is_busy(shared) ? (uint32_t)SGT_TIMED_OUT : cut(shared);
+    shared->cutters--;
+    pthread_cond_broadcast(&shared->changed);
+    return leave(shared, status);
+}
+
+uint32_t sgt_shared_get(sgt_shared *shared, uint64_t table, int64_t number, int64_t *value)
+{
+    uint32_t status = value ? enter(shared) : (uint32_t)SGT_BAD_CALL;
+    return status == SGT_OK ? leave(shared, sgt_get(&shared->engine, table, number, value)) : status;
+}
+
+uint32_t sgt_shared_rows(sgt_shared *shared, uint64_t table, int64_t number, sgt_row *rows, size_t room, uint64_t *count)
+{
+    sgt_row none = {0};
+    uint32_t status = count && (rows || room == 0) ? enter(shared) : (uint32_t)SGT_BAD_CALL;
+    if (status != SGT_OK) return status;
+    return leave(shared, sgt_rows(&shared->engine, table, number, rows ? rows : &none, room, count));
+}
+
+uint32_t sgt_shared_entries(sgt_shared *shared, uint64_t *count, uint64_t *part)
+{
+    uint32_t status = count ? enter(shared) : (uint32_t)SGT_BAD_CALL;
+    if (status != SGT_OK) return status;
+    *count = entries(shared);
+    if (part) *part = shared->part;
+    return leave(shared, SGT_OK);
+}
+
+uint32_t sgt_shared_drain(sgt_shared *shared, int64_t wait_ns, sgt_ended *ended, size_t room, uint64_t *count)
+{
+    const struct deadline until = deadline_in(wait_ns);
+    bool in_time = true;
+    uint32_t status = count && ended && room > 0 ? enter(shared) : (uint32_t)SGT_BAD_CALL;
+    if (status != SGT_OK) return status;
+    struct queue *queue = &shared->queue;
+    if (!shared->config.keeps_ended) return leave(shared, SGT_BAD_CALL);
+    while (queue->count == 0 && in_time) in_time = rest(shared, &shared->queued, &until);
+    const size_t taken = queue->count < room ? queue->count : room;
+    if (taken > 0) memcpy(ended, queue->at + queue->first, taken * sizeof *ended);
+    queue->count -= taken;
+    queue->first = queue->count > 0 ? queue->first + taken : 0;
+    *count = taken;
+    return leave(shared, SGT_OK);
+}

@@ -1,0 +1,314 @@
+"""The library and its structs, and what all calls need."""
+
+from __future__ import annotations
+
+import array
+import ctypes
+import ctypes.util
+import itertools
+import json
+import operator
+import os
+import pathlib
+import struct
+import sys
+from typing import Callable, NamedTuple, Optional, Sequence, Tuple, Union
+
+from ._errors import BadCall, Begun, Busy, Closed, Error, Misuse, NoMemory, Stale, TimedOut, TooMany
+
+# The least and the greatest of values, arguments and record numbers.
+LEAST, MOST = -999_999_999_999_999, 999_999_999_999_999
+
+OK, NO_MEMORY, CLOSED, NONE, BAD_CALL, STILL_LIVE, BEGUN, TAKEN, TOO_MANY = 0, 1, 2, 4, 5, 6, 7, 8, 9
+BUSY, TIMED_OUT, STALE, MISUSE, FIRST_FAULT = 10, 12, 13, 14, 16
+NO_TID = 2**32 - 1  # the limits never allow this number
+
+
+class Row(NamedTuple):
+    """A record of the database, and its value."""
+
+    table: int
+    number: int
+    value: int
+
+
+# A row as a caller may give it.
+AnyRow = Union[Row, Tuple[int, int, int]]
+
+
+class CEngine(ctypes.Structure):
+    _fields_ = [("is_open", ctypes.c_uint8), ("at", ctypes.c_void_p)]
+
+
+class CFault(ctypes.Structure):
+    _fields_ = [
+        ("kind", ctypes.c_uint32),
+        ("number", ctypes.c_uint32),
+        ("procedure", ctypes.c_uint64),
+        ("depth", ctypes.c_uint32),
+        ("spare", ctypes.c_uint32),
+        ("place", ctypes.c_uint64 * 128),
+    ]
+
+
+class CReply(ctypes.Structure):
+    _fields_ = [
+        *((name, ctypes.c_uint32) for name in ("kind", "cause", "tid", "code", "table", "found")),
+        *((name, ctypes.c_int64) for name in ("number", "value")),
+        *((name, ctypes.c_uint32) for name in ("answers", "walked", "fallen", "spare")),
+        ("answer", ctypes.c_int64 * 8),
+        ("walk", ctypes.c_uint32 * 32),
+        ("fell", ctypes.c_uint32 * 32),
+    ]
+
+
+class CEvent(ctypes.Structure):
+    _fields_ = [
+        *((name, ctypes.c_uint32) for name in ("kind", "tid", "procedure", "args")),
+        ("arg", ctypes.c_int64 * 4),
+    ]
+
+
+class CRow(ctypes.Structure):
+    _fields_ = [
+        *((name, ctypes.c_uint32) for name in ("table", "spare")),
+        *((name, ctypes.c_int64) for name in ("number", "value")),
+    ]
+
+
+class CTicket(ctypes.Structure):
+    _fields_ = [
+        *((name, ctypes.c_uint64) for name in ("engine", "part")),
+        *((name, ctypes.c_uint32) for name in ("tid", "spare")),
+    ]
+
+
+class CCall(ctypes.Structure):
+    _fields_ = [
+        *((name, ctypes.c_uint32) for name in ("kind", "tid", "procedure", "code", "args", "answers")),
+        ("arg", ctypes.c_int64 * 4),
+        ("answer", ctypes.c_int64 * 8),
+    ]
+
+
+class COutcome(ctypes.Structure):
+    _fields_ = [("tid", ctypes.c_uint32), ("spare", ctypes.c_uint32), ("reply", CReply)]
+
+
+class CEnded(ctypes.Structure):
+    _fields_ = [("sequence", ctypes.c_uint64), ("ticket", CTicket), ("call", CCall)]
+
+
+class CLive(ctypes.Structure):
+    _fields_ = [("ticket", CTicket), ("for_ns", ctypes.c_int64), ("procedure", ctypes.c_uint32), ("waits", ctypes.c_uint32)]
+
+
+ENDED_HOOK = ctypes.CFUNCTYPE(None, ctypes.c_void_p, ctypes.POINTER(CEnded))
+
+
+class CSharedConfig(ctypes.Structure):
+    _fields_ = [
+        ("size", ctypes.c_size_t),
+        ("ended", ENDED_HOOK),
+        ("cutting", ctypes.c_void_p),
+        ("context", ctypes.c_void_p),
+        ("keeps_ended", ctypes.c_uint32),
+        ("spare", ctypes.c_uint32),
+        ("cut_after", ctypes.c_uint64),
+        ("cut_wait_ns", ctypes.c_int64),
+    ]
+
+
+class CRunOptions(ctypes.Structure):
+    _fields_ = [("size", ctypes.c_size_t), ("wait_ns", ctypes.c_int64), ("tries", ctypes.c_uint32), ("spare", ctypes.c_uint32)]
+
+
+class CSharedOutcome(ctypes.Structure):
+    _fields_ = [
+        ("size", ctypes.c_size_t),
+        ("tries", ctypes.c_uint32),
+        ("waits", ctypes.c_uint32),
+        ("ticket", CTicket),
+        ("reply", CReply),
+    ]
+
+
+def _path() -> str:
+    package = pathlib.Path(__file__).resolve().parent
+    near = [package / "libsgt.so", package.parent.parent / "out" / "libsgt.so"]
+    found = [str(path) for path in near if path.exists()]
+    path = os.environ.get("SGT_LIBRARY") or (found[0] if found else ctypes.util.find_library("sgt"))
+    if not path:
+        raise ImportError("sgt: no libsgt.so: set SGT_LIBRARY, or make it by bindings/build")
+    return path
+
+
+_u32, _u64, _i64, _size = ctypes.c_uint32, ctypes.c_uint64, ctypes.c_int64, ctypes.c_size_t
+_text, _fault, _row = ctypes.c_char_p, ctypes.POINTER(CFault), ctypes.POINTER(CRow)
+_engine, _reply, _count = ctypes.POINTER(CEngine), ctypes.POINTER(CReply), ctypes.POINTER(ctypes.c_uint64)
+_shared, _ticket = ctypes.c_void_p, ctypes.POINTER(CTicket)
+
+_ENGINE_CALLS = {
+    "sgt_open_with": [_engine, _text, _size, _row, _size, _fault],
+    "sgt_open_bare": [_engine, _u64, _u64, _u64],
+    "sgt_put": [_engine, _row, _size, _count],
+    "sgt_procedure": [_engine, _text, _size, ctypes.POINTER(ctypes.c_uint16), _fault],
+    "sgt_run_many": [_engine, ctypes.POINTER(CCall), _size, ctypes.POINTER(COutcome), _size, _count],
+    "sgt_get": [_engine, _u64, _i64, ctypes.POINTER(_i64)],
+    "sgt_rows": [_engine, _u64, _i64, _row, _size, _count],
+    "sgt_records": [_engine, _count],
+    "sgt_part": [_engine, _count],
+    "sgt_entries": [_engine, _count],
+    "sgt_entry": [_engine, _u64, ctypes.POINTER(CEvent), _reply],
+    "sgt_calls": [_engine, _u64, ctypes.POINTER(CCall), _size, _count, _count],
+    "sgt_reserve": [_engine, _u64],
+    "sgt_cut": [_engine, _count],
+    "sgt_reply_text": [_reply, _text, _size, _count],
+    "sgt_fault_text": [_fault, _text, _size, _count],
+    "sgt_close": [_engine],
+}
+_SHARED_CALLS = {
+    "sgt_shared_open": [ctypes.POINTER(_shared), _text, _size, _row, _size, ctypes.POINTER(CSharedConfig), _fault],
+    "sgt_shared_close": [ctypes.POINTER(_shared)],
+    "sgt_shared_run": [_shared, _u64, ctypes.POINTER(_i64), _size, ctypes.POINTER(CRunOptions), ctypes.POINTER(CSharedOutcome)],
+    "sgt_shared_start": [_shared, _u64, ctypes.POINTER(_i64), _size, _i64, _ticket, _reply],
+    "sgt_shared_step": [_shared, _ticket, _reply],
+    "sgt_shared_quit": [_shared, _ticket, _reply],
+    "sgt_shared_commit": [_shared, _ticket, _i64, _reply],
+    "sgt_shared_live": [_shared, ctypes.POINTER(CLive), _size, _count],
+    "sgt_shared_cut": [_shared, _i64],
+    "sgt_shared_get": [_shared, _u64, _i64, ctypes.POINTER(_i64)],
+    "sgt_shared_rows": [_shared, _u64, _i64, _row, _size, _count],
+    "sgt_shared_entries": [_shared, _count, _count],
+    "sgt_shared_drain": [_shared, _i64, ctypes.POINTER(CEnded), _size, _count],
+}
+
+
+def _typed(library: ctypes.CDLL, calls: dict[str, list[type]]) -> None:
+    for name, types in calls.items():
+        function = getattr(library, name)
+        function.argtypes = types
+        function.restype = None if name == "sgt_close" else ctypes.c_uint32
+
+
+# Calls to an Engine keep the interpreter's lock: so they never overlap, and most are over sooner than that lock is given up and
+# taken. Calls to a SharedEngine release it, since they may wait.
+HELD = ctypes.PyDLL(_path())
+FREE = ctypes.CDLL(_path())
+_typed(HELD, _ENGINE_CALLS)
+_typed(FREE, _SHARED_CALLS)
+_version = HELD["sgt_version"]
+_version.restype = ctypes.c_char_p
+
+
+def version() -> str:
+    """The version of the library."""
+    return bytes(_version()).decode()
+
+
+def written(write: Callable[..., int], fields: ctypes.Structure) -> str:
+    """The text of these fields: every reply and every fault of an opening fits the buffer, but for a very deep place."""
+    room, length = 1024, ctypes.c_uint64()
+    while True:
+        text = ctypes.create_string_buffer(room)
+        check(write(fields, text, room, length))
+        if length.value <= room:
+            return text.raw[: length.value].decode()
+        room = length.value
+
+
+_ERRORS: dict[int, type[Error]] = {
+    NO_MEMORY: NoMemory,
+    CLOSED: Closed,
+    BAD_CALL: BadCall,
+    BEGUN: Begun,
+    TOO_MANY: TooMany,
+    BUSY: Busy,
+    TIMED_OUT: TimedOut,
+    STALE: Stale,
+    MISUSE: Misuse,
+}
+
+
+def check(status: int) -> None:
+    """Raises what the status means, if it is not OK."""
+    if status:
+        error = _ERRORS.get(status)
+        raise error() if error else Error(f"sgt: status {status}")
+
+
+def whole(number: int, least: int, most: int) -> int:
+    """The number. BadCall if it is out of this range."""
+    number = operator.index(number)
+    if not least <= number <= most:
+        raise BadCall()
+    return number
+
+
+def opening_of(limits: Sequence[int], accounts: Sequence[Sequence[int]], procedures: Sequence[object]) -> bytes:
+    """The line of an opening."""
+    return json.dumps({"limits": list(limits), "accounts": [list(a) for a in accounts], "procedures": list(procedures)}).encode()
+
+
+def rows_for(rows: Sequence[AnyRow]) -> ctypes.Array[CRow]:
+    """The rows for a call: at least one, as a call takes no null pointer. BadCall if one is out of its range."""
+    if any(map((3).__ne__, map(len, rows))):
+        raise BadCall("a row is a table, a number and a value")
+    try:
+        flat = array.array("q", itertools.chain.from_iterable(rows))
+    except OverflowError:
+        raise BadCall() from None
+    if not flat:
+        return (CRow * 1)()
+    tables, numbers, values = flat[0::3], flat[1::3], flat[2::3]
+    if min(tables) < 0 or max(tables) > 7 or min(min(numbers), min(values)) < LEAST or max(max(numbers), max(values)) > MOST:
+        raise BadCall()
+    return (CRow * len(tables)).from_buffer(flat)  # low bytes come first, and the spare field is 0
+
+
+if sys.byteorder != "little":
+    raise ImportError("sgt: the library is for machines whose low bytes come first")
+
+_unpacked_rows = struct.Struct("=I4xqq").iter_unpack
+
+
+def rows_of(told: ctypes.Array[CRow], count: int) -> list[Row]:
+    """The first so many rows that a call wrote."""
+    return list(map(Row._make, _unpacked_rows(memoryview(told).cast("B")[: count * ctypes.sizeof(CRow)])))
+
+
+def all_rows(ask: Callable[[ctypes.Array[CRow], int, ctypes.c_uint64], int]) -> list[Row]:
+    """The rows that a call tells. Others may go on between two calls, so it asks until the room suffices."""
+    count, room = ctypes.c_uint64(), 0
+    while True:
+        told = (CRow * max(1, room))()
+        check(ask(told, room, count))
+        if count.value <= room:
+            return rows_of(told, count.value)
+        room = count.value
+
+
+_pack_args = [struct.Struct(f"{count}q").pack_into for count in range(5)]
+
+
+def pack_args(to: ctypes.Array[ctypes.c_int64], args: Sequence[int]) -> None:
+    """Puts the arguments where a call finds them."""
+    try:
+        _pack_args[len(args)](to, 0, *args)
+    except IndexError:
+        raise BadCall("a procedure takes at most 4 arguments") from None
+    except struct.error as error:
+        raise BadCall(f"an argument is no number of 64 bits: {error}") from None
+
+
+class Uncopied:
+    """An engine has one owner: it is not copied, and not pickled."""
+
+    def __copy__(self) -> None:
+        raise TypeError("sgt: an engine can't be copied")
+
+    def __deepcopy__(self, _: Optional[object]) -> None:
+        raise TypeError("sgt: an engine can't be copied")
+
+    def __reduce__(self) -> str:
+        raise TypeError("sgt: an engine can't be pickled")

@@ -1,0 +1,190 @@
+"""Events and replies, and how the structs of C become them."""
+
+from __future__ import annotations
+
+import ctypes
+import enum
+import struct
+from typing import NamedTuple, Optional, Union
+
+from ._errors import Error
+from ._library import HELD, CCall, CEvent, CReply, written
+
+
+class Kind(enum.IntEnum):
+    """What an event was answered: see `enum sgt_kind` in sgt.h."""
+
+    STARTED = 1
+    NO_PROCEDURE = 2
+    BAD_ARGS = 3
+    SPENT = 4
+    FULL = 5
+    UNKNOWN = 6
+    OVER = 7
+    LOOKED = 8
+    WROTE = 9
+    ENDED = 10
+    NOT_ENDED = 11
+    WAITS = 12
+    COMMITTED = 13
+    ABORTED = 14
+    REFUSED = 15
+
+
+class Cause(enum.IntEnum):
+    """How a transaction ended: see `enum sgt_cause` in sgt.h."""
+
+    COMMIT = 0
+    CYCLE = 1
+    CODE = 2
+    QUIT = 3
+    FALL = 4
+
+
+class Asked(enum.IntEnum):
+    """What was asked: see `enum sgt_asked` in sgt.h."""
+
+    START = 1
+    STEP = 2
+    COMMIT = 3
+    QUIT = 4
+
+
+class Event(NamedTuple):
+    """An event. A start names its procedure, with its arguments, and each other its transaction."""
+
+    kind: Asked
+    tid: Optional[int] = None
+    procedure: Optional[int] = None
+    args: tuple[int, ...] = ()
+
+
+class Reply(NamedTuple):
+    """A reply. `kind` says which other fields count; those that do not are none, or empty."""
+
+    kind: Kind
+    tid: Optional[int] = None
+    table: Optional[int] = None
+    number: Optional[int] = None
+    value: Optional[int] = None
+    answers: tuple[int, ...] = ()
+    cause: Optional[Cause] = None
+    code: Optional[int] = None
+    walk: tuple[int, ...] = ()
+    fell: tuple[int, ...] = ()
+
+    def text(self) -> str:
+        """The line that a script has for it."""
+        return written(HELD.sgt_reply_text, _told(self))
+
+
+def _told(reply: Reply) -> CReply:
+    """The fields of a reply."""
+    told = CReply(
+        kind=reply.kind,
+        cause=reply.cause or 0,
+        tid=reply.tid or 0,
+        code=reply.code or 0,
+        table=reply.table or 0,
+        found=reply.value is not None,
+        number=reply.number or 0,
+        value=reply.value or 0,
+        answers=len(reply.answers),
+        walked=len(reply.walk),
+        fallen=len(reply.fell),
+    )
+    told.answer[: told.answers] = reply.answers
+    told.walk[: told.walked] = reply.walk
+    told.fell[: told.fallen] = reply.fell
+    return told
+
+
+def _ended(told: CReply, kind: Kind) -> Reply:
+    """A reply that tells an end: its cause, and what is of it."""
+    cause = Cause(told.cause)
+    return Reply(
+        kind,
+        tid=told.tid if cause is Cause.FALL else None,
+        cause=cause,
+        code=told.code if cause is Cause.CODE else None,
+        walk=tuple(told.walk[: told.walked]) if cause is Cause.CYCLE else (),
+        fell=tuple(told.fell[: told.fallen]) if kind is Kind.ABORTED else (),
+    )
+
+
+_KINDS = [None, *Kind]
+_PLAIN = [kind and Reply(kind) for kind in _KINDS]
+# The numbers of the kinds whose other fields count: a number is compared faster than a member of an enum is looked up.
+_STARTED, _OVER, _LOOKED, _WROTE, _WAITS, _COMMITTED, _ABORTED, _REFUSED = map(
+    int, (Kind.STARTED, Kind.OVER, Kind.LOOKED, Kind.WROTE, Kind.WAITS, Kind.COMMITTED, Kind.ABORTED, Kind.REFUSED)
+)
+_plain_fields = struct.Struct("6I2q").unpack_from  # those before the counts, of a structure or, faster, of its bytes
+_made = tuple.__new__
+
+
+def reply_of(told: CReply, fields: Union[CReply, memoryview]) -> Reply:
+    number, _, tid, code, table, found, key, value = _plain_fields(fields)
+    kind = _KINDS[number]
+    # A tuple's own maker is called with all fields, as that of a NamedTuple takes twice as long.
+    if number == _LOOKED:
+        return _made(Reply, (kind, None, table, key, value if found else None, (), None, None, (), ()))
+    if number == _WROTE:
+        return _made(Reply, (kind, None, table, key, value, (), None, None, (), ()))
+    if number == _STARTED or number == _WAITS:
+        return _made(Reply, (kind, tid, None, None, None, (), None, None, (), ()))
+    if number == _COMMITTED:
+        return _made(Reply, (kind, None, None, None, None, tuple(told.answer[: told.answers]), None, None, (), ()))
+    if number == _REFUSED:
+        return Reply(kind, code=code, fell=tuple(told.fell[: told.fallen]))
+    if number == _ABORTED or number == _OVER:
+        return _ended(told, kind)
+    try:
+        return _PLAIN[number]
+    except IndexError:
+        raise Error(f"sgt: a reply of kind {number}, which this package does not know") from None
+
+
+def event_of(asked: CEvent) -> Event:
+    kind = Asked(asked.kind)
+    if kind is Asked.START:
+        return Event(kind, procedure=asked.procedure, args=tuple(asked.arg[: asked.args]))
+    return Event(kind, asked.tid)
+
+
+class Call(NamedTuple):
+    """A call that was committed (`code` is None) or refused, with what it was told."""
+
+    tid: int
+    procedure: int
+    args: tuple[int, ...]
+    answers: tuple[int, ...]
+    code: Optional[int]
+
+
+def call_of(told: CCall) -> Call:
+    code = told.code if told.kind == Kind.REFUSED else None
+    return Call(told.tid, told.procedure, tuple(told.arg[: told.args]), tuple(told.answer[: told.answers]), code)
+
+
+class Room:
+    """What an event is passed: room for its reply and its arguments. Each call takes one of its own, so that a thread, or a handler
+    of a signal, never writes another call's."""
+
+    __slots__ = ("args", "fields", "tid", "to", "to_tid", "told", "given")
+
+    def __init__(self) -> None:
+        self.told, self.args, self.tid = CReply(), (ctypes.c_int64 * 4)(), ctypes.c_uint32()
+        self.fields = memoryview(self.told).cast("B")
+        self.to, self.given, self.to_tid = map(ctypes.byref, (self.told, self.args, self.tid))
+
+
+_ROOMS: list[Room] = []
+free_room = _ROOMS.append
+
+
+def room() -> Room:
+    """One that no other call has. `free_room` gives it back."""
+    try:
+        return _ROOMS.pop()
+    except IndexError:
+        return Room()

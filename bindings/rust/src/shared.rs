@@ -1,0 +1,312 @@
+//! One engine for many threads.
+use crate::convert::{call_of, done, fault_of, no_fault, reply_of, row_for, row_of};
+use crate::{Call, Error, Reply, Row};
+use sgt_sys::{self as c, Ticket};
+use std::os::raw::c_void;
+use std::sync::Arc;
+use std::time::Duration;
+
+/// A call of a shared engine that was committed or refused.
+#[derive(Clone, Debug, PartialEq, Eq)]
+#[non_exhaustive]
+pub struct Ended {
+    /// Counts these calls from 0 in reply order, over all parts: one after another in this order they give the same answers.
+    pub sequence: u64,
+    pub ticket: Ticket,
+    pub call: Call,
+}
+
+/// A live transaction, as [`SharedEngine::live`] tells it.
+#[derive(Clone, Debug, PartialEq, Eq)]
+#[non_exhaustive]
+pub struct Live {
+    pub ticket: Ticket,
+    pub procedure: u16,
+    /// How long it has been live.
+    pub age: Duration,
+    /// Whether a thread waits for its commit.
+    pub waits: bool,
+}
+
+/// What a shared engine is to do beside its calls.
+#[derive(Default)]
+pub struct Configuration {
+    /// Called for each committed or refused call, in reply order, under the engine's lock. A hook that panics ends the program.
+    pub ended: Option<Box<dyn FnMut(Ended) + Send>>,
+    /// Whether these calls are stored until [`SharedEngine::drain`] takes them.
+    pub keeps_ended: bool,
+    /// Cuts the history off by itself as soon as it has so many entries and nobody is live. 0: never.
+    pub cut_after: u64,
+    /// How long new transactions wait for the live ones to end when such a cut is due.
+    pub cut_wait: Duration,
+}
+
+/// How often a run is tried, and how long it may wait.
+#[derive(Clone, Copy, Debug, Default)]
+pub struct Limits {
+    /// None: as long as it takes.
+    pub wait: Option<Duration>,
+    /// 0: as many tries as it takes.
+    pub tries: u32,
+}
+
+/// What became of a run.
+#[derive(Clone, Debug, PartialEq, Eq)]
+#[must_use]
+#[non_exhaustive]
+pub struct Outcome {
+    /// How many transactions were started for it.
+    pub tries: u32,
+    /// How often it waited.
+    pub waits: u32,
+    /// The last transaction, if one was started.
+    pub ticket: Option<Ticket>,
+    pub reply: Reply,
+}
+
+type Hook = Box<dyn FnMut(Ended) + Send>;
+
+/// What all clones of an engine share.
+struct Inner {
+    shared: *mut c::Shared,
+    /// What the hook's context points to, or null. The library calls it under its lock, so by one thread at a time.
+    hook: *mut Hook,
+}
+
+// Each call of sgt_shared.h may be made by any thread at any time, and the hook is `Send`.
+unsafe impl Send for Inner {}
+unsafe impl Sync for Inner {}
+
+impl Drop for Inner {
+    fn drop(&mut self) {
+        // Nobody else has the engine any more. From inside its own hook a close is a misuse: then both stay.
+        let status = unsafe { c::sgt_shared_close(&mut self.shared) };
+        if !self.hook.is_null() && (status == c::OK || status == c::CLOSED) {
+            // It was made by a box, and nobody calls it any more.
+            drop(unsafe { Box::from_raw(self.hook) });
+        }
+    }
+}
+
+/// One engine for many threads. A clone is the same engine; the last one closes it.
+#[derive(Clone)]
+pub struct SharedEngine(Arc<Inner>);
+
+impl std::fmt::Debug for SharedEngine {
+    fn fmt(&self, f: &mut std::fmt::Formatter<'_>) -> std::fmt::Result {
+        f.debug_struct("SharedEngine").finish_non_exhaustive()
+    }
+}
+
+impl SharedEngine {
+    /// Opens an engine by an opening's JSON text.
+    pub fn open(opening: &str) -> Result<SharedEngine, Error> {
+        SharedEngine::open_with(opening, &[], Configuration::default())
+    }
+
+    /// The same, with these rows put into the database of the opening's accounts.
+    pub fn open_with(opening: &str, rows: &[Row], with: Configuration) -> Result<SharedEngine, Error> {
+        let rows: Vec<c::Row> = rows.iter().map(row_for).collect();
+        let hook = with.ended.map_or(std::ptr::null_mut(), |hook| Box::into_raw(Box::new(hook)));
+        let config = c::SharedConfig {
+            size: size_of::<c::SharedConfig>(),
+            ended: (!hook.is_null()).then_some(tell as c::EndedHook),
+            cutting: None,
+            context: hook.cast(),
+            keeps_ended: with.keeps_ended.into(),
+            spare: 0,
+            cut_after: with.cut_after,
+            cut_wait_ns: nanoseconds(Some(with.cut_wait)),
+        };
+        let (mut inner, mut fault) = (Inner { shared: std::ptr::null_mut(), hook }, no_fault());
+        let (bytes, length) = (opening.as_ptr(), opening.len());
+        // The pointers are of live values of their own, and stay so for the call; so it is of each call below.
+        let status = unsafe {
+            c::sgt_shared_open(&mut inner.shared, bytes, length, rows.as_ptr(), rows.len(), &config, &mut fault)
+        };
+        match status {
+            c::NOT_JSON.. => Err(Error::Opening(fault_of(&fault))),
+            _ => done(status).map(|()| SharedEngine(Arc::new(inner))),
+        }
+    }
+
+    /// Runs a procedure from its start to its commit, with at most four arguments. It waits and tries again as often as it has to.
+    pub fn run(&self, procedure: u16, args: &[i64]) -> Result<Outcome, Error> {
+        self.run_within(procedure, args, Limits::default())
+    }
+
+    /// The same within limits. `TimedOut` if the deadline came, and then nothing of it is left live.
+    pub fn run_within(&self, procedure: u16, args: &[i64], limits: Limits) -> Result<Outcome, Error> {
+        let options = c::RunOptions {
+            size: size_of::<c::RunOptions>(),
+            wait_ns: nanoseconds(limits.wait),
+            tries: limits.tries,
+            spare: 0,
+        };
+        let mut outcome = c::SharedOutcome { size: size_of::<c::SharedOutcome>(), ..c::SharedOutcome::default() };
+        done(unsafe {
+            c::sgt_shared_run(self.at(), procedure.into(), args.as_ptr(), args.len(), &options, &mut outcome)
+        })?;
+        Ok(Outcome {
+            tries: outcome.tries,
+            waits: outcome.waits,
+            ticket: (outcome.tries > 0).then_some(outcome.ticket),
+            reply: reply_of(&outcome.reply),
+        })
+    }
+
+    /// Starts a transaction: it, or the reply to a start that is refused. `None` waits as long as it takes.
+    pub fn start(
+        &self,
+        procedure: u16,
+        args: &[i64],
+        wait: Option<Duration>,
+    ) -> Result<Result<Transaction, Reply>, Error> {
+        let (mut ticket, mut reply) = (Ticket::default(), c::Reply::default());
+        let (count, wait) = (args.len(), nanoseconds(wait));
+        done(unsafe {
+            c::sgt_shared_start(self.at(), procedure.into(), args.as_ptr(), count, wait, &mut ticket, &mut reply)
+        })?;
+        Ok(match reply_of(&reply) {
+            Reply::Started(_) => Ok(Transaction { engine: self.clone(), ticket, is_live: true }),
+            refused => Err(refused),
+        })
+    }
+
+    /// Quits the transaction of a ticket, as `live` tells it.
+    pub fn quit(&self, ticket: Ticket) -> Result<Reply, Error> {
+        let mut reply = c::Reply::default();
+        done(unsafe { c::sgt_shared_quit(self.at(), &ticket, &mut reply) }).map(|()| reply_of(&reply))
+    }
+
+    /// Who is live.
+    pub fn live(&self) -> Result<Vec<Live>, Error> {
+        let (mut rows, mut count) = ([c::Live::default(); 32], 0); // no more are ever live
+        done(unsafe { c::sgt_shared_live(self.at(), rows.as_mut_ptr(), rows.len(), &mut count) })?;
+        Ok(rows[..count as usize].iter().map(live_of).collect())
+    }
+
+    /// Cuts the history off when nobody is live; new transactions wait meanwhile.
+    pub fn cut(&self, wait: Option<Duration>) -> Result<(), Error> {
+        done(unsafe { c::sgt_shared_cut(self.at(), nanoseconds(wait)) })
+    }
+
+    /// The committed value of a record, or none if there is no such record.
+    pub fn get(&self, table: u8, number: i64) -> Result<Option<i64>, Error> {
+        let mut value = 0;
+        match unsafe { c::sgt_shared_get(self.at(), table.into(), number, &mut value) } {
+            c::NONE => Ok(None),
+            status => done(status).map(|()| Some(value)),
+        }
+    }
+
+    /// The committed database from a record on, by table and then by number.
+    pub fn rows(&self, table: u8, number: i64) -> Result<Vec<Row>, Error> {
+        let (mut rows, mut count) = (Vec::new(), 0);
+        loop {
+            let (to, room) = (rows.as_mut_ptr(), rows.len());
+            done(unsafe { c::sgt_shared_rows(self.at(), table.into(), number, to, room, &mut count) })?;
+            let fits = count as usize <= room;
+            rows.resize(count as usize, c::Row::default());
+            if fits {
+                return Ok(rows.iter().map(row_of).collect());
+            }
+        }
+    }
+
+    /// How many entries the history has since the last cut.
+    pub fn entries(&self) -> Result<u64, Error> {
+        let mut count = 0;
+        done(unsafe { c::sgt_shared_entries(self.at(), &mut count, std::ptr::null_mut()) }).map(|()| count)
+    }
+
+    /// Takes at most so many of the stored calls; none if none comes in time. `BadCall` if the engine stores none.
+    pub fn drain(&self, most: usize, wait: Option<Duration>) -> Result<Vec<Ended>, Error> {
+        let (mut calls, mut count) = (vec![c::Ended::default(); most], 0);
+        let (to, wait) = (calls.as_mut_ptr(), nanoseconds(wait));
+        done(unsafe { c::sgt_shared_drain(self.at(), wait, to, most, &mut count) })?;
+        Ok(calls[..count as usize].iter().map(ended_of).collect())
+    }
+
+    fn at(&self) -> *mut c::Shared {
+        self.0.shared
+    }
+}
+
+/// A transaction of a shared engine. It is quit when it is dropped, unless it has ended before.
+#[derive(Debug)]
+#[must_use = "a transaction that is dropped is quit"]
+pub struct Transaction {
+    engine: SharedEngine,
+    ticket: Ticket,
+    is_live: bool,
+}
+
+impl Transaction {
+    pub fn ticket(&self) -> Ticket {
+        self.ticket
+    }
+
+    /// Lets it make its next access.
+    pub fn step(&mut self) -> Result<Reply, Error> {
+        let mut reply = c::Reply::default();
+        let status = unsafe { c::sgt_shared_step(self.engine.at(), &self.ticket, &mut reply) };
+        self.told(status, &reply)
+    }
+
+    /// Commits it, and waits for others where it has to; `None` as long as it takes. `TimedOut`, and then it is still live.
+    pub fn commit(&mut self, wait: Option<Duration>) -> Result<Reply, Error> {
+        let mut reply = c::Reply::default();
+        let status = unsafe { c::sgt_shared_commit(self.engine.at(), &self.ticket, nanoseconds(wait), &mut reply) };
+        self.told(status, &reply)
+    }
+
+    /// Quits it.
+    pub fn quit(mut self) -> Result<Reply, Error> {
+        self.is_live = false;
+        self.engine.quit(self.ticket)
+    }
+
+    fn told(&mut self, status: u32, reply: &c::Reply) -> Result<Reply, Error> {
+        done(status)?;
+        let reply = reply_of(reply);
+        if let Reply::Committed(_) | Reply::Aborted { .. } | Reply::Refused { .. } | Reply::Over(_) = reply {
+            self.is_live = false;
+        }
+        Ok(reply)
+    }
+}
+
+impl Drop for Transaction {
+    fn drop(&mut self) {
+        if self.is_live {
+            // A quit of a live transaction never fails; one that has ended meanwhile, or was cut off, needs none.
+            let _ = self.engine.quit(self.ticket);
+        }
+    }
+}
+
+/// The hook for C.
+unsafe extern "C" fn tell(context: *mut c_void, call: *const c::Ended) {
+    // The context is the hook of the engine's `Inner`, which is there as long as the engine, and the call is a value of the library's.
+    let (hook, call) = unsafe { (&mut *context.cast::<Hook>(), &*call) };
+    hook(ended_of(call));
+}
+
+/// As the library has deadlines: a duration beyond all numbers is for ever.
+fn nanoseconds(wait: Option<Duration>) -> i64 {
+    wait.map_or(c::FOREVER, |wait| i64::try_from(wait.as_nanos()).unwrap_or(c::FOREVER))
+}
+
+fn live_of(live: &c::Live) -> Live {
+    Live {
+        ticket: live.ticket,
+        procedure: live.procedure as u16,
+        age: Duration::from_nanos(live.for_ns.max(0) as u64),
+        waits: live.waits != 0,
+    }
+}
+
+fn ended_of(ended: &c::Ended) -> Ended {
+    Ended { sequence: ended.sequence, ticket: ended.ticket, call: call_of(&ended.call) }
+}

@@ -1,0 +1,306 @@
+/*
+ * Threads on one shared engine that run, step, quit, time out and cut at random, for tests/threads.py.
+ *
+ *     shared_runs FOLDER SEED THREADS CALLS
+ *
+ * Writes into the folder what the library told, and judges nothing:
+ *
+ *     history    a line `part N` for each part, and below it a line for each entry: the event, a tab, the reply
+ *     thread.N   a line for each reply that thread N was told: the part, the transaction, what was asked, a tab, the reply
+ *     ended      a line for each call that the hook was told: sequence, part, transaction, procedure, arguments, a tab, what it was told
+ *     drained    the same of the calls that were drained
+ *     rows       the committed database at the end
+ *
+ * In all, CALLS calls are made by the threads. It prints how many runs timed out, were tried again and so on, as `name count` lines.
+ */
+#include <inttypes.h>
+#include <pthread.h>
+#include <sched.h>
+#include <stdatomic.h>
+#include <stdbool.h>
+#include <stdio.h>
+#include <stdlib.h>
+#include <string.h>
+#include <time.h>
+
+#include "sgt_shared.h"
+
+enum { MOST_THREADS = 64, ACCOUNTS = 5, TEXT = 1024, ROWS = 64 };
+
+static const char opening[] = "{\"limits\":[8,4000000000,1],\"accounts\":[[0,100,100000,100000],[1,101,100000,100000],"
+                              "[2,102,100000,100000],[3,103,100000,100000],[4,104,100000,100000]],\"procedures\":[]}";
+static const size_t takes[] = {1, 2, 2, 2}; /* arguments of balance, deposit, transact savings and amalgamate */
+
+static sgt_shared *shared;
+static const char *folder;
+static unsigned seed;
+static long each;
+static atomic_bool over;
+static FILE *history, *ended, *drained;
+
+enum count { RUNS, AGAIN, WAITED, STEPPED, COMMITTED, TIMED_OUT, QUIT, STALE, ABANDONED, CUTS, LISTED, COUNTS };
+static const char *const names[] = {"runs",  "tried again", "waited", "stepped", "committed", "timed out",
+                                    "quit", "stale",       "abandoned", "cuts",  "listed"};
+static atomic_long counts[COUNTS];
+
+static void count(enum count which) { atomic_fetch_add(&counts[which], 1); }
+
+static void must(bool holds, const char *what)
+{
+    if (holds) return;
+    fprintf(stderr, "%s\n", what);
+    exit(1);
+}
+
+static FILE *opened(const char *name)
+{
+    char path[TEXT];
+    snprintf(path, sizeof path, "%s/%s", folder, name);
+    FILE *file = fopen(path, "w");
+    must(file != 0, "a file can't be opened");
+    return file;
+}
+
+static void write_reply(FILE *to, const sgt_reply *reply)
+{
+    char text[TEXT];
+    uint64_t length = 0;
+    must(sgt_reply_text(reply, text, sizeof text, &length) == SGT_OK, "a reply has no text");
+    fprintf(to, "\t%.*s\n", (int)length, text);
+}
+
+static void write_args(FILE *to, uint32_t procedure, const int64_t *args, size_t count)
+{
+    fprintf(to, "%" PRIu32 ",[", procedure);
+    for (size_t i = 0; i < count; i++) fprintf(to, "%s%" PRId64, i ? "," : "", args[i]);
+    fprintf(to, "]");
+}
+
+/* What the hooks write. They are called under the engine's lock. */
+
+static void write_ended(FILE *to, const sgt_ended *told)
+{
+    const sgt_call *call = &told->call;
+    must(told->ticket.tid == call->tid, "a ticket is another call's");
+    fprintf(to, "%" PRIu64 " %" PRIu64 " %" PRIu32 " ", told->sequence, told->ticket.part, call->tid);
+    write_args(to, call->procedure, call->arg, call->args);
+    if (call->kind == SGT_REFUSED) fprintf(to, "\tasked %" PRIu32 "\n", call->code);
+    else fprintf(to, "\tcommitted %" PRId64 "\n", call->answer[0]);
+}
+
+static void tell_ended(void *context, const sgt_ended *call)
+{
+    (void)context;
+    write_ended(ended, call);
+}
+
+static void write_entries(void *context, sgt_engine *engine, uint64_t part)
+{
+    static const char *const asks[] = {"", "start", "step", "commit", "quit"};
+    sgt_event event = {0};
+    sgt_reply reply = {0};
+    (void)context;
+    fprintf(history, "part %" PRIu64 "\n", part);
+    for (uint64_t place = 0; sgt_entry(engine, place, &event, &reply) == SGT_OK; place++) {
+        fprintf(history, "[\"%s\",", asks[event.kind]);
+        if (event.kind == SGT_START) write_args(history, event.procedure, event.arg, event.args);
+        else fprintf(history, "%" PRIu32, event.tid);
+        fprintf(history, "]");
+        write_reply(history, &reply);
+    }
+}
+
+/* Threads */
+
+struct thread {
+    pthread_t id;
+    int number;
+    uint64_t drawn;
+    FILE *log;
+};
+
+static uint64_t draw(struct thread *it, uint64_t below)
+{
+    it->drawn = it->drawn * 6364136223846793005u + 1442695040888963407u;
+    return (it->drawn >> 33) % below;
+}
+
+static void log_reply(struct thread *it, const sgt_ticket *ticket, const char *asked, const sgt_reply *reply)
+{
+    fprintf(it->log, "%" PRIu64 " %" PRIu32 " %s", ticket->part, ticket->tid, asked);
+    write_reply(it->log, reply);
+}
+
+/* A deadline: none in most cases, else some microseconds. */
+static int64_t drawn_wait(struct thread *it) { return draw(it, 3) > 0 ? SGT_FOREVER : (int64_t)draw(it, 300000); }
+
+static uint32_t draw_call(struct thread *it, int64_t *args)
+{
+    uint32_t procedure = (uint32_t)draw(it, 4);
+    args[0] = (int64_t)draw(it, ACCOUNTS + (draw(it, 50) == 0)); /* now and then an account that is not there */
+    args[1] = procedure == 3 ? (int64_t)draw(it, ACCOUNTS) : 1 + (int64_t)draw(it, 99);
+    return procedure;
+}
+
+static void run_one(struct thread *it)
+{
+    int64_t args[2];
+    uint32_t procedure = draw_call(it, args);
+    sgt_shared_outcome outcome = SGT_SHARED_OUTCOME;
+    sgt_run_options options = SGT_RUN_OPTIONS;
+    options.wait_ns = drawn_wait(it);
+    options.tries = (uint32_t)draw(it, 4);
+    uint32_t status = sgt_shared_run(shared, procedure, args, takes[procedure], &options, &outcome);
+    count(RUNS);
+    if (outcome.tries > 1) count(AGAIN);
+    if (outcome.waits > 0) count(WAITED);
+    must(status == SGT_OK || status == SGT_TIMED_OUT, "a run has another status");
+    if (status == SGT_TIMED_OUT) {
+        count(TIMED_OUT);
+        return;
+    }
+    if (outcome.reply.kind == SGT_COMMITTED) count(COMMITTED);
+    log_reply(it, &outcome.ticket, "run", &outcome.reply);
+}
+
+/* Steps a transaction until it ends, is quit or left to another thread. Its last reply, or the status of a call. */
+static uint32_t step_on(struct thread *it, const sgt_ticket *ticket, sgt_reply *reply)
+{
+    uint32_t status;
+    do {
+        if (draw(it, 4) == 0) sched_yield();
+        if (draw(it, 40) == 0) {
+            count(QUIT);
+            if ((status = sgt_shared_quit(shared, ticket, reply)) == SGT_OK) log_reply(it, ticket, "quit", reply);
+            return status;
+        }
+        if ((status = sgt_shared_step(shared, ticket, reply)) != SGT_OK) return status;
+        log_reply(it, ticket, "step", reply);
+    } while (reply->kind == SGT_LOOKED || reply->kind == SGT_WROTE);
+    while (reply->kind == SGT_ENDED) {
+        status = sgt_shared_commit(shared, ticket, drawn_wait(it), reply);
+        if (status == SGT_OK) log_reply(it, ticket, "commit", reply);
+        if (status != SGT_TIMED_OUT) return status;
+        count(TIMED_OUT);
+        if (draw(it, 2) == 0) continue;
+        count(QUIT);
+        if ((status = sgt_shared_quit(shared, ticket, reply)) == SGT_OK) log_reply(it, ticket, "quit", reply);
+        return status;
+    }
+    return SGT_OK;
+}
+
+static void step_one(struct thread *it)
+{
+    int64_t args[2];
+    uint32_t procedure = draw_call(it, args);
+    sgt_ticket ticket = {0};
+    sgt_reply reply = {0};
+    uint32_t status = sgt_shared_start(shared, procedure, args, takes[procedure], drawn_wait(it), &ticket, &reply);
+    count(STEPPED);
+    if (status == SGT_TIMED_OUT) {
+        count(TIMED_OUT);
+        return;
+    }
+    must(status == SGT_OK && reply.kind == SGT_STARTED, "a start was refused");
+    log_reply(it, &ticket, "start", &reply);
+    status = step_on(it, &ticket, &reply);
+    must(status == SGT_OK || status == SGT_STALE, "an event has another status");
+    if (status == SGT_STALE) count(STALE);
+    else if (reply.kind == SGT_COMMITTED) count(COMMITTED);
+}
+
+/* Quits whoever has been live for too long, as an operator would. */
+static void quit_oldest(struct thread *it)
+{
+    sgt_live live[32];
+    sgt_reply reply = {0};
+    uint64_t many = 0;
+    must(sgt_shared_live(shared, live, 32, &many) == SGT_OK && many <= 8, "who is live is not told");
+    count(LISTED);
+    if (many == 0 || live[0].for_ns < 1000000) return;
+    uint32_t status = sgt_shared_quit(shared, &live[0].ticket, &reply);
+    must(status == SGT_OK || status == SGT_STALE, "a quit has another status");
+    if (status != SGT_OK) return;
+    count(ABANDONED);
+    log_reply(it, &live[0].ticket, "quit", &reply);
+}
+
+static void *work(void *of)
+{
+    struct thread *it = of;
+    for (long made = 0; made < each; made++) {
+        uint64_t choice = draw(it, 100);
+        if (choice < 50) run_one(it);
+        else if (choice < 99) step_one(it);
+        else quit_oldest(it);
+        if (draw(it, 2000) == 0 && sgt_shared_cut(shared, (int64_t)draw(it, 2000000)) == SGT_OK) count(CUTS);
+    }
+    return 0;
+}
+
+static void *drain(void *unused)
+{
+    sgt_ended calls[64];
+    uint64_t many = 1;
+    (void)unused;
+    while (!over || many > 0) {
+        must(sgt_shared_drain(shared, 1000000, calls, 64, &many) == SGT_OK, "a drain failed");
+        for (uint64_t i = 0; i < many; i++) write_ended(drained, &calls[i]);
+    }
+    return 0;
+}
+
+static void work_all(struct thread *threads, int many)
+{
+    pthread_t drainer;
+    must(pthread_create(&drainer, 0, drain, 0) == 0, "a thread was not started");
+    for (int i = 0; i < many; i++) {
+        char name[32];
+        snprintf(name, sizeof name, "thread.%d", i);
+        threads[i] = (struct thread){.number = i, .drawn = seed * 1000003u + (unsigned)i, .log = opened(name)};
+        must(pthread_create(&threads[i].id, 0, work, &threads[i]) == 0, "a thread was not started");
+    }
+    for (int i = 0; i < many; i++) {
+        pthread_join(threads[i].id, 0);
+        fclose(threads[i].log);
+    }
+    over = true;
+    pthread_join(drainer, 0);
+}
+
+static void write_rows(void)
+{
+    sgt_row rows[ROWS];
+    uint64_t many = 0;
+    FILE *to = opened("rows");
+    must(sgt_shared_rows(shared, 0, SGT_LEAST, rows, ROWS, &many) == SGT_OK && many <= ROWS, "the rows are not told");
+    for (uint64_t i = 0; i < many; i++) {
+        fprintf(to, "%" PRIu32 "/%" PRId64 " %" PRId64 "\n", rows[i].table, rows[i].number, rows[i].value);
+    }
+    fclose(to);
+}
+
+int main(int argc, char **argv)
+{
+    static struct thread threads[MOST_THREADS];
+    if (argc != 5) return 2;
+    folder = argv[1], seed = (unsigned)atoi(argv[2]);
+    const int many = atoi(argv[3]);
+    if (many < 1 || many > MOST_THREADS) return 2;
+    each = atol(argv[4]) / many;
+    history = opened("history"), ended = opened("ended"), drained = opened("drained");
+    sgt_fault fault = {0};
+    sgt_shared_config config = SGT_SHARED_CONFIG;
+    config.ended = tell_ended, config.cutting = write_entries;
+    config.keeps_ended = 1, config.cut_after = 1000, config.cut_wait_ns = 2000000;
+    const uint8_t *text = (const uint8_t *)opening;
+    must(sgt_shared_open(&shared, text, sizeof opening - 1, 0, 0, &config, &fault) == SGT_OK, "the engine is not opened");
+    work_all(threads, many);
+    must(sgt_shared_cut(shared, 0) == SGT_OK, "somebody is live at the end");
+    write_rows();
+    must(sgt_shared_close(&shared) == SGT_OK, "the engine is not closed");
+    fclose(history), fclose(ended), fclose(drained);
+    for (int i = 0; i < COUNTS; i++) printf("%s %ld\n", names[i], (long)counts[i]);
+    return 0;
+}

@@ -1,0 +1,50 @@
+"""How programs are built with the library for C, and run."""
+
+import subprocess
+
+from .cases import TESTS, Differs
+
+BINDINGS = TESTS.parent / "bindings"
+OUT = BINDINGS / "out"
+SECONDS = 300
+
+INCLUDES = [f"-I{BINDINGS}", f"-I{BINDINGS / 'c'}"]
+C_FLAGS = ["-std=c11", "-D_GNU_SOURCE", "-Wall", "-Wextra", "-Werror", "-O2", *INCLUDES]
+CPP_FLAGS = ["-std=c++17", "-Wall", "-Wextra", "-Werror", "-O2", *INCLUDES, f"-I{BINDINGS / 'cpp'}"]
+SANITIZERS = ["-g", "-fsanitize=address,undefined", "-fno-sanitize-recover=all"]
+THREAD_SANITIZER = ["-g", "-fsanitize=thread"]
+WRAPS = ["-Wl,--wrap=malloc,--wrap=realloc,--wrap=calloc"]
+
+# What of the library is C. Built into a program, it goes before that of the library, and so it is sanitized with the program.
+SHARED = BINDINGS / "c" / "sgt_shared.c"
+
+
+def run(words, seconds=SECONDS, env=None, cwd=None, also_errors=False):
+    """What the words write, where they end well; with standard error behind it, where that is asked."""
+    words = [str(word) for word in words]
+    try:
+        ran = subprocess.run(words, capture_output=True, timeout=seconds, check=False, env=env, cwd=cwd)
+    except subprocess.TimeoutExpired:
+        raise Differs(f"{words[0]}: no end after {seconds} seconds") from None
+    if ran.returncode:
+        raise Differs(f"{words[0]}: status {ran.returncode}: {(ran.stdout + ran.stderr).decode()[-600:]}")
+    return (ran.stdout + ran.stderr if also_errors else ran.stdout).decode()
+
+
+def built(room, compiler, flags, source, extra=(), beside=()):
+    """The program that the source makes, with these beside it, and with the static library."""
+    program = room / f"{source.stem}{abs(hash(tuple(map(str, extra)))) % 10**6}"
+    run([compiler, *flags, *extra, "-o", program, source, *beside, OUT / "libsgt.a", "-lpthread"])
+    return program
+
+
+def can(room, compiler, flags, text="int main(void) { return 0; }", words=()):
+    """Whether programs with these flags can be built and run here: the program of this text, with these words."""
+    source = room / "nothing.c"
+    source.write_text(text + "\n")
+    try:
+        run([compiler, *flags, "-o", room / "nothing", source])
+        run([room / "nothing", *words])
+    except (Differs, OSError):
+        return False
+    return True

@@ -1,0 +1,229 @@
+#!/usr/bin/env python3
+"""Runs threads on one shared engine of the library for C, and judges from outside what they were told.
+
+    tests/threads.py
+
+It takes the library that `bindings/build` has made. Each case is told, the last line counts them; where something is missing on
+this machine, what was left out is told.
+"""
+
+import json
+import pathlib
+import random
+import shutil
+import sys
+import tempfile
+from collections import Counter, defaultdict
+
+sys.dont_write_bytecode = True
+from helpers.cases import C_SOURCES, Differs, same, tell  # noqa: E402
+from helpers.legal import Checker, Illegal, database_text  # noqa: E402
+from helpers.library import C_FLAGS, OUT, SANITIZERS, SHARED, THREAD_SANITIZER, WRAPS, built, can, run  # noqa: E402
+
+THREADS, CALLS, SANITIZED_CALLS = 16, 200_000, 30_000
+MONEY = 5 * 200_000
+FUZZED_SECONDS = 60
+LIMITS = '{"limits":[8,4000000000,1],"accounts":[%s],"procedures":[]}\n'
+ACCOUNTS = ",".join(f"[{n},{100 + n},100000,100000]" for n in range(5))
+
+FUZZER = ["-g", "-fsanitize=fuzzer,address,undefined", "-fno-sanitize-recover=all"]
+NO_TARGET = "int LLVMFuzzerTestOneInput(const char *data, unsigned long size) { return data ? 0 : (int)size; }"
+
+# What has to come in a run of so many calls, so that it tests what it is for.
+WANTED = ("tried again", "waited", "timed out", "quit", "cuts", "committed")
+
+
+def parts_of(text):
+    """The entries of each part: events and replies."""
+    parts = []
+    for line in text.splitlines():
+        if line.startswith("part "):
+            same("the number of a part", len(parts), int(line.split()[1]))
+            parts.append([])
+        else:
+            parts[-1].append(tuple(line.split("\t")))
+    return parts
+
+
+def opening_on(rows):
+    """An opening on these rows, without accounts."""
+    records = "".join(f'["record",{table},{number},{value}]\n' for (table, number), value in sorted(rows.items()))
+    return LIMITS % "" + records
+
+
+def judged(parts):
+    """Compares each part with the definitions. The rows at the end, and of all parts who ended, in order, with what was told."""
+    opening, ends = LIMITS % ACCOUNTS, []
+    for part, entries in enumerate(parts):
+        checker, calls = Checker(opening), []
+        for event, reply in entries:
+            checker.take(event, reply)
+            if reply.startswith("started"):
+                calls.append(event.removeprefix('["start",').removesuffix("]"))
+            elif event.startswith('["commit"') and reply.split()[0] in ("committed", "refused"):
+                tid, words = json.loads(event)[1], reply.split()
+                told = f"asked {words[1]}" if words[0] == "refused" else reply
+                ends.append(f"{len(ends)} {part} {tid} {calls[tid]}\t{told}")
+        same("who is live behind a part", [], checker.live())
+        rows = checker.serial()
+        same("the serial run", rows, checker.settled)
+        opening = opening_on(rows)
+    return rows, ends
+
+
+def told_of(folder):
+    """What the threads were told of each transaction: what they asked, and the reply."""
+    told = defaultdict(list)
+    for path in folder.glob("thread.*"):
+        for line in path.read_text().splitlines():
+            asked, reply = line.split("\t")
+            part, tid, kind = asked.split()
+            told[int(part), int(tid)].append((kind, reply))
+    return told
+
+
+def entries_of(parts):
+    """The same by the history, but for commits that waited: the library asks for these again by itself."""
+    entries = defaultdict(list)
+    for part, its in enumerate(parts):
+        for event, reply in its:
+            kind, tid, *_ = json.loads(event)
+            if reply.startswith("started"):
+                entries[part, int(reply.split()[1])].append((kind, reply))
+            elif kind != "start" and not reply.startswith("waits"):
+                entries[part, tid].append((kind, reply))
+    return entries
+
+
+def compare_replies(told, entries):
+    """Whoever steps was told each entry; whoever runs was told its last one."""
+    for ticket, replies in told.items():
+        ran = [reply for kind, reply in replies if kind == "run"]
+        if not ran:
+            same(f"what was told of {ticket}", Counter(entries[ticket]), Counter(replies))
+            continue
+        others = Counter(reply for reply in replies if reply[0] != "run")
+        left = Counter(entries[ticket]) - others
+        lasts = [reply for kind, reply in left if kind in ("step", "commit")]
+        if len(ran) != 1 or ran[0] not in lasts or others - Counter(entries[ticket]):
+            raise Differs(f"a run of {ticket} was told {replies}, in place of {entries[ticket]}")
+
+
+def judge(folder):
+    """Judges a run by what it wrote. How many entries and parts there are."""
+    parts = parts_of((folder / "history").read_text())
+    try:
+        rows, ends = judged(parts)
+    except Illegal as why:
+        raise Differs(str(why)) from None
+    same("the rows", database_text(rows), (folder / "rows").read_text().splitlines())
+    same("what the hook was told", ends, (folder / "ended").read_text().splitlines())
+    same("what was drained", ends, (folder / "drained").read_text().splitlines())
+    compare_replies(told_of(folder), entries_of(parts))
+    deposited = sum(money_in(end) for end in ends)
+    same("the money", MONEY + deposited, sum(value for (table, _), value in rows.items() if table in (1, 2)))
+    return f"{sum(map(len, parts))} entries in {len(parts)} parts, {len(ends)} calls ended"
+
+
+def money_in(end):
+    """What a committed deposit or saving brings in."""
+    call, told = end.split("\t")
+    procedure, _, args = call.split()[3].partition(",")
+    return json.loads(args)[1] if procedure in ("1", "2") and told.startswith("committed") else 0
+
+
+def ran(room, program, calls, seed):
+    """A run of the program: its folder, and its counts."""
+    folder = room / f"run{seed}"
+    folder.mkdir()
+    lines = run([program, folder, seed, THREADS, calls]).splitlines()
+    return folder, {name: int(count) for name, _, count in (line.rpartition(" ") for line in lines)}
+
+
+def threads_are_told_what_the_history_says(room):
+    folder, counts = ran(room, built(room, "cc", C_FLAGS, C_SOURCES / "shared_runs.c"), CALLS, 1)
+    missing = [name for name in WANTED if counts[name] == 0]
+    same("what did not come", [], missing)
+    return f"{judge(folder)}; " + ", ".join(f"{name} {count}" for name, count in counts.items())
+
+
+def sanitized(room, flags, seed):
+    """Runs the threads under a sanitizer, which also sees the code of the shared engine."""
+    compiler = next((name for name in ("cc", "clang", "clang-14") if shutil.which(name) and can(room, name, flags)), None)
+    if not compiler:
+        return f"left out: no compiler here has {flags[1]}"
+    for source in ("shared_calls.c", "shared_runs.c"):
+        program = built(room, compiler, C_FLAGS, C_SOURCES / source, flags, [SHARED])
+        if source == "shared_calls.c":
+            run([program])
+    folder, _ = ran(room, program, SANITIZED_CALLS, seed)
+    return f"{compiler}: {judge(folder)}"
+
+
+def threads_do_not_race(room):
+    return sanitized(room, THREAD_SANITIZER, 2)
+
+
+def threads_stay_within_their_memory(room):
+    return sanitized(room, SANITIZERS, 3)
+
+
+def tells_the_status_of_each_call(room):
+    told = run([built(room, "cc", C_FLAGS, C_SOURCES / "shared_calls.c")])
+    same("what is told", f"{told.split()[0]} checks, 0 failed\n", told)
+    return f"{told.split()[0]} checks"
+
+
+def goes_on_where_each_allocation_is_refused(room):
+    told = run([built(room, "cc", C_FLAGS, C_SOURCES / "shared_refused.c", WRAPS)])
+    count = told.split()[0]
+    same("what is told", f"{count} allocations were refused, each was told\n", told)
+    return f"{count} allocations"
+
+
+def keeps_its_word_whatever_is_called(room):
+    """Calls that a fuzzer draws, or, without one, calls drawn at random for as long."""
+    source = C_SOURCES / "shared_fuzz.c"
+    have = [name for name in ("clang", "clang-14") if shutil.which(name)]
+    compiler = next((name for name in have if can(room, name, FUZZER, NO_TARGET, ["-runs=1"])), None)
+    if compiler:
+        program = built(room, compiler, C_FLAGS, source, FUZZER, [SHARED])
+        corpus = room / "corpus"
+        corpus.mkdir()
+        for seed in range(4):  # long inputs to begin with, so that engines grow full and histories long
+            (corpus / f"seed{seed}").write_bytes(random.Random(seed).randbytes(2048))
+        words = [f"-max_total_time={FUZZED_SECONDS}", "-max_len=4096", "-len_control=0", "-seed=1", "-print_final_stats=1"]
+        told = run([program, *words, corpus], seconds=300, also_errors=True, cwd=room)
+        count = next(line.split()[-1] for line in told.splitlines() if line.startswith("stat::number_of_executed_units"))
+        return f"{compiler}: {count} inputs in {FUZZED_SECONDS} s, {len(list(corpus.iterdir()))} kept"
+    told = run([built(room, "cc", C_FLAGS, source, ["-DDRAWN"]), FUZZED_SECONDS])
+    return f"drawn, as no compiler here has a fuzzer: {told.strip()}"
+
+
+CASES = [
+    tells_the_status_of_each_call,
+    threads_are_told_what_the_history_says,
+    threads_do_not_race,
+    threads_stay_within_their_memory,
+    goes_on_where_each_allocation_is_refused,
+    keeps_its_word_whatever_is_called,
+]
+
+
+def main():
+    if sys.argv[1:]:
+        sys.exit(__doc__)
+    if not shutil.which("cc"):
+        print("left out: no cc here")
+        print("0 passed, 0 failed")
+        return 0
+    if not (OUT / "libsgt.a").exists():
+        print("FAILED: no library: bindings/build makes it")
+        print(f"0 passed, {len(CASES)} failed")
+        return 1
+    with tempfile.TemporaryDirectory() as room:
+        return tell(CASES, pathlib.Path(room), of="threads")
+
+
+if __name__ == "__main__":
+    sys.exit(main())
