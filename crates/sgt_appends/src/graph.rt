@@ -5,7 +5,7 @@
 ghost use Rattle.std.specs.Prelude.{◌≡◌, ◌<◌, ℕ, [], OnOk, IfOk};
 ghost use Rattle.sgt_appends.specs.Graphs.{AreWithin};
 
-use crate::appends::Appends;
+use crate::append_index::AppendIndex;
 use crate::lines::{Line, Lines};
 use crate::reads::{Read, read_of};
 use crate::sorting::Link;
@@ -49,7 +49,7 @@ impl Graph {
         &mut self,
         alloc: Global,
         history: &[Transaction],
-        appends: &Appends,
+        appends: &AppendIndex,
         lines: &Lines,
     ) -> Result<(), NoMemory>
         requires { AreWithin self.old.links.items self.old.nodes }
@@ -69,7 +69,7 @@ impl Graph {
 
     /// Adds the links that the values which the read saw make: from who appends one to who appends the next, and from
     /// who appends the last of others to the reader.
-    fn add_seen(&mut self, appends: &Appends, read: Read<'_>) -> Result<(), NoMemory>
+    fn add_seen(&mut self, appends: &AppendIndex, read: Read<'_>) -> Result<(), NoMemory>
         requires { AreWithin self.old.links.items self.old.nodes }
         ensures { OnOk result (AreWithin self.new.links.items self.new.nodes) }
     {
@@ -115,7 +115,7 @@ impl Graph {
         &mut self,
         alloc: Global,
         transactions: usize,
-        appends: &Appends,
+        appends: &AppendIndex,
         lines: &Lines,
         read: Read<'_>,
     ) -> Result<(), NoMemory>
@@ -194,7 +194,7 @@ fn end_before(
 /// Who appends the first value of the line that the reader neither saw nor appends, and where.
 fn first_unknown(
     alloc: Global,
-    appends: &Appends,
+    appends: &AppendIndex,
     line: &Line,
     read: Read<'_>,
 ) -> Result<Option<(usize, usize)>, NoMemory> {

@@ -24,12 +24,11 @@
 #![tactic(auto)]
 
 mod anomaly;
-mod appends;
+mod append_index;
 mod check;
 mod contents;
 mod fault;
 mod graph;
-mod index;
 mod laws;
 mod lines;
 mod order;
@@ -42,16 +41,15 @@ mod transaction;
 mod witness;
 
 pub use anomaly::{Anomaly, name_of};
+pub use append_index::{AppendIndex, appends_once};
 pub use check::{Answer, Verdict, Witness, check_appends, judge};
 pub use contents::Contents;
-pub use fault::{Fault, is_fault};
-pub use index::{Index, appends_once};
+pub use fault::Fault;
 pub use laws::{
     cycles_are_enough, faults_are_enough, few_edges_are_enough, guides_are_enough,
     orders_are_enough, precedences_are_obeyed, raised_are_enough,
 };
 pub use order::is_serial_run;
-pub use solver::solve;
 pub use sorting::{Link, Sorted, sort};
 pub use transaction::{Operation, Status, Transaction};
 pub use witness::{Edge, Reason, all_hold, is_cycle};
