@@ -99,7 +99,7 @@ earlier_still : (t p i j : ℕ) → IsEarlier t p i j → IsEarlier t p i (j + 1
 earlier_still t p i j (inl less) = inl less
 earlier_still t p i j (inr same) = inr (same.0, omega (arith, same.1))
 
-earlier_cases : (t p i j : ℕ) → IsEarlier t p i (j + 1) → IsEarlier t p i j ⊎ ((t ≡ i) × (p ≡ j))
+pub earlier_cases : (t p i j : ℕ) → IsEarlier t p i (j + 1) → IsEarlier t p i j ⊎ ((t ≡ i) × (p ≡ j))
 earlier_cases t p i j (inl less) = inl (inl less)
 earlier_cases t p i j (inr same) = elim (cases_eq p j) [
   | inl is ↦ inr (same.0, is)

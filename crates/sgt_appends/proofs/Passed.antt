@@ -304,7 +304,7 @@ stands_within [] p o is = absurd (grind (arith, common_steps, is))
 stands_within (x ∷ os) zero o is = omega arith
 stands_within (x ∷ os) (suc p) o is = omega (arith, stands_within os p o is)
 
-ended_within : (ts : List Transaction) (t : ℕ) (x : Transaction) → slice_get ts t ≡ Some x → t < length ts
+pub ended_within : (ts : List Transaction) (t : ℕ) (x : Transaction) → slice_get ts t ≡ Some x → t < length ts
 ended_within [] t x is = absurd (grind (arith, common_steps, is))
 ended_within (y ∷ ts) zero x is = omega arith
 ended_within (y ∷ ts) (suc t) x is = omega (arith, ended_within ts t x is)
@@ -393,3 +393,10 @@ never_there h t none (inr it) = by (sym none ∙ it.1)
   where
     by : {x : Transaction} → ¬ (None ≡ Some x)
     by e = cc
+
+-- a position has one read, of one key
+pub same_read_at : (h : List Transaction) (t p k l : ℕ) (seen others : List ℕ) → IsReadAt h t p k seen → IsReadAt h t p l others
+    → (k ≡ l) × (seen ≡ others)
+same_read_at h t p k l seen others it other =
+    let same = same_read (operations_of h t) p k l it.0 other.0 it.1 other.1 in
+    (same.0, sym it.2 ∙ ap (λ (v : Vec ℕ). v.items) same.1 ∙ other.2)

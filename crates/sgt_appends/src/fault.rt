@@ -1,6 +1,6 @@
 //! Faults of a single read, and what they look at.
 ghost use Rattle.std.specs.Prelude.{◌≡◌, ◌↔◌, ◌++◌, ℕ, List, [], ◌∷◌, IsTrue, IfOk, OnOk};
-ghost use Rattle.std.proofs.Common.{take};
+ghost use Rattle.std.proofs.Common.{take, drop};
 ghost use Rattle.sgt_appends.specs.Lists.{Has};
 ghost use Rattle.sgt_appends.specs.Runs.{operations_of};
 ghost use Rattle.sgt_appends.specs.Precedences.{appended};
@@ -63,6 +63,26 @@ pub(crate) fn own_before(
         return appended_by(alloc, operations, of);
     }
     appended_by(alloc, &operations[..place], of)
+}
+
+/// What the operations of the transaction from the place on append to the key.
+pub(crate) fn own_after(
+    alloc: Global,
+    history: &[Transaction],
+    by: usize,
+    place: usize,
+    of: u32,
+) -> Result<Vec<u32>, NoMemory>
+    ensures { IfOk result (λ own. own.items ≡ appended of (drop place (operations_of history.now by))) }
+{
+    let Some(transaction) = history.get(by) else {
+        return Ok(Vec::new(alloc));
+    };
+    let operations = transaction.operations.as_slice();
+    if operations.len() <= place {
+        return Ok(Vec::new(alloc));
+    }
+    appended_by(alloc, &operations[place..], of)
 }
 
 /// What the operations append to the key.

@@ -12,10 +12,13 @@
 //!   fault of a read, is such an order (`raised_are_enough`).
 //! - The sort of the graph: ranks that rise along all links, or a cycle of them.
 //!
-//! Not proved: that the solver's answers always show it, so `Unsure` is possible; that `AppendedTwice` comes only where a
-//! value is; that the fault of a witness is the one that the read has; the names of the anomalies; the time.
-//! A value appended twice to a key gets `AppendedTwice`. An unknown transaction must have no reads: where it has some, they
-//! are taken as those of a committed one if the order has it, and the verdict may be `Unsure`.
+//! - `AppendedTwice` comes exactly where a value is appended twice to a key.
+//! - The fault of a witness is one that the read has. Where no fault is named, no read has one.
+//!
+//! Not proved: that the order or the cycle which the solver finds always shows it, so `Unsure` is possible; the names of the
+//! anomalies; the time.
+//! An unknown transaction must have no reads: where it has some, they are taken as those of a committed one if the order has it,
+//! and the verdict may be `Unsure`.
 //!
 //! ```
 //! // the first appends 1 and 2 to key 0, and the second saw 1 alone: it saw the first in part

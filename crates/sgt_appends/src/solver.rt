@@ -2,6 +2,9 @@
 //!
 //! It is not proved that the answer shows whether the history is serializable: `judge` tests it.
 ghost use Rattle.std.specs.Prelude.{◌≡◌, ◌<◌, ℕ};
+ghost use Rattle.sgt_appends.specs.Precedences.{AppendsOnce};
+ghost use Rattle.sgt_appends.specs.Orders.{AllClean};
+ghost use Rattle.sgt_appends.specs.Indexes.{position_of, IsIndex};
 
 use crate::append_index::AppendIndex;
 use crate::check::Answer;
@@ -17,7 +20,11 @@ pub fn solve(
     alloc: Global,
     history: &[Transaction],
     appends: &AppendIndex,
-) -> Result<Answer, NoMemory> {
+) -> Result<Answer, NoMemory>
+    requires index { IsIndex history.now (position_of appends.now) }
+    requires once { AppendsOnce history.now }
+    requires clean { AllClean history.now }
+{
     let lines = Lines::of_history(alloc, history)?;
     let Some(nodes) = history.len().checked_add(lines.len()) else {
         return Err(NoMemory);

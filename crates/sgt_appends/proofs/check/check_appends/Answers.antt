@@ -13,3 +13,6 @@ returns-in-Some-2 c =
           (index_once c.args.history.now (position_of c.in-Some.appends) index) has,
       has,
     )
+
+pub solve-requires-clause-clean : goal.solve-requires-clause-clean
+solve-requires-clause-clean c = c.in_ok-reader.ensures.clean (search rules)
