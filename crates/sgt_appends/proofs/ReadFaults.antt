@@ -1,32 +1,16 @@
--- Faults of reads that committed transactions have seen, and operations at their places.
+-- Operations at their positions, and what they append.
 use Rattle.std.proofs.Common.{◌≡◌, ◌<◌, ◌≤◌, ◌+◌, ◌==◌, ◌++◌, ℕ, zero, suc, Bool, true, false, cond, List, [], ◌∷◌, Some, length, take, get_or, refl, sym, ap, ◌∙◌, subst, inl, inr, arith}
 use Rattle.std.specs.Prelude.{slice_get}
 use Rattle.std.proofs.lemmas.Bool.{eq-eqb}
 use Rattle.std.proofs.lemmas.Grind.{common_steps}
 use Rattle.sgt_appends.specs.declared.transaction.Operation.{Operation}
 use Rattle.sgt_appends.specs.declared.transaction.Operation.TheVariants.{Append}
-use Rattle.sgt_appends.specs.declared.transaction.Transaction.{Transaction}
 use Rattle.sgt_appends.specs.Lists.{Has, IsOnce, StandsBefore}
-use Rattle.sgt_appends.specs.Walks.{ReadAt}
 use Rattle.sgt_appends.proofs.Along.{apart}
-use Rattle.sgt_appends.specs.Runs.{operations_or_none, operations_of, MayRun, IsSerializable}
-use Rattle.sgt_appends.specs.Precedences.{appended, Appends, HasSeen, AppendsOnce}
+use Rattle.sgt_appends.specs.Precedences.{appended}
 use Rattle.sgt_appends.proofs.Words.{Has-append_left, Has-append_cases, StandsBefore-front}
 use Rattle.sgt_appends.proofs.Added.{appended-append}
 use Rattle.sgt_appends.proofs.Spots.{at_append, some_more}
-use Rattle.sgt_appends.proofs.Faulty.{fault_enough}
-
-pub unwritten : (h : List Transaction) (t k : ℕ) (seen : List ℕ) (v : ℕ) → AppendsOnce h → HasSeen h t k seen → Has seen v
-    → ((u : ℕ) → Appends h u k v → ¬ MayRun h u) → ¬ IsSerializable h
-unwritten h t k seen v once it has none = fault_enough h t k it.1.0 seen once it.0 it.1.1 (inl (v, has, none))
-
-pub twice : (h : List Transaction) (t k : ℕ) (seen : List ℕ) (v : ℕ) → AppendsOnce h → HasSeen h t k seen → StandsBefore seen v v
-    → ¬ IsSerializable h
-twice h t k seen v once it stand = fault_enough h t k it.1.0 seen once it.0 it.1.1 (inr (inl (v, stand)))
-
-pub swapped : (h : List Transaction) (t k : ℕ) (seen : List ℕ) (u v w : ℕ) → AppendsOnce h → HasSeen h t k seen
-    → StandsBefore (appended k (operations_of h u)) v w → StandsBefore seen w v → ¬ IsSerializable h
-swapped h t k seen u v w once it mine stand = fault_enough h t k it.1.0 seen once it.0 it.1.1 (inr (inr (inl (u, v, w, mine, stand))))
 
 pub found_one : (os : List Operation) (i : ℕ) (o : Operation) (k v : ℕ) → i < length os → o ≡ get_or os i o
     → Has (appended k (o ∷ [])) v → Has (appended k os) v
@@ -66,12 +50,6 @@ at_both (o ∷ os) (suc p) (suc q) k v w less one other =
     subst (λ xs. StandsBefore xs v w) (sym (appended-append k (o ∷ []) os))
     (StandsBefore-front (appended k (o ∷ [])) (appended k os) v w (at_both os p q k v w (omega arith) one other))
 
-pub both_of : (h : List Transaction) (t p q k v w : ℕ) (x : Transaction) → slice_get h t ≡ Some x → p < q
-    → slice_get x.operations.items p ≡ Some (Append k v) → slice_get x.operations.items q ≡ Some (Append k w)
-    → StandsBefore (appended k (operations_of h t)) v w
-both_of h t p q k v w x there less one other =
-    subst (λ os. StandsBefore (appended k os) v w) (sym (ap operations_or_none there)) (at_both x.operations.items p q k v w less one other)
-
 pub IsOnce-behind : (xs ys : List ℕ) → IsOnce (xs ++ ys) → IsOnce ys
 IsOnce-behind [] ys once = once
 IsOnce-behind (x ∷ xs) ys once = IsOnce-behind xs ys once.1
@@ -89,20 +67,3 @@ not_yet (o ∷ os) (suc q) (suc p) k v once at less has =
       | inl w ↦ apart (appended k (o ∷ [])) (appended k os) v parted w (at_append os p k v at)
       | inr w ↦ not_yet os q p k v (IsOnce-behind (appended k (o ∷ [])) (appended k os) parted) at (omega arith) w
     ]
-
-pub not_yet_of : (h : List Transaction) (t q p k v : ℕ) (x : Transaction) → AppendsOnce h → slice_get h t ≡ Some x
-    → slice_get x.operations.items p ≡ Some (Append k v) → q ≤ p → ¬ Has (appended k (take q (operations_of h t))) v
-not_yet_of h t q p k v x once there at less =
-    not_yet (operations_of h t) q p k v (once.once t k)
-    (subst (λ os. slice_get os p ≡ Some (Append k v)) (sym (ap operations_or_none there)) at) less
-
-pub ahead : (h : List Transaction) (t p k : ℕ) (seen : List ℕ) (v : ℕ) → AppendsOnce h → ReadAt h t p k seen → Has seen v
-    → Appends h t k v → ¬ Has (appended k (take p (operations_of h t))) v → ¬ IsSerializable h
-ahead h t p k seen v once it has appends none =
-    fault_enough h t k (appended k (take p (operations_of h t))) seen once it.0 it.1 (inr (inr (inr (inr (v, has, appends, none)))))
-
-pub otherwise : (h : List Transaction) (t p k : ℕ) (own seen : List ℕ) → AppendsOnce h → ReadAt h t p k seen
-    → own ≡ appended k (take p (operations_of h t)) → ((front : List ℕ) → ¬ (seen ≡ front ++ own)) → ¬ IsSerializable h
-otherwise h t p k own seen once it same none =
-    fault_enough h t k (appended k (take p (operations_of h t))) seen once it.0 it.1
-    (inr (inr (inr (inl (λ base e. none base (e ∙ ap (λ xs. base ++ xs) (sym same)))))))

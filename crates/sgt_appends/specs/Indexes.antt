@@ -1,31 +1,51 @@
--- What the index of the program holds.
-use Rattle.std.specs.Prelude.{◌≡◌, ◌<◌, ℕ, List, Option, Some, None}
+-- Positions of appends, and what the index of the program holds of them.
+use Rattle.std.specs.Prelude.{◌≡◌, ◌<◌, ◌⊎◌, ℕ, List, Option, Some, None, slice_get, if◌then◌else◌}
 use Rattle.std.specs.BTreeMap.{get}
-use Rattle.std.specs.Ordering.{nat_cmp, ordering_then}
+use Rattle.std.specs.Ordering.{is_eq, nat_cmp, ordering_then}
 use Rattle.std.specs.declared.cmp.Ordering.{Ordering}
-use Rattle.sgt_appends.specs.declared.index.Index.{Index}
+use Rattle.sgt_appends.specs.declared.append_index.AppendIndex.{AppendIndex}
 use Rattle.sgt_appends.specs.declared.transaction.Operation.{Operation}
+use Rattle.sgt_appends.specs.declared.transaction.Operation.TheVariants.{Append, Read}
 use Rattle.sgt_appends.specs.declared.transaction.Transaction.{Transaction}
-use Rattle.sgt_appends.specs.Lists.{Has, IsOnce}
 use Rattle.sgt_appends.specs.Runs.{operations_of}
-use Rattle.sgt_appends.specs.Precedences.{appended, Appends}
 
 -- by the key, then by the value
 abbrev pub pair_cmp : ℕ × ℕ → ℕ × ℕ → Ordering
 pair_cmp a b = ordering_then (nat_cmp a.0 b.0) (nat_cmp a.1 b.1)
 
--- who appends the value to the key
-abbrev pub appender_of : Index → ℕ → ℕ → Option ℕ
-appender_of index k v = get pair_cmp index.appenders (k, v)
+-- for a key and a value the transaction that appends it, and the position of the append in it
+abbrev pub Positions : Type 0
+Positions = ℕ → ℕ → Option (ℕ × ℕ)
 
--- what the operations of t append was not there, and is there as of t
-pub record IsAdded (old new : ℕ → ℕ → Option ℕ) (t : ℕ) (os : List Operation) : Type 0 where
-  pub once : (k : ℕ) → IsOnce (appended k os)
-  pub fresh : (k v : ℕ) → Has (appended k os) v → old k v ≡ None
-  pub added : (k v : ℕ) → Has (appended k os) v → new k v ≡ Some t
-  pub kept : (k v u : ℕ) → old k v ≡ Some u → new k v ≡ Some u
+-- what the index holds
+abbrev pub position_of : AppendIndex → Positions
+position_of appends k v = get pair_cmp appends.positions (k, v)
 
--- what the transactions before place i append
-pub record AreAdded (h : List Transaction) (i : ℕ) (index : ℕ → ℕ → Option ℕ) : Type 0 where
-  pub once : (t k : ℕ) → t < i → IsOnce (appended k (operations_of h t))
-  pub added : (t k v : ℕ) → t < i → Appends h t k v → index k v ≡ Some t
+-- transaction t appends the value to the key at position p
+abbrev pub AppendAt : List Transaction → ℕ → ℕ → ℕ → ℕ → Type 0
+AppendAt h t p k v = slice_get (operations_of h t) p ≡ Some (Append k v)
+
+-- the index holds just the appends of the history
+pub record IsIndex (h : List Transaction) (at : Positions) : Type 0 where
+  pub found : (k v t p : ℕ) → at k v ≡ Some (t, p) → AppendAt h t p k v
+  pub all : (k v t p : ℕ) → AppendAt h t p k v → at k v ≡ Some (t, p)
+
+-- position p of transaction t comes before position j of transaction i
+abbrev pub IsEarlier : ℕ → ℕ → ℕ → ℕ → Type 0
+IsEarlier t p i j = (t < i) ⊎ ((t ≡ i) × (p < j))
+
+-- the index holds just the appends before position j of transaction i
+pub record IsFiled (h : List Transaction) (i j : ℕ) (at : Positions) : Type 0 where
+  pub found : (k v t p : ℕ) → at k v ≡ Some (t, p) → AppendAt h t p k v × IsEarlier t p i j
+  pub all : (k v t p : ℕ) → AppendAt h t p k v → IsEarlier t p i j → at k v ≡ Some (t, p)
+
+-- the value of an append was not there, and has its position now
+abbrev pub IsNoted : Operation → ℕ → ℕ → Positions → Positions → Type 0
+IsNoted (Append key value) t p old new = (old key value ≡ None)
+    × ((k v : ℕ) → new k v ≡ (if is_eq (pair_cmp (key, value) (k, v)) then Some (t, p) else old k v))
+IsNoted (Read key values) t p old new = (k v : ℕ) → new k v ≡ old k v
+
+-- the value of an append was there
+abbrev pub IsTaken : Operation → Positions → Type 0
+IsTaken (Append key value) old = ¬ (old key value ≡ None)
+IsTaken (Read key values) old = ⊥

@@ -6,16 +6,18 @@ use Rattle.sgt_appends.specs.declared.check.Verdict.TheVariants.{Serial, Violate
 use Rattle.sgt_appends.specs.declared.check.Witness.{Witness}
 use Rattle.sgt_appends.specs.declared.check.Witness.TheVariants.{Cycle, Fault}
 use Rattle.sgt_appends.specs.Runs.{IsSerialRun, IsSerializable}
+use Rattle.sgt_appends.specs.Precedences.{AppendsOnce}
+use Rattle.sgt_appends.specs.Reads.{HasFault}
 use Rattle.sgt_appends.specs.Witnesses.{AllPrecede}
 
--- the edges of a cycle are all by what was observed
+-- the edges of a cycle are all by what was observed, and a fault is one of the read
 abbrev pub IsWitness : List Transaction → Witness → Type 0
 IsWitness h (Cycle edges) = AllPrecede h edges.items
-IsWitness h (Fault reader read fault) = Unit {0}
+IsWitness h (Fault reader read fault) = HasFault h reader read fault
 
 -- A serial run is one, and what is said not to be serializable has none.
 abbrev pub IsRight : List Transaction → Verdict → Type 0
 IsRight h (Serial order) = IsSerialRun h order.items
 IsRight h (Violated witness) = (¬ IsSerializable h) × IsWitness h witness
-IsRight h AppendedTwice = Unit {0}
+IsRight h AppendedTwice = ¬ AppendsOnce h
 IsRight h Unsure = Unit {0}

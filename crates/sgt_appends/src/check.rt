@@ -1,10 +1,12 @@
 //! The verdict on a history.
 ghost use Rattle.std.specs.Prelude.{IfOk};
+ghost use Rattle.sgt_appends.specs.Precedences.{AppendsOnce};
 ghost use Rattle.sgt_appends.specs.Verdicts.{IsRight};
 
-use crate::fault::{Fault, is_fault};
-use crate::index::appends_once;
+use crate::append_index::{AppendIndex, appends_once};
+use crate::fault::Fault;
 use crate::order::is_serial_run;
+use crate::reads::first_fault;
 use crate::solver::solve;
 use crate::transaction::Transaction;
 use crate::witness::{Edge, all_hold, is_cycle};
@@ -18,12 +20,6 @@ pub enum Answer {
     Order(Vec<usize>),
     /// Precedences that lead back to where they begin.
     Cycle(Vec<Edge>),
-    /// A fault of a read, which stands at this place of the reader.
-    Fault {
-        reader: usize,
-        read: usize,
-        fault: Fault,
-    },
 }
 
 /// What shows that a history is not serializable.
@@ -58,8 +54,18 @@ pub enum Verdict {
 pub fn check_appends(alloc: Global, history: &[Transaction]) -> Result<Verdict, NoMemory>
     ensures { IfOk result (IsRight history.now) }
 {
-    let answer = solve(alloc, history)?;
-    judge(alloc, history, answer)
+    let Some(appends) = AppendIndex::of_history(alloc, history)? else {
+        return Ok(Verdict::AppendedTwice);
+    };
+    if let Some((reader, read, fault)) = first_fault(alloc, history, &appends)? {
+        return Ok(Verdict::Violated(Witness::Fault {
+            reader,
+            read,
+            fault,
+        }));
+    }
+    let answer = solve(alloc, history, &appends)?;
+    show(alloc, history, answer)
 }
 
 /// The verdict that the answer shows.
@@ -69,6 +75,14 @@ pub fn judge(alloc: Global, history: &[Transaction], answer: Answer) -> Result<V
     if !appends_once(alloc, history)? {
         return Ok(Verdict::AppendedTwice);
     }
+    show(alloc, history, answer)
+}
+
+/// The verdict that the answer shows, where no value is appended twice to a key.
+fn show(alloc: Global, history: &[Transaction], answer: Answer) -> Result<Verdict, NoMemory>
+    requires { AppendsOnce history.now }
+    ensures { IfOk result (IsRight history.now) }
+{
     match answer {
         Answer::Order(order) => {
             if is_serial_run(alloc, history, order.as_slice())? {
@@ -80,21 +94,6 @@ pub fn judge(alloc: Global, history: &[Transaction], answer: Answer) -> Result<V
         Answer::Cycle(edges) => {
             if is_cycle(history, edges.as_slice()) && all_hold(history, edges.as_slice()) {
                 Ok(Verdict::Violated(Witness::Cycle(edges)))
-            } else {
-                Ok(Verdict::Unsure)
-            }
-        }
-        Answer::Fault {
-            reader,
-            read,
-            fault,
-        } => {
-            if is_fault(alloc, history, reader, read, &fault)? {
-                Ok(Verdict::Violated(Witness::Fault {
-                    reader,
-                    read,
-                    fault,
-                }))
             } else {
                 Ok(Verdict::Unsure)
             }

@@ -4,9 +4,10 @@
 //! a value that is not in it.
 ghost use Rattle.std.specs.Prelude.{◌≡◌, ◌<◌, ℕ, [], OnOk, IfOk};
 ghost use Rattle.sgt_appends.specs.Graphs.{AreWithin};
+ghost use Rattle.sgt_appends.specs.Lines.{line_in, keys_in, AreNumbered};
 
-use crate::appends::Appends;
-use crate::lines::{Line, Lines};
+use crate::append_index::AppendIndex;
+use crate::lines::{Line, Lines, all_values};
 use crate::reads::{Read, read_of};
 use crate::sorting::Link;
 use crate::transaction::{Operation, Status, Transaction};
@@ -49,19 +50,21 @@ impl Graph {
         &mut self,
         alloc: Global,
         history: &[Transaction],
-        appends: &Appends,
+        appends: &AppendIndex,
         lines: &Lines,
     ) -> Result<(), NoMemory>
-        requires { AreWithin self.old.links.items self.old.nodes }
+        requires within { AreWithin self.old.links.items self.old.nodes }
+        requires numbered { AreNumbered (line_in lines.now) (keys_in lines.now) }
         ensures { OnOk result (AreWithin self.new.links.items self.new.nodes) }
     {
+        let values = all_values(alloc, lines)?;
         for (number, transaction) in history.iter().enumerate() {
             for position in 0..transaction.operations.len() {
                 if let Some(read) = read_of(history, number, position) {
                     self.add_seen(appends, read)?;
                     self.add_missed(alloc, history.len(), appends, lines, read)?;
                 }
-                self.add_unseen(history, lines, number, position)?;
+                self.add_unseen(history, lines, &values, number, position)?;
             }
         }
         Ok(())
@@ -69,7 +72,7 @@ impl Graph {
 
     /// Adds the links that the values which the read saw make: from who appends one to who appends the next, and from
     /// who appends the last of others to the reader.
-    fn add_seen(&mut self, appends: &Appends, read: Read<'_>) -> Result<(), NoMemory>
+    fn add_seen(&mut self, appends: &AppendIndex, read: Read<'_>) -> Result<(), NoMemory>
         requires { AreWithin self.old.links.items self.old.nodes }
         ensures { OnOk result (AreWithin self.new.links.items self.new.nodes) }
     {
@@ -115,7 +118,7 @@ impl Graph {
         &mut self,
         alloc: Global,
         transactions: usize,
-        appends: &Appends,
+        appends: &AppendIndex,
         lines: &Lines,
         read: Read<'_>,
     ) -> Result<(), NoMemory>
@@ -148,13 +151,14 @@ impl Graph {
         &mut self,
         history: &[Transaction],
         lines: &Lines,
+        values: &BTreeSet<(u32, u32)>,
         number: usize,
         position: usize,
     ) -> Result<(), NoMemory>
         requires { AreWithin self.old.links.items self.old.nodes }
         ensures { OnOk result (AreWithin self.new.links.items self.new.nodes) }
     {
-        let Some(end) = end_before(history, lines, number, position) else {
+        let Some(end) = end_before(history, lines, values, number, position) else {
             return Ok(());
         };
         let reason = Reason::Missed {
@@ -173,6 +177,7 @@ impl Graph {
 fn end_before(
     history: &[Transaction],
     lines: &Lines,
+    values: &BTreeSet<(u32, u32)>,
     number: usize,
     position: usize,
 ) -> Option<usize> {
@@ -182,7 +187,7 @@ fn end_before(
     }
     match transaction.operations.get(position)? {
         Operation::Append { key, value } => {
-            if lines.contains(*key, *value) {
+            if values.contains(&(*key, *value)) {
                 return None;
             }
             history.len().checked_add(lines.find(*key)?.number)
@@ -194,7 +199,7 @@ fn end_before(
 /// Who appends the first value of the line that the reader neither saw nor appends, and where.
 fn first_unknown(
     alloc: Global,
-    appends: &Appends,
+    appends: &AppendIndex,
     line: &Line,
     read: Read<'_>,
 ) -> Result<Option<(usize, usize)>, NoMemory> {

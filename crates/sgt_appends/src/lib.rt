@@ -12,10 +12,13 @@
 //!   fault of a read, is such an order (`raised_are_enough`).
 //! - The sort of the graph: ranks that rise along all links, or a cycle of them.
 //!
-//! Not proved: that the solver's answers always show it, so `Unsure` is possible; that `AppendedTwice` comes only where a
-//! value is; that the fault of a witness is the one that the read has; the names of the anomalies; the time.
-//! A value appended twice to a key gets `AppendedTwice`. An unknown transaction must have no reads: where it has some, they
-//! are taken as those of a committed one if the order has it, and the verdict may be `Unsure`.
+//! - `AppendedTwice` comes exactly where a value is appended twice to a key.
+//! - The fault of a witness is one that the read has. Where no fault is named, no read has one.
+//!
+//! Not proved: that the order or the cycle which the solver finds always shows it, so `Unsure` is possible; the names of the
+//! anomalies; the time.
+//! An unknown transaction must have no reads: where it has some, they are taken as those of a committed one if the order has it,
+//! and the verdict may be `Unsure`.
 //!
 //! ```
 //! // the first appends 1 and 2 to key 0, and the second saw 1 alone: it saw the first in part
@@ -24,12 +27,11 @@
 #![tactic(auto)]
 
 mod anomaly;
-mod appends;
+mod append_index;
 mod check;
 mod contents;
 mod fault;
 mod graph;
-mod index;
 mod laws;
 mod lines;
 mod order;
@@ -42,16 +44,15 @@ mod transaction;
 mod witness;
 
 pub use anomaly::{Anomaly, name_of};
+pub use append_index::{AppendIndex, appends_once};
 pub use check::{Answer, Verdict, Witness, check_appends, judge};
 pub use contents::Contents;
-pub use fault::{Fault, is_fault};
-pub use index::{Index, appends_once};
+pub use fault::Fault;
 pub use laws::{
     cycles_are_enough, faults_are_enough, few_edges_are_enough, guides_are_enough,
     orders_are_enough, precedences_are_obeyed, raised_are_enough,
 };
 pub use order::is_serial_run;
-pub use solver::solve;
 pub use sorting::{Link, Sorted, sort};
 pub use transaction::{Operation, Status, Transaction};
 pub use witness::{Edge, Reason, all_hold, is_cycle};

@@ -1,9 +1,15 @@
 //! The line of each key: its longest version.
 //!
 //! The version of a read is what it saw, with what its transaction appends to the key after it.
+ghost use Rattle.std.specs.Prelude.{◌≡◌, ◌+◌, ◌↔◌, ◌⊎◌, ℕ, Some, None, IfOk, OnOk, IfSome, IsNone, length};
+ghost use Rattle.sgt_appends.specs.Lists.{Has};
+ghost use Rattle.sgt_appends.specs.Precedences.{AppendsOnce};
+ghost use Rattle.sgt_appends.specs.Orders.{AllClean};
+ghost use Rattle.sgt_appends.specs.Lines.{version_of, line_in, keys_in, values_in, has_pair, IsWithLine, IsOffered, AreNumbered, AreLines, HaveLines, KnowsNoMore};
 
+use crate::fault::own_after;
 use crate::reads::{Read, read_of};
-use crate::transaction::{Operation, Transaction};
+use crate::transaction::Transaction;
 use sgt_model::NoMemory;
 use std::alloc::Global;
 use std::collections::{BTreeMap, BTreeSet};
@@ -21,94 +27,152 @@ pub struct Line {
 #[derive(Drop)]
 pub struct Lines {
     lines: BTreeMap<u32, Line>,
-    /// The values that are in the lines, by their keys.
-    values: BTreeSet<(u32, u32)>,
+    /// The keys, by the numbers of their lines.
+    keys: Vec<u32>,
 }
 
 impl Lines {
     /// The lines of the history.
-    pub fn of_history(alloc: Global, history: &[Transaction]) -> Result<Self, NoMemory> {
+    pub fn of_history(alloc: Global, history: &[Transaction]) -> Result<Self, NoMemory>
+        requires once { AppendsOnce history.now }
+        requires clean { AllClean history.now }
+        ensures lines { IfOk result (λ lines. HaveLines history.now (line_in lines)) }
+        ensures longest { IfOk result (λ lines. KnowsNoMore history.now (line_in lines)) }
+        ensures numbered { IfOk result (λ lines. AreNumbered (line_in lines) (keys_in lines)) }
+    {
         let mut lines = Lines {
             lines: BTreeMap::new(alloc),
-            values: BTreeSet::new(alloc),
+            keys: Vec::new(alloc),
         };
-        let mut keys = Vec::new(alloc);
-        for (number, transaction) in history.iter().enumerate() {
-            for position in 0..transaction.operations.len() {
-                if let Some(read) = read_of(history, number, position) {
-                    lines.add_read(alloc, history, read, &mut keys)?;
-                }
-            }
+        for number in 0..history.len() {
+            lines.add_transaction(alloc, history, number)?;
         }
-        lines.note_values(keys.as_slice())?;
         Ok(lines)
     }
 
     /// The line of the key.
-    pub fn find(&self, key: u32) -> Option<&Line> {
+    pub fn find(&self, key: u32) -> Option<&Line>
+        ensures some { IfSome result (λ line. line_in self.now key ≡ Some line.now) }
+        ensures none { IsNone result → line_in self.now key ≡ None }
+    {
         self.lines.get(&key)
     }
 
     /// How many lines there are.
-    pub fn len(&self) -> usize {
-        self.lines.len()
+    pub fn len(&self) -> usize
+        ensures { result ≡ length (keys_in self.now) }
+    {
+        self.keys.len()
     }
 
-    /// Whether the value is in the line of the key.
-    pub fn contains(&self, key: u32, value: u32) -> bool {
-        self.values.contains(&(key, value))
-    }
-
-    /// Takes the version of the read for the line of its key, if it is longer.
-    fn add_read(
+    /// Takes the versions of the reads of the transaction.
+    fn add_transaction(
         &mut self,
         alloc: Global,
         history: &[Transaction],
-        read: Read<'_>,
-        keys: &mut Vec<u32>,
-    ) -> Result<(), NoMemory> {
-        let values = version(alloc, history, read)?;
-        let number = match self.lines.get(&read.key) {
-            Some(line) => {
-                if values.len() <= line.values.len() {
-                    return Ok(());
-                }
-                line.number
-            }
-            None => {
-                keys.push(read.key)?;
-                self.lines.len()
-            }
+        number: usize,
+    ) -> Result<(), NoMemory>
+        requires { AreLines history.now number 0 (line_in self.old) (keys_in self.old) }
+        ensures { OnOk result (AreLines history.now (number + 1) 0 (line_in self.new) (keys_in self.new)) }
+    {
+        let Some(transaction) = history.get(number) else {
+            return Ok(());
         };
-        self.lines.insert(read.key, Line { number, values })?;
+        for position in 0..transaction.operations.len() {
+            self.add_position(alloc, history, number, position)?;
+        }
         Ok(())
     }
 
-    /// Notes the values of the lines of the keys.
-    fn note_values(&mut self, keys: &[u32]) -> Result<(), NoMemory> {
-        for key in keys {
-            if let Some(line) = self.lines.get(key) {
-                for value in line.values.as_slice() {
-                    self.values.insert((*key, *value))?;
-                }
+    /// Takes the version of the read at the position of the transaction, if it committed.
+    fn add_position(
+        &mut self,
+        alloc: Global,
+        history: &[Transaction],
+        number: usize,
+        position: usize,
+    ) -> Result<(), NoMemory>
+        requires { AreLines history.now number position (line_in self.old) (keys_in self.old) }
+        ensures { OnOk result (AreLines history.now number (position + 1) (line_in self.new) (keys_in self.new)) }
+    {
+        match read_of(history, number, position) {
+            Some(read) => {
+                let values = version(alloc, history, read)?;
+                self.offer(read.key, values)?;
+                Ok(())
             }
+            None => Ok(()),
         }
+    }
+
+    /// Takes the version for the line of its key, if it is longer.
+    fn offer(&mut self, key: u32, values: Vec<u32>) -> Result<(), NoMemory>
+        ensures { OnOk result (IsOffered (line_in self.old) (line_in self.new) (keys_in self.old) (keys_in self.new) key values.items) }
+    {
+        let Some(line) = self.find(key) else {
+            let number = self.len();
+            self.keys.push(key)?;
+            self.put(key, number, values)?;
+            return Ok(());
+        };
+        if values.len() <= line.values.len() {
+            return Ok(());
+        }
+        let number = line.number;
+        self.put(key, number, values)?;
+        Ok(())
+    }
+
+    /// Takes the values for the line of the key, with this number.
+    fn put(&mut self, key: u32, number: usize, values: Vec<u32>) -> Result<(), NoMemory>
+        ensures line { OnOk result (IsWithLine (line_in self.old) (line_in self.new) key number values.items) }
+        ensures keys { OnOk result (keys_in self.new ≡ keys_in self.old) }
+    {
+        self.lines.insert(key, Line { number, values })?;
         Ok(())
     }
 }
 
 /// What the read saw, with what its transaction appends to the key after it.
-fn version(alloc: Global, history: &[Transaction], read: Read<'_>) -> Result<Vec<u32>, NoMemory> {
+fn version(alloc: Global, history: &[Transaction], read: Read<'_>) -> Result<Vec<u32>, NoMemory>
+    ensures { IfOk result (λ values. values.items
+        ≡ version_of history.now read.entry.reader read.entry.position read.entry.key read.entry.seen.now) }
+{
     let mut values = Vec::from_slice(alloc, read.seen)?;
-    let Some(transaction) = history.get(read.reader) else {
-        return Ok(values);
-    };
-    for (position, operation) in transaction.operations.iter().enumerate() {
-        if let Operation::Append { key, value } = operation {
-            if *key == read.key && position > read.position {
-                values.push(*value)?;
-            }
-        }
-    }
+    let later = own_after(alloc, history, read.reader, read.position, read.key)?;
+    values.extend_from_slice(later.as_slice())?;
     Ok(values)
+}
+
+/// The values of all lines, by their keys.
+pub fn all_values(alloc: Global, lines: &Lines) -> Result<BTreeSet<(u32, u32)>, NoMemory>
+    requires { AreNumbered (line_in lines.now) (keys_in lines.now) }
+    ensures { IfOk result (λ set. (k v : ℕ) → has_pair set k v ↔ Has (values_in (line_in lines.now) k) v) }
+{
+    let mut set = BTreeSet::new(alloc);
+    for key in lines.keys.as_slice() {
+        note_line(&mut set, lines, *key)?;
+    }
+    Ok(set)
+}
+
+/// Notes the values of the line of the key.
+fn note_line(set: &mut BTreeSet<(u32, u32)>, lines: &Lines, key: u32) -> Result<(), NoMemory>
+    ensures { OnOk result ((k v : ℕ) → has_pair set.new k v
+        ↔ (has_pair set.old k v ⊎ ((key ≡ k) × Has (values_in (line_in lines.now) key) v))) }
+{
+    match lines.find(key) {
+        Some(line) => note_values(set, key, line.values.as_slice()),
+        None => Ok(()),
+    }
+}
+
+/// Notes the values of the key.
+fn note_values(set: &mut BTreeSet<(u32, u32)>, key: u32, values: &[u32]) -> Result<(), NoMemory>
+    ensures { OnOk result ((k v : ℕ) → has_pair set.new k v ↔ (has_pair set.old k v ⊎ ((key ≡ k) × Has values.now v))) }
+{
+    for value in values {
+        set.insert((key, *value))?;
+    }
+    Ok(())
 }

@@ -1,6 +1,13 @@
-//! What is wrong with a read by itself, looked for in one pass over what it saw.
+//! Faults of reads, looked for in one pass over what each read saw.
+ghost use Rattle.std.specs.Prelude.{◌≡◌, ℕ, List, Some, IfSome, IsNone, IfOk};
+ghost use Rattle.sgt_appends.specs.Runs.{Ended, MayRun};
+ghost use Rattle.sgt_appends.specs.Precedences.{Appends};
+ghost use Rattle.sgt_appends.specs.Orders.{IsClean, AllClean};
+ghost use Rattle.sgt_appends.specs.Indexes.{position_of, IsIndex};
+ghost use Rattle.sgt_appends.specs.Reads.{IsReadAt, own_at, HasFault, IsCleanAt, AreCleanIn, last_in, IsFaultAt, IsPassedOne};
+ghost use Rattle.sgt_appends.specs.declared.transaction.Status.TheVariants.{Committed};
 
-use crate::appends::Appends;
+use crate::append_index::AppendIndex;
 use crate::fault::{Fault, ends_with, own_before};
 use crate::transaction::{Operation, Status, Transaction};
 use sgt_model::NoMemory;
@@ -21,7 +28,11 @@ pub struct Read<'a> {
 }
 
 /// The read at the position, if the transaction committed.
-pub fn read_of<'a>(history: &'a [Transaction], reader: usize, position: usize) -> Option<Read<'a>> {
+pub fn read_of<'a>(history: &'a [Transaction], reader: usize, position: usize) -> Option<Read<'a>>
+    ensures place { IfSome result (λ r. (r.reader ≡ reader) × (r.position ≡ position)) }
+    ensures some { IfSome result (λ r. Ended history.now r.reader Committed × IsReadAt history.now r.reader r.position r.key r.seen.now) }
+    ensures none { IsNone result → (k : ℕ) (seen : List ℕ) → Ended history.now reader Committed → ¬ IsReadAt history.now reader position k seen }
+{
     let transaction = history.get(reader)?;
     if transaction.status != Status::Committed {
         return None;
@@ -41,51 +52,119 @@ pub fn read_of<'a>(history: &'a [Transaction], reader: usize, position: usize) -
 pub fn first_fault(
     alloc: Global,
     history: &[Transaction],
-    appends: &Appends,
-) -> Result<Option<(usize, usize, Fault)>, NoMemory> {
-    for (number, transaction) in history.iter().enumerate() {
-        for position in 0..transaction.operations.len() {
-            if let Some(read) = read_of(history, number, position) {
-                if let Some(fault) = fault_of(alloc, history, appends, read)? {
-                    return Ok(Some((number, position, fault)));
-                }
-            }
+    appends: &AppendIndex,
+) -> Result<Option<(usize, usize, Fault)>, NoMemory>
+    requires { IsIndex history.now (position_of appends.now) }
+    ensures fault { IfOk result (λ found. IfSome found (λ x. HasFault history.now x.0 x.1 x.2)) }
+    ensures clean { IfOk result (λ found. IsNone found → AllClean history.now) }
+{
+    for number in 0..history.len() {
+        if let Some((position, fault)) = fault_in(alloc, history, appends, number)? {
+            return Ok(Some((number, position, fault)));
         }
     }
     Ok(None)
+}
+
+/// The first fault of a read of the transaction, if it committed, with the position of the read.
+fn fault_in(
+    alloc: Global,
+    history: &[Transaction],
+    appends: &AppendIndex,
+    number: usize,
+) -> Result<Option<(usize, Fault)>, NoMemory>
+    requires { IsIndex history.now (position_of appends.now) }
+    ensures fault { IfOk result (λ found. IfSome found (λ x. HasFault history.now number x.0 x.1)) }
+    ensures clean { IfOk result (λ found. IsNone found → AreCleanIn history.now number) }
+{
+    let Some(transaction) = history.get(number) else {
+        return Ok(None);
+    };
+    for position in 0..transaction.operations.len() {
+        if let Some(fault) = fault_here(alloc, history, appends, number, position)? {
+            return Ok(Some((position, fault)));
+        }
+    }
+    Ok(None)
+}
+
+/// The fault of the read at the position of the transaction, if it committed.
+fn fault_here(
+    alloc: Global,
+    history: &[Transaction],
+    appends: &AppendIndex,
+    number: usize,
+    position: usize,
+) -> Result<Option<Fault>, NoMemory>
+    requires { IsIndex history.now (position_of appends.now) }
+    ensures fault { IfOk result (λ found. IfSome found (HasFault history.now number position)) }
+    ensures clean { IfOk result (λ found. IsNone found → IsCleanAt history.now number position) }
+{
+    match read_of(history, number, position) {
+        Some(read) => fault_of(alloc, history, appends, read),
+        None => Ok(None),
+    }
 }
 
 /// What is wrong with the read.
 fn fault_of(
     alloc: Global,
     history: &[Transaction],
-    appends: &Appends,
+    appends: &AppendIndex,
     read: Read<'_>,
-) -> Result<Option<Fault>, NoMemory> {
+) -> Result<Option<Fault>, NoMemory>
+    requires index { IsIndex history.now (position_of appends.now) }
+    requires committed { Ended history.now read.reader Committed }
+    requires read { IsReadAt history.now read.reader read.position read.key read.seen.now }
+    ensures fault { IfOk result (λ found. IfSome found (λ fault. HasFault history.now read.entry.reader read.entry.position fault)) }
+    ensures clean { IfOk result (λ found. IsNone found → IsClean history.now read.entry.reader read.entry.key
+        (own_at history.now read.entry.reader read.entry.position read.entry.key) read.entry.seen.now) }
+{
     let own = own_before(alloc, history, read.reader, read.position, read.key)?;
     if !ends_with(read.seen, own.as_slice()) {
         return Ok(Some(Fault::EndsOtherwise));
     }
     let mut last = BTreeMap::new(alloc);
     for value in read.seen {
-        let Some((by, append)) = written_by(history, appends, read.key, *value) else {
-            return Ok(Some(Fault::Unwritten(*value)));
-        };
-        if by == read.reader && append > read.position {
-            return Ok(Some(Fault::Ahead { append }));
+        if let Some(fault) = fault_at(history, appends, read, &mut last, *value)? {
+            return Ok(Some(fault));
         }
-        if let Some(before) = last.insert(by, append)? {
-            if before == append {
-                return Ok(Some(Fault::Twice(*value)));
-            }
-            if before > append {
-                return Ok(Some(Fault::Swapped {
-                    by,
-                    first: append,
-                    second: before,
-                }));
-            }
-        }
+    }
+    Ok(None)
+}
+
+/// What is wrong with the read at a value, after those before it. `last` has for each transaction the position of its last one.
+fn fault_at(
+    history: &[Transaction],
+    appends: &AppendIndex,
+    read: Read<'_>,
+    last: &mut BTreeMap<usize, usize>,
+    value: u32,
+) -> Result<Option<Fault>, NoMemory>
+    requires { IsIndex history.now (position_of appends.now) }
+    ensures fault { IfOk result (λ found. IfSome found (λ fault.
+        IsFaultAt history.now (position_of appends.now) read.entry.reader read.entry.position read.entry.key (last_in last.old) value fault)) }
+    ensures none { IfOk result (λ found. IsNone found →
+        IsPassedOne history.now (position_of appends.now) read.entry.reader read.entry.position read.entry.key (last_in last.old) (last_in last.new) value) }
+{
+    let Some((by, append)) = written_by(history, appends, read.key, value) else {
+        return Ok(Some(Fault::Unwritten(value)));
+    };
+    if by == read.reader && append >= read.position {
+        return Ok(Some(Fault::Ahead { append }));
+    }
+    let Some(before) = last.insert(by, append)? else {
+        return Ok(None);
+    };
+    if before == append {
+        return Ok(Some(Fault::Twice(value)));
+    }
+    if before > append {
+        return Ok(Some(Fault::Swapped {
+            by,
+            first: append,
+            second: before,
+        }));
     }
     Ok(None)
 }
@@ -93,10 +172,14 @@ fn fault_of(
 /// Where a transaction that did not abort appends the value to the key.
 fn written_by(
     history: &[Transaction],
-    appends: &Appends,
+    appends: &AppendIndex,
     key: u32,
     value: u32,
-) -> Option<(usize, usize)> {
+) -> Option<(usize, usize)>
+    requires { IsIndex history.now (position_of appends.now) }
+    ensures some { IfSome result (λ x. (position_of appends.now key value ≡ Some x) × MayRun history.now x.0) }
+    ensures none { IsNone result → (u : ℕ) → Appends history.now u key value → ¬ MayRun history.now u }
+{
     let (by, append) = appends.find(key, value)?;
     if history.get(by)?.status == Status::Aborted {
         return None;

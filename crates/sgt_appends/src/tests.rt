@@ -1,7 +1,8 @@
 //! Histories of a few transactions, checked.
 
 use crate::anomaly::{Anomaly, name_of};
-use crate::check::{Verdict, check_appends};
+use crate::check::{Verdict, Witness, check_appends};
+use crate::fault::Fault;
 use crate::transaction::{Operation, Status, Transaction};
 use sgt_model::NoMemory;
 use std::alloc::Global;
@@ -84,5 +85,132 @@ fn forked_versions_are_a_cycle(rt: HostRuntime) -> Result<(), Fail> {
     history.push(reader(alloc, [1].as_slice())?)?;
     history.push(reader(alloc, [2].as_slice())?)?;
     assert!(rt; matches!(&named(alloc, history.as_slice())?, Some(Anomaly::G2Item)));
+    Ok(())
+}
+
+#[test]
+fn values_that_are_appended_twice(rt: HostRuntime) -> Result<(), Fail> {
+    let alloc = rt.alloc();
+    let mut history = one_reader(alloc, Status::Committed, [1].as_slice())?;
+    history.push(appender(alloc, Status::Aborted, [2].as_slice())?)?;
+    let verdict = check_appends(alloc, history.as_slice())?;
+    assert!(rt; matches!(&verdict, Verdict::AppendedTwice));
+    Ok(())
+}
+
+/// A committed transaction that appends the value to key 0 and saw these values there before and after.
+fn around(
+    alloc: Global,
+    before: &[u32],
+    value: u32,
+    after: &[u32],
+) -> Result<Vec<Transaction>, NoMemory> {
+    let mut operations = Vec::new(alloc);
+    operations.push(Operation::Read {
+        key: 0,
+        values: Vec::from_slice(alloc, before)?,
+    })?;
+    operations.push(Operation::Append { key: 0, value })?;
+    operations.push(Operation::Read {
+        key: 0,
+        values: Vec::from_slice(alloc, after)?,
+    })?;
+    let mut history = Vec::new(alloc);
+    history.push(Transaction {
+        status: Status::Committed,
+        operations,
+    })?;
+    Ok(history)
+}
+
+/// The fault that is named, with the reader and the position of the read.
+fn fault_of(
+    alloc: Global,
+    history: &[Transaction],
+) -> Result<Option<(usize, usize, Fault)>, NoMemory> {
+    match check_appends(alloc, history)? {
+        Verdict::Violated(
+            Witness::Fault {
+                reader,
+                read,
+                fault,
+            },
+        ) => Ok(Some((reader, read, fault))),
+        _ => Ok(None),
+    }
+}
+
+#[test]
+fn faults_name_their_reads(rt: HostRuntime) -> Result<(), Fail> {
+    let alloc = rt.alloc();
+    let right = around(alloc, [].as_slice(), 1, [1].as_slice())?;
+    assert!(rt; is_serial(alloc, right.as_slice())?);
+    let ahead = around(alloc, [1].as_slice(), 1, [1].as_slice())?;
+    assert!(rt; fault_of(alloc, ahead.as_slice())? == Some((0, 0, Fault::Ahead { append: 1 })));
+    let lost = around(alloc, [].as_slice(), 1, [].as_slice())?;
+    assert!(rt; fault_of(alloc, lost.as_slice())? == Some((0, 2, Fault::EndsOtherwise)));
+    let unwritten = around(alloc, [].as_slice(), 1, [2, 1].as_slice())?;
+    assert!(rt; fault_of(alloc, unwritten.as_slice())? == Some((0, 2, Fault::Unwritten(2))));
+    let twice = around(alloc, [].as_slice(), 1, [1, 1].as_slice())?;
+    assert!(rt; fault_of(alloc, twice.as_slice())? == Some((0, 2, Fault::Twice(1))));
+    Ok(())
+}
+
+/// The number after this one in a fixed series of numbers below 65537.
+fn next(number: u64) -> u64 {
+    ((number % 65537) * 75 + 74) % 65537
+}
+
+/// An operation on a key whose list is this one, by a number: an append of the value, or a read that may miss the last value.
+fn operation(
+    alloc: Global,
+    number: u64,
+    key: u32,
+    value: u32,
+    list: &mut Vec<u32>,
+) -> Result<Operation, NoMemory> {
+    if number % 3 == 0 {
+        list.push(value)?;
+        return Ok(Operation::Append { key, value });
+    }
+    let mut values = Vec::from_slice(alloc, list.as_slice())?;
+    if number % 7 == 0 {
+        values.pop();
+    }
+    Ok(Operation::Read { key, values })
+}
+
+/// A history of five committed transactions, drawn from the number.
+fn drawn(alloc: Global, seed: u64) -> Result<Vec<Transaction>, NoMemory> {
+    let mut history = Vec::new(alloc);
+    let mut lists = (Vec::new(alloc), Vec::new(alloc));
+    let mut number = next(seed);
+    for value in 0..5u32 {
+        let mut operations = Vec::new(alloc);
+        operations.push(operation(alloc, number, 0, value, &mut lists.0)?)?;
+        number = next(number);
+        operations.push(operation(alloc, number, 1, value, &mut lists.1)?)?;
+        number = next(number);
+        history.push(Transaction {
+            status: Status::Committed,
+            operations,
+        })?;
+    }
+    Ok(history)
+}
+
+#[test]
+fn drawn_histories_get_verdicts(rt: HostRuntime) -> Result<(), Fail> {
+    let alloc = rt.alloc();
+    let mut serial = false;
+    let mut violated = false;
+    for seed in 0..3000u64 {
+        let history = drawn(alloc, seed)?;
+        let verdict = check_appends(alloc, history.as_slice())?;
+        assert!(rt; !matches!(&verdict, Verdict::Unsure), "{seed}");
+        serial = serial || matches!(&verdict, Verdict::Serial(_));
+        violated = violated || matches!(&verdict, Verdict::Violated(_));
+    }
+    assert!(rt; serial && violated);
     Ok(())
 }
