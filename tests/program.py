@@ -729,7 +729,7 @@ def tells_threads_that_could_not_be_made(sgt):
 
 
 def tells_a_full_disk(sgt):
-    for words, given in ((["script"], OPENING + EVENTS), (["bank"], OPENING + JOB), (["script", "--records"], OPENING), (["bank", "--records"], OPENING + JOB), (["check"], HISTORY), (["check", "--graph"], HISTORY), (["--help"], ""), (["--version"], "")):
+    for words, given in ((["script"], OPENING + EVENTS), (["bank"], OPENING + JOB), (["script", "--records"], OPENING), (["bank", "--records"], OPENING + JOB), (["check"], HISTORY), (["check", "--graph"], HISTORY), (["check", "--timeline"], HISTORY), (["--help"], ""), (["--version"], "")):
         with open("/dev/full", "w", encoding="ascii") as full:
             status, _, told = sgt.run(*words, given=given, out=full)
         same(f"{words}: standard error", "writing failed\n", told)
@@ -737,7 +737,7 @@ def tells_a_full_disk(sgt):
 
 
 def tells_a_closed_pipe(sgt):
-    for words, given in ((["script"], OPENING + EVENTS), (["bank"], OPENING + JOB), (["check"], HISTORY), (["check", "--graph"], HISTORY)):
+    for words, given in ((["script"], OPENING + EVENTS), (["bank"], OPENING + JOB), (["check"], HISTORY), (["check", "--graph"], HISTORY), (["check", "--timeline"], HISTORY)):
         reader, writer = os.pipe()
         os.close(reader)
         status, _, told = sgt.run(*words, given=given, out=writer)

@@ -171,6 +171,11 @@ cycle are red. Of the history above it is
     2 -> 1 [label="r2[y] (2) w1[y] (4)", color=red];
   }
 
+With --timeline a picture of the history is written in place of the report, in SVG: a row for each transaction, its operations from
+left to right, arrows from writes to the reads that read from them, and the report below. The conflicts of the cycle are red. Without
+a cycle the first violation in the order of the report is orange. Of more than 400 operations those of the transactions that stand
+out are drawn.
+
 The status is 0 where the history is serializable and recoverable, 1 where not, and 2 at a fault, which is told on standard
 error: nothing is written then. An input has at most 268435456 bytes.
 The classes are those of Bernstein, Hadzilacos and Goodman (1987), chapter 2.

@@ -1,8 +1,8 @@
 //! The program: `sgt script` runs a script of JSON lines from standard input on an engine, writes a line for each reply to
 //! standard output and then the committed database, and can tell on standard error why transactions are aborted. `sgt bank` runs
 //! jobs on worker threads, writes a line for what became of each and then the committed database, and can tell on standard error how
-//! often each was tried. `sgt check` reads a history, and writes of which classes it is, or its serialization graph. All tell a fault
-//! on standard error, with status 2, and the first two can tell there what is wrong with the line.
+//! often each was tried. `sgt check` reads a history, and writes of which classes it is, its serialization graph, or a picture of it.
+//! All tell a fault on standard error, with status 2, and the first two can tell there what is wrong with the line.
 //!
 //! It has the command line and nothing else: what a script's run writes is said and proved in `sgt_script`, what a bank's run
 //! writes in `sgt_bank`, and what a check writes in `sgt_check`; what is told of a fault beside its line stands in `sgt_line_errors`.
@@ -151,6 +151,12 @@ fn check_options<'a>(alloc: Global) -> Result<Vec<Arg<'a>>, AllocError> {
         "graph",
         "Writes the serialization graph in DOT, and no report",
     ))?;
+    options.push(flag(
+        alloc,
+        "timeline",
+        "Writes a picture of the history in SVG, and no report",
+    )
+    .conflicts_with("graph")?)?;
     Ok(options)
 }
 
@@ -377,6 +383,8 @@ fn check<R: Print + Input>(
     let mut writer = Writer::new(io::writer(rt));
     let output = if options.get_flag("graph") {
         sgt_check::Output::Graph
+    } else if options.get_flag("timeline") {
+        sgt_check::Output::Timeline
     } else {
         sgt_check::Output::Report
     };

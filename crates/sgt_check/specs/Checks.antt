@@ -14,6 +14,7 @@ use Rattle.sgt_check.specs.declared.fault.CheckFault.TheVariants.{Notation, TooL
 use Rattle.sgt_check.specs.Reports.{IsReport}
 use Rattle.sgt_check.specs.ReportText.{report_text}
 use Rattle.sgt_check.specs.Graphs.{IsDrawn}
+use Rattle.sgt_check.specs.Timelines.{IsPictured}
 
 -- the text of a report on the history
 pub record IsReported (h : History) (text : List ℕ) : Type 0 where
@@ -25,6 +26,7 @@ pub record IsReported (h : History) (text : List ℕ) : Type 0 where
 abbrev pub IsOutput : Output → History → List ℕ → Type 0
 IsOutput output.Report h text = IsReported h text
 IsOutput output.Graph h text = IsDrawn h text
+IsOutput output.Timeline h text = IsPictured h text
 
 -- the verdict: whether the history is serializable and recoverable
 abbrev pub IsVerdict : List Operation → Bool → Type 0

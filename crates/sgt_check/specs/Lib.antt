@@ -3,4 +3,5 @@ pub mod ReportText
 pub mod Checks
 pub mod GraphText
 pub mod Graphs
+pub mod Timelines
 pub mod Pieces

@@ -7,15 +7,18 @@ ghost use Rattle.sgt_classes.specs.Equivalence.{IsSerializable};
 ghost use Rattle.sgt_classes.specs.SerialOrders.{IsSerial};
 ghost use Rattle.sgt_check.specs.Checks.{IsReported, IsOutput, IsVerdict};
 ghost use Rattle.sgt_check.specs.Graphs.{IsDrawn};
+ghost use Rattle.sgt_check.specs.Timelines.{IsPictured};
 
 use crate::graph_text::append_graph;
 use crate::report::{check_history, serial_unless_commit_ordered};
 use crate::report_text::append_report;
+use crate::timeline::draw_report;
 use sgt_classes::{
     Serializability, Violation, commit_order_violation, first_conflicts, recoverable_violation,
 };
 use sgt_model::NoMemory;
 use sgt_notation::History;
+use sgt_timeline::append_picture;
 use std::alloc::Global;
 
 /// What a check writes.
@@ -25,6 +28,8 @@ pub enum Output {
     Report,
     /// The serialization graph in DOT, with the cycle of the report.
     Graph,
+    /// The picture of the history in SVG, with the cycle or the first violation of the report, and the report below it.
+    Timeline,
 }
 
 /// What a check finds of a history.
@@ -48,6 +53,7 @@ pub(crate) fn check_for(
     match output {
         Output::Report => check_for_report(alloc, history),
         Output::Graph => check_for_graph(alloc, history),
+        Output::Timeline => check_for_timeline(alloc, history),
     }
 }
 
@@ -81,6 +87,19 @@ fn check_for_graph(alloc: Global, history: &History) -> Result<Checked, NoMemory
         lines,
         sound: is_sound(&shown, &recoverable),
     })
+}
+
+/// Checks the history for all classes, with its picture as the output.
+fn check_for_timeline(alloc: Global, history: &History) -> Result<Checked, NoMemory>
+    ensures written { IfOk result (λ c. IsPictured history.now c.lines.items) }
+    ensures verdict { IfOk result (λ c. IsWellFormed history.now.operations.items → IsVerdict history.now.operations.items c.sound) }
+{
+    let report = check_history(alloc, history.operations.as_slice())?;
+    let picture = draw_report(alloc, history, &report)?;
+    let mut lines = Vec::new(alloc);
+    append_picture(&mut lines, history, &picture)?;
+    let sound = is_sound(&report.serializability, &report.recoverable);
+    Ok(Checked { lines, sound })
 }
 
 /// Whether a history is serializable and recoverable, by its serial order or cycle and its first violation of recoverability.

@@ -1,8 +1,8 @@
 //! The check of a history that is given as text: is it serializable, recoverable, and of which other classes?
 //!
-//! - [`run_check`] checks what a source gives, and writes a report or the serialization graph: its [`Output`].
+//! - [`run_check`] checks what a source gives, and writes a report, the serialization graph or a picture: its [`Output`].
 //! - [`check_history`] puts the checkers of `sgt_classes` together into a [`Report`], and [`append_report`] writes it as seven lines.
-//! - [`append_graph`] writes the serialization graph in DOT.
+//! - [`append_graph`] writes the serialization graph in DOT. The picture is drawn by `sgt_timeline`.
 //!
 //! The classes are defined in `sgt_classes`, the notation in `sgt_notation`, the lines of a report in `specs/ReportText.antt`, and
 //! those of a graph in `specs/GraphText.antt`. `specs/Checks.antt` says what a check owes for each output.
@@ -23,6 +23,7 @@ mod placed_text;
 mod report;
 mod report_text;
 mod run;
+mod timeline;
 
 pub use checked::Output;
 pub use fault::CheckFault;

@@ -1,0 +1,213 @@
+//! Which operations of a history are drawn.
+ghost use Rattle.std.specs.Prelude.{◌≡◌, ◌<◌, ◌≤◌, ◌+◌, ℕ, length, IfOk, IfSome};
+ghost use Rattle.sgt_timeline.specs.Drawn.{AreDrawn, all_places};
+
+use crate::picture::{Highlight, LineKind};
+use sgt_classes::{Edge, Operation, Violation};
+use sgt_model::NoMemory;
+use std::alloc::Global;
+use std::collections::BTreeSet;
+
+/// The most operations that are drawn.
+pub(crate) const MOST: usize = 400;
+
+/// The most pairs that stand out: each has two operations.
+const MOST_PAIRS: usize = 200;
+
+/// What stands out, as pairs of operations, and how.
+#[derive(Drop)]
+pub(crate) struct Pairs {
+    pub kind: LineKind,
+    /// The two operations of each, by their places.
+    pub places: Vec<Violation>,
+}
+
+impl Pairs {
+    /// What stands out, of a cycle its first edges.
+    pub fn of(alloc: Global, highlight: Highlight<'_>) -> Result<Self, NoMemory> {
+        match highlight {
+            Highlight::Nothing => Ok(Pairs {
+                kind: LineKind::Violation,
+                places: Vec::new(alloc),
+            }),
+            Highlight::Cycle(edges) => Ok(Pairs {
+                kind: LineKind::Cycle,
+                places: first_edges(alloc, edges)?,
+            }),
+            Highlight::Violation(violation) => Ok(Pairs {
+                kind: LineKind::Violation,
+                places: one(alloc, violation)?,
+            }),
+        }
+    }
+
+    /// As part of which line the operation at the place stands out, if it does.
+    pub fn ends_at(&self, place: usize) -> Option<LineKind> {
+        for pair in &self.places {
+            if pair.earlier == place || pair.later == place {
+                return Some(self.kind);
+            }
+        }
+        None
+    }
+}
+
+/// One violation.
+fn one(alloc: Global, violation: Violation) -> Result<Vec<Violation>, NoMemory> {
+    let mut places = Vec::new(alloc);
+    places.push(violation)?;
+    Ok(places)
+}
+
+/// The operations of the first edges.
+fn first_edges(alloc: Global, edges: &[Edge]) -> Result<Vec<Violation>, NoMemory> {
+    let mut places = Vec::new(alloc);
+    for edge in edges {
+        if places.len() < MOST_PAIRS {
+            places.push(Violation {
+                earlier: edge.earlier,
+                later: edge.later,
+            })?;
+        }
+    }
+    Ok(places)
+}
+
+/// What of a history is drawn.
+#[derive(Clone, Copy)]
+pub(crate) enum Extent {
+    /// All of it.
+    Whole,
+    /// Its first operations: nothing stands out.
+    First,
+    /// The transactions that stand out.
+    Transactions,
+    /// The operations that stand out: their transactions have too many.
+    Pairs,
+}
+
+/// The operations that are drawn, by their places.
+#[derive(Drop)]
+pub(crate) struct Drawn {
+    pub extent: Extent,
+    pub places: Vec<usize>,
+}
+
+impl Drawn {
+    /// Those of a history: all of a short one. Of a longer one those of the transactions that stand out, and if these are too many,
+    /// the operations that stand out alone; the first ones where nothing does.
+    pub fn of(alloc: Global, history: &[Operation], pairs: &Pairs) -> Result<Self, NoMemory>
+        ensures { IfOk result (λ drawn. AreDrawn (length history.now) drawn.places.items) }
+    {
+        if history.len() <= MOST {
+            return Ok(Drawn {
+                extent: Extent::Whole,
+                places: places_below(alloc, history.len())?,
+            });
+        }
+        if pairs.places.is_empty() {
+            return Ok(Drawn {
+                extent: Extent::First,
+                places: places_below(alloc, MOST)?,
+            });
+        }
+        let chosen = Chosen::of(alloc, history, pairs)?;
+        Ok(Drawn {
+            extent: chosen.extent,
+            places: places_in(alloc, history.len(), &chosen.places)?,
+        })
+    }
+}
+
+/// All places below the number.
+fn places_below(alloc: Global, most: usize) -> Result<Vec<usize>, NoMemory>
+    ensures { IfOk result (λ places. places.items ≡ all_places most) }
+{
+    let mut places = Vec::new(alloc);
+    for place in 0..most {
+        places.push(place)?;
+    }
+    Ok(places)
+}
+
+/// The first places of the set, below the length of a history.
+fn places_in(alloc: Global, len: usize, chosen: &BTreeSet<usize>) -> Result<Vec<usize>, NoMemory>
+    requires { 400 < len }
+    ensures { IfOk result (λ places. AreDrawn len places.items) }
+{
+    let mut places = Vec::new(alloc);
+    for place in 0..len {
+        if places.len() < MOST && chosen.contains(&place) {
+            places.push(place)?;
+        }
+    }
+    Ok(places)
+}
+
+/// The operations of a long history that are to be drawn.
+#[derive(Drop)]
+pub(crate) struct Chosen {
+    pub extent: Extent,
+    pub places: BTreeSet<usize>,
+}
+
+impl Chosen {
+    /// Those of the transactions that stand out, or those that stand out where these are too many.
+    fn of(alloc: Global, history: &[Operation], pairs: &Pairs) -> Result<Self, NoMemory> {
+        let transactions = transactions_of(alloc, history, pairs)?;
+        let places = places_of(alloc, history, &transactions)?;
+        if places.len() <= MOST {
+            return Ok(Chosen {
+                extent: Extent::Transactions,
+                places,
+            });
+        }
+        Ok(Chosen {
+            extent: Extent::Pairs,
+            places: pair_places(alloc, pairs)?,
+        })
+    }
+}
+
+/// The transactions that stand out.
+fn transactions_of(
+    alloc: Global,
+    history: &[Operation],
+    pairs: &Pairs,
+) -> Result<BTreeSet<u32>, NoMemory> {
+    let mut transactions = BTreeSet::new(alloc);
+    for pair in &pairs.places {
+        if let Some(operation) = history.get(pair.earlier) {
+            transactions.insert(operation.transaction)?;
+        }
+        if let Some(operation) = history.get(pair.later) {
+            transactions.insert(operation.transaction)?;
+        }
+    }
+    Ok(transactions)
+}
+
+/// The places of the operations of these transactions, and no more of them than show that they are too many.
+fn places_of(
+    alloc: Global,
+    history: &[Operation],
+    transactions: &BTreeSet<u32>,
+) -> Result<BTreeSet<usize>, NoMemory> {
+    let mut places = BTreeSet::new(alloc);
+    for place in 0..history.len() {
+        if places.len() <= MOST && transactions.contains(&history[place].transaction) {
+            places.insert(place)?;
+        }
+    }
+    Ok(places)
+}
+
+/// The places of the operations that stand out.
+fn pair_places(alloc: Global, pairs: &Pairs) -> Result<BTreeSet<usize>, NoMemory> {
+    let mut places = BTreeSet::new(alloc);
+    for pair in &pairs.places {
+        places.insert(pair.earlier)?;
+        places.insert(pair.later)?;
+    }
+    Ok(places)
+}
