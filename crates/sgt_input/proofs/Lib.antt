@@ -6,3 +6,4 @@ pub mod Given
 pub mod Ahead
 pub mod RecordsPut
 pub mod Begun
+pub mod FaultsRead

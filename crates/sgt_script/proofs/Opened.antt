@@ -14,7 +14,7 @@ use Rattle.sgt_model.specs.Databases.{contents_of}
 use Rattle.sgt_input.specs.Records.{IsBadRecord, Leaves}
 use Rattle.sgt_input.proofs.Begun.{Begun, HasBadRecord, begun, bad-record}
 use Rattle.sgt_script.specs.Opened.{HasOpened, IsRefused, LinesRefused, ReadsNoLine}
-use Rattle.sgt_script.proofs.NextLines.{explained-end}
+use Rattle.sgt_input.proofs.FaultsRead.{explained-end}
 
 -- it spells an opening
 pub has-opened : (least : ℕ) (i j : Intake) (input rest : Option (List ℕ)) (o : Opening) → i ≡ before_input → Opens least j.line o

@@ -4,7 +4,8 @@ use Rattle.sgt_format.specs.JobLines.{job_of}
 use Rattle.sgt_input.specs.Intake.{cut_left}
 use Rattle.sgt_input.specs.Ends.{IsOfInput}
 use Rattle.sgt_bank.specs.Taking.{EndsWith}
-use Rattle.sgt_bank.proofs.NextCalls.{call-fails, no-call-fits, spells-none}
+use Rattle.sgt_input.proofs.FaultsRead.{spells-none}
+use Rattle.sgt_bank.proofs.NextCalls.{call-fails, no-call-fits}
 use Rattle.sgt_bank.proofs.jobs.next_call.Goals as goal
 
 pub returns-in_err-next_line-clause-fault : goal.returns-in_err-next_line-clause-fault

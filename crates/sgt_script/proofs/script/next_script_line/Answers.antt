@@ -5,7 +5,8 @@ use Rattle.sgt_input.specs.Lines.{AtEnd}
 use Rattle.sgt_input.specs.Intake.{cut_left}
 use Rattle.sgt_input.specs.Ends.{IsOfInput}
 use Rattle.sgt_script.specs.Answering.{NoLine}
-use Rattle.sgt_script.proofs.NextLines.{line-asks, line-fails, no-line-ends, no-line-fits, spells, spells-none}
+use Rattle.sgt_input.proofs.FaultsRead.{spells, spells-none}
+use Rattle.sgt_script.proofs.NextLines.{line-asks, line-fails, no-line-ends, no-line-fits}
 use Rattle.sgt_script.proofs.script.next_script_line.Goals as goal
 
 pub returns-in_err-next_line-clause-fault : goal.returns-in_err-next_line-clause-fault
