@@ -20,7 +20,7 @@ pair_same k v l w h =
       subst (λ o. MatchOrdering o (v < w) (v ≡ w) (w < v)) both.1 (ranks v w),
     )
 
-nat_itself : (k : ℕ) → nat_cmp k k ≡ Equal
+pub nat_itself : (k : ℕ) → nat_cmp k k ≡ Equal
 nat_itself k = by (nat_cmp k k) (nat_cmp_total.antisymm k k)
   where
     by : (o : Ordering) → o ≡ ordering_reverse o → o ≡ Equal

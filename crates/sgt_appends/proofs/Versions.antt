@@ -1,14 +1,18 @@
 -- What the lines say of the reads: each is a line of its key, and who knows all of it knows no more.
-use Rattle.std.proofs.Common.{◌≡◌, ◌≢◌, ◌<◌, ◌++◌, ℕ, List, [], ◌∷◌, length, take, drop, refl, sym, ap, ◌∙◌, subst, inl, inr, arith, length-append, take-append-drop}
+use Rattle.std.proofs.Common.{◌≡◌, ◌≢◌, ◌<◌, ◌++◌, ℕ, List, [], ◌∷◌, Option, Some, None, length, take, drop, refl, sym, ap, ◌∙◌, subst, inl, inr, arith, length-append, take-append-drop}
+use Rattle.sgt_appends.specs.declared.lines.Line.{Line}
 use Rattle.sgt_appends.specs.declared.transaction.Status.TheVariants.{Committed}
 use Rattle.sgt_appends.specs.declared.transaction.Transaction.{Transaction}
 use Rattle.sgt_appends.specs.Lists.{Has, IsOnce}
 use Rattle.sgt_appends.specs.Runs.{operations_of, Ended}
-use Rattle.sgt_appends.specs.Precedences.{appended, Reads, AppendsOnce}
+use Rattle.sgt_appends.specs.Precedences.{appended, Appends, Reads, AppendsOnce}
 use Rattle.sgt_appends.specs.Orders.{IsClean, AllClean}
 use Rattle.sgt_appends.specs.Linear.{IsKnown, IsLine}
 use Rattle.sgt_appends.specs.Reads.{own_at}
-use Rattle.sgt_appends.specs.Lines.{KeyLines, version_of, values_or_none, values_in, AreAllLines, KnowsNoMore}
+use Rattle.sgt_appends.specs.Lines.{KeyLines, version_of, values_or_none, values_in, AreAllLines, KnowsNoMore, AreWritten}
+use Rattle.sgt_appends.specs.Indexes.{Positions, IsIndex}
+use Rattle.sgt_appends.specs.Links.{AreAllIndexed}
+use Rattle.sgt_appends.proofs.Filed.{append_at}
 use Rattle.sgt_appends.proofs.Words.{Has-append_left, Has-append_right, Has-append_cases, IsOnce-append}
 use Rattle.sgt_appends.proofs.Added.{appended-append}
 use Rattle.sgt_appends.proofs.Along.{apart, has_or_not}
@@ -116,3 +120,26 @@ no_more h lines keys once clean are r k own seen committed reads all v known =
           (known_version h r at.0 k seen v mine known) not in
           absurd (omega (arith, short, covered.2, ap length (ap values_or_none covered.1)))
     ]
+
+-- each value of a line is appended by a transaction
+pub lines_written : (h : List Transaction) (lines : KeyLines) (keys : List ℕ) → AllClean h → AreAllLines h lines keys → AreWritten h lines
+lines_written h lines keys clean are k v has = go (lines k) refl has
+  where
+    known : (r : ℕ) (own seen : List ℕ) → Ended h r Committed → Reads h r k own seen → IsKnown h r k seen v → (t : ℕ) × Appends h t k v
+    known r own seen committed reads (inl there) = let it = (clean r k own seen committed reads).written v there in (it.0, it.1)
+    known r own seen committed reads (inr appends) = (r, appends)
+
+    go : (o : Option Line) → lines k ≡ o → Has (values_or_none o) v → (t : ℕ) × Appends h t k v
+    go None is never = absurd never
+    go (Some line) is there =
+        let version = are.versions k line is in
+        known version.reader (own_at h version.reader version.position k) version.seen version.committed
+        (reads_at h version.reader version.position k version.seen version.reads)
+        (version_known h version.reader version.position k version.seen v (subst (λ xs. Has xs v) version.is there))
+
+-- each value of a line has its position in the index
+pub lines_indexed : (h : List Transaction) (at : Positions) (lines : KeyLines) → IsIndex h at → AreWritten h lines → AreAllIndexed at lines
+lines_indexed h at lines index written k v has =
+    let it = written k v has in
+    let p = append_at h it.0 k v it.1 in
+    ((it.0, p.0), index.all k v it.0 p.0 p.1)

@@ -10,7 +10,7 @@ use Rattle.sgt_appends.specs.declared.transaction.Status.TheVariants.{Committed}
 use Rattle.sgt_appends.specs.declared.transaction.Transaction.{Transaction}
 use Rattle.sgt_appends.specs.Runs.{operations_of, Ended}
 use Rattle.sgt_appends.specs.Lists.{Has}
-use Rattle.sgt_appends.specs.Precedences.{appended, Reads}
+use Rattle.sgt_appends.specs.Precedences.{appended, Appends, Reads}
 use Rattle.sgt_appends.specs.Linear.{IsKnown, IsLine}
 use Rattle.sgt_appends.specs.Indexes.{pair_cmp, IsEarlier}
 use Rattle.sgt_appends.specs.Reads.{IsReadAt}
@@ -113,3 +113,7 @@ HaveLines h lines = (r k : ℕ) (own seen : List ℕ) → Ended h r Committed �
 abbrev pub KnowsNoMore : List Transaction → KeyLines → Type 0
 KnowsNoMore h lines = (r k : ℕ) (own seen : List ℕ) → Ended h r Committed → Reads h r k own seen
     → ((v : ℕ) → Has (values_in lines k) v → IsKnown h r k seen v) → (v : ℕ) → IsKnown h r k seen v → Has (values_in lines k) v
+
+-- each value of a line is appended by a transaction
+abbrev pub AreWritten : List Transaction → KeyLines → Type 0
+AreWritten h lines = (k v : ℕ) → Has (values_in lines k) v → (t : ℕ) × Appends h t k v

@@ -52,7 +52,8 @@ Lasts = ℕ → Option ℕ
 abbrev pub last_in : BTreeMap ℕ ℕ → Lasts
 last_in map t = get nat_cmp map t
 
--- What a fault says of a value that a read of t at position p saw, where `last` has for each transaction the position of its last value before.
+-- What a fault says of a value that a read of t at position p saw. `last` has for each transaction the position of its last
+-- value before.
 abbrev pub IsFaultAt : List Transaction → Positions → ℕ → ℕ → ℕ → Lasts → ℕ → Fault → Type 0
 IsFaultAt h at t p k last value (Unwritten v) = (v ≡ value) × ((u : ℕ) → Appends h u k value → ¬ MayRun h u)
 IsFaultAt h at t p k last value (Twice v) = (v ≡ value) × (u : ℕ) × (q : ℕ) × (at k value ≡ Some (u, q)) × (last u ≡ Some q)

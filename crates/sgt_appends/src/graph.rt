@@ -2,12 +2,15 @@
 //!
 //! Its nodes are the transactions, and for each line its end, after all who saw the whole line and before all who append
 //! a value that is not in it.
-ghost use Rattle.std.specs.Prelude.{◌≡◌, ◌<◌, ℕ, [], OnOk, IfOk};
+ghost use Rattle.std.specs.Prelude.{◌≡◌, ◌≢◌, ◌<◌, ◌↔◌, ◌⊎◌, ℕ, [], Some, None, OnOk, IfOk, IfSome, IsNone};
 ghost use Rattle.sgt_appends.specs.Graphs.{AreWithin};
+ghost use Rattle.sgt_appends.specs.Lists.{Has};
+ghost use Rattle.sgt_appends.specs.Indexes.{position_of};
 ghost use Rattle.sgt_appends.specs.Lines.{line_in, keys_in, AreNumbered};
+ghost use Rattle.sgt_appends.specs.Links.{has_number, IsKnownBy, IsFirstUnknown, AreIndexed, AreAllIndexed};
 
 use crate::append_index::AppendIndex;
-use crate::lines::{Line, Lines, all_values};
+use crate::lines::{Lines, all_values};
 use crate::reads::{Read, read_of};
 use crate::sorting::Link;
 use crate::transaction::{Operation, Status, Transaction};
@@ -55,6 +58,7 @@ impl Graph {
     ) -> Result<(), NoMemory>
         requires within { AreWithin self.old.links.items self.old.nodes }
         requires numbered { AreNumbered (line_in lines.now) (keys_in lines.now) }
+        requires indexed { AreAllIndexed (position_of appends.now) (line_in lines.now) }
         ensures { OnOk result (AreWithin self.new.links.items self.new.nodes) }
     {
         let values = all_values(alloc, lines)?;
@@ -122,13 +126,14 @@ impl Graph {
         lines: &Lines,
         read: Read<'_>,
     ) -> Result<(), NoMemory>
-        requires { AreWithin self.old.links.items self.old.nodes }
+        requires within { AreWithin self.old.links.items self.old.nodes }
+        requires indexed { AreAllIndexed (position_of appends.now) (line_in lines.now) }
         ensures { OnOk result (AreWithin self.new.links.items self.new.nodes) }
     {
         let Some(line) = lines.find(read.key) else {
             return Ok(());
         };
-        let (to, append) = match first_unknown(alloc, appends, line, read)? {
+        let (to, append) = match first_unknown(alloc, appends, line.values.as_slice(), read)? {
             Some(found) => found,
             None => match transactions.checked_add(line.number) {
                 Some(end) => (end, 0),
@@ -200,23 +205,55 @@ fn end_before(
 fn first_unknown(
     alloc: Global,
     appends: &AppendIndex,
-    line: &Line,
+    line: &[u32],
     read: Read<'_>,
-) -> Result<Option<(usize, usize)>, NoMemory> {
-    let mut seen = BTreeSet::new(alloc);
-    for value in read.seen {
-        seen.insert(*value)?;
-    }
-    for value in line.values.as_slice() {
-        if !seen.contains(value) {
-            if let Some((by, append)) = appends.find(read.key, *value) {
-                if by != read.reader {
-                    return Ok(Some((by, append)));
-                }
-            }
+) -> Result<Option<(usize, usize)>, NoMemory>
+    requires { AreIndexed (position_of appends.now) read.key line.now }
+    ensures some { IfOk result (λ found. IfSome found (λ x.
+        IsFirstUnknown (position_of appends.now) read.entry.reader read.entry.key read.entry.seen.now line.now x)) }
+    ensures none { IfOk result (λ found. IsNone found → (v : ℕ) → Has line.now v
+        → IsKnownBy (position_of appends.now) read.entry.reader read.entry.key read.entry.seen.now v) }
+{
+    let seen = set_of(alloc, read.seen)?;
+    for value in line {
+        if let Some(found) = unknown_at(appends, &seen, read.reader, read.key, *value) {
+            return Ok(Some(found));
         }
     }
     Ok(None)
+}
+
+/// Who appends the value to the key, and where, if the reader neither saw nor appends it.
+fn unknown_at(
+    appends: &AppendIndex,
+    seen: &BTreeSet<u32>,
+    reader: usize,
+    key: u32,
+    value: u32,
+) -> Option<(usize, usize)>
+    ensures some { IfSome result (λ x. (¬ has_number seen.now value) × (position_of appends.now key value ≡ Some x) × (x.0 ≢ reader)) }
+    ensures none { IsNone result → has_number seen.now value
+        ⊎ ((position_of appends.now key value ≡ None) ⊎ ((p : ℕ) × (position_of appends.now key value ≡ Some (reader, p)))) }
+{
+    if seen.contains(&value) {
+        return None;
+    }
+    let (by, append) = appends.find(key, value)?;
+    if by == reader {
+        return None;
+    }
+    Some((by, append))
+}
+
+/// The numbers of the list.
+fn set_of(alloc: Global, values: &[u32]) -> Result<BTreeSet<u32>, NoMemory>
+    ensures { IfOk result (λ set. (v : ℕ) → has_number set v ↔ Has values.now v) }
+{
+    let mut set = BTreeSet::new(alloc);
+    for value in values {
+        set.insert(*value)?;
+    }
+    Ok(set)
 }
 
 /// The edges between transactions that the links of a cycle make. Two links through the end of a line make one edge.

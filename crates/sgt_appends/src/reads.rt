@@ -31,7 +31,8 @@ pub struct Read<'a> {
 pub fn read_of<'a>(history: &'a [Transaction], reader: usize, position: usize) -> Option<Read<'a>>
     ensures place { IfSome result (λ r. (r.reader ≡ reader) × (r.position ≡ position)) }
     ensures some { IfSome result (λ r. Ended history.now r.reader Committed × IsReadAt history.now r.reader r.position r.key r.seen.now) }
-    ensures none { IsNone result → (k : ℕ) (seen : List ℕ) → Ended history.now reader Committed → ¬ IsReadAt history.now reader position k seen }
+    ensures none { IsNone result → (k : ℕ) (seen : List ℕ) → Ended history.now reader Committed
+        → ¬ IsReadAt history.now reader position k seen }
 {
     let transaction = history.get(reader)?;
     if transaction.status != Status::Committed {
@@ -143,9 +144,11 @@ fn fault_at(
 ) -> Result<Option<Fault>, NoMemory>
     requires { IsIndex history.now (position_of appends.now) }
     ensures fault { IfOk result (λ found. IfSome found (λ fault.
-        IsFaultAt history.now (position_of appends.now) read.entry.reader read.entry.position read.entry.key (last_in last.old) value fault)) }
+        IsFaultAt history.now (position_of appends.now) read.entry.reader read.entry.position read.entry.key
+        (last_in last.old) value fault)) }
     ensures none { IfOk result (λ found. IsNone found →
-        IsPassedOne history.now (position_of appends.now) read.entry.reader read.entry.position read.entry.key (last_in last.old) (last_in last.new) value) }
+        IsPassedOne history.now (position_of appends.now) read.entry.reader read.entry.position read.entry.key
+        (last_in last.old) (last_in last.new) value) }
 {
     let Some((by, append)) = written_by(history, appends, read.key, value) else {
         return Ok(Some(Fault::Unwritten(value)));
