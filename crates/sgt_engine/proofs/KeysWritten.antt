@@ -40,7 +40,8 @@ next_written k (e ∷ entries) (suc p) r at = ap (λ b. b || tells_write k e.rep
 pub written_at : (k : Key) (entries : List Entry) (p : ℕ) (r : Reply) → option_map (λ (e : Entry). e.reply) (slice_get entries p) ≡ Some r
     → is_written k (take (p + 1) entries) ≡ is_written k (take p entries) || tells_write k r
 written_at k entries p r at =
-    subst (λ n. is_written k (take n entries) ≡ is_written k (take p entries) || tells_write k r) (sym (add-one p)) (next_written k entries p r at)
+    subst (λ n. is_written k (take n entries) ≡ is_written k (take p entries) || tells_write k r) (sym (add-one p))
+    (next_written k entries p r at)
 
 none_left : (a b : Option Access) → option_or a b ≡ None → (a ≡ None) × (b ≡ None)
 none_left None b none = (refl, none)
@@ -53,7 +54,8 @@ neither false b no_one = (refl, no_one)
 -- an entry that does not write the key stores nothing there
 module _ (counts : ℕ → Bool) (k : Key) where
   unstored : (event : Event) (r : Reply) → tells_write k r ≡ false → stores counts k (access_in event r) ≡ None
-  unstored (Step t) (reply.Wrote j v) other = ap (λ b. cond (b && counts t) (Some (record { by = t; key = j; kind = Store; value = Some v })) None) other
+  unstored (Step t) (reply.Wrote j v) other =
+      ap (λ b. cond (b && counts t) (Some (record { by = t; key = j; kind = Store; value = Some v })) None) other
   unstored (Start p args) (reply.Wrote j v) other = refl
   unstored (Commit t) (reply.Wrote j v) other = refl
   unstored (Quit t) (reply.Wrote j v) other = refl
