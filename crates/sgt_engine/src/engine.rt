@@ -24,6 +24,7 @@ mod cut;
 mod procedures;
 mod put;
 
+use crate::changes::changes;
 use crate::past::Past;
 use crate::room::{file, make_room};
 pub use cut::CutError;
@@ -242,7 +243,8 @@ impl<R: Records, A: Accesses, G: Graph> Engine<R, A, G> {
         self.sched.records().committed(key)
     }
 
-    /// The committed database: of all keys what `committed` tells. It goes once through all records.
+    /// The committed database: of all keys what `committed` tells. Where the history is shorter than the opening it goes once through
+    /// both, else once through all records.
     ///
     /// `NoMemory` where a growth was refused.
     pub fn database(&self, alloc: Global) -> Result<Database, NoMemory>
@@ -253,7 +255,30 @@ impl<R: Records, A: Accesses, G: Graph> Engine<R, A, G> {
         ensures by_key { IfOk result IsByKey }
     {
         replay_is_serial();
+        let is_short = self.history.len() < self.opening.rows().len();
+        self.committed_rows(alloc, is_short)
+    }
+
+    // The same: where the history is short, by the opening and what has changed in it, else by the records.
+    fn committed_rows(&self, alloc: Global, is_short: bool) -> Result<Database, NoMemory>
+        ensures values { IfOk result (λ d. (k : Key) →
+            contents_of d k ≡ settled (contents_of self.now.opening) self.now.past k) }
+        ensures by_key { IfOk result IsByKey }
+    {
+        if is_short {
+            return self.changed_opening(alloc);
+        }
         self.sched.records().all(alloc)
+    }
+
+    // The opening with what the history has changed in it.
+    fn changed_opening(&self, alloc: Global) -> Result<Database, NoMemory>
+        ensures values { IfOk result (λ d. (k : Key) →
+            contents_of d k ≡ settled (contents_of self.now.opening) self.now.past k) }
+        ensures by_key { IfOk result IsByKey }
+    {
+        let changes = changes(alloc, &self.history, self.sched.records())?;
+        self.opening.updated(alloc, &changes)
     }
 
     /// The opening and the history, of an engine that takes no more events. This takes no memory.

@@ -14,6 +14,7 @@
 //! ```
 #![tactic(auto)]
 
+mod changes;
 mod engine;
 mod past;
 mod room;

@@ -17,6 +17,7 @@ use sgt_sched::{Brief, Sched};
 /// may start.
 ///
 /// `NoMemory` where a growth was refused; then the room is as it was.
+#[inline(always)]
 pub fn make_room<R: Records, A: Accesses, G: Graph>(
     history: &mut History,
     sched: &Sched<R, A, G>,

@@ -49,10 +49,11 @@ impl<R: Records, A: Accesses, G: Graph> Engine<R, A, G> {
     /// limits stay, and what the limits allow is counted anew. An engine that is cut now and then holds what its database and the
     /// events since the last cut take, however long it runs.
     ///
-    /// The headline holds of each part, and the parts chain: what the replay of one leaves is what the next one opens with. It
-    /// goes once through all records; the one growth is that of the new opening database.
+    /// The headline holds of each part, and the parts chain: what the replay of one leaves is what the next one opens with. The new
+    /// opening is a copy of the old one with what the part has written, or of all records where they are fewer than the entries; no
+    /// record is touched.
     ///
-    /// `StillLive` where a transaction is live, tested first; `NoMemory` where the growth was refused. Then nothing has changed.
+    /// `StillLive` where a transaction is live, tested first; `NoMemory` where a growth was refused. Then nothing has changed.
     pub fn cut(&mut self, alloc: Global) -> Result<Past, CutError>
         ensures past { IfOk result (λ p. p.opening ≡ self.old.opening) }
         ensures entries { IfOk result (λ p. reverse p.history.entries ≡ self.old.past) }

@@ -5,4 +5,5 @@ use Rattle.sgt_records.proofs.index.Index.committed.Goals as goal
 
 pub returns-in-Some-clause-in_range : goal.returns-in-Some-clause-in_range
 returns-in-Some-clause-in_range c =
-    value_there (record_in c.args.self.now.table) c.args.self.now.chains c.args.key c.in-Some.record.now (search rules) c.args.self.now.is_index
+    value_there (record_in c.args.self.now.table) c.args.self.now.chains c.args.key c.in-Some.record.now
+    (search rules) c.args.self.now.is_index

@@ -27,7 +27,8 @@ add-requires c =
     }
 
 -- one row more, and one index
-module _ (rows : List Row) (i : ℕ) (row : Row) (more : (k : Key) → contents_of (take (i + 1) rows) k ≡ put_in (contents_of (take i rows)) row.0 row.1 k)
+module _ (rows : List Row) (i : ℕ) (row : Row)
+    (more : (k : Key) → contents_of (take (i + 1) rows) k ≡ put_in (contents_of (take i rows)) row.0 row.1 k)
     (old new : Table) (absent : (k : Key) → contents_of (take i rows) k ≡ None → index_in old k ≡ None)
     (others : (k : Key) → key_eq row.0 k ≡ false → index_in new k ≡ index_in old k) where
   still_absent : (k : Key) → contents_of (take (i + 1) rows) k ≡ None → index_in new k ≡ None

@@ -1,0 +1,16 @@
+-- Which keys a history has writes of, committed or not.
+use Rattle.std.specs.Prelude.{Bool, false, ◌||◌, List, [], ◌∷◌}
+use Rattle.sgt_model.specs.declared.entry.Entry.{Entry}
+use Rattle.sgt_model.specs.declared.reply.Reply.{Reply}
+use Rattle.sgt_model.specs.declared.reply.Reply.TheVariants.{Wrote}
+use Rattle.sgt_model.specs.Contents.{Key, key_eq}
+
+-- the reply says that the key was written
+abbrev pub tells_write : Key → Reply → Bool
+tells_write k (Wrote key v) = key_eq key k
+tells_write k _ = false
+
+-- one of the entries does
+abbrev pub is_written : Key → List Entry → Bool
+is_written k [] = false
+is_written k (e ∷ entries) = is_written k entries || tells_write k e.reply
