@@ -30,13 +30,7 @@ split_behind text words rest same are whole is =
     sym (take-append-drop same text) ∙ ap (λ front. front ++ drop same text) (are ∙ take_all same words whole)
     ∙ ap (λ rest. words ++ rest) (sym behind ∙ sym is)
 
--- one byte more is the same
-pub same_more : (text words : List ℕ) (same : ℕ) → same < length text → same < length words → take same text ≡ take same words
-    → slice_index text same ≡ slice_index words same → take (same + 1) text ≡ take (same + 1) words
-same_more text words same within inside are one =
-    take_more text same 0 within ∙ ap (λ front. front ++ slice_index text same ∷ []) are
-    ∙ ap (λ x. take same words ++ x ∷ []) one ∙ sym (take_more words same 0 inside)
-
+-- one closing bracket
 pub one_bracket : (text : List ℕ) → length text ≡ 1 → slice_index text 0 ≡ 93 → text ≡ codes "]"
 one_bracket [] many first = absurd (omega arith)
 one_bracket (x ∷ []) many first = ap (λ z. z ∷ []) first
