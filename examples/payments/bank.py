@@ -9,7 +9,6 @@ from typing import NamedTuple, Optional, Sequence
 sys.path.insert(0, str(pathlib.Path(__file__).resolve().parents[2] / "bindings" / "python"))
 from sgt import Engine, Kind, Reply, Row  # noqa: E402
 
-FIRST_OWN = 5  # SmallBank's five procedures come first in every engine
 ENTRIES = 1_000_000  # the history is cut after so many entries, or as many as there are records
 ROW = struct.Struct("<IIqq")  # of a snapshot: table, nothing, number, value
 
@@ -47,9 +46,9 @@ class Bank:
     def __init__(self, seq: int, texts: dict[str, list], rows: bytes) -> None:
         """`texts` are the procedures by name, and `rows` the database as `rows()` returns it."""
         self.seq, self.texts = seq, texts
-        self._numbers = {name: FIRST_OWN + place for place, name in enumerate(texts)}
-        self._engine = Engine(limits=(1, 4_000_000_000, 1), procedures=list(texts.values()))
+        self._engine = Engine.bare(1, 4_000_000_000)
         self._engine.put([Row(table, number, value) for table, _, number, value in ROW.iter_unpack(rows)])
+        self._numbers = {name: self._engine.procedure(text) for name, text in texts.items()}
         self._records = len(rows) // ROW.size
 
     def run(self, name: str, args: Sequence[int]) -> Reply:
