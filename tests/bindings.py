@@ -144,8 +144,8 @@ def is_clean_under_sanitizers(room):
     if not can(room, "cc", SANITIZERS):
         return "left out: cc has no sanitizers here"
     c = BINDINGS / "c"
-    sources = [(c / "refused.c", WRAPS), *((source, []) for source in (c / "bank.c", c / "transfers.c", c / "threads.c", C_SOURCES / "calls.c"))]
-    for source, extra in sources:
+    plain = (c / "bank.c", c / "transfers.c", c / "threads.c", C_SOURCES / "calls.c")
+    for source, extra in ((c / "refused.c", WRAPS), *((source, []) for source in plain)):
         run([built(room, "cc", C_FLAGS, source, SANITIZERS + extra)])
     return None
 
