@@ -442,7 +442,8 @@ def waits_with_deadlines_in_python(_):
         waiting = bank.transaction(1, 1, 1)
         cutter = threading.Thread(target=lambda: what(sgt.TimedOut, lambda: bank.cut(0.3), ""))
         cutter.start()
-        time.sleep(0.05)
+        while not bank._inside and cutter.is_alive():
+            time.sleep(0.001)
         same("a close while a call is under way", "busy", what(sgt.Busy, bank.close, "busy"))
         cutter.join()
         waiting.quit()

@@ -187,6 +187,32 @@ static void in_a_thread(struct later *it)
 
 static void pause_for(long ns) { nanosleep(&(struct timespec){0, ns}, 0); }
 
+/* Until a thread waits for a commit, on however busy a machine. */
+static void until_one_waits(sgt_shared *shared)
+{
+    sgt_live live[32];
+    uint64_t count = 0;
+    for (int tried = 0; tried < 20000; tried++) {
+        if (sgt_shared_live(shared, live, 32, &count) != SGT_OK) break;
+        for (uint64_t i = 0; i < count; i++) {
+            if (live[i].waits) return;
+        }
+        pause_for(MS);
+    }
+    CHECK(!"a thread waits");
+}
+
+/* Until the history has so many entries. */
+static void until_entries(sgt_shared *shared, uint64_t wanted)
+{
+    uint64_t count = 0;
+    for (int tried = 0; tried < 20000; tried++) {
+        if (sgt_shared_entries(shared, &count, 0) != SGT_OK || count >= wanted) return;
+        pause_for(MS);
+    }
+    CHECK(!"the entries come");
+}
+
 static uint32_t commits(struct later *it) { return sgt_shared_commit(it->shared, &it->ticket, SGT_FOREVER, &it->reply); }
 
 static uint32_t runs(struct later *it)
@@ -220,6 +246,7 @@ static void a_commit_waits(void)
         CHECK(reply.kind == SGT_ENDED && sgt_shared_commit(shared, &reader.ticket, 2 * MS, &reply) == SGT_TIMED_OUT);
         CHECK(reply.kind == SGT_ENDED);
         in_a_thread(&reader);
+        until_one_waits(shared);
         pause_for(20 * MS);
         CHECK(reader.status == 77 && sgt_shared_close(&shared) == SGT_BUSY && shared);
         CHECK(sgt_shared_live(shared, live, 1, &count) == SGT_OK && count == 2 && live[0].ticket.tid == 0 && live[0].waits == 0);
@@ -245,7 +272,7 @@ static void a_run_is_tried_again(void)
     sgt_ticket writer = begins(shared, 3);
     struct later reader = {.shared = shared, .call = runs};
     in_a_thread(&reader);
-    pause_for(20 * MS);
+    until_one_waits(shared);
     CHECK(reader.status == 77);
     CHECK(sgt_shared_quit(shared, &writer, &reply) == SGT_OK);
     pthread_join(reader.id, 0);
@@ -270,7 +297,7 @@ static void a_run_has_so_many_tries(void)
     sgt_ticket writer = begins(shared, 3);
     struct later reader = {.shared = shared, .call = runs_once};
     in_a_thread(&reader);
-    pause_for(20 * MS);
+    until_one_waits(shared);
     CHECK(sgt_shared_quit(shared, &writer, &reply) == SGT_OK);
     pthread_join(reader.id, 0);
     CHECK(reader.status == SGT_OK && reader.outcome.reply.kind == SGT_OVER && reader.outcome.reply.cause == SGT_BY_FALL);
@@ -305,7 +332,7 @@ static void a_refusal_wakes(void)
     for (int step = 0; step < 3; step++) CHECK(sgt_shared_step(shared, &second.ticket, &reply) == SGT_OK);
     CHECK(reply.kind == SGT_WROTE);
     in_a_thread(&second);
-    pause_for(20 * MS);
+    until_one_waits(shared);
     CHECK(second.status == 77);
     CHECK(sgt_shared_commit(shared, &first, 0, &reply) == SGT_OK && reply.kind == SGT_REFUSED && reply.code == 3);
     pthread_join(second.id, 0);
@@ -322,7 +349,7 @@ static void a_full_engine_is_waited_for(void)
     struct later reader = {.shared = shared, .call = runs};
     uint64_t entries = 0, part = 77;
     in_a_thread(&reader);
-    pause_for(10 * MS);
+    until_entries(shared, 3); /* two starts, and one that is refused */
     CHECK(reader.status == 77);
     CHECK(sgt_shared_quit(shared, &first, &reply) == SGT_OK);
     pthread_join(reader.id, 0);
@@ -342,7 +369,10 @@ static void the_history_is_cut_off(void)
     struct later cutter = {.shared = shared, .call = cuts};
     CHECK(sgt_shared_cut(shared, 5 * MS) == SGT_TIMED_OUT && sgt_shared_cut(shared, 0) == SGT_TIMED_OUT);
     in_a_thread(&cutter);
-    pause_for(10 * MS);
+    while (sgt_shared_start(shared, 1, deposit, 2, MS, &later, &reply) == SGT_OK) { /* until the cutter has come */
+        sgt_shared_quit(shared, &later, &reply);
+        pause_for(MS);
+    }
     CHECK(cutter.status == 77);
     CHECK(sgt_shared_start(shared, 1, deposit, 2, 5 * MS, &later, &reply) == SGT_TIMED_OUT); /* it waits for the cut */
     CHECK(sgt_shared_quit(shared, &old, &reply) == SGT_OK);
