@@ -20,6 +20,7 @@
  *   - Pointers are not null, are aligned, point to as much as the call says, and no two of one call overlap. Where a count is
  *     0 the pointer may not be null either: pass the address of anything.
  *   - One call at a time to one engine. Another thread calls behind a lock that the thread before it released, or was joined.
+ *     sgt_shared.h is an engine with such a lock.
  *     Different engines know nothing of each other, and need no common lock. A call that finds another one in the engine returns
  *     SGT_BUSY and changes nothing. That helps to find a mistake, and is no lock: two calls that enter at the same moment do not see
  *     each other.

@@ -144,7 +144,8 @@ def is_clean_under_sanitizers(room):
     if not can(room, "cc", SANITIZERS):
         return "left out: cc has no sanitizers here"
     c = BINDINGS / "c"
-    for source, extra in ((c / "bank.c", []), (c / "transfers.c", []), (c / "refused.c", WRAPS), (c / "threads.c", []), (C_SOURCES / "calls.c", [])):
+    plain = (c / "bank.c", c / "transfers.c", c / "threads.c", C_SOURCES / "calls.c")
+    for source, extra in ((c / "refused.c", WRAPS), *((source, []) for source in plain)):
         run([built(room, "cc", C_FLAGS, source, SANITIZERS + extra)])
     return None
 
@@ -441,11 +442,23 @@ def waits_with_deadlines_in_python(_):
         waiting = bank.transaction(1, 1, 1)
         cutter = threading.Thread(target=lambda: what(sgt.TimedOut, lambda: bank.cut(0.3), ""))
         cutter.start()
-        time.sleep(0.05)
+        while not bank._inside and cutter.is_alive():
+            time.sleep(0.001)
         same("a close while a call is under way", "busy", what(sgt.Busy, bank.close, "busy"))
         cutter.join()
         waiting.quit()
     same("a closed engine", "refused", refusal(lambda: bank.get(2, 101)))
+
+
+def refuses_a_forked_child(_):
+    """There a lock may be held for ever, so a call is refused, and does not wait."""
+    sgt = module()
+    with sgt.SharedEngine(limits=(2, 100), accounts=[(1, 101, 500, 1000)]) as bank:
+        child = os.fork()
+        if child == 0:
+            os._exit(0 if what(sgt.Misuse, lambda: bank.get(2, 101), "misuse") == "misuse" else 1)
+        same("the status of the child", 0, os.waitpid(child, 0)[1])
+        same("the parent's value", 1000, bank.get(2, 101))
 
 
 def what(error, call, told):
@@ -489,6 +502,7 @@ CASES = [
     puts_a_million_rows_soon,
     mixes_no_threads_replies,
     waits_with_deadlines_in_python,
+    refuses_a_forked_child,
 ]
 
 

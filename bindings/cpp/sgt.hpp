@@ -19,7 +19,11 @@
 #include <vector>
 
 #include "sgt.h"
+#if __has_include("sgt_shared.h")
 #include "sgt_shared.h"
+#else
+#include "../c/sgt_shared.h" // in the checkout
+#endif
 
 namespace sgt {
 

@@ -187,6 +187,32 @@ static void in_a_thread(struct later *it)
 
 static void pause_for(long ns) { nanosleep(&(struct timespec){0, ns}, 0); }
 
+/* Until a thread waits for a commit, on however busy a machine. */
+static void until_one_waits(sgt_shared *shared)
+{
+    sgt_live live[32];
+    uint64_t count = 0;
+    for (int tried = 0; tried < 20000; tried++) {
+        if (sgt_shared_live(shared, live, 32, &count) != SGT_OK) break;
+        for (uint64_t i = 0; i < count; i++) {
+            if (live[i].waits) return;
+        }
+        pause_for(MS);
+    }
+    CHECK(!"a thread waits");
+}
+
+/* Until the history has so many entries. */
+static void until_entries(sgt_shared *shared, uint64_t wanted)
+{
+    uint64_t count = 0;
+    for (int tried = 0; tried < 20000; tried++) {
+        if (sgt_shared_entries(shared, &count, 0) != SGT_OK || count >= wanted) return;
+        pause_for(MS);
+    }
+    CHECK(!"the entries come");
+}
+
 static uint32_t commits(struct later *it) { return sgt_shared_commit(it->shared, &it->ticket, SGT_FOREVER, &it->reply); }
 
 static uint32_t runs(struct later *it)
@@ -220,6 +246,7 @@ static void a_commit_waits(void)
         CHECK(reply.kind == SGT_ENDED && sgt_shared_commit(shared, &reader.ticket, 2 * MS, &reply) == SGT_TIMED_OUT);
         CHECK(reply.kind == SGT_ENDED);
         in_a_thread(&reader);
+        until_one_waits(shared);
         pause_for(20 * MS);
         CHECK(reader.status == 77 && sgt_shared_close(&shared) == SGT_BUSY && shared);
         CHECK(sgt_shared_live(shared, live, 1, &count) == SGT_OK && count == 2 && live[0].ticket.tid == 0 && live[0].waits == 0);
@@ -245,12 +272,71 @@ static void a_run_is_tried_again(void)
     sgt_ticket writer = begins(shared, 3);
     struct later reader = {.shared = shared, .call = runs};
     in_a_thread(&reader);
-    pause_for(20 * MS);
+    until_one_waits(shared);
     CHECK(reader.status == 77);
     CHECK(sgt_shared_quit(shared, &writer, &reply) == SGT_OK);
     pthread_join(reader.id, 0);
     CHECK(reader.status == SGT_OK && reader.outcome.reply.kind == SGT_COMMITTED && reader.outcome.reply.answer[0] == 1500);
     CHECK(reader.outcome.tries == 2 && reader.outcome.waits == 1);
+    closes(shared);
+}
+
+static uint32_t runs_once(struct later *it)
+{
+    sgt_run_options options = SGT_RUN_OPTIONS;
+    it->outcome = (sgt_shared_outcome)SGT_SHARED_OUTCOME;
+    options.tries = 1;
+    return sgt_shared_run(it->shared, 0, name, 1, &options, &it->outcome);
+}
+
+/* With one try, the same run is told how that ended. */
+static void a_run_has_so_many_tries(void)
+{
+    sgt_shared *shared = bank(0);
+    sgt_reply reply = {0};
+    sgt_ticket writer = begins(shared, 3);
+    struct later reader = {.shared = shared, .call = runs_once};
+    in_a_thread(&reader);
+    until_one_waits(shared);
+    CHECK(sgt_shared_quit(shared, &writer, &reply) == SGT_OK);
+    pthread_join(reader.id, 0);
+    CHECK(reader.status == SGT_OK && reader.outcome.reply.kind == SGT_OVER && reader.outcome.reply.cause == SGT_BY_FALL);
+    CHECK(reader.outcome.tries == 1);
+    closes(shared);
+}
+
+/* A code that comes at a step is an answer, and no conflict. */
+static void a_code_is_not_tried_again(void)
+{
+    static const char two[] = "{\"limits\":[2,100],\"accounts\":[],\"procedures\":[]}";
+    sgt_shared *shared = 0;
+    sgt_fault fault = {0};
+    sgt_shared_outcome outcome = SGT_SHARED_OUTCOME;
+    CHECK(opens(&shared, two, 0, &fault) == SGT_OK);
+    CHECK(sgt_shared_run(shared, 0, name, 1, 0, &outcome) == SGT_OK && outcome.tries == 1);
+    CHECK(outcome.reply.kind == SGT_ABORTED && outcome.reply.cause == SGT_BY_CODE && outcome.reply.code == 1);
+    closes(shared);
+}
+
+/* A refusal ends a transaction too, so a commit that waits for it goes on. */
+static void a_refusal_wakes(void)
+{
+    static const int64_t too_much[] = {1, -9999}, more[] = {1, 5};
+    sgt_shared *shared = bank(0);
+    sgt_reply reply = {0};
+    sgt_ticket first = {0};
+    struct later second = {.shared = shared, .call = commits};
+    CHECK(sgt_shared_start(shared, 2, too_much, 2, 0, &first, &reply) == SGT_OK);
+    for (int step = 0; step < 3; step++) CHECK(sgt_shared_step(shared, &first, &reply) == SGT_OK);
+    CHECK(sgt_shared_start(shared, 2, more, 2, 0, &second.ticket, &reply) == SGT_OK);
+    for (int step = 0; step < 3; step++) CHECK(sgt_shared_step(shared, &second.ticket, &reply) == SGT_OK);
+    CHECK(reply.kind == SGT_WROTE);
+    in_a_thread(&second);
+    until_one_waits(shared);
+    CHECK(second.status == 77);
+    CHECK(sgt_shared_commit(shared, &first, 0, &reply) == SGT_OK && reply.kind == SGT_REFUSED && reply.code == 3);
+    pthread_join(second.id, 0);
+    CHECK(second.status == SGT_OK && second.reply.kind == SGT_COMMITTED && second.reply.answer[0] == 505);
     closes(shared);
 }
 
@@ -263,7 +349,7 @@ static void a_full_engine_is_waited_for(void)
     struct later reader = {.shared = shared, .call = runs};
     uint64_t entries = 0, part = 77;
     in_a_thread(&reader);
-    pause_for(10 * MS);
+    until_entries(shared, 3); /* two starts, and one that is refused */
     CHECK(reader.status == 77);
     CHECK(sgt_shared_quit(shared, &first, &reply) == SGT_OK);
     pthread_join(reader.id, 0);
@@ -283,7 +369,10 @@ static void the_history_is_cut_off(void)
     struct later cutter = {.shared = shared, .call = cuts};
     CHECK(sgt_shared_cut(shared, 5 * MS) == SGT_TIMED_OUT && sgt_shared_cut(shared, 0) == SGT_TIMED_OUT);
     in_a_thread(&cutter);
-    pause_for(10 * MS);
+    while (sgt_shared_start(shared, 1, deposit, 2, MS, &later, &reply) == SGT_OK) { /* until the cutter has come */
+        sgt_shared_quit(shared, &later, &reply);
+        pause_for(MS);
+    }
     CHECK(cutter.status == 77);
     CHECK(sgt_shared_start(shared, 1, deposit, 2, 5 * MS, &later, &reply) == SGT_TIMED_OUT); /* it waits for the cut */
     CHECK(sgt_shared_quit(shared, &old, &reply) == SGT_OK);
@@ -382,6 +471,29 @@ static void ended_calls_are_drained(void)
     closes(shared);
 }
 
+/* Many that are live at once can all end, without a start in between. */
+static void many_ends_are_stored(void)
+{
+    static const char wide[] = "{\"limits\":[32,100,1],\"accounts\":[[1,101,500,1000]],\"procedures\":[]}";
+    sgt_shared_config config = SGT_SHARED_CONFIG;
+    sgt_shared *shared = 0;
+    sgt_fault fault = {0};
+    sgt_reply reply = {0};
+    sgt_ticket tickets[32];
+    sgt_ended ended[33];
+    uint64_t count = 0;
+    config.keeps_ended = 1;
+    CHECK(opens(&shared, wide, &config, &fault) == SGT_OK);
+    for (int i = 0; i < 32; i++) CHECK(sgt_shared_start(shared, 0, name, 1, 0, &tickets[i], &reply) == SGT_OK);
+    for (int i = 31; i >= 0; i--) {
+        for (int step = 0; step < 4; step++) CHECK(sgt_shared_step(shared, &tickets[i], &reply) == SGT_OK);
+        CHECK(sgt_shared_commit(shared, &tickets[i], 0, &reply) == SGT_OK && reply.kind == SGT_COMMITTED);
+    }
+    CHECK(sgt_shared_drain(shared, 0, ended, 33, &count) == SGT_OK && count == 32);
+    CHECK(ended[0].ticket.tid == 31 && ended[31].ticket.tid == 0 && ended[31].call.answer[0] == 1500);
+    closes(shared);
+}
+
 static void cuts_come_by_themselves(void)
 {
     sgt_shared_config config = SGT_SHARED_CONFIG;
@@ -441,10 +553,14 @@ int main(void)
     a_run_that_has_to_wait_is_never_left_behind();
     a_commit_waits();
     a_run_is_tried_again();
+    a_run_has_so_many_tries();
+    a_code_is_not_tried_again();
+    a_refusal_wakes();
     a_full_engine_is_waited_for();
     the_history_is_cut_off();
     hooks_are_told();
     ended_calls_are_drained();
+    many_ends_are_stored();
     cuts_come_by_themselves();
     a_forked_child_is_refused();
     numbers_and_texts_are_told();

@@ -6,7 +6,7 @@ import ctypes
 import time
 from typing import Callable, NamedTuple, Optional, Sequence
 
-from ._errors import Busy, NotStarted, OpeningRefused, Stale, TimedOut
+from ._errors import Busy, Misuse, NotStarted, OpeningRefused, Stale, TimedOut
 from ._library import (
     BUSY,
     ENDED_HOOK,
@@ -247,8 +247,8 @@ class SharedEngine(Uncopied):
         if getattr(self, "_shared", None):
             try:
                 self.close()
-            except Busy:
-                pass
+            except (Busy, Misuse):
+                pass  # a call is under way, or this is a forked child: then it stays open
 
 
 class Transaction:

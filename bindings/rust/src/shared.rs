@@ -2,6 +2,7 @@
 use crate::convert::{call_of, done, fault_of, no_fault, reply_of, row_for, row_of};
 use crate::{Call, Error, Reply, Row};
 use sgt_sys::{self as c, Ticket};
+use std::mem::size_of;
 use std::os::raw::c_void;
 use std::sync::Arc;
 use std::time::Duration;
