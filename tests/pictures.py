@@ -257,7 +257,20 @@ def draws_what_stands_out_of_long_transactions(sgt):
     report, text = picture_of(sgt, operations, status=1)
     drawing = Drawing(text)
     same("marks", sorted({p for pair in highlights(report, operations)[0] for p in pair}), [m.place for m in drawing.marks])
-    same("left out", f"drawn: {len(drawing.marks)} of 505 operations", " ".join(drawing.notes[-1].split()[:5]).rstrip(":"))
+    same("left out", f"drawn: {len(drawing.marks)} of 505 operations: those that stand out", drawing.notes[-1])
+
+
+def draws_a_long_report(sgt):
+    """What does not fit below the picture is left out, and what was left out of the picture is said nevertheless."""
+    items = [f"{number:02}" + "x" * 62 for number in range(80)]
+    operations = [("r", str(t), items[t]) for t in range(80)]
+    operations += [("w", str((t + 1) % 80), items[t]) for t in range(80)]
+    operations += [("c", str(t), None) for t in range(80)] + [("r", "99", "q")] * 200
+    report, text = picture_of(sgt, operations, status=1)
+    drawing = Drawing(text)
+    same("red lines", sorted(highlights(report, operations)[0]), sorted(drawing.ends("cycle")))
+    same("lines", 42, len(drawing.notes))
+    same("the last lines", ["..", "drawn: 240 of 440 operations: those of the transactions that stand out"], drawing.notes[-2:])
 
 
 def refuses_what_is_no_history(sgt):
@@ -290,6 +303,7 @@ CASES = [
     draws_a_cycle_of_a_long_history,
     draws_a_long_history_without_a_violation,
     draws_what_stands_out_of_long_transactions,
+    draws_a_long_report,
     refuses_what_is_no_history,
     stands_beside_no_graph,
     brings_nothing_along,

@@ -31,6 +31,6 @@ all_drawn n m ps is within few same = subst (λ l. AreDrawn n l) (sym is) (recor
   few = subst (λ k. k ≤ 400) (sym (length-all m)) few;
 })
 
--- one number more behind fewer than 400
+-- one more place, after fewer than 400
 pub one_more : (ps : List ℕ) (p : ℕ) → length ps < 400 → length (ps ++ p ∷ []) ≤ 400
 one_more ps p few = subst (λ n. n ≤ 400) (sym (length-append ps (p ∷ []))) (omega arith)

@@ -27,7 +27,9 @@ pub(crate) fn notes_below(
     let mut notes = Vec::new(alloc);
     add_words(alloc, &mut notes, caption, base)?;
     let left_out = left_out(alloc, drawn, operations)?;
-    add_words(alloc, &mut notes, left_out.as_slice(), base)?;
+    if !left_out.is_empty() {
+        add_line(alloc, &mut notes, left_out.as_slice(), base)?;
+    }
     Ok(notes)
 }
 
@@ -103,8 +105,7 @@ fn left_out(alloc: Global, drawn: &Drawn, operations: usize) -> Result<Vec<u8>, 
         Extent::Whole => return Ok(words),
         Extent::First => b" operations: the first ones",
         Extent::Transactions => b" operations: those of the transactions that stand out",
-        Extent::Pairs =>
-            b" operations: those that stand out, their transactions having more than 400",
+        Extent::Pairs => b" operations: those that stand out",
     };
     append_numbered(&mut words, b"drawn: ", drawn.places.len())?;
     append_numbered(&mut words, b" of ", operations)?;
