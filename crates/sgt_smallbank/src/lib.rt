@@ -9,8 +9,7 @@
 //! | 1 | DepositChecking(name, amount) | adds the amount to the checking | the new checking |
 //! | 2 | TransactSaving(name, amount) | adds the amount, which may be negative, to the saving | the new saving |
 //! | 3 | Amalgamate(from, to) | moves all that the first customer has to the second one's checking | what was moved |
-//! | 4 | WriteCheck(name, amount) | takes the amount from the checking, and 100 more if both together are less | the
-//! new checking |
+//! | 4 | WriteCheck(name, amount) | takes the amount from the checking, and 100 more if both together are less | the new checking |
 //!
 //! A procedure that cannot be done changes nothing and aborts with a code:
 //! - 1: the name is unknown
