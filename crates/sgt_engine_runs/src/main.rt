@@ -1,9 +1,9 @@
 //! Runs events on an engine of SmallBank, for the test command and the measurements in `bench`. Its only argument
 //! selects the run:
 //!
-//!     sgt_engine_runs again, oldest, newest or cut    a row's events, for where memory is refused
-//!     sgt_engine_runs drawn                           10,000 events that are drawn, over other bodies of the layers too
-//!     sgt_engine_runs EVENTS                          so many events, in memory that does not grow with them
+//!     sgt_engine_runs again, oldest, newest or cut    a row's events, with failed allocations
+//!     sgt_engine_runs drawn                           10,000 random events, over other implementations of the layers too
+//!     sgt_engine_runs EVENTS                          this many events, in memory that does not grow with them
 //!
 //! Without an argument it makes three runs, one after another: `again`, `drawn` and one of 250,000 events. `stdout` has
 //! the expected output of these. In a drawn run, the next event depends on a generated number and on the live
