@@ -1,9 +1,9 @@
 //! Runs banks on workers, for the test command and the measurements in `bench`, and prints what they check from
 //! outside. The first argument selects the run:
 //!
-//!     sgt_bank_runs bank WORKERS TRIES [SEED ODDS]    the bank of standard input; one call of so many makes its worker leave
-//!     sgt_bank_runs quit                              a session whose quit is refused all memory
-//!     sgt_bank_runs scripts                           the scripts of standard input, the length of each in four bytes before it
+//!     sgt_bank_runs bank WORKERS TRIES [SEED ODDS]    the bank of standard input; one call in ODDS makes its worker leave
+//!     sgt_bank_runs quit                              a session that quits while all allocations fail
+//!     sgt_bank_runs scripts                           the scripts of standard input, each after its length in four bytes
 //!
 //! Without an argument it makes many runs, whose output does not depend on the schedule, and then runs the bank of
 //! standard input by one worker. `stdout` has the expected output. The first runs have gates, which block each worker
