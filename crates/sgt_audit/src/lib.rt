@@ -9,8 +9,7 @@
 //! made them.
 //!
 //! ```
-//! the one job of this history is committed by entry 4. The first outcome says so; the second names entry 3, which is a
-//! step
+//! // Entry 4 commits the one job of this history. The first outcome says so; the second names entry 3, a step.
 //! assert!(audit(alloc, history, &jobs, &[Outcome::<Infallible>::Done(4)], 1, 100)?);
 //! assert!(!audit(alloc, history, &jobs, &[Outcome::<Infallible>::Done(3)], 1, 100)?);
 //! ```

@@ -22,7 +22,6 @@ use std::io::Print;
 ///
 /// A call in which an allocation failed is repeated once. So whichever single allocation fails, the output is the same
 /// except for the last line: that counts the calls with a failed allocation.
-/// line: that counts the calls that were refused memory.
 pub fn run_drawn(rt: &(impl AllocGlobal + Print)) -> io::Result<()> {
     let mut refusals = Refusals { calls: 0 };
     for asks in &[Asks::AtStep, Asks::AtCommit] {

@@ -35,7 +35,7 @@
 //!     Some(shared.close(sessions).ok()?.engine)
 //! }
 //!
-//! A deposit of 1.00. If an allocation fails, the transaction is quit, so that nobody waits for it.
+//! /// A deposit of 1.00. If an allocation fails, the transaction is quit, so that nobody waits for it.
 //! fn deposit<N: Named, W: Wait>(
 //!     rt: &W,
 //!     shared: &Shared<N, ListRecords, OneList, PairGraph>,
@@ -53,7 +53,7 @@
 //!     session
 //! }
 //!
-//! Two reads and a write, then the commit, which waits if it has to.
+//! /// Two reads and a write, then the commit, which waits if it has to.
 //! fn finish<N: Named, W: Wait>(
 //!     rt: &W,
 //!     shared: &Shared<N, ListRecords, OneList, PairGraph>,

@@ -103,7 +103,6 @@ type Row = (&'static str, &'static str, &'static str);
 
 /// An uncommitted write is not in the database. If a quit after a write has refusals around it, and then a transaction
 /// commits, each event has its entry.
-/// transaction that goes the whole way, each event has its entry.
 const ROWS: [Row; 3] = [
     (
         "an own write is read back",

@@ -9,7 +9,7 @@
 //! neither that a run ends, nor which worker takes which job.
 //!
 //! ```
-//! Lets every worker go on.
+//! /// Lets every worker go on.
 //! #[derive(Drop)]
 //! struct Open;
 //!
@@ -23,8 +23,8 @@
 //!     fn finished(&self, _worker: u8, _job: u32, _outcome: &Outcome<Infallible>) {}
 //! }
 //!
-//! One job, on four workers, tried up to 100 times. Its outcome is `Done(4)` if entry 4 of the history commits its
-//! transaction.
+//! /// One job, on four workers, tried up to 100 times. Its outcome is `Done(4)` if entry 4 of the history commits its
+//! /// transaction.
 //! fn run_one<W: Threads + Wait + Sync>(
 //!     rt: &W,
 //!     alloc: Global,
