@@ -35,7 +35,7 @@ abbrev pub SeesAll : List Operation → Contents → Type 0
 SeesAll [] contents = Unit {0}
 SeesAll (o ∷ os) contents = Sees o contents × SeesAll os (after o contents)
 
--- the operations of a transaction, none where there is no transaction
+-- the operations of a transaction, or none if there is no transaction
 abbrev pub operations_or_none : Option Transaction → List Operation
 operations_or_none None = []
 operations_or_none (Some t) = t.operations.items

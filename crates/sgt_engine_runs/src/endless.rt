@@ -37,7 +37,7 @@ const LIMITS: Limits = Limits {
 struct Clients<'a, R: Records, A: Accesses, G: Graph> {
     engine: &'a mut Engine<R, A, G>,
     draws: Draws,
-    /// The transactions whose procedure has just ended: they commit next.
+    /// The transaction whose procedure has just ended: it commits next.
     ended: Option<Tid>,
     /// How often the history was cut.
     cuts: u64,

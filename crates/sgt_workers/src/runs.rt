@@ -112,7 +112,7 @@ fn run_bank<R: Records, A: Accesses, G: Graph, T: Gate + Sync, W: Threads + Wait
     Ok((engine, outcomes.into_inner()))
 }
 
-/// Runs the jobs where the engine has a name, with capacity for this many calls. Returns the engine and the outcomes.
+/// Runs the jobs under a name for the engine, with capacity for this many calls. Returns the engine and the outcomes.
 fn run_named<
     N: Named + Send + Sync,
     R: Records,
