@@ -18,8 +18,8 @@ pub enum Plan {
     BothRead,
     /// A worker that has made this many calls leaves.
     LeavesAt(u64),
-    /// Each of this many workers after worker 0 starts once the previous one has made 4 calls, and waits at its own 4
-    /// calls until the job of worker 0 is finished. Worker 0 leaves at 4 calls, once all of them have made 4.
+    /// This many workers follow worker 0. Each starts once the previous one has made 4 calls. After 4 calls of its own
+    /// it waits until the job of worker 0 is finished. Worker 0 leaves at 4 calls, once all of them have made 4.
     DeepFall(u64),
     /// Every worker goes on. One that is notified of a finished job waits in that call until this many are finished. So
     /// no lock may be held during the notification.

@@ -107,8 +107,8 @@ impl<N: Named> Session<N> {
     /// returns it. A reply that ends a live transaction wakes the waiting commits.
     ///
     /// `NoMemory` if an allocation failed; then there is no receipt, and the engine has not changed. The session
-    /// allocates before it takes the lock. Quitting a transaction that this session started cannot fail while the
-    /// transaction is live and none of the session's calls that named it has returned its end: neither session nor
+    /// allocates before it takes the lock. Quitting a transaction that this session started cannot fail, as long as the
+    /// transaction is live and none of the session's calls that named it has returned its end. Neither session nor
     /// engine allocates then.
     ///
     /// A commit that has to wait returns `Waits` at once, as any other call.

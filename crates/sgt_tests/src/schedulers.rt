@@ -1,6 +1,7 @@
 //! Each call of a scheduler over the simple implementations of its layers, with its reply: one transaction by itself,
 //! commits that wait, and an abort that aborts its readers in cascade. Queries between the events ask who is live, what
-//! a commit would end, what is committed, which transactions a write would come after, and which one must wait for.
+//! a commit would end, and what is committed. They also ask which transactions a write would come after, and which one
+//! must be waited for.
 
 use json::Scratch;
 use sgt_access::{Accesses, OneList};

@@ -207,8 +207,8 @@ fn first_wrong_after<'a>(alloc: Global, deeds: &str, table: &'a str) -> &'a str 
     }
 }
 
-/// What is shown; the events of an engine; and a table of outcomes. Each line of the table has whether they are true,
-/// the numbers of workers and of tries, and after an arrow the call of each job with its outcome.
+/// What is shown; the events of an engine; and a table of outcomes. A line of the table says whether they are true.
+/// Then come the numbers of workers and of tries, and after an arrow the call of each job with its outcome.
 ///
 /// An event word is the start of a call with steps of these transactions, or their steps, commits or quits alone.
 type Row = (&'static str, &'static str, &'static str);
